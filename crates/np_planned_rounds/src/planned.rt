@@ -1,28 +1,21 @@
 //! A site at whose board launchers plan, played to its end.
 
 ghost use Rattle.std.specs.Prelude.{◌≡◌, ◌<◌, [], length, map, All, IfOk, Some, true, false};
-ghost use Rattle.np_answers.specs.Prelude.{IsFull, IsOf, IsSettled, IsWhole, driving, is_legal};
+ghost use Rattle.np_driven.specs.Prelude.{IsFull, IsOf, IsSettled, IsWhole, driving, is_legal};
 ghost use Rattle.np_driven.specs.Planned.{PlannedBy};
-ghost use Rattle.np_driven.specs.Players.{WasAnswered, HaveDrivenAs};
-ghost use Rattle.np_driven.specs.Round.{IsRound};
+ghost use Rattle.np_driven.specs.Players.{WasAnswered};
 ghost use Rattle.np_rounds.specs.Crews.{players_of};
 ghost use Rattle.np_rounds.specs.Plays.{CrewPlays, Pairwise};
-ghost use Rattle.np_rounds.specs.Played.{
-  EndsWithTick,
-  IsDriven,
-  IsRested,
-  Stops,
-  Ticks,
-  terms_in,
-};
+ghost use Rattle.np_rounds.specs.Laps.{HasLaps, IsPlayedRound, IsTick, WasPlayed};
+ghost use Rattle.np_rounds.specs.Played.{EndsWithTick, IsRested, Stops};
 ghost use Rattle.np_planned_rounds.specs.Full.{is_plain_full};
 
 use crate::crossing::planned_crosses;
-use np_answers::{Ask, Turn};
 use np_board::{PlanAsk, PlanTurn, PlannedBoard, Planner};
 use np_cloud::{Driver, Gate};
 use np_config::Config;
 use np_desk::{Desk, Pass};
+use np_driven::{Ask, Turn};
 use np_event::Event;
 use np_rounds::{Crew, CrewEnd, Together, drivers_of, hand_out, sends, take_back, workers_of};
 use np_text::NoMemory;
@@ -105,7 +98,8 @@ fn play_round<R: Threads + Wait + Sync, D: Driver + Send + Drop, G: Gate + Sync>
     ensures moved { IfOk result (λ t. t.moved ≡ true →
         length pass.old.seen < length pass.new.seen) }
     ensures legal { IfOk result (λ _. is_legal desk.now.origin.fixed pass.new.seen ≡ true) }
-    ensures round { IfOk result (λ t. IsRound true desk.now.origin.fixed pass.old.seen pass.new.seen
+    ensures round { IfOk result (λ t. IsPlayedRound true desk.now.origin.fixed
+        pass.old.seen pass.new.seen
         (players_of D.facts D.plan D.sound D.room workers.old.items)
         (players_of D.facts D.plan D.sound D.room workers.new.items) t.full) }
 {
@@ -135,7 +129,8 @@ fn tick<R: Wait>(
     ensures own { IsOf pass.new desk.now }
     ensures part { pass.new.part ≡ pass.old.part }
     ensures stops { IfOk result (λ full. Stops full pass.new.seen) }
-    ensures ticks { IfOk result (λ full. Ticks full pass.old.seen pass.new.seen) }
+    ensures tick { IfOk result (λ full. IsTick desk.now.origin.fixed
+        pass.old.seen pass.new.seen full) }
 {
     pass.know();
     let turn = pass.turn(rt, desk, PlanAsk::Plain(Ask::Do(Event::Tick)))?;
@@ -158,13 +153,9 @@ fn play_at<R: Threads + Wait + Sync, D: Driver + Send + Drop, G: Gate + Sync>(
     ensures own { IfOk result (λ _. IsOf pass.new desk.now) }
     ensures whole { IfOk result (λ _. IsWhole pass.new.part) }
     ensures stops { IfOk result (λ full. Stops full pass.new.seen) }
-    ensures terms { IfOk result (λ _.
-        terms_in (players_of D.facts D.plan D.sound D.room workers.new.items)
-        ≡ terms_in (players_of D.facts D.plan D.sound D.room workers.old.items)) }
-    ensures driven { IfOk result (λ full. let c = desk.now.origin.fixed in
-        let before = players_of D.facts D.plan D.sound D.room workers.old.items in
-        let now = players_of D.facts D.plan D.sound D.room workers.new.items in
-        HaveDrivenAs true c pass.old.seen before → IsDriven true c full pass.new.seen now) }
+    ensures laps { IfOk result (λ full. HasLaps true desk.now.origin.fixed
+        pass.old.seen (players_of D.facts D.plan D.sound D.room workers.old.items)
+        pass.new.seen (players_of D.facts D.plan D.sound D.room workers.new.items) full) }
 {
     for _ in rt.forever() {
         let together = play_round(rt, alloc, desk, pass, workers, gate)?;
@@ -192,14 +183,9 @@ fn play_board<R: Threads + Wait + Sync, D: Driver + Send + Drop, G: Gate + Sync>
     requires rested { IsRested board.journal }
     ensures configuration { IfOk result (λ r. r.0.configuration ≡ board.configuration) }
     ensures stops { IfOk result (λ r. Stops r.1 r.0.journal) }
-    ensures terms { IfOk result (λ _.
-        terms_in (players_of D.facts D.plan D.sound D.room workers.new.items)
-        ≡ terms_in (players_of D.facts D.plan D.sound D.room workers.old.items)) }
-    ensures driven { IfOk result (λ r. let c = board.configuration in
-        let before = players_of D.facts D.plan D.sound D.room workers.old.items in
-        let now = players_of D.facts D.plan D.sound D.room workers.new.items in
-        HaveDrivenAs true c board.journal before →
-        IsDriven true c r.1 r.0.journal now) }
+    ensures laps { IfOk result (λ r. HasLaps true board.configuration
+        board.journal (players_of D.facts D.plan D.sound D.room workers.old.items)
+        r.0.journal (players_of D.facts D.plan D.sound D.room workers.new.items) r.1) }
 {
     board.soundness();
     let Ok((desk, mut pass)) = Desk::set_up(alloc, board) else {
@@ -224,14 +210,9 @@ fn play_site<R: Threads + Wait + Sync, D: Driver + Send + Drop, G: Gate + Sync>(
     ensures stops { IfOk result (λ r. Stops r.1 r.0.journal) }
     ensures settled { IfOk result (λ r. r.1 ≡ false →
         IsSettled r.0.configuration r.0.state) }
-    ensures terms { IfOk result (λ _.
-        terms_in (players_of D.facts D.plan D.sound D.room workers.new.items)
-        ≡ terms_in (players_of D.facts D.plan D.sound D.room workers.old.items)) }
-    ensures driven { IfOk result (λ r. let c = board.configuration in
-        let before = players_of D.facts D.plan D.sound D.room workers.old.items in
-        let now = players_of D.facts D.plan D.sound D.room workers.new.items in
-        HaveDrivenAs true c board.journal before →
-        IsDriven true c r.1 r.0.journal now) }
+    ensures laps { IfOk result (λ r. HasLaps true board.configuration
+        board.journal (players_of D.facts D.plan D.sound D.room workers.old.items)
+        r.0.journal (players_of D.facts D.plan D.sound D.room workers.new.items) r.1) }
 {
     for _ in rt.forever() {
         let (played, full) = play_board(rt, alloc, board, workers, gate)?;
@@ -258,6 +239,10 @@ pub fn run_planned<R: Threads + Wait + Sync, D: Driver + Send + Drop, G: Gate + 
     ensures settled { IfOk result (λ e. e.full ≡ false →
         IsSettled config e.board.state × EndsWithTick e.board.journal) }
     ensures full { IfOk result (λ e. e.full ≡ true → length e.board.journal ≡ 262144) }
+    ensures played { IfOk result (λ e. WasPlayed true config
+        (map (driving D.facts D.plan D.sound D.room) drivers.items)
+        (map (driving D.facts D.plan D.sound D.room) e.drivers.items)
+        e.board.journal e.full) }
     ensures drivers { IfOk result (λ e. length e.drivers.items ≡ length config.pools) }
     ensures plans { IfOk result (λ e. map D.plan e.drivers.items ≡ map D.plan drivers.items) }
     ensures sounds { IfOk result (λ e. map D.sound e.drivers.items ≡ map D.sound drivers.items) }

@@ -2,7 +2,7 @@
 use Rattle.std.proofs.Common.{◌≡◌, ℕ, suc, ◌+◌, List, [], ◌∷◌, length, refl, ap, ◌∙◌, subst, arith, Bool, true, false}
 use Rattle.std.specs.Prelude.{Result, Ok, Err, IfOk, MatchBool}
 use Rattle.np_changes.specs.Prelude.{Configuration, Entry, NoMemory}
-use Rattle.np_answers.specs.Prelude.{DeskView, DriverFacts, IsFull, Leads, PassView, Phase, ended, first_phase, sight_of}
+use Rattle.np_driven.specs.Prelude.{DeskView, DriverFacts, IsFull, Leads, PassView, Phase, ended, first_phase, sight_of}
 use Rattle.np_worker.specs.declared.worker.RoundEnd.{RoundEnd}
 use Rattle.np_worker.specs.Round.{EndsAs, Rests, work_of, driving_of}
 use Rattle.np_rounds.specs.declared.crew.Crew.{Crew}
@@ -27,7 +27,7 @@ module _ (plans : Bool) {D : Type 0} (facts : D → DriverFacts) (plan : D → P
       full_round plans desk.origin.fixed (work_of crew.worker) h.round.trace (sight_of crew.pass) (sight_of e.crew.pass)
       (subst (λ (p : Phase). Leads (first_phase (work_of crew.worker)) h.round.trace p) to h.round.led) h.round.walked
 
-  with_no_places : (r : Result RoundEnd NoMemory) (mine later : List ℕ) → mine ≡ [] → IfOk r (λ end. length later ≡ length mine + end.entries) → IfOk r (λ end. length later ≡ end.entries)
+  pub with_no_places : (r : Result RoundEnd NoMemory) (mine later : List ℕ) → mine ≡ [] → IfOk r (λ end. length later ≡ length mine + end.entries) → IfOk r (λ end. length later ≡ end.entries)
   with_no_places (Err fault) mine later none h = tt
   with_no_places (Ok end) mine later none h = omega (arith, h, ap length none)
 

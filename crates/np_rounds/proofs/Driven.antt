@@ -3,7 +3,7 @@ use Rattle.std.proofs.Common.{◌≡◌, ◌<◌, ℕ, List, [], ◌∷◌, ◌+
 use Rattle.std.specs.Prelude.{All, Some, map}
 use Rattle.std.proofs.lemmas.List.Elements.{All-map, All-same}
 use Rattle.np_changes.specs.Prelude.{Configuration, Entry, Runs, after}
-use Rattle.np_answers.specs.Prelude.{DriverFacts, Driving, driving}
+use Rattle.np_driven.specs.Prelude.{DriverFacts, Driving, driving}
 use Rattle.np_driven.specs.Planned.{DrivenAs}
 use Rattle.np_driven.specs.Players.{Player, drivings_of, AreNumbered, WasAnswered, HaveDrivenAs}
 use Rattle.np_driven.specs.Round.{IsRound}

@@ -3,7 +3,7 @@ use Rattle.std.proofs.Common.{◌≡◌, ◌∙◌, ◌<◌, ℕ, List, [], ◌�
 use Rattle.std.specs.Prelude.{All, Some, map}
 use Rattle.std.proofs.lemmas.List.Elements.{All-nil, All-cons, All-append, All-map, All-same, All-weaker}
 use Rattle.np_changes.specs.Prelude.{Configuration, Entry, Runs, after}
-use Rattle.np_answers.specs.Prelude.{DriverFacts, Driving, Soundness, driving}
+use Rattle.np_driven.specs.Prelude.{DriverFacts, Driving, Soundness, driving}
 use Rattle.np_driven.specs.Players.{Player, driving_in, drivings_of, AreNumbered, HaveDriven}
 use Rattle.np_driven.specs.Round.{IsRound}
 use Rattle.np_driven.specs.Carried.{AreCarried, BeginsEmpty, BeginsNew, FailOnlyFull}

@@ -8,5 +8,6 @@ mod Taken
 pub mod OneRound
 pub mod Ticks
 pub mod Driven
-mod Hosted
+pub mod Hosted
 mod Seats
+pub mod Laps

@@ -1,9 +1,9 @@
 -- A round of all crews is a round of their players.
 use Rattle.std.proofs.Common.{◌≡◌, ◌⊎◌, inl, inr, ⊎_elim, ℕ, suc, ◌+◌, ◌<◌, List, [], ◌∷◌, ◌++◌, length, refl, sym, ap, ◌∙◌, subst, arith, append-nil, Bool, true, false}
-use Rattle.std.specs.Prelude.{All, map, Option, IfSome, MatchBool, Result}
+use Rattle.std.specs.Prelude.{All, map, Option, IfOk, IfSome, MatchBool, Ok, Result}
 use Rattle.std.proofs.lemmas.List.Elements.{All-nil, All-cons, All-head, All-tail}
 use Rattle.np_changes.specs.Prelude.{Configuration, Entry, NoMemory}
-use Rattle.np_answers.specs.Prelude.{DeskView, DriverFacts, Driving, IsOf, Move, OwesRemoval, PassView, Phase, Sight, Walk, Work, acts, ended, looks, of_pool, of_reaper, of_requester, owes_due, owes_launch, owes_report, owes_swept, rests, sight_of, sweeps}
+use Rattle.np_driven.specs.Prelude.{DeskView, DriverFacts, Driving, IsOf, Move, OwesRemoval, PassView, Phase, Sight, Walk, Work, acts, ended, looks, of_pool, of_reaper, of_requester, owes_due, owes_launch, owes_report, owes_swept, rests, sight_of, sweeps}
 use Rattle.np_desk.specs.History.{StartsWith, added, AreRising}
 use Rattle.np_desk.specs.Share.{times}
 use Rattle.np_desk.specs.declared.view.Origin.{Origin}
@@ -13,13 +13,18 @@ use Rattle.np_driven.specs.Players.{Player}
 use Rattle.np_driven.specs.Round.{PlayerEnd, PlaysFrom, EachPlaysFrom, IsMade, IsCutOff, IsRound}
 use Rattle.np_worker.specs.declared.worker.RoundEnd.{RoundEnd}
 use Rattle.np_worker.specs.declared.worker.Worker.{Worker}
+use Rattle.np_worker.specs.Board.{IsRoundAtBoard}
 use Rattle.np_worker.specs.Round.{EndsAs, Rests, work_of, driving_of}
+use Rattle.np_worker.proofs.Board.{at_board}
 use Rattle.np_rounds.specs.declared.crew.Crew.{Crew}
 use Rattle.np_rounds.specs.declared.crew.CrewEnd.{CrewEnd}
 use Rattle.np_rounds.specs.declared.round.Together.{Together}
 use Rattle.np_rounds.specs.Crews.{Seat, Plan, split_pass, given_pass, AreGiven, player_of, players_of, crew_players}
 use Rattle.np_rounds.specs.Plays.{CrewPlays, Pairwise}
-use Rattle.np_rounds.specs.Backs.{IsUncut, TookBack, end_players, merged_ends}
+use Rattle.np_rounds.specs.Backs.{DidEnd, IsUncut, TookBack, end_players, is_full_end, merged_ends, some_full}
+use Rattle.np_rounds.specs.Laps.{HaveRounds, IsPlayedRound}
+use Rattle.np_rounds.proofs.Backs.{with_no_places}
+use Rattle.np_rounds.proofs.Taken.{nor_parts, or_parts}
 use Rattle.np_rounds.proofs.Joined.{contains_here, contains_there, times_contains, of_either, below_end, added_there, length_added, no_shorter, same_length, same_history}
 
 -- ## reports
@@ -60,7 +65,7 @@ module _ (plans : Bool) {D : Type 0} (facts : D → DriverFacts) (plan : D → P
   round_ends (crew ∷ crews) [] h = absurd h
   round_ends (crew ∷ crews) (e ∷ ends) h = player_end crew e h.0 ∷ round_ends crews ends h.1
 
-  plays_from : (p : PassView Configuration Entry) (n : ℕ) (crew : Crew D Seat) (e : CrewEnd D Seat) → crew.pass ≡ given_pass n p → (h : CrewPlays plans facts plan sound room desk crew e) → PlaysFrom plans desk.origin.fixed p.seen (player_of facts plan sound room crew.worker) (player_end crew e h)
+  abbrev plays_from : (p : PassView Configuration Entry) (n : ℕ) (crew : Crew D Seat) (e : CrewEnd D Seat) → crew.pass ≡ given_pass n p → (h : CrewPlays plans facts plan sound room desk crew e) → PlaysFrom plans desk.origin.fixed p.seen (player_of facts plan sound room crew.worker) (player_end crew e h)
   plays_from p n crew e given h = record {
     trace = h.round.trace;
     walked = subst (λ (v : Sight Entry). Walk (answers_of plans) desk.origin.fixed h.round.trace v (sight_of e.crew.pass)) (ap sight_of given) h.round.walked;
@@ -74,6 +79,34 @@ module _ (plans : Bool) {D : Type 0} (facts : D → DriverFacts) (plan : D → P
   each_plays p n [] (e ∷ ends) given h = absurd h
   each_plays p n (crew ∷ crews) [] given h = absurd h
   each_plays p n (crew ∷ crews) (e ∷ ends) given h = (plays_from p n crew e given.0 h.0, each_plays p (suc n) crews ends given.1 h.1)
+
+  -- the crew's worker played a round at the board
+  one_at_board : (p : PassView Configuration Entry) (n : ℕ) (crew : Crew D Seat) (e : CrewEnd D Seat) (given : crew.pass ≡ given_pass n p) (h : CrewPlays plans facts plan sound room desk crew e) (is : RoundEnd) → e.end ≡ Ok is → IsRoundAtBoard plans desk.origin.fixed p.seen (player_of facts plan sound room crew.worker) (player_end crew e h) (Ok is)
+  one_at_board p n crew e given h is came =
+      let before = driving_of facts plan sound room crew.worker in let now = driving_of facts plan sound room e.crew.worker in
+      at_board plans desk.origin.fixed p.seen (player_of facts plan sound room crew.worker) (player_end crew e h) (plays_from p n crew e given h) (Ok is)
+      (subst (λ (r : Result RoundEnd NoMemory). EndsAs (work_of crew.worker) before now r h.round.trace h.round.to) came h.round.holds)
+      (sym (subst (λ (r : Result RoundEnd NoMemory). IfOk r (λ end. length e.crew.pass.mine ≡ end.entries)) came
+      (with_no_places plans facts plan sound room e.end crew.pass.mine e.crew.pass.mine (ap (λ (q : PassView Configuration Entry). q.mine) given) h.entries)))
+
+  -- so did each of them
+  have_rounds : (p : PassView Configuration Entry) (n : ℕ) (crews : List (Crew D Seat)) (ends : List (CrewEnd D Seat)) → AreGiven p n crews → (h : Pairwise (CrewPlays plans facts plan sound room desk) crews ends) → All DidEnd ends → HaveRounds plans desk.origin.fixed p.seen (crew_players facts plan sound room crews) (round_ends crews ends h) (some_full ends)
+  have_rounds p n [] [] given h came = record { each = tt; some = λ full. absurd cc; none = λ _ some. some }
+  have_rounds p n [] (e ∷ ends) given h came = absurd h
+  have_rounds p n (crew ∷ crews) [] given h came = absurd h
+  have_rounds p n (crew ∷ crews) (e ∷ ends) given h came =
+      let rest = have_rounds p (suc n) crews ends given.1 h.1 (All-tail DidEnd e ends came) in
+      let did : DidEnd e = All-head DidEnd e ends came in
+      let one = one_at_board p n crew e given.0 h.0 did.0 did.1 in
+      let same : is_full_end e.end ≡ did.0.full = ap is_full_end did.1 in record {
+        each = ((did.0, one), rest.each);
+        some = λ full. ⊎_elim
+            (λ (before : some_full ends ≡ true). inr (rest.some before))
+            (λ (now : is_full_end e.end ≡ true). inl (one.ended.full (sym same ∙ now)))
+            (or_parts (some_full ends) (is_full_end e.end) full);
+        none = λ room some. let parts = nor_parts (some_full ends) (is_full_end e.end) room in
+            ⊎_elim (one.ended.room (sym same ∙ parts.1)) (rest.none parts.0) some;
+      }
 
   players_now : (crews : List (Crew D Seat)) (ends : List (CrewEnd D Seat)) (h : Pairwise (CrewPlays plans facts plan sound room desk) crews ends) → map (λ (end : PlayerEnd). end.player) (round_ends crews ends h) ≡ end_players facts plan sound room ends
   players_now [] [] h = refl
@@ -183,12 +216,13 @@ closed_seen desk p history own all begins starts mine =
 pub is_round : (plans : Bool) {D : Type 0} (facts : D → DriverFacts) (plan : D → Plan) (sound : D → List ℕ → Bool) (room : D → ℕ) (desk : DeskView Configuration Entry) (n : ℕ) (p q r : PassView Configuration Entry) (crews : List (Crew D Seat)) (ends : List (CrewEnd D Seat)) (ws ws' ws'' : List (Worker D)) (t : Together)
     → Knows desk p r → q ≡ split_pass n p → AreGiven p 0 crews → Pairwise (CrewPlays plans facts plan sound room desk) crews ends → TookBack facts plan sound room q r ws' ws'' t ends
     → crew_players facts plan sound room crews ++ players_of facts plan sound room ws' ≡ players_of facts plan sound room ws → ws' ≡ []
-    → IsRound plans desk.origin.fixed p.seen r.seen (players_of facts plan sound room ws) (players_of facts plan sound room ws'') t.full
+    → IsPlayedRound plans desk.origin.fixed p.seen r.seen (players_of facts plan sound room ws) (players_of facts plan sound room ws'') t.full
 is_round plans facts plan sound room desk n p q r crews ends ws ws' ws'' t k is given h took had none =
     let ours = subst (λ (x : PassView Configuration Entry). TookBack facts plan sound room x r ws' ws'' t ends) is took in
     let left : players_of facts plan sound room ws' ≡ [] = ap (players_of facts plan sound room) none in
     let before : crew_players facts plan sound room crews ≡ players_of facts plan sound room ws =
-    sym (append-nil (crew_players facts plan sound room crews)) ∙ (ap (λ (l : List Player). crew_players facts plan sound room crews ++ l) (sym left) ∙ had) in record {
+    sym (append-nil (crew_players facts plan sound room crews)) ∙ (ap (λ (l : List Player). crew_players facts plan sound room crews ++ l) (sym left) ∙ had) in
+    let whole : IsRound plans desk.origin.fixed p.seen r.seen (players_of facts plan sound room ws) (players_of facts plan sound room ws'') t.full = record {
       ends = round_ends plans facts plan sound room desk crews ends h;
       plays = subst (λ (l : List Player). EachPlaysFrom plans desk.origin.fixed p.seen l (round_ends plans facts plan sound room desk crews ends h)) before (each_plays plans facts plan sound room desk p 0 crews ends given h);
       players_now = players_now plans facts plan sound room desk crews ends h ∙ (sym (append-nil (end_players facts plan sound room ends)) ∙ (ap (λ (l : List Player). end_players facts plan sound room ends ++ l) (sym left) ∙ sym ours.players));
@@ -199,5 +233,10 @@ is_round plans facts plan sound room desk n p q r crews ends ws ws' ws'' t k is 
           (λ (made : IsMade (round_ends plans facts plan sound room desk crews ends h) x). made)
           (made_by plans facts plan sound room desk x p.mine crews ends h (subst (λ (l : List ℕ). 0 < times x l) (sym k.has ∙ ours.mine)
           (added_there x desk.origin.history r.seen (later_begins desk p r k) (omega (arith, from, no_shorter desk.origin.history p.seen k.begins)) to)));
-      uncut = λ whole. all_reported plans facts plan sound room desk crews ends h (ours.uncut whole);
+      uncut = λ free. all_reported plans facts plan sound room desk crews ends h (ours.uncut free);
+    } in record {
+      round = whole;
+      workers = subst (λ (l : List Player). HaveRounds plans desk.origin.fixed p.seen l whole.ends t.full) before
+          (subst (λ (b : Bool). HaveRounds plans desk.origin.fixed p.seen (crew_players facts plan sound room crews) whole.ends b) (sym ours.whether)
+          (have_rounds plans facts plan sound room desk p 0 crews ends given h ours.ended));
     }

@@ -1,7 +1,7 @@
 -- A worker's round, where launchers may also commit what they chose before.
 use Rattle.std.specs.Prelude.{List, Bool, Option}
 use Rattle.np_changes.specs.Prelude.{Configuration, Entry}
-use Rattle.np_answers.specs.Prelude.{Driving, Move, Phase, Sight, answers}
+use Rattle.np_driven.specs.Prelude.{Driving, Move, Phase, Sight, answers}
 use Rattle.np_driven.specs.Planned.{answers_of}
 use Rattle.np_driven.proofs.Choices.{allowed-walk}
 use Rattle.np_worker.specs.Part.{Part}

@@ -4,7 +4,7 @@ use Rattle.std.specs.Prelude.{Result, Ok, Err, IfOk, ◌||◌, nat_lt}
 use Rattle.std.proofs.lemmas.Bool.Decides.{nat_tests}
 use Rattle.std.proofs.lemmas.List.Elements.{All-nil, All-cons, All-weaker}
 use Rattle.np_changes.specs.Prelude.{Configuration, Entry, NoMemory}
-use Rattle.np_answers.specs.Prelude.{DeskView, DriverFacts, IsFull, PassView}
+use Rattle.np_driven.specs.Prelude.{DeskView, DriverFacts, IsFull, PassView}
 use Rattle.np_desk.specs.History.{StartsWith, merged}
 use Rattle.np_desk.proofs.HistoryLemmas.{starts_same, starts_on}
 use Rattle.np_driven.specs.Players.{Player}
@@ -13,7 +13,7 @@ use Rattle.np_worker.specs.declared.worker.RoundEnd.{RoundEnd}
 use Rattle.np_rounds.specs.declared.crew.CrewEnd.{CrewEnd}
 use Rattle.np_rounds.specs.declared.round.Together.{Together}
 use Rattle.np_rounds.specs.Crews.{Seat, Plan, player_of, players_of}
-use Rattle.np_rounds.specs.Backs.{IsBack, IsUncut, TookBack}
+use Rattle.np_rounds.specs.Backs.{DidEnd, IsBack, IsUncut, TookBack, is_full_end, some_full}
 use Rattle.np_rounds.specs.Played.{with_end}
 use Rattle.np_rounds.proofs.Fulls.{full_later}
 use Rattle.np_rounds.proofs.Joined.{length_merged}
@@ -22,11 +22,11 @@ use Rattle.np_lists.proofs.Plain.{length-none}
 
 -- ## the sum of a round
 
-or_parts : (a b : Bool) → (a || b) ≡ true → (a ≡ true) ⊎ (b ≡ true)
+pub or_parts : (a b : Bool) → (a || b) ≡ true → (a ≡ true) ⊎ (b ≡ true)
 or_parts true b h = inl refl
 or_parts false b h = inr h
 
-nor_parts : (a b : Bool) → (a || b) ≡ false → (a ≡ false) × (b ≡ false)
+pub nor_parts : (a b : Bool) → (a || b) ≡ false → (a ≡ false) × (b ≡ false)
 nor_parts true b h = absurd cc
 nor_parts false b h = (refl, h)
 
@@ -74,6 +74,8 @@ module _ {D : Type 0} (facts : D → DriverFacts) (plan : D → Plan) (sound : D
     moved = λ h. absurd cc;
     full = λ h. absurd cc;
     uncut = λ _. All-nil IsUncut;
+    ended = All-nil DidEnd;
+    whether = refl;
     players = refl;
   }
 
@@ -122,5 +124,7 @@ module _ {D : Type 0} (facts : D → DriverFacts) (plan : D → Plan) (sound : D
         full = more_full desk n old mid new e s t back mine one seen told had.full;
         uncut = λ room. let parts = nor_parts s.full one.end.full (sym one.full ∙ room) in
             All-cons IsUncut e ends (one.end, one.is, parts.1) (had.uncut parts.0);
+        ended = All-cons DidEnd e ends (one.end, one.is) had.ended;
+        whether = one.full ∙ (ap (λ (b : Bool). b || one.end.full) had.whether ∙ ap (λ (b : Bool). some_full ends || b) (sym (ap is_full_end one.is)));
         players = ap (players_of facts plan sound room) more ∙ (players-push facts plan sound room ws' e.crew.worker ∙ ap (λ (l : List Player). player_of facts plan sound room e.crew.worker ∷ l) had.players);
       }

@@ -1,7 +1,7 @@
 -- crews that come back after a round
-use Rattle.std.specs.Prelude.{◌≡◌, ◌<◌, ℕ, suc, length, List, [], ◌∷◌, ◌++◌, All, Bool, true, false, Ok, IfOk}
-use Rattle.np_changes.specs.Prelude.{Configuration, Entry}
-use Rattle.np_answers.specs.Prelude.{DeskView, DriverFacts, IsFull, IsOf, PassView, second_half}
+use Rattle.std.specs.Prelude.{◌≡◌, ◌<◌, ◌||◌, ℕ, suc, length, List, [], ◌∷◌, ◌++◌, All, Bool, true, false, Result, Ok, Err, IfOk}
+use Rattle.np_changes.specs.Prelude.{Configuration, Entry, NoMemory}
+use Rattle.np_driven.specs.Prelude.{DeskView, DriverFacts, IsFull, IsOf, PassView, second_half}
 use Rattle.np_desk.specs.History.{StartsWith, merged}
 use Rattle.np_driven.specs.Players.{Player}
 use Rattle.np_worker.specs.declared.worker.RoundEnd.{RoundEnd}
@@ -27,6 +27,19 @@ AreBack desk n (e ∷ ends) = IsBack desk n e × AreBack desk (suc n) ends
 abbrev pub IsUncut : {D : Type 0} → CrewEnd D Seat → Type 0
 IsUncut e = (end : RoundEnd) × (e.end ≡ Ok end) × (end.full ≡ false)
 
+-- the round had memory (own)
+abbrev pub DidEnd : {D : Type 0} → CrewEnd D Seat → Type 0
+DidEnd e = (end : RoundEnd) × (e.end ≡ Ok end)
+
+-- a turn of the round found the journal full; and of some round of these (own)
+abbrev pub is_full_end : Result RoundEnd NoMemory → Bool
+is_full_end (Ok end) = end.full
+is_full_end (Err fault) = false
+
+abbrev pub some_full : {D : Type 0} → List (CrewEnd D Seat) → Bool
+some_full [] = false
+some_full (e ∷ ends) = some_full ends || is_full_end e.end
+
 -- these places with those of the crews' passes, the last of which came first (own)
 abbrev pub merged_ends : {D : Type 0} → List ℕ → List (CrewEnd D Seat) → List ℕ
 merged_ends mine [] = mine
@@ -48,4 +61,6 @@ module _ {D : Type 0} (facts : D → DriverFacts) (plan : D → Plan) (sound : D
     pub moved : sum.moved ≡ true → length old.mine < length new.mine
     pub full : sum.full ≡ true → IsFull new.seen
     pub uncut : sum.full ≡ false → All IsUncut ends
+    pub ended : All DidEnd ends
+    pub whether : sum.full ≡ some_full ends
     pub players : players_of facts plan sound room now ≡ end_players ends ++ players_of facts plan sound room before

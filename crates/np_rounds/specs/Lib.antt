@@ -2,3 +2,4 @@ pub mod Crews
 pub mod Plays
 pub mod Backs
 pub mod Played
+pub mod Laps

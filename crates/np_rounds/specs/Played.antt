@@ -5,9 +5,9 @@ use Rattle.np_event.specs.declared.event.Event.TheVariants as ev
 use Rattle.np_driven.specs.Planned.{DrivenAs}
 use Rattle.np_driven.specs.Players.{Player, drivings_of, AreNumbered, WasAnswered, HaveDrivenAs}
 use Rattle.np_worker.specs.declared.worker.RoundEnd.{RoundEnd}
-use Rattle.np_answers.specs.declared.ask.Turn.{Turn}
-use Rattle.np_answers.specs.declared.ask.Turn.TheVariants as turn
-use Rattle.np_answers.specs.Answers.{IsFull}
+use Rattle.np_driven.specs.declared.ask.Turn.{Turn}
+use Rattle.np_driven.specs.declared.ask.Turn.TheVariants as turn
+use Rattle.np_driven.specs.Answers.{IsFull}
 use Rattle.np_rounds.specs.declared.round.Together.{Together}
 use Rattle.np_rounds.specs.Crews.{Terms, terms_of}
 

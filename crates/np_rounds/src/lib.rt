@@ -11,6 +11,10 @@
 //! `specs/Crews` for who has which pass, `specs/Plays` for what a worker's round is, `specs/Backs`
 //! for crews that come back, and `specs/Played` for what rounds leave.
 //!
+//! A site is played in laps (`specs/Laps`): a round of all workers, in which each does what
+//! np_worker's `specs/Board` says, and then a tick if the round made an entry. What the laps leave
+//! of the journal and of the drivers follows from this by np_driven's laws (`proofs/Laps`).
+//!
 //! Crews, how passes are handed out and taken back, and what may cross threads serve rounds at other
 //! boards too (np_planned_rounds).
 #![tactic(auto)]

@@ -1,9 +1,9 @@
 //! One round of all workers.
 
 ghost use Rattle.std.specs.Prelude.{◌≡◌, ◌<◌, ◌++◌, All, IfOk, [], ◌∷◌, length, true, false};
-ghost use Rattle.np_answers.specs.Prelude.{IsFull, IsOf, IsWhole, is_legal};
-ghost use Rattle.np_driven.specs.Round.{IsRound};
+ghost use Rattle.np_driven.specs.Prelude.{IsFull, IsOf, IsWhole, is_legal};
 ghost use Rattle.np_rounds.specs.Crews.{zeros, split_pass, AreGiven, players_of, crew_players};
+ghost use Rattle.np_rounds.specs.Laps.{IsPlayedRound};
 ghost use Rattle.np_rounds.specs.Plays.{CrewPlays, Pairwise};
 ghost use Rattle.np_rounds.specs.Backs.{AreBack, TookBack};
 ghost use Rattle.np_rounds.specs.Played.{with_end};
@@ -143,7 +143,8 @@ pub(crate) fn play_round<R: Threads + Wait + Sync, D: Driver + Send + Drop, G: G
     ensures moved { IfOk result (λ t. t.moved ≡ true →
         length pass.old.seen < length pass.new.seen) }
     ensures legal { IfOk result (λ _. is_legal desk.now.origin.fixed pass.new.seen ≡ true) }
-    ensures round { IfOk result (λ t. IsRound false desk.now.origin.fixed pass.old.seen pass.new.seen
+    ensures round { IfOk result (λ t. IsPlayedRound false desk.now.origin.fixed
+        pass.old.seen pass.new.seen
         (players_of D.facts D.plan D.sound D.room workers.old.items)
         (players_of D.facts D.plan D.sound D.room workers.new.items) t.full) }
 {

@@ -1,28 +1,20 @@
 //! A site, played to its end.
 
 ghost use Rattle.std.specs.Prelude.{◌≡◌, [], length, map, All, IfOk, Some, true, false};
-ghost use Rattle.np_answers.specs.Prelude.{DrivenBy, IsOf, IsSettled, IsWhole, driving};
-ghost use Rattle.np_driven.specs.Players.{WasAnswered, HaveDriven};
+ghost use Rattle.np_driven.specs.Prelude.{DrivenBy, IsOf, IsSettled, IsWhole, driving};
+ghost use Rattle.np_driven.specs.Players.{WasAnswered};
 ghost use Rattle.np_driven.specs.Carried.{AreCarried, BeginsEmpty, BeginsNew, FailOnlyFull};
-ghost use Rattle.np_driven.specs.Hosting.{Earlier, HaveHosted, IsHosted};
 ghost use Rattle.np_rounds.specs.Crews.{players_of};
-ghost use Rattle.np_rounds.specs.Played.{
-  EndsWithTick,
-  IsDriven,
-  IsRested,
-  Stops,
-  Ticks,
-  is_full,
-  terms_in,
-};
+ghost use Rattle.np_rounds.specs.Laps.{HasLaps, IsTick, WasPlayed};
+ghost use Rattle.np_rounds.specs.Played.{EndsWithTick, IsRested, Stops, is_full};
 
 use crate::crew::{drivers_of, workers_of};
 use crate::round::play_round;
-use np_answers::{Ask, Turn};
 use np_board::Board;
 use np_cloud::{Driver, Gate};
 use np_config::Config;
 use np_desk::{Desk, Pass};
+use np_driven::{Ask, Turn};
 use np_event::Event;
 use np_text::NoMemory;
 use np_worker::Worker;
@@ -55,7 +47,8 @@ fn tick<R: Wait>(rt: &R, desk: &Desk<Board>, pass: &mut Pass<Board>) -> Result<b
     ensures own { IsOf pass.new desk.now }
     ensures part { pass.new.part ≡ pass.old.part }
     ensures stops { IfOk result (λ full. Stops full pass.new.seen) }
-    ensures ticks { IfOk result (λ full. Ticks full pass.old.seen pass.new.seen) }
+    ensures tick { IfOk result (λ full. IsTick desk.now.origin.fixed
+        pass.old.seen pass.new.seen full) }
 {
     pass.know();
     let turn = pass.turn(rt, desk, Ask::Do(Event::Tick))?;
@@ -78,18 +71,9 @@ fn play_at<R: Threads + Wait + Sync, D: Driver + Send + Drop, G: Gate + Sync>(
     ensures own { IfOk result (λ _. IsOf pass.new desk.now) }
     ensures whole { IfOk result (λ _. IsWhole pass.new.part) }
     ensures stops { IfOk result (λ full. Stops full pass.new.seen) }
-    ensures terms { IfOk result (λ _.
-        terms_in (players_of D.facts D.plan D.sound D.room workers.new.items)
-        ≡ terms_in (players_of D.facts D.plan D.sound D.room workers.old.items)) }
-    ensures driven { IfOk result (λ full. let c = desk.now.origin.fixed in
-        let before = players_of D.facts D.plan D.sound D.room workers.old.items in
-        let now = players_of D.facts D.plan D.sound D.room workers.new.items in
-        HaveDriven c pass.old.seen before → IsDriven false c full pass.new.seen now) }
-    ensures hosted { IfOk result (λ full. let c = desk.now.origin.fixed in
-        let before = players_of D.facts D.plan D.sound D.room workers.old.items in
-        let now = players_of D.facts D.plan D.sound D.room workers.new.items in
-        (earlier : Earlier) → HaveHosted earlier c pass.old.seen before →
-        IsHosted earlier c full pass.new.seen now) }
+    ensures laps { IfOk result (λ full. HasLaps false desk.now.origin.fixed
+        pass.old.seen (players_of D.facts D.plan D.sound D.room workers.old.items)
+        pass.new.seen (players_of D.facts D.plan D.sound D.room workers.new.items) full) }
 {
     for _ in rt.forever() {
         let together = play_round(rt, alloc, desk, pass, workers, gate)?;
@@ -117,19 +101,9 @@ fn play_board<R: Threads + Wait + Sync, D: Driver + Send + Drop, G: Gate + Sync>
     requires rested { IsRested board.journal }
     ensures configuration { IfOk result (λ r. r.0.configuration ≡ board.configuration) }
     ensures stops { IfOk result (λ r. Stops r.1 r.0.journal) }
-    ensures terms { IfOk result (λ _.
-        terms_in (players_of D.facts D.plan D.sound D.room workers.new.items)
-        ≡ terms_in (players_of D.facts D.plan D.sound D.room workers.old.items)) }
-    ensures driven { IfOk result (λ r. let c = board.configuration in
-        let before = players_of D.facts D.plan D.sound D.room workers.old.items in
-        let now = players_of D.facts D.plan D.sound D.room workers.new.items in
-        HaveDriven c board.journal before →
-        IsDriven false c r.1 r.0.journal now) }
-    ensures hosted { IfOk result (λ r. let c = board.configuration in
-        let before = players_of D.facts D.plan D.sound D.room workers.old.items in
-        let now = players_of D.facts D.plan D.sound D.room workers.new.items in
-        (earlier : Earlier) → HaveHosted earlier c board.journal before →
-        IsHosted earlier c r.1 r.0.journal now) }
+    ensures laps { IfOk result (λ r. HasLaps false board.configuration
+        board.journal (players_of D.facts D.plan D.sound D.room workers.old.items)
+        r.0.journal (players_of D.facts D.plan D.sound D.room workers.new.items) r.1) }
 {
     board.soundness();
     let Ok((desk, mut pass)) = Desk::set_up(alloc, board) else {
@@ -154,19 +128,9 @@ fn play_site<R: Threads + Wait + Sync, D: Driver + Send + Drop, G: Gate + Sync>(
     ensures stops { IfOk result (λ r. Stops r.1 r.0.journal) }
     ensures settled { IfOk result (λ r. r.1 ≡ false →
         IsSettled r.0.configuration r.0.state) }
-    ensures terms { IfOk result (λ _.
-        terms_in (players_of D.facts D.plan D.sound D.room workers.new.items)
-        ≡ terms_in (players_of D.facts D.plan D.sound D.room workers.old.items)) }
-    ensures driven { IfOk result (λ r. let c = board.configuration in
-        let before = players_of D.facts D.plan D.sound D.room workers.old.items in
-        let now = players_of D.facts D.plan D.sound D.room workers.new.items in
-        HaveDriven c board.journal before →
-        IsDriven false c r.1 r.0.journal now) }
-    ensures hosted { IfOk result (λ r. let c = board.configuration in
-        let before = players_of D.facts D.plan D.sound D.room workers.old.items in
-        let now = players_of D.facts D.plan D.sound D.room workers.new.items in
-        (earlier : Earlier) → HaveHosted earlier c board.journal before →
-        IsHosted earlier c r.1 r.0.journal now) }
+    ensures laps { IfOk result (λ r. HasLaps false board.configuration
+        board.journal (players_of D.facts D.plan D.sound D.room workers.old.items)
+        r.0.journal (players_of D.facts D.plan D.sound D.room workers.new.items) r.1) }
 {
     for _ in rt.forever() {
         let (played, full) = play_board(rt, alloc, board, workers, gate)?;
@@ -193,6 +157,10 @@ pub fn run_rounds<R: Threads + Wait + Sync, D: Driver + Send + Drop, G: Gate + S
     ensures settled { IfOk result (λ e. e.full ≡ false →
         IsSettled config e.board.state × EndsWithTick e.board.journal) }
     ensures full { IfOk result (λ e. e.full ≡ true → length e.board.journal ≡ 262144) }
+    ensures played { IfOk result (λ e. WasPlayed false config
+        (map (driving D.facts D.plan D.sound D.room) drivers.items)
+        (map (driving D.facts D.plan D.sound D.room) e.drivers.items)
+        e.board.journal e.full) }
     ensures drivers { IfOk result (λ e. length e.drivers.items ≡ length config.pools) }
     ensures plans { IfOk result (λ e. map D.plan e.drivers.items ≡ map D.plan drivers.items) }
     ensures sounds { IfOk result (λ e. map D.sound e.drivers.items ≡ map D.sound drivers.items) }

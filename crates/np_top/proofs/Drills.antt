@@ -1,5 +1,5 @@
 -- a site that was played for its summary: from what playing left to what a drill shows
-use Rattle.std.proofs.Common.{◌≡◌, ◌∙◌, refl, sym, ap, subst, Bool, ℕ, List}
+use Rattle.std.proofs.Common.{◌≡◌, ◌∙◌, refl, sym, ap, subst, Bool, ℕ, List, false}
 use Rattle.np_changes.specs.Prelude.{AllByRecursion, Configuration, Entry, IsSound, Runs, State, fates}
 use Rattle.np_event_lines.specs.Line.{HasEventLine}
 use Rattle.np_useful.specs.Driven.{Driven}
@@ -10,7 +10,7 @@ use Rattle.np_top.specs.Play.{HasEnded}
 use Rattle.np_top.specs.Drill.{IsDrill}
 
 pub drill_shown : (c d : Configuration) (journal : List Entry) (s : State) (text : List ℕ) (full : Bool) → d ≡ c → IsSound c → Runs d journal s →
-    AllByRecursion (λ (e : Entry). HasEventLine e.event) journal → Driven c journal → HasEnded c journal full → text ≡ summary_of (fates s) → IsDrill c text full
+    AllByRecursion (λ (e : Entry). HasEventLine e.event) journal → Driven c journal → HasEnded false c journal full → text ≡ summary_of (fates s) → IsDrill c text full
 drill_shown c d journal s text full same sound runs lines driven ended summary =
     let own : Runs c journal s = subst (λ (x : Configuration). Runs x journal s) same runs in
     record {

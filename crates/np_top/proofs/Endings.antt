@@ -10,7 +10,7 @@ use Rattle.np_top.specs.Run.{SiteCommand, EndsRun, EndsSite, HasCome, IsNoSite}
 
 module _ (r : SiteCommand) where
   -- playing ended with a journal that was driven
-  pub ends_site : {N : Type 0} (site : r.Site) (journal : List Entry) (end : Result Ending N) → r.IsDriven site journal → IfOk end (EndsPlay (r.configuration site) journal) → IfOk end (EndsSite r site)
+  pub ends_site : {N : Type 0} (site : r.Site) (journal : List Entry) (end : Result Ending N) → r.IsDriven site journal → IfOk end (EndsPlay r.plans (r.configuration site) journal) → IfOk end (EndsSite r site)
   ends_site site journal (Ok end) driven ends = (journal, driven, ends)
   ends_site site journal (Err none) driven ends = tt
 

@@ -7,7 +7,7 @@ use Rattle.std.proofs.lemmas.List.Elements.{All-nil, All-cons, All-head, All-tai
 use Rattle.std.proofs.lemmas.Option.{slice_get-map}
 use Rattle.np_io.specs.Facts.{SourceFacts}
 use Rattle.np_event.specs.declared.event.Outcome.TheVariants as outcome
-use Rattle.np_answers.specs.Prelude.{DistinctNumbers, DrivenBy, Driving, Launch, Tag, driving}
+use Rattle.np_driven.specs.Prelude.{DistinctNumbers, DrivenBy, Driving, Launch, Tag, driving}
 use Rattle.np_cloud.specs.Inventory.{Told, told_nothing}
 use Rattle.np_cloud.specs.Sim.{Simulation, simulated_outcome}
 use Rattle.np_driven.specs.Players.{WasAnswered, launch_of}

@@ -1,9 +1,9 @@
 -- a site that was played: from what the rounds left to what a run shows
 use Rattle.std.proofs.Common.{◌≡◌, ◌∙◌, refl, sym, ap, subst, true, false, Bool, ℕ, zero, suc, List, [], ◌∷◌, length, map}
 use Rattle.std.specs.Prelude.{All, Option, Some, is_some}
-use Rattle.std.proofs.lemmas.List.Elements.{All-nil, All-cons, All-append, All-weaker}
+use Rattle.std.proofs.lemmas.List.Elements.{All-nil, All-cons, All-append, All-map, All-weaker}
 use Rattle.np_changes.specs.Prelude.{Configuration, Entry, Outcome, Runs, State, after, fates}
-use Rattle.np_answers.specs.Prelude.{Driven, DrivenBy, DriverFacts, Driving, IsSettled, Tag, driving}
+use Rattle.np_driven.specs.Prelude.{Driven, DrivenBy, DriverFacts, Driving, IsSettled, Tag, driving}
 use Rattle.np_cloud.specs.Sim.{Simulation, simulation_of, simulation_facts, simulation_plan}
 use Rattle.np_cloud.specs.Clouds.{ArePlanned, simulations}
 use Rattle.np_cloud.proofs.CloudLemmas.{simulations-planned}
@@ -13,8 +13,9 @@ use Rattle.np_driven.specs.Planned.{PlannedBy, PlannedDriven}
 use Rattle.np_driven.proofs.Plans.{planned-driven, planned-planned}
 use Rattle.np_report.specs.Printed.{IsPrinted}
 use Rattle.np_rules.specs.Ran.{Ran}
+use Rattle.np_rounds.specs.Laps.{WasPlayed}
 use Rattle.np_rounds.specs.Played.{EndsWithTick}
-use Rattle.np_top.specs.Play.{HasEnded, IsPlayedTo, status_of_fates}
+use Rattle.np_top.specs.Play.{HasEnded, HasStopped, IsPlayedTo, WasPlayedBy, status_of_fates}
 
 -- ## the clouds
 
@@ -66,11 +67,11 @@ module _ (c d : Configuration) (journal : List Entry) (s : State) (same : d ≡ 
   reached : after c journal ≡ s
   reached = subst (λ (x : Configuration). after x journal ≡ s) same runs.ends
 
-  pub settled_end : IsSettled c s × EndsWithTick journal → HasEnded c journal false
+  pub settled_end : IsSettled c s × EndsWithTick journal → HasStopped c journal false
   settled_end settled = (subst (IsSettled c) (sym reached) settled.0, settled.1)
 
-  pub played_to : (text : List ℕ) (full : Bool) → IsPrinted d journal text → HasEnded c journal full → IsPlayedTo c journal text full
-  played_to text full printed ended = record {
+  pub played_to : (may_plan : Bool) (text : List ℕ) (full : Bool) → IsPrinted d journal text → HasEnded may_plan c journal full → IsPlayedTo may_plan c journal text full
+  played_to may_plan text full printed ended = record {
     printed = subst (λ (x : Configuration). IsPrinted x journal text) same printed;
     ended = ended;
   }
@@ -79,13 +80,22 @@ module _ (c d : Configuration) (journal : List Entry) (s : State) (same : d ≡ 
   status_then status is = is ∙ ap (λ (x : State). status_of_fates (fates x)) (sym reached)
 
 -- it is known which of the two it was
-pub ended_is : (c : Configuration) (journal : List Entry) (full b : Bool) → full ≡ b → HasEnded c journal full → HasEnded c journal b
-ended_is c journal full b is ended = subst (HasEnded c journal) is ended
+pub ended_is : (may_plan : Bool) (c : Configuration) (journal : List Entry) (full b : Bool) → full ≡ b → HasEnded may_plan c journal full → HasEnded may_plan c journal b
+ended_is may_plan c journal full b is ended = subst (HasEnded may_plan c journal) is ended
 
 -- how the rounds ended
-pub ended_so : (c d : Configuration) (journal : List Entry) (s : State) (full : Bool) → d ≡ c → Runs d journal s → (full ≡ false → IsSettled c s × EndsWithTick journal) → (full ≡ true → length journal ≡ 262144) → HasEnded c journal full
+pub ended_so : (c d : Configuration) (journal : List Entry) (s : State) (full : Bool) → d ≡ c → Runs d journal s → (full ≡ false → IsSettled c s × EndsWithTick journal) → (full ≡ true → length journal ≡ 262144) → HasStopped c journal full
 ended_so c d journal s true same runs settled full = full refl
 ended_so c d journal s false same runs settled full = settled_end c d journal s same runs (settled refl)
+
+pub played_by : (may_plan : Bool) {D : Type 0} (facts : D → DriverFacts) (plan : D → Tag → Option Outcome) (sound : D → List ℕ → Bool) (room : D → ℕ) (c : Configuration) (ds es : List D) (journal : List Entry) (full : Bool)
+    → All (λ (d : D). (facts d).servers ≡ Some []) ds → WasPlayed may_plan c (map (driving facts plan sound room) ds) (map (driving facts plan sound room) es) journal full → WasPlayedBy may_plan c journal full
+played_by may_plan facts plan sound room c ds es journal full none played = record {
+  before = map (driving facts plan sound room) ds;
+  left = map (driving facts plan sound room) es;
+  empty = All-map (λ (d : Driving). d.facts.servers ≡ Some []) (driving facts plan sound room) ds none;
+  played = played;
+}
 
 -- ## the machine of a board
 

@@ -21,7 +21,7 @@ pub record IsDrill (c : Configuration) (text : List ℕ) (full : Bool) : Type 0 
   pub journal : List Entry
   pub runs : Runs c journal (after c journal)
   pub driven : Driven c journal
-  pub ended : HasEnded c journal full
+  pub ended : HasEnded false c journal full
   pub summary : text ≡ summary_of (fates (after c journal))
   pub throughout : HoldsThroughout c journal
 
@@ -44,7 +44,7 @@ pub record Drills {K E : Type 0} (k : K → SinkFacts) (e : E → SinkFacts) (jo
   pub told : IsTold k e out out_now err err_now ending status
   -- status 0: the summary of a journal that the site's parties drove to its end is on out, and nothing on err
   pub done : status ≡ 0 → (text : List ℕ) × IsDrill (drill_site jobs) text false × IsWritten (k out) (k out_now) text × (err_now ≡ err)
-  -- status 9: the summary of a journal that is as long as it may be is on out, and err says so
+  -- status 9: a turn found the journal full, which is as long as it may be; its summary is on out, and err says so
   pub full : status ≡ 9 → (text : List ℕ) × IsDrill (drill_site jobs) text true
       × IsWritten (k out) (k out_now) text × IsWritten (e err) (e err_now) full_line
   -- status 6: out or err failed, and `told` says which, and what is on both

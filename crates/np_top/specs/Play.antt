@@ -1,23 +1,36 @@
 -- how a site was played, by whichever drivers
-use Rattle.std.specs.Prelude.{◌≡◌, ℕ, Bool, true, false, List, length, if◌then◌else◌}
+use Rattle.std.specs.Prelude.{◌≡◌, ℕ, Bool, true, false, All, List, [], length, Some, if◌then◌else◌}
 use Rattle.np_changes.specs.Prelude.{Configuration, Entry, Fate, after, fates, list_any}
 use Rattle.np_machine.specs.Fates as fate
 use Rattle.np_useful.specs.Settled.{IsSettled}
+use Rattle.np_driven.specs.Drive.{Driving}
 use Rattle.np_report.specs.Printed.{IsPrinted}
+use Rattle.np_rounds.specs.Laps.{WasPlayed}
 use Rattle.np_rounds.specs.Played.{EndsWithTick}
 use Rattle.np_replay.specs.declared.ending.Ending.{Ending}
 use Rattle.np_replay.specs.declared.ending.Ending.TheVariants as ending
 
 -- if the run came to its end, no role has a useful event, and the last entry is a tick; otherwise
 -- the journal is as long as it may be (own)
-abbrev pub HasEnded : Configuration → List Entry → Bool → Type 0
-HasEnded c journal false = IsSettled c (after c journal) × EndsWithTick journal
-HasEnded c journal true = length journal ≡ 262144
+abbrev pub HasStopped : Configuration → List Entry → Bool → Type 0
+HasStopped c journal false = IsSettled c (after c journal) × EndsWithTick journal
+HasStopped c journal true = length journal ≡ 262144
+
+-- workers played the site in laps, from the empty journal to this one, with drivers that had no servers before; a turn of some lap found the journal full, or none did (own)
+pub record WasPlayedBy (plans : Bool) (c : Configuration) (journal : List Entry) (full : Bool) : Type 0 where
+  pub before : List Driving
+  pub left : List Driving
+  pub empty : All (λ (d : Driving). d.facts.servers ≡ Some []) before
+  pub played : WasPlayed plans c before left journal full
+
+-- both (own)
+abbrev pub HasEnded : Bool → Configuration → List Entry → Bool → Type 0
+HasEnded plans c journal full = HasStopped c journal full × WasPlayedBy plans c journal full
 
 -- the text is that of a journal over this configuration, which was played to its end, or until it was full (own)
-pub record IsPlayedTo (c : Configuration) (journal : List Entry) (text : List ℕ) (full : Bool) : Type 0 where
+pub record IsPlayedTo (plans : Bool) (c : Configuration) (journal : List Entry) (text : List ℕ) (full : Bool) : Type 0 where
   pub printed : IsPrinted c journal text
-  pub ended : HasEnded c journal full
+  pub ended : HasEnded plans c journal full
 
 -- ## the fates of its jobs
 
@@ -40,11 +53,11 @@ status_of_fates ends = if some_waits ends then 1 else 0
 -- ## how playing may end
 
 -- how playing a site may end, with this journal
-abbrev pub EndsPlay : Configuration → List Entry → Ending → Type 0
-EndsPlay c journal (ending.Prints text status) = IsPlayedTo c journal text.items false × (status ≡ status_of_fates (fates (after c journal)))
-EndsPlay c journal (ending.Full text) = IsPlayedTo c journal text.items true
-EndsPlay c journal (ending.Says line status) = ⊥
-EndsPlay c journal ending.NoCommand = ⊥
-EndsPlay c journal ending.ReadFault = ⊥
-EndsPlay c journal ending.TooLong = ⊥
-EndsPlay c journal ending.NoMemory = ⊥
+abbrev pub EndsPlay : Bool → Configuration → List Entry → Ending → Type 0
+EndsPlay plans c journal (ending.Prints text status) = IsPlayedTo plans c journal text.items false × (status ≡ status_of_fates (fates (after c journal)))
+EndsPlay plans c journal (ending.Full text) = IsPlayedTo plans c journal text.items true
+EndsPlay plans c journal (ending.Says line status) = ⊥
+EndsPlay plans c journal ending.NoCommand = ⊥
+EndsPlay plans c journal ending.ReadFault = ⊥
+EndsPlay plans c journal ending.TooLong = ⊥
+EndsPlay plans c journal ending.NoMemory = ⊥

@@ -24,6 +24,8 @@ pub record SiteCommand : Type 1 where
   pub Fault : Type 0
   pub reads : List ℕ → Result Site Fault
   pub configuration : Site → Configuration
+  -- whether launchers may commit what was useful before
+  pub plans : Bool
   -- how the journal of a run was driven
   pub IsDriven : Site → List Entry → Type 0
   -- the line of a fault, and its status
@@ -42,6 +44,7 @@ site_run plans = record {
   Fault = ConfigFault;
   reads = reads;
   configuration = λ c. c;
+  plans = plans;
   IsDriven = driven_as plans;
   line_of = config_line;
   status_of = λ fault. 3;
@@ -66,7 +69,7 @@ module _ (r : SiteCommand) where
     pub input : IsInput source source_now came
     pub read : r.reads came ≡ Ok site
     pub driven : r.IsDriven site journal
-    pub played : IsPlayedTo (r.configuration site) journal text full
+    pub played : IsPlayedTo r.plans (r.configuration site) journal text full
 
   -- what became of its jobs
   abbrev pub fates_of_run : {source source_now : SourceFacts} {text : List ℕ} {full : Bool} → IsRun source source_now text full → List Fate
@@ -100,7 +103,7 @@ module _ (r : SiteCommand) where
 
   -- how playing a site may end
   abbrev pub EndsSite : r.Site → Ending → Type 0
-  EndsSite site ended = (journal : List Entry) × r.IsDriven site journal × EndsPlay (r.configuration site) journal ended
+  EndsSite site ended = (journal : List Entry) × r.IsDriven site journal × EndsPlay r.plans (r.configuration site) journal ended
 
   -- ## the statuses that belong to an input
 
@@ -130,7 +133,7 @@ module _ (r : SiteCommand) where
     -- status 1: the same, but some job's fate is waiting
     pub waiting : status ≡ 1 → (text : List ℕ) × (run : IsRun (s source) (s source_now) text false)
         × (some_waits (fates_of_run run) ≡ true) × IsWritten (k out) (k out_now) text × (err_now ≡ err)
-    -- status 9: the Text of a journal that is as long as it may be is on out, and err says so
+    -- status 9: a turn found the journal full, which is as long as it may be; its Text is on out, and err says so
     pub full : status ≡ 9 → (text : List ℕ) × IsRun (s source) (s source_now) text true
         × IsWritten (k out) (k out_now) text × IsWritten (e err) (e err_now) full_line
     -- status 3 or 4: the line of the input's first fault is on err, and nothing on out

@@ -1,5 +1,5 @@
 -- what the command `run hosts` does: it plays a site of which some pools are served by hosts
-use Rattle.std.specs.Prelude.{◌≡◌, ℕ, List, [], ◌∷◌, ◌++◌, slice_get, sum, IsTrue, Option, Some, None}
+use Rattle.std.specs.Prelude.{◌≡◌, ℕ, false, List, [], ◌∷◌, ◌++◌, slice_get, sum, IsTrue, Option, Some, None}
 use Rattle.np_changes.specs.Prelude.{Configuration, Entry, Outcome, PoolId, after, outcome_of}
 use Rattle.np_event.specs.declared.event.Event.TheVariants as ev
 use Rattle.np_useful.specs.Driven.{Says, DrivenBy}
@@ -47,6 +47,7 @@ hosted_run = record {
   Fault = HostedFault;
   reads = hosted_of;
   configuration = λ h. h.configuration;
+  plans = false;
   IsDriven = IsDrivenWithHosts;
   line_of = hosted_line;
   status_of = hosted_status;

@@ -1,6 +1,6 @@
 //! The command `drill`.
 
-ghost use Rattle.std.specs.Prelude.{◌≤◌, IfOk};
+ghost use Rattle.std.specs.Prelude.{◌≤◌, false, IfOk};
 ghost use Rattle.np_changes.specs.Prelude.{AllByRecursion, IsSound};
 ghost use Rattle.np_event_lines.specs.Line.{HasEventLine};
 ghost use Rattle.np_useful.specs.Driven.{Driven};
@@ -25,7 +25,7 @@ fn ending_at(alloc: Global, board: &Board, full: bool) -> Result<Ending, NoMemor
     requires sound { IsSound board.now.configuration }
     requires lines { AllByRecursion (λ e. HasEventLine e.event) board.now.journal }
     requires driven { Driven board.now.configuration board.now.journal }
-    requires ended { HasEnded board.now.configuration board.now.journal full }
+    requires ended { HasEnded false board.now.configuration board.now.journal full }
     ensures { IfOk result (EndsDrill board.now.configuration) }
 {
     board.soundness();

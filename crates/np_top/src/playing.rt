@@ -1,7 +1,7 @@
 //! Playing a site by threads to its end.
 
-ghost use Rattle.std.specs.Prelude.{◌≡◌, length, map, All, IfOk};
-ghost use Rattle.np_answers.specs.Prelude.{AllByRecursion, Driven, DrivenBy, driving};
+ghost use Rattle.std.specs.Prelude.{◌≡◌, length, map, false, true, All, IfOk};
+ghost use Rattle.np_driven.specs.Prelude.{AllByRecursion, Driven, DrivenBy, driving};
 ghost use Rattle.np_event_lines.specs.Line.{HasEventLine};
 ghost use Rattle.np_driven.specs.Planned.{PlannedDriven};
 ghost use Rattle.np_driven.specs.Players.{WasAnswered};
@@ -45,7 +45,7 @@ fn play_over<R: Threads + Wait + Sync, D: Driver + Send + Drop, G: Gate + Sync>(
     ensures plans { IfOk result (λ e. map D.plan e.drivers.items ≡ map D.plan drivers.items) }
     ensures sounds { IfOk result (λ e. map D.sound e.drivers.items ≡ map D.sound drivers.items) }
     ensures rooms { IfOk result (λ e. map D.room e.drivers.items ≡ map D.room drivers.items) }
-    ensures ended { IfOk result (λ e. HasEnded config e.board.journal e.full) }
+    ensures ended { IfOk result (λ e. HasEnded false config e.board.journal e.full) }
 {
     config.soundness();
     let ended = run_rounds(rt, alloc, config, drivers, gate)?;
@@ -65,7 +65,7 @@ pub(crate) fn play_site<R: Threads + Wait + Sync, G: Gate + Sync>(
     ensures configuration { IfOk result (λ r. r.0.configuration ≡ config) }
     ensures lines { IfOk result (λ r. AllByRecursion (λ e. HasEventLine e.event) r.0.journal) }
     ensures driven { IfOk result (λ r. Driven config r.0.journal) }
-    ensures ended { IfOk result (λ r. HasEnded config r.0.journal r.1) }
+    ensures ended { IfOk result (λ r. HasEnded false config r.0.journal r.1) }
 {
     let clouds = simulated_clouds(alloc, &config)?;
     let ended = play_over(rt, alloc, config, clouds, gate)?;
@@ -83,7 +83,7 @@ pub(crate) fn play_planned<R: Threads + Wait + Sync, G: Gate + Sync>(
     ensures configuration { IfOk result (λ r. r.0.configuration ≡ config) }
     ensures lines { IfOk result (λ r. AllByRecursion (λ e. HasEventLine e.event) r.0.journal) }
     ensures driven { IfOk result (λ r. PlannedDriven config r.0.journal) }
-    ensures ended { IfOk result (λ r. HasEnded config r.0.journal r.1) }
+    ensures ended { IfOk result (λ r. HasEnded true config r.0.journal r.1) }
 {
     config.soundness();
     let clouds = simulated_clouds(alloc, &config)?;
@@ -106,7 +106,7 @@ pub(crate) fn play_hosts<R: Threads + Wait + Sync, G: Gate + Sync>(
     ensures configuration { IfOk result (λ r. r.0.configuration ≡ site.config) }
     ensures lines { IfOk result (λ r. AllByRecursion (λ e. HasEventLine e.event) r.0.journal) }
     ensures driven { IfOk result (λ r. IsDrivenWithHosts (hosted_view site) r.0.journal) }
-    ensures ended { IfOk result (λ r. HasEnded site.config r.0.journal r.1) }
+    ensures ended { IfOk result (λ r. HasEnded false site.config r.0.journal r.1) }
 {
     let HostedSite { config, drivers } = site;
     let ended = play_over(rt, alloc, config, drivers, gate)?;

@@ -72,8 +72,9 @@ pub(crate) fn ending_at<S: Store + Drop>(
 ) -> Result<Ending, NoMemory>
     requires first { machine.now.earlier ≡ 0 }
     requires lines { AllByRecursion (λ e. HasEventLine e.event) machine.now.journal }
-    requires ended { HasEnded machine.now.configuration machine.now.journal full }
-    ensures { IfOk result (EndsPlay machine.now.configuration machine.now.journal) }
+    ensures { (plans : Bool) →
+        HasEnded plans machine.now.configuration machine.now.journal full →
+        IfOk result (EndsPlay plans machine.now.configuration machine.now.journal) }
 {
     machine.soundness();
     let rows = machine.rows();

@@ -6,3 +6,4 @@ pub mod Orderly
 pub mod Stages
 pub mod Series
 pub mod Onward
+pub mod Board

@@ -1,18 +1,18 @@
 -- The moves of a round are orderly.
 use Rattle.std.proofs.Common.{◌≡◌, ◌∙◌, ap, subst, List, ◌++◌}
 use Rattle.std.specs.Prelude.{Option, map}
-use Rattle.np_answers.specs.Prelude.{Driving, Launch, Leads, Move, OwesRemoval, Phase, Sight, Tag, Work, first_phase, launches_of, of_pool, of_reaper, of_requester}
+use Rattle.np_driven.specs.Prelude.{Driving, Launch, Leads, Move, OwesRemoval, Phase, Sight, Tag, Work, first_phase, launches_of, of_pool, of_reaper, of_requester}
 use Rattle.np_event.specs.declared.entry.Entry.{Entry}
-use Rattle.np_answers.specs.declared.ask.Ask.{Ask}
-use Rattle.np_answers.specs.declared.ask.Turn.{Turn}
-use Rattle.np_answers.specs.Trace.{starts_of, tags_launched, owed_tags}
-use Rattle.np_answers.proofs.Ends.{is_at_end, ends_where_full}
-use Rattle.np_answers.proofs.Gained.{walk_gains}
-use Rattle.np_answers.proofs.Order.{in_order}
-use Rattle.np_answers.proofs.Removals.{are_named}
-use Rattle.np_answers.proofs.Starts.{starts_launched, tags_of_launches, are_reported}
-use Rattle.np_answers.proofs.Taken.{launcher_took, janitor_took, requester_took, reaper_took}
-use Rattle.np_answers.proofs.Works.{asks_of}
+use Rattle.np_driven.specs.declared.ask.Ask.{Ask}
+use Rattle.np_driven.specs.declared.ask.Turn.{Turn}
+use Rattle.np_driven.specs.Trace.{starts_of, tags_launched, owed_tags}
+use Rattle.np_driven.proofs.RoundEnds.{is_at_end, ends_where_full}
+use Rattle.np_driven.proofs.Gained.{walk_gains}
+use Rattle.np_driven.proofs.Order.{in_order}
+use Rattle.np_driven.proofs.Removals.{are_named}
+use Rattle.np_driven.proofs.Launching.{starts_launched, tags_of_launches, are_reported}
+use Rattle.np_driven.proofs.Taken.{launcher_took, janitor_took, requester_took, reaper_took}
+use Rattle.np_driven.proofs.Works.{asks_of}
 use Rattle.np_worker.specs.Moves.{RolesTook, AreOrderly, HasMoves}
 use Rattle.np_worker.specs.Part.{Part}
 
@@ -33,7 +33,7 @@ roles_took (of_pool pool) trace to led = (launcher_took pool to trace led, janit
 roles_took (of_requester q) trace to led = λ is. requester_took q trace (subst (λ (p : Phase). Leads (first_phase (of_requester q)) trace p) is led)
 roles_took of_reaper trace to led = λ is. reaper_took trace (subst (λ (p : Phase). Leads (first_phase of_reaper) trace p) is led)
 
-orderly : (work : Work) (trace : List Move) (to : Phase) → Leads (first_phase work) trace to → AreOrderly work trace to
+pub orderly : (work : Work) (trace : List Move) (to : Phase) → Leads (first_phase work) trace to → AreOrderly work trace to
 orderly work trace to led = record {
   asks = asks_of work to trace led;
   order = in_order (first_phase work) to trace led;

@@ -7,9 +7,11 @@
 //! goes, and at the end the servers that nobody wants are removed. Turns with no launch or removal
 //! between them are taken in series of at most 16 (`Playing`), and others wait for all of these.
 //!
-//! Contracts describe a round by one list of moves (np_answers): its turns with their answers, and
+//! Contracts describe a round by one list of moves (np_driven): its turns with their answers, and
 //! what its driver did. Read `specs/Part` for what one part of a round is, and `specs/Round` for
-//! how a round ends. np_answers's laws say what holds of the moves of every round.
+//! how a round ends. np_driven's laws say what holds of the moves of every round, and `specs/Moves`
+//! hands them out at the call. `specs/Board` says what they come to at a board: where the entries
+//! stand and of which role each is, how far the roles came, and what became of the driver's servers.
 //!
 //! An answer of a wrong kind to a role's turn (say, that a node is due) counts as nothing to do,
 //! and ends the role's part. One to a sweep counts as keeping the server.

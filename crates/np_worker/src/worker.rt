@@ -1,8 +1,10 @@
 //! Workers, and their rounds.
 
-ghost use Rattle.std.specs.Prelude.{◌≡◌, ℕ, ◌+◌, length, IfOk, Some};
+ghost use Rattle.std.specs.Prelude.{◌≡◌, ℕ, ◌+◌, length, Bool, IfOk, Some};
+ghost use Rattle.np_changes.specs.Prelude.{Configuration};
 ghost use Rattle.np_text.specs.declared.id.Role.TheVariants.{Launcher};
-ghost use Rattle.np_answers.specs.Prelude.{acting, driving, first_phase, recorded};
+ghost use Rattle.np_driven.specs.Prelude.{acting, driving, first_phase, recorded};
+ghost use Rattle.np_worker.specs.Board.{AnswersAsBoard, HasRoundAtBoard};
 ghost use Rattle.np_worker.specs.Part.{Counts, Part, SweepsAll, is_full};
 ghost use Rattle.np_worker.specs.Moves.{HasMoves};
 ghost use Rattle.np_worker.specs.Round.{EndsAs, work_of, driving_of};
@@ -11,9 +13,9 @@ use crate::act::act_often;
 use crate::next::Next;
 use crate::roles::play_roles;
 use crate::sweep::sweep;
-use np_answers::{Ask, Turn};
 use np_cloud::{Driver, Gate};
 use np_desk::Turns;
+use np_driven::{Ask, Turn};
 use np_event::Entry;
 use np_text::{NoMemory, PoolId, RequesterId, Role};
 
@@ -98,6 +100,12 @@ impl<D: Driver> Worker<D> {
             (T.sight turns.old) (T.sight turns.new)
             (driving_of D.facts D.plan D.sound D.room self.old)
             (driving_of D.facts D.plan D.sound D.room self.new) }
+        ensures board { (plans : Bool) (site : T.Fixed → Configuration) →
+            AnswersAsBoard plans site T.answers →
+            HasRoundAtBoard plans (site (T.fixed turns.old)) (work_of self.old)
+            (T.sight turns.old) (T.sight turns.new)
+            (driving_of D.facts D.plan D.sound D.room self.old)
+            (driving_of D.facts D.plan D.sound D.room self.new) result }
     {
         self.play(turns, gate)
     }

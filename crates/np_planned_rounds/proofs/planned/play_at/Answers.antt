@@ -1,60 +1,45 @@
 use Rattle.std.proofs.Common.{◌∙◌, true, false, subst}
-use Rattle.np_answers.proofs.LegalLemmas.{legal-Runs}
+use Rattle.std.proofs.lemmas.Bool.{not-false, not-true}
 use Rattle.np_rounds.specs.Crews.{players_of}
-use Rattle.np_rounds.specs.Played.{IsDriven, Stops, Ticks}
-use Rattle.np_rounds.proofs.Driven.{driven_round, driven_whole, driven_tick}
-use Rattle.np_rounds.proofs.Players.{same_terms}
+use Rattle.np_rounds.specs.Laps.{IsTick}
+use Rattle.np_rounds.specs.Played.{Stops}
+use Rattle.np_rounds.proofs.Hosted.{workers_sound}
+use Rattle.np_rounds.proofs.Laps.{laps_full, laps_none, laps_still, laps_tick}
 use Rattle.np_planned_rounds.proofs.planned.play_at.Goals as goal
-use Rattle.std.proofs.lemmas.Bool.{not-false}
 
-pub returns-then-together-clause-terms : goal.returns-then-together-clause-terms
-returns-then-together-clause-terms g c = same_terms true c.args.desk.now.origin.fixed c.loop.pass.seen c.play_round.new.pass.seen (players_of g.D.Driver.facts g.D.Driver.plan g.D.Driver.sound g.D.Driver.room c.loop.workers.items) (players_of g.D.Driver.facts g.D.Driver.plan g.D.Driver.sound g.D.Driver.room c.play_round.new.workers.items) c.in_ok-together.together.full c.in_ok-together.ensures.round ∙ c.loop.invariant.terms
+pub loop-init : goal.loop-init
+loop-init g c = record {
+  own = c.requires.own;
+  whole = c.requires.whole;
+  rested = c.requires.rested;
+  laps = laps_none true c.args.desk.now.origin.fixed c.args.pass.now.seen (players_of g.D.Driver.facts g.D.Driver.plan g.D.Driver.sound g.D.Driver.room c.args.workers.now.items);
+}
 
-pub returns-then-not-together-clause-terms : goal.returns-then-not-together-clause-terms
-returns-then-not-together-clause-terms g c = same_terms true c.args.desk.now.origin.fixed c.loop.pass.seen c.play_round.new.pass.seen (players_of g.D.Driver.facts g.D.Driver.plan g.D.Driver.sound g.D.Driver.room c.loop.workers.items) (players_of g.D.Driver.facts g.D.Driver.plan g.D.Driver.sound g.D.Driver.room c.play_round.new.workers.items) c.in_ok-together.together.full c.in_ok-together.ensures.round ∙ c.loop.invariant.terms
+pub returns-then-together-clause-laps : goal.returns-then-together-clause-laps
+returns-then-together-clause-laps g c = laps_full true c.args.desk.now.origin.fixed c.args.pass.now.seen (players_of g.D.Driver.facts g.D.Driver.plan g.D.Driver.sound g.D.Driver.room c.args.workers.now.items) c.loop.pass.seen (players_of g.D.Driver.facts g.D.Driver.plan g.D.Driver.sound g.D.Driver.room c.loop.workers.items)
+    c.play_round.new.pass.seen (players_of g.D.Driver.facts g.D.Driver.plan g.D.Driver.sound g.D.Driver.room c.play_round.new.workers.items) c.in_ok-together.together.full c.loop.invariant.laps c.in_ok-together.ensures.round
+    (workers_sound g.D.Driver.facts g.D.Driver.plan g.D.Driver.sound g.D.Driver.room g.D.Driver.soundness c.play_round.new.workers.items) c.if-together.true
 
-pub returns-then-branch-clause-terms : goal.returns-then-branch-clause-terms
-returns-then-branch-clause-terms g c = same_terms true c.args.desk.now.origin.fixed c.loop.pass.seen c.play_round.new.pass.seen (players_of g.D.Driver.facts g.D.Driver.plan g.D.Driver.sound g.D.Driver.room c.loop.workers.items) (players_of g.D.Driver.facts g.D.Driver.plan g.D.Driver.sound g.D.Driver.room c.play_round.new.workers.items) c.in_ok-together.together.full c.in_ok-together.ensures.round ∙ c.loop.invariant.terms
+pub returns-then-not-together-clause-laps : goal.returns-then-not-together-clause-laps
+returns-then-not-together-clause-laps g c = laps_still true c.args.desk.now.origin.fixed c.args.pass.now.seen (players_of g.D.Driver.facts g.D.Driver.plan g.D.Driver.sound g.D.Driver.room c.args.workers.now.items) c.loop.pass.seen (players_of g.D.Driver.facts g.D.Driver.plan g.D.Driver.sound g.D.Driver.room c.loop.workers.items)
+    c.play_round.new.pass.seen (players_of g.D.Driver.facts g.D.Driver.plan g.D.Driver.sound g.D.Driver.room c.play_round.new.workers.items) c.in_ok-together.together.full c.loop.invariant.laps c.in_ok-together.ensures.round
+    (workers_sound g.D.Driver.facts g.D.Driver.plan g.D.Driver.sound g.D.Driver.room g.D.Driver.soundness c.play_round.new.workers.items) c.if-together.false (c.in_ok-together.ensures.still (not-true c.in_ok-together.together.moved c.if-not-together.true))
 
-pub returns-then-together-clause-driven : goal.returns-then-together-clause-driven
-returns-then-together-clause-driven g c = λ had.
-    let fixed = c.args.desk.now.origin.fixed in
-    let before = players_of g.D.Driver.facts g.D.Driver.plan g.D.Driver.sound g.D.Driver.room c.loop.workers.items in
-    let now = players_of g.D.Driver.facts g.D.Driver.plan g.D.Driver.sound g.D.Driver.room c.play_round.new.workers.items in
-    subst (λ b. IsDriven true fixed b c.play_round.new.pass.seen now) c.if-together.true
-    (driven_round true fixed c.loop.pass.seen c.play_round.new.pass.seen before now c.in_ok-together.together.full c.in_ok-together.ensures.round
-    (legal-Runs fixed c.play_round.new.pass.seen c.in_ok-together.ensures.legal) (c.loop.invariant.driven had))
-
-pub returns-then-not-together-clause-driven : goal.returns-then-not-together-clause-driven
-returns-then-not-together-clause-driven g c = λ had.
-    let fixed = c.args.desk.now.origin.fixed in
-    let before = players_of g.D.Driver.facts g.D.Driver.plan g.D.Driver.sound g.D.Driver.room c.loop.workers.items in
-    let now = players_of g.D.Driver.facts g.D.Driver.plan g.D.Driver.sound g.D.Driver.room c.play_round.new.workers.items in
-    driven_whole true fixed c.loop.pass.seen c.play_round.new.pass.seen before now c.in_ok-together.together.full c.in_ok-together.ensures.round c.if-together.false
-    (legal-Runs fixed c.play_round.new.pass.seen c.in_ok-together.ensures.legal) (c.loop.invariant.driven had)
-
-pub returns-then-branch-clause-driven : goal.returns-then-branch-clause-driven
-returns-then-branch-clause-driven g c = λ had.
-    let fixed = c.args.desk.now.origin.fixed in
-    let before = players_of g.D.Driver.facts g.D.Driver.plan g.D.Driver.sound g.D.Driver.room c.loop.workers.items in
-    let now = players_of g.D.Driver.facts g.D.Driver.plan g.D.Driver.sound g.D.Driver.room c.play_round.new.workers.items in
-    driven_tick true fixed c.loop.pass.seen c.play_round.new.pass.seen c.tick.new.pass.seen before now c.in_ok-together.together.full true c.in_ok-together.ensures.round c.if-together.false
-    (legal-Runs fixed c.play_round.new.pass.seen c.in_ok-together.ensures.legal) (c.loop.invariant.driven had)
-    (c.in_ok-together.ensures.moved (not-false c.in_ok-together.together.moved c.if-not-together.false))
-    (subst (λ b. Ticks b c.play_round.new.pass.seen c.tick.new.pass.seen) c.if-branch.true c.in_ok-tick.ensures.ticks)
+pub returns-then-branch-clause-laps : goal.returns-then-branch-clause-laps
+returns-then-branch-clause-laps g c = laps_tick true c.args.desk.now.origin.fixed c.args.pass.now.seen (players_of g.D.Driver.facts g.D.Driver.plan g.D.Driver.sound g.D.Driver.room c.args.workers.now.items) c.loop.pass.seen (players_of g.D.Driver.facts g.D.Driver.plan g.D.Driver.sound g.D.Driver.room c.loop.workers.items)
+    c.play_round.new.pass.seen (players_of g.D.Driver.facts g.D.Driver.plan g.D.Driver.sound g.D.Driver.room c.play_round.new.workers.items) c.in_ok-together.together.full c.loop.invariant.laps c.in_ok-together.ensures.round
+    (workers_sound g.D.Driver.facts g.D.Driver.plan g.D.Driver.sound g.D.Driver.room g.D.Driver.soundness c.play_round.new.workers.items)
+    c.tick.new.pass.seen true c.if-together.false (c.in_ok-together.ensures.moved (not-false c.in_ok-together.together.moved c.if-not-together.false))
+    (subst (λ b. IsTick c.args.desk.now.origin.fixed c.play_round.new.pass.seen c.tick.new.pass.seen b) c.if-branch.true c.in_ok-tick.ensures.tick)
 
 pub loop-preserved : goal.loop-preserved
-loop-preserved g c =
-    let fixed = c.args.desk.now.origin.fixed in
-    let before = players_of g.D.Driver.facts g.D.Driver.plan g.D.Driver.sound g.D.Driver.room c.loop.workers.items in
-    let now = players_of g.D.Driver.facts g.D.Driver.plan g.D.Driver.sound g.D.Driver.room c.play_round.new.workers.items in
-    record {
-      own = c.in_ok-tick.ensures.own;
-      whole = c.in_ok-tick.ensures.part ∙ c.in_ok-together.ensures.whole;
-      rested = subst (λ b. Stops b c.tick.new.pass.seen) c.if-branch.false c.in_ok-tick.ensures.stops;
-      terms = same_terms true c.args.desk.now.origin.fixed c.loop.pass.seen c.play_round.new.pass.seen (players_of g.D.Driver.facts g.D.Driver.plan g.D.Driver.sound g.D.Driver.room c.loop.workers.items) (players_of g.D.Driver.facts g.D.Driver.plan g.D.Driver.sound g.D.Driver.room c.play_round.new.workers.items) c.in_ok-together.together.full c.in_ok-together.ensures.round ∙ c.loop.invariant.terms;
-      driven = λ had. driven_tick true fixed c.loop.pass.seen c.play_round.new.pass.seen c.tick.new.pass.seen before now c.in_ok-together.together.full false c.in_ok-together.ensures.round c.if-together.false
-          (legal-Runs fixed c.play_round.new.pass.seen c.in_ok-together.ensures.legal) (c.loop.invariant.driven had)
-          (c.in_ok-together.ensures.moved (not-false c.in_ok-together.together.moved c.if-not-together.false))
-          (subst (λ b. Ticks b c.play_round.new.pass.seen c.tick.new.pass.seen) c.if-branch.false c.in_ok-tick.ensures.ticks);
-    }
+loop-preserved g c = record {
+  own = c.in_ok-tick.ensures.own;
+  whole = c.in_ok-tick.ensures.part ∙ c.in_ok-together.ensures.whole;
+  rested = subst (λ b. Stops b c.tick.new.pass.seen) c.if-branch.false c.in_ok-tick.ensures.stops;
+  laps = laps_tick true c.args.desk.now.origin.fixed c.args.pass.now.seen (players_of g.D.Driver.facts g.D.Driver.plan g.D.Driver.sound g.D.Driver.room c.args.workers.now.items) c.loop.pass.seen (players_of g.D.Driver.facts g.D.Driver.plan g.D.Driver.sound g.D.Driver.room c.loop.workers.items)
+      c.play_round.new.pass.seen (players_of g.D.Driver.facts g.D.Driver.plan g.D.Driver.sound g.D.Driver.room c.play_round.new.workers.items) c.in_ok-together.together.full c.loop.invariant.laps c.in_ok-together.ensures.round
+      (workers_sound g.D.Driver.facts g.D.Driver.plan g.D.Driver.sound g.D.Driver.room g.D.Driver.soundness c.play_round.new.workers.items)
+      c.tick.new.pass.seen false c.if-together.false (c.in_ok-together.ensures.moved (not-false c.in_ok-together.together.moved c.if-not-together.false))
+      (subst (λ b. IsTick c.args.desk.now.origin.fixed c.play_round.new.pass.seen c.tick.new.pass.seen b) c.if-branch.false c.in_ok-tick.ensures.tick);
+}

@@ -1,15 +1,14 @@
-use Rattle.std.proofs.Common.{◌≡◌, true}
-use Rattle.np_answers.specs.Prelude.{IsOf, IsWhole}
-use Rattle.np_driven.specs.Players.{HaveDrivenAs}
+use Rattle.std.proofs.Common.{true, false}
+use Rattle.np_driven.specs.Prelude.{IsOf, IsWhole}
 use Rattle.np_rounds.specs.Crews.{players_of}
-use Rattle.np_rounds.specs.Played.{IsRested, terms_in}
+use Rattle.np_rounds.specs.Laps.{HasLaps}
+use Rattle.np_rounds.specs.Played.{IsRested}
 use Rattle.np_planned_rounds.proofs.planned.play_at.Given as goal
 
 abbrev pub invariant-loop : goal.invariant-loop
-invariant-loop g l = let before = players_of g.D.Driver.facts g.D.Driver.plan g.D.Driver.sound g.D.Driver.room l.initial.workers.items in let now = players_of g.D.Driver.facts g.D.Driver.plan g.D.Driver.sound g.D.Driver.room l.workers.items in record {
+invariant-loop g l = record {
   own : IsOf l.pass l.desk;
   whole : IsWhole l.pass.part;
   rested : IsRested l.pass.seen;
-  terms : terms_in now ≡ terms_in before;
-  driven : HaveDrivenAs true l.desk.origin.fixed l.initial.pass.seen before → HaveDrivenAs true l.desk.origin.fixed l.pass.seen now;
+  laps : HasLaps true l.desk.origin.fixed l.initial.pass.seen (players_of g.D.Driver.facts g.D.Driver.plan g.D.Driver.sound g.D.Driver.room l.initial.workers.items) l.pass.seen (players_of g.D.Driver.facts g.D.Driver.plan g.D.Driver.sound g.D.Driver.room l.workers.items) false;
 }

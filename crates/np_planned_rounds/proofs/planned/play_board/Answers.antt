@@ -1,9 +1,9 @@
 use Rattle.std.proofs.Common.{true, List, ap, subst, sym}
 use Rattle.np_changes.specs.Prelude.{Configuration, Entry}
-use Rattle.np_answers.proofs.LegalLemmas.{Runs-legal}
-use Rattle.np_driven.specs.Players.{HaveDrivenAs}
+use Rattle.np_driven.proofs.LegalLemmas.{Runs-legal}
 use Rattle.np_rounds.specs.Crews.{players_of}
-use Rattle.np_rounds.specs.Played.{IsDriven, Stops}
+use Rattle.np_rounds.specs.Laps.{HasLaps}
+use Rattle.np_rounds.specs.Played.{Stops}
 use Rattle.np_rounds.proofs.OneRound.{closed_seen}
 use Rattle.np_planned_rounds.proofs.planned.play_board.Goals as goal
 
@@ -16,15 +16,14 @@ returns-clause-stops g c =
     (c.know.ensures.whole c.in_ok-full.ensures.whole) c.know.ensures.begins c.close.ensures.history c.close.ensures.mine in
     subst (λ (j : List Entry). Stops c.in_ok-full.full j) (sym is) c.in_ok-full.ensures.stops
 
-pub returns-clause-driven : goal.returns-clause-driven
-returns-clause-driven g c = λ had.
+pub returns-clause-laps : goal.returns-clause-laps
+returns-clause-laps g c =
     let is = closed_seen c.in-Ok.desk c.play_at.new.pass c.close.result.journal c.in_ok-full.ensures.own
     (c.know.ensures.whole c.in_ok-full.ensures.whole) c.know.ensures.begins c.close.ensures.history c.close.ensures.mine in
     let site = ap (λ o. o.fixed) c.in-Ok.ensures.desk in
     let before = players_of g.D.Driver.facts g.D.Driver.plan g.D.Driver.sound g.D.Driver.room c.args.workers.now.items in
     let now = players_of g.D.Driver.facts g.D.Driver.plan g.D.Driver.sound g.D.Driver.room c.play_at.new.workers.items in
-    subst (λ (d : Configuration). IsDriven true d c.in_ok-full.full c.close.result.journal now) site
-    (subst (λ (j : List Entry). IsDriven true c.in-Ok.desk.origin.fixed c.in_ok-full.full j now) (sym is)
-    (c.in_ok-full.ensures.driven
-    (subst (λ (j : List Entry). HaveDrivenAs true c.in-Ok.desk.origin.fixed j before) (sym c.in-Ok.ensures.seen.0)
-    (subst (λ (d : Configuration). HaveDrivenAs true d c.args.board.journal before) (sym site) had))))
+    subst (λ (d : Configuration). HasLaps true d c.args.board.journal before c.close.result.journal now c.in_ok-full.full) site
+    (subst (λ (j : List Entry). HasLaps true c.in-Ok.desk.origin.fixed c.args.board.journal before j now c.in_ok-full.full) (sym is)
+    (subst (λ (j : List Entry). HasLaps true c.in-Ok.desk.origin.fixed j before c.play_at.new.pass.seen now c.in_ok-full.full) c.in-Ok.ensures.seen.0
+    c.in_ok-full.ensures.laps))

@@ -1,9 +1,10 @@
-use Rattle.std.proofs.Common.{◌∙◌, refl, inl, true, List, map, ap, sym, subst}
+use Rattle.std.proofs.Common.{[], ◌∙◌, refl, inl, true, List, map, ap, subst}
 use Rattle.np_changes.specs.Prelude.{Configuration, Entry}
-use Rattle.np_driven.specs.Players.{HaveDrivenAs}
+use Rattle.np_driven.specs.Prelude.{driving}
 use Rattle.np_rounds.specs.Crews.{Terms, terms_of, players_of}
-use Rattle.np_rounds.specs.Played.{IsDriven}
+use Rattle.np_rounds.specs.Laps.{HasLaps}
 use Rattle.np_rounds.proofs.Driven.{driven_start, driven_end}
+use Rattle.np_rounds.proofs.Laps.{ended_runs, laps_driven, laps_terms, was_played}
 use Rattle.np_rounds.proofs.Players.{as_many, kept_term, terms_of_drivers}
 use Rattle.np_rounds.proofs.Starts.{ended_settled}
 use Rattle.np_planned_rounds.proofs.planned.run_planned.Goals as goal
@@ -19,29 +20,58 @@ returns-clause-settled g c = λ room.
     (told.settled room) told.stops room
 
 pub returns-clause-drivers : goal.returns-clause-drivers
-returns-clause-drivers g c = as_many g.D.Driver.facts g.D.Driver.plan g.D.Driver.sound g.D.Driver.room g.D.Driver.room c.in_ok-drivers.drivers.items c.args.drivers.items
-    (kept_term g.D.Driver.facts g.D.Driver.plan g.D.Driver.sound g.D.Driver.room (λ (t : Terms). t.room) g.D.Driver.room (λ d. refl)
-    (players_of g.D.Driver.facts g.D.Driver.plan g.D.Driver.sound g.D.Driver.room c.play_site.new.workers.items) c.in_ok-drivers.drivers.items c.args.drivers.items c.in_ok-drivers.ensures (c.in_ok-played.ensures.terms ∙ (ap (map terms_of) c.in_ok-workers.ensures.drivings ∙ terms_of_drivers g.D.Driver.facts g.D.Driver.plan g.D.Driver.sound g.D.Driver.room c.args.drivers.items)))
+returns-clause-drivers g c =
+    let players = players_of g.D.Driver.facts g.D.Driver.plan g.D.Driver.sound g.D.Driver.room c.in_ok-workers.workers.items in
+    let now = players_of g.D.Driver.facts g.D.Driver.plan g.D.Driver.sound g.D.Driver.room c.play_site.new.workers.items in
+    let laps = subst (λ (d : Configuration). HasLaps true d [] players c.in_ok-played.played.journal now c.in_ok-played.full) c.in_ok-board.ensures.configuration
+    (subst (λ (l : List Entry). HasLaps true c.in_ok-board.board.configuration l players c.in_ok-played.played.journal now c.in_ok-played.full) c.in_ok-board.ensures.journal c.in_ok-played.ensures.laps) in
+    as_many g.D.Driver.facts g.D.Driver.plan g.D.Driver.sound g.D.Driver.room g.D.Driver.room c.in_ok-drivers.drivers.items c.args.drivers.items
+    (kept_term g.D.Driver.facts g.D.Driver.plan g.D.Driver.sound g.D.Driver.room (λ (t : Terms). t.room) g.D.Driver.room (λ d. refl) now c.in_ok-drivers.drivers.items c.args.drivers.items c.in_ok-drivers.ensures
+    (laps_terms true c.args.config [] players c.in_ok-played.played.journal now c.in_ok-played.full laps ∙ (ap (map terms_of) c.in_ok-workers.ensures.drivings ∙ terms_of_drivers g.D.Driver.facts g.D.Driver.plan g.D.Driver.sound g.D.Driver.room c.args.drivers.items)))
     ∙ c.requires.drivers
 
 pub returns-clause-plans : goal.returns-clause-plans
-returns-clause-plans g c = kept_term g.D.Driver.facts g.D.Driver.plan g.D.Driver.sound g.D.Driver.room (λ (t : Terms). t.plan) g.D.Driver.plan (λ d. refl)
-    (players_of g.D.Driver.facts g.D.Driver.plan g.D.Driver.sound g.D.Driver.room c.play_site.new.workers.items) c.in_ok-drivers.drivers.items c.args.drivers.items c.in_ok-drivers.ensures (c.in_ok-played.ensures.terms ∙ (ap (map terms_of) c.in_ok-workers.ensures.drivings ∙ terms_of_drivers g.D.Driver.facts g.D.Driver.plan g.D.Driver.sound g.D.Driver.room c.args.drivers.items))
+returns-clause-plans g c =
+    let players = players_of g.D.Driver.facts g.D.Driver.plan g.D.Driver.sound g.D.Driver.room c.in_ok-workers.workers.items in
+    let now = players_of g.D.Driver.facts g.D.Driver.plan g.D.Driver.sound g.D.Driver.room c.play_site.new.workers.items in
+    let laps = subst (λ (d : Configuration). HasLaps true d [] players c.in_ok-played.played.journal now c.in_ok-played.full) c.in_ok-board.ensures.configuration
+    (subst (λ (l : List Entry). HasLaps true c.in_ok-board.board.configuration l players c.in_ok-played.played.journal now c.in_ok-played.full) c.in_ok-board.ensures.journal c.in_ok-played.ensures.laps) in
+    kept_term g.D.Driver.facts g.D.Driver.plan g.D.Driver.sound g.D.Driver.room (λ (t : Terms). t.plan) g.D.Driver.plan (λ d. refl) now c.in_ok-drivers.drivers.items c.args.drivers.items c.in_ok-drivers.ensures
+    (laps_terms true c.args.config [] players c.in_ok-played.played.journal now c.in_ok-played.full laps ∙ (ap (map terms_of) c.in_ok-workers.ensures.drivings ∙ terms_of_drivers g.D.Driver.facts g.D.Driver.plan g.D.Driver.sound g.D.Driver.room c.args.drivers.items))
 
 pub returns-clause-sounds : goal.returns-clause-sounds
-returns-clause-sounds g c = kept_term g.D.Driver.facts g.D.Driver.plan g.D.Driver.sound g.D.Driver.room (λ (t : Terms). t.sound) g.D.Driver.sound (λ d. refl)
-    (players_of g.D.Driver.facts g.D.Driver.plan g.D.Driver.sound g.D.Driver.room c.play_site.new.workers.items) c.in_ok-drivers.drivers.items c.args.drivers.items c.in_ok-drivers.ensures (c.in_ok-played.ensures.terms ∙ (ap (map terms_of) c.in_ok-workers.ensures.drivings ∙ terms_of_drivers g.D.Driver.facts g.D.Driver.plan g.D.Driver.sound g.D.Driver.room c.args.drivers.items))
+returns-clause-sounds g c =
+    let players = players_of g.D.Driver.facts g.D.Driver.plan g.D.Driver.sound g.D.Driver.room c.in_ok-workers.workers.items in
+    let now = players_of g.D.Driver.facts g.D.Driver.plan g.D.Driver.sound g.D.Driver.room c.play_site.new.workers.items in
+    let laps = subst (λ (d : Configuration). HasLaps true d [] players c.in_ok-played.played.journal now c.in_ok-played.full) c.in_ok-board.ensures.configuration
+    (subst (λ (l : List Entry). HasLaps true c.in_ok-board.board.configuration l players c.in_ok-played.played.journal now c.in_ok-played.full) c.in_ok-board.ensures.journal c.in_ok-played.ensures.laps) in
+    kept_term g.D.Driver.facts g.D.Driver.plan g.D.Driver.sound g.D.Driver.room (λ (t : Terms). t.sound) g.D.Driver.sound (λ d. refl) now c.in_ok-drivers.drivers.items c.args.drivers.items c.in_ok-drivers.ensures
+    (laps_terms true c.args.config [] players c.in_ok-played.played.journal now c.in_ok-played.full laps ∙ (ap (map terms_of) c.in_ok-workers.ensures.drivings ∙ terms_of_drivers g.D.Driver.facts g.D.Driver.plan g.D.Driver.sound g.D.Driver.room c.args.drivers.items))
 
 pub returns-clause-rooms : goal.returns-clause-rooms
-returns-clause-rooms g c = kept_term g.D.Driver.facts g.D.Driver.plan g.D.Driver.sound g.D.Driver.room (λ (t : Terms). t.room) g.D.Driver.room (λ d. refl)
-    (players_of g.D.Driver.facts g.D.Driver.plan g.D.Driver.sound g.D.Driver.room c.play_site.new.workers.items) c.in_ok-drivers.drivers.items c.args.drivers.items c.in_ok-drivers.ensures (c.in_ok-played.ensures.terms ∙ (ap (map terms_of) c.in_ok-workers.ensures.drivings ∙ terms_of_drivers g.D.Driver.facts g.D.Driver.plan g.D.Driver.sound g.D.Driver.room c.args.drivers.items))
+returns-clause-rooms g c =
+    let players = players_of g.D.Driver.facts g.D.Driver.plan g.D.Driver.sound g.D.Driver.room c.in_ok-workers.workers.items in
+    let now = players_of g.D.Driver.facts g.D.Driver.plan g.D.Driver.sound g.D.Driver.room c.play_site.new.workers.items in
+    let laps = subst (λ (d : Configuration). HasLaps true d [] players c.in_ok-played.played.journal now c.in_ok-played.full) c.in_ok-board.ensures.configuration
+    (subst (λ (l : List Entry). HasLaps true c.in_ok-board.board.configuration l players c.in_ok-played.played.journal now c.in_ok-played.full) c.in_ok-board.ensures.journal c.in_ok-played.ensures.laps) in
+    kept_term g.D.Driver.facts g.D.Driver.plan g.D.Driver.sound g.D.Driver.room (λ (t : Terms). t.room) g.D.Driver.room (λ d. refl) now c.in_ok-drivers.drivers.items c.args.drivers.items c.in_ok-drivers.ensures
+    (laps_terms true c.args.config [] players c.in_ok-played.played.journal now c.in_ok-played.full laps ∙ (ap (map terms_of) c.in_ok-workers.ensures.drivings ∙ terms_of_drivers g.D.Driver.facts g.D.Driver.plan g.D.Driver.sound g.D.Driver.room c.args.drivers.items))
+
+pub returns-clause-played : goal.returns-clause-played
+returns-clause-played g c =
+    let players = players_of g.D.Driver.facts g.D.Driver.plan g.D.Driver.sound g.D.Driver.room c.in_ok-workers.workers.items in
+    let now = players_of g.D.Driver.facts g.D.Driver.plan g.D.Driver.sound g.D.Driver.room c.play_site.new.workers.items in
+    let laps = subst (λ (d : Configuration). HasLaps true d [] players c.in_ok-played.played.journal now c.in_ok-played.full) c.in_ok-board.ensures.configuration
+    (subst (λ (l : List Entry). HasLaps true c.in_ok-board.board.configuration l players c.in_ok-played.played.journal now c.in_ok-played.full) c.in_ok-board.ensures.journal c.in_ok-played.ensures.laps) in
+    was_played true c.args.config players now (map (driving g.D.Driver.facts g.D.Driver.plan g.D.Driver.sound g.D.Driver.room) c.args.drivers.items) (map (driving g.D.Driver.facts g.D.Driver.plan g.D.Driver.sound g.D.Driver.room) c.in_ok-drivers.drivers.items) c.in_ok-played.played.journal c.in_ok-played.full
+    c.in_ok-workers.ensures.numbered c.in_ok-workers.ensures.drivings c.in_ok-drivers.ensures laps
 
 pub returns-clause-driven : goal.returns-clause-driven
 returns-clause-driven g c = λ none.
     let players = players_of g.D.Driver.facts g.D.Driver.plan g.D.Driver.sound g.D.Driver.room c.in_ok-workers.workers.items in
     let now = players_of g.D.Driver.facts g.D.Driver.plan g.D.Driver.sound g.D.Driver.room c.play_site.new.workers.items in
+    let laps = subst (λ (d : Configuration). HasLaps true d [] players c.in_ok-played.played.journal now c.in_ok-played.full) c.in_ok-board.ensures.configuration
+    (subst (λ (l : List Entry). HasLaps true c.in_ok-board.board.configuration l players c.in_ok-played.played.journal now c.in_ok-played.full) c.in_ok-board.ensures.journal c.in_ok-played.ensures.laps) in
     driven_end true g.D.Driver.facts g.D.Driver.plan g.D.Driver.sound g.D.Driver.room c.args.config c.in_ok-played.full c.in_ok-played.played.journal now c.in_ok-drivers.drivers.items c.in_ok-drivers.ensures
-    (subst (λ (d : Configuration). IsDriven true d c.in_ok-played.full c.in_ok-played.played.journal now) (c.in_ok-board.ensures.configuration)
-    (c.in_ok-played.ensures.driven (subst (λ (d : Configuration). HaveDrivenAs true d c.in_ok-board.board.journal players) (sym c.in_ok-board.ensures.configuration)
-    (subst (λ (l : List Entry). HaveDrivenAs true c.args.config l players) (sym c.in_ok-board.ensures.journal)
-    (driven_start true g.D.Driver.facts g.D.Driver.plan g.D.Driver.sound g.D.Driver.room c.args.config players c.args.drivers.items c.in_ok-workers.ensures.numbered c.in_ok-workers.ensures.drivings none)))))
+    (laps_driven true c.args.config [] players c.in_ok-played.played.journal now c.in_ok-played.full (ended_runs c.args.config c.in_ok-played.played.configuration c.in_ok-played.played.journal c.in_ok-played.played.state (c.in_ok-played.ensures.configuration ∙ c.in_ok-board.ensures.configuration) c.soundness-2.ensures.runs) laps
+    (driven_start true g.D.Driver.facts g.D.Driver.plan g.D.Driver.sound g.D.Driver.room c.args.config players c.args.drivers.items c.in_ok-workers.ensures.numbered c.in_ok-workers.ensures.drivings none))

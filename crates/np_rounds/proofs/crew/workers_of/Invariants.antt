@@ -1,5 +1,5 @@
 use Rattle.std.proofs.Common.{◌≡◌, ◌≤◌, ◌++◌, length, map}
-use Rattle.np_answers.specs.Drive.{driving}
+use Rattle.np_driven.specs.Drive.{driving}
 use Rattle.np_driven.specs.Players.{drivings_of, AreNumbered}
 use Rattle.np_rounds.specs.Crews.{players_of}
 use Rattle.np_rounds.proofs.Players.{NoPools}

@@ -1,15 +1,12 @@
 use Rattle.std.proofs.Common.{◌≡◌, false}
-use Rattle.np_driven.specs.Players.{HaveDrivenAs}
-use Rattle.np_driven.specs.Hosting.{Earlier, HaveHosted}
 use Rattle.np_rounds.specs.Crews.{players_of}
-use Rattle.np_rounds.specs.Played.{IsRested, terms_in}
+use Rattle.np_rounds.specs.Laps.{HasLaps}
+use Rattle.np_rounds.specs.Played.{IsRested}
 use Rattle.np_rounds.proofs.rounds.play_site.Given as goal
 
 abbrev pub invariant-loop : goal.invariant-loop
-invariant-loop g l = let before = players_of g.D.Driver.facts g.D.Driver.plan g.D.Driver.sound g.D.Driver.room l.initial.workers.items in let now = players_of g.D.Driver.facts g.D.Driver.plan g.D.Driver.sound g.D.Driver.room l.workers.items in let site = l.fn.board.configuration in let old = l.fn.board.journal in record {
+invariant-loop g l = let site = l.fn.board.configuration in record {
   configuration : l.board.configuration ≡ site;
   rested : IsRested l.board.journal;
-  terms : terms_in now ≡ terms_in before;
-  driven : HaveDrivenAs false site old before → HaveDrivenAs false site l.board.journal now;
-  hosted : (earlier : Earlier) → HaveHosted earlier site old before → HaveHosted earlier site l.board.journal now;
+  laps : HasLaps false site l.fn.board.journal (players_of g.D.Driver.facts g.D.Driver.plan g.D.Driver.sound g.D.Driver.room l.initial.workers.items) l.board.journal (players_of g.D.Driver.facts g.D.Driver.plan g.D.Driver.sound g.D.Driver.room l.workers.items) false;
 }

@@ -1,14 +1,13 @@
-use Rattle.std.proofs.Common.{◌∙◌, refl, inl, false, map, ap, sym, subst}
-use Rattle.np_config.specs.Configuration.{Configuration}
+use Rattle.std.proofs.Common.{[], ◌∙◌, refl, inl, false, map, ap, subst}
 use Rattle.np_rules.specs.Ran.{Ran}
-use Rattle.np_answers.specs.Drive.{driving}
-use Rattle.np_driven.specs.Players.{HaveDrivenAs}
-use Rattle.np_driven.specs.Hosting.{Earlier, HaveHosted, IsHosted}
+use Rattle.np_driven.specs.Drive.{driving}
+use Rattle.np_driven.specs.Hosting.{Earlier}
 use Rattle.np_driven.proofs.Hosted.{counted}
 use Rattle.np_rounds.specs.Crews.{Terms, terms_of, players_of}
-use Rattle.np_rounds.specs.Played.{IsDriven}
+use Rattle.np_rounds.specs.Laps.{HasLaps}
 use Rattle.np_rounds.proofs.Driven.{driven_start, driven_end}
 use Rattle.np_rounds.proofs.Hosted.{hosted_start, empty_servers, new_servers, empty_begin, new_begin, carried_end, failed_end}
+use Rattle.np_rounds.proofs.Laps.{ended_runs, laps_driven, laps_hosted, laps_terms, was_played}
 use Rattle.np_rounds.proofs.Players.{as_many, kept_term, terms_of_drivers}
 use Rattle.np_rounds.proofs.Starts.{ended_settled}
 use Rattle.np_rounds.proofs.rounds.run_rounds.Goals as goal
@@ -24,48 +23,72 @@ returns-clause-settled g c = λ room.
     (told.settled room) told.stops room
 
 pub returns-clause-drivers : goal.returns-clause-drivers
-returns-clause-drivers g c = as_many g.D.Driver.facts g.D.Driver.plan g.D.Driver.sound g.D.Driver.room g.D.Driver.room c.in_ok-drivers.drivers.items c.args.drivers.items
-    (kept_term g.D.Driver.facts g.D.Driver.plan g.D.Driver.sound g.D.Driver.room (λ (t : Terms). t.room) g.D.Driver.room (λ d. refl)
-    (players_of g.D.Driver.facts g.D.Driver.plan g.D.Driver.sound g.D.Driver.room c.play_site.new.workers.items) c.in_ok-drivers.drivers.items c.args.drivers.items c.in_ok-drivers.ensures (c.in_ok-played.ensures.terms ∙ (ap (map terms_of) c.in_ok-workers.ensures.drivings ∙ terms_of_drivers g.D.Driver.facts g.D.Driver.plan g.D.Driver.sound g.D.Driver.room c.args.drivers.items)))
+returns-clause-drivers g c =
+    let players = players_of g.D.Driver.facts g.D.Driver.plan g.D.Driver.sound g.D.Driver.room c.in_ok-workers.workers.items in
+    let now = players_of g.D.Driver.facts g.D.Driver.plan g.D.Driver.sound g.D.Driver.room c.play_site.new.workers.items in
+    let laps = subst (λ (b : Ran). HasLaps false b.configuration b.journal players c.in_ok-played.played.journal now c.in_ok-played.full) c.in_ok-board.ensures c.in_ok-played.ensures.laps in
+    as_many g.D.Driver.facts g.D.Driver.plan g.D.Driver.sound g.D.Driver.room g.D.Driver.room c.in_ok-drivers.drivers.items c.args.drivers.items
+    (kept_term g.D.Driver.facts g.D.Driver.plan g.D.Driver.sound g.D.Driver.room (λ (t : Terms). t.room) g.D.Driver.room (λ d. refl) now c.in_ok-drivers.drivers.items c.args.drivers.items c.in_ok-drivers.ensures
+    (laps_terms false c.args.config [] players c.in_ok-played.played.journal now c.in_ok-played.full laps ∙ (ap (map terms_of) c.in_ok-workers.ensures.drivings ∙ terms_of_drivers g.D.Driver.facts g.D.Driver.plan g.D.Driver.sound g.D.Driver.room c.args.drivers.items)))
     ∙ c.requires.drivers
 
 pub returns-clause-plans : goal.returns-clause-plans
-returns-clause-plans g c = kept_term g.D.Driver.facts g.D.Driver.plan g.D.Driver.sound g.D.Driver.room (λ (t : Terms). t.plan) g.D.Driver.plan (λ d. refl)
-    (players_of g.D.Driver.facts g.D.Driver.plan g.D.Driver.sound g.D.Driver.room c.play_site.new.workers.items) c.in_ok-drivers.drivers.items c.args.drivers.items c.in_ok-drivers.ensures (c.in_ok-played.ensures.terms ∙ (ap (map terms_of) c.in_ok-workers.ensures.drivings ∙ terms_of_drivers g.D.Driver.facts g.D.Driver.plan g.D.Driver.sound g.D.Driver.room c.args.drivers.items))
+returns-clause-plans g c =
+    let players = players_of g.D.Driver.facts g.D.Driver.plan g.D.Driver.sound g.D.Driver.room c.in_ok-workers.workers.items in
+    let now = players_of g.D.Driver.facts g.D.Driver.plan g.D.Driver.sound g.D.Driver.room c.play_site.new.workers.items in
+    let laps = subst (λ (b : Ran). HasLaps false b.configuration b.journal players c.in_ok-played.played.journal now c.in_ok-played.full) c.in_ok-board.ensures c.in_ok-played.ensures.laps in
+    kept_term g.D.Driver.facts g.D.Driver.plan g.D.Driver.sound g.D.Driver.room (λ (t : Terms). t.plan) g.D.Driver.plan (λ d. refl) now c.in_ok-drivers.drivers.items c.args.drivers.items c.in_ok-drivers.ensures
+    (laps_terms false c.args.config [] players c.in_ok-played.played.journal now c.in_ok-played.full laps ∙ (ap (map terms_of) c.in_ok-workers.ensures.drivings ∙ terms_of_drivers g.D.Driver.facts g.D.Driver.plan g.D.Driver.sound g.D.Driver.room c.args.drivers.items))
 
 pub returns-clause-sounds : goal.returns-clause-sounds
-returns-clause-sounds g c = kept_term g.D.Driver.facts g.D.Driver.plan g.D.Driver.sound g.D.Driver.room (λ (t : Terms). t.sound) g.D.Driver.sound (λ d. refl)
-    (players_of g.D.Driver.facts g.D.Driver.plan g.D.Driver.sound g.D.Driver.room c.play_site.new.workers.items) c.in_ok-drivers.drivers.items c.args.drivers.items c.in_ok-drivers.ensures (c.in_ok-played.ensures.terms ∙ (ap (map terms_of) c.in_ok-workers.ensures.drivings ∙ terms_of_drivers g.D.Driver.facts g.D.Driver.plan g.D.Driver.sound g.D.Driver.room c.args.drivers.items))
+returns-clause-sounds g c =
+    let players = players_of g.D.Driver.facts g.D.Driver.plan g.D.Driver.sound g.D.Driver.room c.in_ok-workers.workers.items in
+    let now = players_of g.D.Driver.facts g.D.Driver.plan g.D.Driver.sound g.D.Driver.room c.play_site.new.workers.items in
+    let laps = subst (λ (b : Ran). HasLaps false b.configuration b.journal players c.in_ok-played.played.journal now c.in_ok-played.full) c.in_ok-board.ensures c.in_ok-played.ensures.laps in
+    kept_term g.D.Driver.facts g.D.Driver.plan g.D.Driver.sound g.D.Driver.room (λ (t : Terms). t.sound) g.D.Driver.sound (λ d. refl) now c.in_ok-drivers.drivers.items c.args.drivers.items c.in_ok-drivers.ensures
+    (laps_terms false c.args.config [] players c.in_ok-played.played.journal now c.in_ok-played.full laps ∙ (ap (map terms_of) c.in_ok-workers.ensures.drivings ∙ terms_of_drivers g.D.Driver.facts g.D.Driver.plan g.D.Driver.sound g.D.Driver.room c.args.drivers.items))
 
 pub returns-clause-rooms : goal.returns-clause-rooms
-returns-clause-rooms g c = kept_term g.D.Driver.facts g.D.Driver.plan g.D.Driver.sound g.D.Driver.room (λ (t : Terms). t.room) g.D.Driver.room (λ d. refl)
-    (players_of g.D.Driver.facts g.D.Driver.plan g.D.Driver.sound g.D.Driver.room c.play_site.new.workers.items) c.in_ok-drivers.drivers.items c.args.drivers.items c.in_ok-drivers.ensures (c.in_ok-played.ensures.terms ∙ (ap (map terms_of) c.in_ok-workers.ensures.drivings ∙ terms_of_drivers g.D.Driver.facts g.D.Driver.plan g.D.Driver.sound g.D.Driver.room c.args.drivers.items))
+returns-clause-rooms g c =
+    let players = players_of g.D.Driver.facts g.D.Driver.plan g.D.Driver.sound g.D.Driver.room c.in_ok-workers.workers.items in
+    let now = players_of g.D.Driver.facts g.D.Driver.plan g.D.Driver.sound g.D.Driver.room c.play_site.new.workers.items in
+    let laps = subst (λ (b : Ran). HasLaps false b.configuration b.journal players c.in_ok-played.played.journal now c.in_ok-played.full) c.in_ok-board.ensures c.in_ok-played.ensures.laps in
+    kept_term g.D.Driver.facts g.D.Driver.plan g.D.Driver.sound g.D.Driver.room (λ (t : Terms). t.room) g.D.Driver.room (λ d. refl) now c.in_ok-drivers.drivers.items c.args.drivers.items c.in_ok-drivers.ensures
+    (laps_terms false c.args.config [] players c.in_ok-played.played.journal now c.in_ok-played.full laps ∙ (ap (map terms_of) c.in_ok-workers.ensures.drivings ∙ terms_of_drivers g.D.Driver.facts g.D.Driver.plan g.D.Driver.sound g.D.Driver.room c.args.drivers.items))
+
+pub returns-clause-played : goal.returns-clause-played
+returns-clause-played g c =
+    let players = players_of g.D.Driver.facts g.D.Driver.plan g.D.Driver.sound g.D.Driver.room c.in_ok-workers.workers.items in
+    let now = players_of g.D.Driver.facts g.D.Driver.plan g.D.Driver.sound g.D.Driver.room c.play_site.new.workers.items in
+    let laps = subst (λ (b : Ran). HasLaps false b.configuration b.journal players c.in_ok-played.played.journal now c.in_ok-played.full) c.in_ok-board.ensures c.in_ok-played.ensures.laps in
+    was_played false c.args.config players now (map (driving g.D.Driver.facts g.D.Driver.plan g.D.Driver.sound g.D.Driver.room) c.args.drivers.items) (map (driving g.D.Driver.facts g.D.Driver.plan g.D.Driver.sound g.D.Driver.room) c.in_ok-drivers.drivers.items) c.in_ok-played.played.journal c.in_ok-played.full
+    c.in_ok-workers.ensures.numbered c.in_ok-workers.ensures.drivings c.in_ok-drivers.ensures laps
 
 pub returns-clause-driven : goal.returns-clause-driven
 returns-clause-driven g c = λ none.
     let players = players_of g.D.Driver.facts g.D.Driver.plan g.D.Driver.sound g.D.Driver.room c.in_ok-workers.workers.items in
     let now = players_of g.D.Driver.facts g.D.Driver.plan g.D.Driver.sound g.D.Driver.room c.play_site.new.workers.items in
+    let laps = subst (λ (b : Ran). HasLaps false b.configuration b.journal players c.in_ok-played.played.journal now c.in_ok-played.full) c.in_ok-board.ensures c.in_ok-played.ensures.laps in
     driven_end false g.D.Driver.facts g.D.Driver.plan g.D.Driver.sound g.D.Driver.room c.args.config c.in_ok-played.full c.in_ok-played.played.journal now c.in_ok-drivers.drivers.items c.in_ok-drivers.ensures
-    (subst (λ (d : Configuration). IsDriven false d c.in_ok-played.full c.in_ok-played.played.journal now) (ap (λ (b : Ran). b.configuration) c.in_ok-board.ensures)
-    (c.in_ok-played.ensures.driven (subst (λ (b : Ran). HaveDrivenAs false b.configuration b.journal players) (sym c.in_ok-board.ensures)
-    (driven_start false g.D.Driver.facts g.D.Driver.plan g.D.Driver.sound g.D.Driver.room c.args.config players c.args.drivers.items c.in_ok-workers.ensures.numbered c.in_ok-workers.ensures.drivings none))))
+    (laps_driven false c.args.config [] players c.in_ok-played.played.journal now c.in_ok-played.full (ended_runs c.args.config c.in_ok-played.played.configuration c.in_ok-played.played.journal c.in_ok-played.played.state (c.in_ok-played.ensures.configuration ∙ ap (λ (b : Ran). b.configuration) c.in_ok-board.ensures) c.soundness-2.ensures.runs) laps
+    (driven_start false g.D.Driver.facts g.D.Driver.plan g.D.Driver.sound g.D.Driver.room c.args.config players c.args.drivers.items c.in_ok-workers.ensures.numbered c.in_ok-workers.ensures.drivings none))
 
 pub returns-clause-carried : goal.returns-clause-carried
 returns-clause-carried g c = λ empty.
     let players = players_of g.D.Driver.facts g.D.Driver.plan g.D.Driver.sound g.D.Driver.room c.in_ok-workers.workers.items in
     let now = players_of g.D.Driver.facts g.D.Driver.plan g.D.Driver.sound g.D.Driver.room c.play_site.new.workers.items in
+    let laps = subst (λ (b : Ran). HasLaps false b.configuration b.journal players c.in_ok-played.played.journal now c.in_ok-played.full) c.in_ok-board.ensures c.in_ok-played.ensures.laps in
     let earlier : Earlier = counted (map (driving g.D.Driver.facts g.D.Driver.plan g.D.Driver.sound g.D.Driver.room) c.args.drivers.items) in
     carried_end g.D.Driver.facts g.D.Driver.plan g.D.Driver.sound g.D.Driver.room earlier c.args.config c.in_ok-played.full c.in_ok-played.played.journal now c.in_ok-drivers.drivers.items c.in_ok-drivers.ensures
-    (subst (λ (d : Configuration). IsHosted earlier d c.in_ok-played.full c.in_ok-played.played.journal now) (ap (λ (b : Ran). b.configuration) c.in_ok-board.ensures)
-    (c.in_ok-played.ensures.hosted earlier (subst (λ (b : Ran). HaveHosted earlier b.configuration b.journal players) (sym c.in_ok-board.ensures)
-    (hosted_start g.D.Driver.facts g.D.Driver.plan g.D.Driver.sound g.D.Driver.room earlier c.args.config players c.args.drivers.items c.in_ok-workers.ensures.numbered c.in_ok-workers.ensures.drivings (empty_servers g.D.Driver.facts g.D.Driver.plan g.D.Driver.sound g.D.Driver.room c.args.drivers.items empty) (empty_begin g.D.Driver.facts g.D.Driver.plan g.D.Driver.sound g.D.Driver.room c.args.drivers.items empty)))))
+    (laps_hosted earlier c.args.config [] players c.in_ok-played.played.journal now c.in_ok-played.full (ended_runs c.args.config c.in_ok-played.played.configuration c.in_ok-played.played.journal c.in_ok-played.played.state (c.in_ok-played.ensures.configuration ∙ ap (λ (b : Ran). b.configuration) c.in_ok-board.ensures) c.soundness-2.ensures.runs) laps
+    (hosted_start g.D.Driver.facts g.D.Driver.plan g.D.Driver.sound g.D.Driver.room earlier c.args.config players c.args.drivers.items c.in_ok-workers.ensures.numbered c.in_ok-workers.ensures.drivings (empty_servers g.D.Driver.facts g.D.Driver.plan g.D.Driver.sound g.D.Driver.room c.args.drivers.items empty) (empty_begin g.D.Driver.facts g.D.Driver.plan g.D.Driver.sound g.D.Driver.room c.args.drivers.items empty)))
 
 pub returns-clause-failed : goal.returns-clause-failed
 returns-clause-failed g c = λ new.
     let players = players_of g.D.Driver.facts g.D.Driver.plan g.D.Driver.sound g.D.Driver.room c.in_ok-workers.workers.items in
     let now = players_of g.D.Driver.facts g.D.Driver.plan g.D.Driver.sound g.D.Driver.room c.play_site.new.workers.items in
+    let laps = subst (λ (b : Ran). HasLaps false b.configuration b.journal players c.in_ok-played.played.journal now c.in_ok-played.full) c.in_ok-board.ensures c.in_ok-played.ensures.laps in
     let earlier : Earlier = λ p. 0 in
     failed_end g.D.Driver.facts g.D.Driver.plan g.D.Driver.sound g.D.Driver.room c.args.config c.in_ok-played.full c.in_ok-played.played.journal now c.in_ok-drivers.drivers.items c.in_ok-drivers.ensures
-    (subst (λ (d : Configuration). IsHosted earlier d c.in_ok-played.full c.in_ok-played.played.journal now) (ap (λ (b : Ran). b.configuration) c.in_ok-board.ensures)
-    (c.in_ok-played.ensures.hosted earlier (subst (λ (b : Ran). HaveHosted earlier b.configuration b.journal players) (sym c.in_ok-board.ensures)
-    (hosted_start g.D.Driver.facts g.D.Driver.plan g.D.Driver.sound g.D.Driver.room earlier c.args.config players c.args.drivers.items c.in_ok-workers.ensures.numbered c.in_ok-workers.ensures.drivings (new_servers g.D.Driver.facts g.D.Driver.plan g.D.Driver.sound g.D.Driver.room c.args.drivers.items new) (new_begin g.D.Driver.facts g.D.Driver.plan g.D.Driver.sound g.D.Driver.room c.args.drivers.items new)))))
+    (laps_hosted earlier c.args.config [] players c.in_ok-played.played.journal now c.in_ok-played.full (ended_runs c.args.config c.in_ok-played.played.configuration c.in_ok-played.played.journal c.in_ok-played.played.state (c.in_ok-played.ensures.configuration ∙ ap (λ (b : Ran). b.configuration) c.in_ok-board.ensures) c.soundness-2.ensures.runs) laps
+    (hosted_start g.D.Driver.facts g.D.Driver.plan g.D.Driver.sound g.D.Driver.room earlier c.args.config players c.args.drivers.items c.in_ok-workers.ensures.numbered c.in_ok-workers.ensures.drivings (new_servers g.D.Driver.facts g.D.Driver.plan g.D.Driver.sound g.D.Driver.room c.args.drivers.items new) (new_begin g.D.Driver.facts g.D.Driver.plan g.D.Driver.sound g.D.Driver.room c.args.drivers.items new)))

@@ -20,7 +20,7 @@ returns-then-full c =
     let board = c.args.board.now in let text = c.in_ok-text.text.items in
     let state = rows_state board (ran_of c.machine.result.now) c.machine.ensures.same _ _ c.rows.ensures.site c.rows.ensures.state in
     drill_shown board.configuration board.configuration board.journal board.state text true refl c.requires.sound c.soundness.ensures.runs
-    c.requires.lines c.requires.driven (ended_is board.configuration board.journal c.args.full true c.if-full.true c.requires.ended)
+    c.requires.lines c.requires.driven (ended_is false board.configuration board.journal c.args.full true c.if-full.true c.requires.ended)
     (c.in_ok-text.ensures ∙ ap (λ (s : State). summary_of (fates s)) state)
 
 pub returns : goal.returns
@@ -29,6 +29,6 @@ returns c =
     let state = rows_state board (ran_of c.machine.result.now) c.machine.ensures.same _ _ c.rows.ensures.site c.rows.ensures.state in (
       refl,
       drill_shown board.configuration board.configuration board.journal board.state text false refl c.requires.sound c.soundness.ensures.runs
-          c.requires.lines c.requires.driven (ended_is board.configuration board.journal c.args.full false c.if-full.false c.requires.ended)
+          c.requires.lines c.requires.driven (ended_is false board.configuration board.journal c.args.full false c.if-full.false c.requires.ended)
           (c.in_ok-text.ensures ∙ ap (λ (s : State). summary_of (fates s)) state),
     )

@@ -1,4 +1,4 @@
-use Rattle.std.proofs.Common.{◌∙◌, sym, subst}
+use Rattle.std.proofs.Common.{◌∙◌, false, sym, subst}
 use Rattle.std.specs.Prelude.{IfOk}
 use Rattle.np_changes.specs.Prelude.{Configuration, IsSound}
 use Rattle.np_useful.specs.Driven.{Driven}
@@ -17,7 +17,7 @@ ending_at-requires-clause-driven g c =
 pub ending_at-requires-clause-ended : goal.ending_at-requires-clause-ended
 ending_at-requires-clause-ended g c =
     let board = c.in_ok-board.board in let told = c.in_ok-board.ensures in
-    subst (λ (x : Configuration). HasEnded x board.journal c.in_ok-board.full) (sym told.configuration) told.ended
+    subst (λ (x : Configuration). HasEnded false x board.journal c.in_ok-board.full) (sym told.configuration) told.ended
 
 pub returns : goal.returns
 returns g c =

@@ -1,10 +1,10 @@
-use Rattle.std.proofs.Common.{map, subst}
+use Rattle.std.proofs.Common.{false, map, subst}
 use Rattle.np_changes.specs.Prelude.{AllByRecursion, Entry}
-use Rattle.np_answers.specs.Drive.{driving}
+use Rattle.np_driven.specs.Drive.{driving}
 use Rattle.np_driven.specs.Players.{WasAnswered}
 use Rattle.np_top.specs.Typed.{IsTyped}
 use Rattle.np_top.proofs.DrivenLines.{driven_lines}
-use Rattle.np_top.proofs.Sites.{ended_so, new_empty, new_servers}
+use Rattle.np_top.proofs.Sites.{ended_so, new_empty, new_servers, played_by}
 use Rattle.np_top.proofs.playing.play_over.Goals as goal
 
 pub returns-clause-lines : goal.returns-clause-lines
@@ -25,6 +25,9 @@ returns-clause-failed g c = c.in_ok-ended.ensures.failed c.requires.new
 
 pub returns-clause-ended : goal.returns-clause-ended
 returns-clause-ended g c =
-    let board = c.in_ok-ended.ended.board in
-    ended_so c.args.config board.configuration board.journal board.state c.in_ok-ended.ended.full c.in_ok-ended.ensures.configuration c.soundness-2.ensures.runs
-    c.in_ok-ended.ensures.settled c.in_ok-ended.ensures.full
+    let board = c.in_ok-ended.ended.board in (
+      ended_so c.args.config board.configuration board.journal board.state c.in_ok-ended.ended.full c.in_ok-ended.ensures.configuration c.soundness-2.ensures.runs
+          c.in_ok-ended.ensures.settled c.in_ok-ended.ensures.full,
+      played_by false g.D.Driver.facts g.D.Driver.plan g.D.Driver.sound g.D.Driver.room c.args.config c.args.drivers.items c.in_ok-ended.ended.drivers.items board.journal c.in_ok-ended.ended.full
+          (new_servers g.D.Driver.facts c.args.drivers.items c.requires.new) c.in_ok-ended.ensures.played,
+    )

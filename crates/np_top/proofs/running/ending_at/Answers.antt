@@ -24,18 +24,18 @@ status_of-requires g c =
     }
 
 pub returns-then-full : goal.returns-then-full
-returns-then-full g c =
+returns-then-full g c = λ plans ended.
     let m = c.args.machine.now in let text = c.in_ok-text.text.items in
     let printed = rows_printed (ran_of m) (ran_of m) refl _ _ c.rows-rows.ensures.site c.rows-rows.ensures.state c.journal.result.now text c.journal.ensures c.in_ok-text.ensures in
-    played_to m.configuration m.configuration m.journal m.state refl (Runs-first m.configuration m.earlier m.journal m.state c.requires.first c.soundness.ensures.runs) text true
-    printed (ended_is m.configuration m.journal c.args.full true c.if-full.true c.requires.ended)
+    played_to m.configuration m.configuration m.journal m.state refl (Runs-first m.configuration m.earlier m.journal m.state c.requires.first c.soundness.ensures.runs) plans text true
+    printed (ended_is plans m.configuration m.journal c.args.full true c.if-full.true ended)
 
 pub returns : goal.returns
-returns g c =
+returns g c = λ plans ended.
     let m = c.args.machine.now in let text = c.in_ok-text.text.items in
     let runs = Runs-first m.configuration m.earlier m.journal m.state c.requires.first c.soundness.ensures.runs in
     let printed = rows_printed (ran_of m) (ran_of m) refl _ _ c.rows-rows.ensures.site c.rows-rows.ensures.state c.journal.result.now text c.journal.ensures c.in_ok-text.ensures in
     let state = rows_state (ran_of m) (ran_of m) refl _ _ c.rows-rows.ensures.site c.rows-rows.ensures.state in (
-      played_to m.configuration m.configuration m.journal m.state refl runs text false printed (ended_is m.configuration m.journal c.args.full false c.if-full.false c.requires.ended),
+      played_to m.configuration m.configuration m.journal m.state refl runs plans text false printed (ended_is plans m.configuration m.journal c.args.full false c.if-full.false ended),
       status_then m.configuration m.configuration m.journal m.state refl runs c.status_of.result (c.status_of.ensures ∙ ap (λ (s : State). status_of_fates (fates s)) state),
     )

@@ -1,3 +1,4 @@
+use Rattle.std.proofs.Common.{false}
 use Rattle.std.specs.Prelude.{IfOk, List}
 use Rattle.np_changes.specs.Prelude.{AllByRecursion, Configuration, Entry}
 use Rattle.np_event_lines.specs.Line.{HasEventLine}
@@ -14,15 +15,11 @@ ending_at-requires-clause-lines g c =
     to_machine (ran_of c.machine.result.now) (c.in_ok-board.board) c.machine.ensures.same c.args.config told.configuration
     (λ (x : Configuration) (journal : List Entry). AllByRecursion (λ (e : Entry). HasEventLine e.event) journal) told.lines
 
-pub ending_at-requires-clause-ended : goal.ending_at-requires-clause-ended
-ending_at-requires-clause-ended g c =
-    let told = c.in_ok-board.ensures in
-    to_machine (ran_of c.machine.result.now) (c.in_ok-board.board) c.machine.ensures.same c.args.config told.configuration
-    (λ (x : Configuration) (journal : List Entry). HasEnded x journal c.in_ok-board.full) told.ended
-
 pub returns : goal.returns
 returns g c =
     let board = c.in_ok-board.board in let told = c.in_ok-board.ensures in
     ends_site plain_run c.args.config board.journal c.ending_at.result told.driven
     (from_machine (ran_of c.machine.result.now) (c.in_ok-board.board) c.machine.ensures.same c.args.config told.configuration
-    (λ (x : Configuration) (journal : List Entry). IfOk c.ending_at.result (EndsPlay x journal)) c.ending_at.ensures)
+    (λ (x : Configuration) (journal : List Entry). IfOk c.ending_at.result (EndsPlay false x journal)) (c.ending_at.ensures false
+    (to_machine (ran_of c.machine.result.now) (c.in_ok-board.board) c.machine.ensures.same c.args.config told.configuration
+    (λ (x : Configuration) (journal : List Entry). HasEnded false x journal c.in_ok-board.full) told.ended)))

@@ -3,9 +3,8 @@ use Rattle.std.specs.Prelude.{slice_get}
 use Rattle.std.proofs.lemmas.Option.{slice_get_within}
 use Rattle.np_machine.specs.Fates.{fate_of}
 use Rattle.np_top.specs.Play.{is_waiting}
-use Rattle.np_top.proofs.Waiting.{any-end, such-first, such-later}
+use Rattle.np_top.proofs.Waiting.{any-end, any-next, such-first, such-later}
 use Rattle.np_top.proofs.running.status_of.Goals as goal
-use Rattle.np_lists.proofs.Plain.{any-next}
 
 pub loop-job-preserved : goal.loop-job-preserved
 loop-job-preserved g c =

@@ -1,0 +1,131 @@
+-- a worker's round at a board: where its entries stand, of which role they are, how far its roles came, and what became of its servers
+use Rattle.std.specs.Prelude.{◌≡◌, ◌⊎◌, ◌++◌, ℕ, length, List, [], ◌∷◌, Bool, true, false, Contains, All, IfOk, Option, Result}
+use Rattle.np_changes.specs.Prelude.{Configuration, Entry, Event, Janitor, Launcher, NoMemory, PoolId, Reaper, Requester, Role, after}
+use Rattle.np_driven.specs.Prelude.{AreRising, Driving, IsUseful, Move, Phase, Server, Sight, StartsWith, Work, asked, launched, of_pool, of_reaper, of_requester, removed}
+use Rattle.np_event.specs.declared.reply.Reply.TheVariants as reply
+use Rattle.np_event.specs.declared.reply.Done.TheVariants as done
+use Rattle.np_driven.specs.declared.ask.Ask.{Ask}
+use Rattle.np_driven.specs.declared.ask.Ask.TheVariants as ask
+use Rattle.np_driven.specs.declared.ask.Turn.{Turn}
+use Rattle.np_driven.specs.declared.ask.Turn.TheVariants as turn
+use Rattle.np_driven.specs.Move.{entries_of}
+use Rattle.np_driven.specs.Trace.{StandAt, WasFull, did_count, is_launcher_act, is_janitor_act, is_lone_act}
+use Rattle.np_driven.specs.Makers.{IsOfWorker}
+use Rattle.np_driven.specs.Planned.{DrivenAs, answers_of}
+use Rattle.np_driven.specs.Players.{Player, WasAnswered}
+use Rattle.np_driven.specs.Round.{PlayerEnd, PlaysFrom}
+use Rattle.np_driven.specs.Servers.{HasServers, IsOfRound, IsOnlyNodeOfItsNumber, IsOnlyOfItsNumber, IsSweptAfter, KeepsJanitor, LeftWithCause, StaysKept, WasDue, WasUnwanted}
+use Rattle.np_worker.specs.declared.worker.RoundEnd.{RoundEnd}
+use Rattle.np_worker.specs.Moves.{AreOrderly}
+use Rattle.np_worker.specs.Part.{RemovalFailed}
+
+-- ## how far the roles came
+
+-- at some time of the round, after a history that was seen, the role had no useful event (own)
+pub record HadNothing (c : Configuration) (role : Role) (history seen : List Entry) : Type 0 where
+  pub before : List Entry
+  pub of_round : StartsWith before history
+  pub of_seen : StartsWith seen before
+  pub nothing : (e : Event) → IsUseful c (after c before) role e → ⊥
+
+-- the turns in which the role acts, among those of its worker (own)
+abbrev pub acts_as : Role → Ask → Bool
+acts_as (Launcher pool) = is_launcher_act
+acts_as (Janitor pool) = is_janitor_act
+acts_as (Requester q) = is_lone_act
+acts_as Reaper = is_lone_act
+
+-- 16 turns of the role made an entry, or it had no useful event at some time of the round (own)
+abbrev pub CameFar : Configuration → List Entry → List Entry → List Move → Role → Type 0
+CameFar c history seen trace role = (did_count (acts_as role) trace ≡ 16) ⊎ HadNothing c role history seen
+
+-- each role of the worker did; the janitor, unless a removal failed (own)
+abbrev pub RolesCameFar : Configuration → Work → List Entry → List Entry → List Move → Type 0 → Type 0
+RolesCameFar c (of_pool pool) history seen trace failed =
+    CameFar c history seen trace (Launcher pool) × ((failed → ⊥) → CameFar c history seen trace (Janitor pool))
+RolesCameFar c (of_requester q) history seen trace failed = CameFar c history seen trace (Requester q)
+RolesCameFar c of_reaper history seen trace failed = CameFar c history seen trace Reaper
+
+-- ## sweeps
+
+-- a sweep that made an entry was answered that nobody wants the server (own)
+abbrev pub IsSweptSo : Ask → Turn → Type 0
+IsSweptSo (ask.Sweep pool n x) (turn.Did e) = e.reply ≡ reply.Done done.Remove
+IsSweptSo _ _ = Unit {0}
+
+abbrev pub AreSweptSo : List Move → Type 0
+AreSweptSo [] = Unit {0}
+AreSweptSo (asked a t ∷ moves) = IsSweptSo a t × AreSweptSo moves
+AreSweptSo (launched tag o ∷ moves) = AreSweptSo moves
+AreSweptSo (removed x ∷ moves) = AreSweptSo moves
+
+-- ## servers
+
+-- a server left with a cause. If no other server of the round has its number, it is itself swept; if no other node of the pool has a server of that number, the due node is its own (own)
+pub record HasLeft (c : Configuration) (history seen : List Entry) (pool : PoolId) (trace : List Move) (servers : List Server) (server : Server) : Type 0 where
+  pub cause : LeftWithCause c history seen pool trace servers server
+  pub own_pair : IsOnlyOfItsNumber trace servers server → WasDue c history seen pool server.number ⊎ IsSweptAfter c seen server
+  pub own_node : IsOnlyNodeOfItsNumber c history seen pool server → (due : WasDue c history seen pool server.number) → due.node ≡ server.tag.node
+
+module _ (plans : Bool) (c : Configuration) where
+  -- each server that the driver had before the round or launched in it, and no longer has, left so (own)
+  abbrev pub ServersLeave : (history : List Entry) (player : Player) (end : PlayerEnd) → PlaysFrom plans c history player end → Type 0
+  ServersLeave history player end plays = (pool : PoolId) (before now : List Server)
+      → player.work ≡ of_pool pool → HasServers player before → HasServers end.player now
+      → (server : Server) → IsOfRound plays.trace before server → (Contains now server → ⊥)
+      → HasLeft c history end.sight.seen pool plays.trace before server
+
+  -- each server that the driver has after the round was kept at some time of it, after which the round made no entries but sweeps (own)
+  abbrev pub ServersStay : List Entry → Player → PlayerEnd → Type 0
+  ServersStay history player end = (pool : PoolId) (now : List Server)
+      → player.work ≡ of_pool pool → HasServers end.player now → All (StaysKept c history end.sight pool) now
+
+  -- if the journal before was driven, a server that had been named in it and that no record wanted is gone, where the pool had a janitor throughout: so one whose removal had failed (own)
+  abbrev pub ServersGo : List Entry → Player → PlayerEnd → Type 0
+  ServersGo history player end = (drivings : List Driving) (pool : PoolId) (now : List Server)
+      → player.work ≡ of_pool pool → HasServers end.player now
+      → DrivenAs (WasAnswered drivings) plans c history → KeepsJanitor c history end.sight.seen pool
+      → (server : Server) → WasUnwanted c history server → Contains now server → ⊥
+
+  -- ## the round
+
+  -- what is known where memory sufficed: how many entries were made, whether a turn found the journal full, and if none did, how far the roles came and which servers are left (own)
+  pub record CameToEnd (history : List Entry) (player : Player) (end : PlayerEnd) (plays : PlaysFrom plans c history player end) (is : RoundEnd) : Type 0 where
+    pub entries : is.entries ≡ length end.sight.mine
+    pub full : is.full ≡ true → WasFull plays.trace
+    pub room : is.full ≡ false → WasFull plays.trace → ⊥
+    pub roles : is.full ≡ false → RolesCameFar c player.work history end.sight.seen plays.trace (RemovalFailed player.driving end.player.driving)
+    pub stay : is.full ≡ false → (RemovalFailed player.driving end.player.driving → ⊥) → ServersStay history player end
+    pub go : is.full ≡ false → (RemovalFailed player.driving end.player.driving → ⊥) → ServersGo history player end
+
+  -- a worker's round after this history, at a board at which events may be planned or not (own)
+  pub record IsRoundAtBoard (history : List Entry) (player : Player) (end : PlayerEnd) (result : Result RoundEnd NoMemory) : Type 0 where
+    pub plays : PlaysFrom plans c history player end
+    pub orderly : AreOrderly player.work plays.trace end.phase
+    -- the entries that it made stand in what was seen, in order and after the history
+    pub stand : StandAt end.sight.seen end.sight.mine (entries_of plays.trace)
+    pub rising : AreRising (length history) end.sight.mine (length end.sight.seen)
+    -- each is of a role that the worker acts for
+    pub makers : (x : ℕ) → Contains end.sight.mine x → IsOfWorker c end.sight.seen player.work x
+    -- a sweep recorded nothing but that nobody wants the server
+    pub swept : AreSweptSo plays.trace
+    pub leave : ServersLeave history player end plays
+    pub ended : IfOk result (CameToEnd history player end plays)
+
+  -- a worker's round through a pass that may have earlier places: they stay, and those of this round come after them (own)
+  pub record HasRoundAtBoard (work : Work) (v w : Sight Entry) (before now : Option Driving) (result : Result RoundEnd NoMemory) : Type 0 where
+    pub gained : List ℕ
+    pub phase : Phase
+    pub mine : w.mine ≡ v.mine ++ gained
+    pub round : IsRoundAtBoard v.seen
+        (record { work = work; driving = before })
+        (record {
+          player = record { work = work; driving = now };
+          sight = record { seen = w.seen; mine = gained };
+          phase = phase;
+        })
+        result
+
+-- the answers of these turns are those of a board, whose configuration is part of what no turn changes (own)
+abbrev pub AnswersAsBoard : {F : Type 0} → Bool → (F → Configuration) → (F → List Entry → Ask → Turn → Type 0) → Type 0
+AnswersAsBoard {F} plans site answers = (f : F) (history : List Entry) (a : Ask) (t : Turn) → answers f history a t → answers_of plans (site f) history a t
