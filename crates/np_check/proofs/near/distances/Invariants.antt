@@ -1,0 +1,6 @@
+use Rattle.std.proofs.Common.{◌≡◌, map, take}
+use Rattle.np_check.specs.Near.{distance}
+use Rattle.np_check.proofs.near.distances.Given as goal
+
+abbrev pub invariant-loop-key : goal.invariant-loop-key
+invariant-loop-key l = l.found.items ≡ map (λ k. distance l.word k.now) (take l.key-index l.keys)

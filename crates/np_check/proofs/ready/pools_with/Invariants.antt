@@ -1,0 +1,10 @@
+use Rattle.std.proofs.Common.{◌≡◌, ◌≤◌}
+use Rattle.np_machine.specs.Count.{is_offered}
+use Rattle.np_check.specs.Demand.{number_below}
+use Rattle.np_check.proofs.ready.pools_with.Given as goal
+
+abbrev pub invariant-loop-at : goal.invariant-loop-at
+invariant-loop-at l = record {
+  few : l.count ≤ l.at;
+  count : l.count ≡ number_below (λ n. is_offered l.config (record { 0 = n }) l.label) l.at;
+}
