@@ -6,6 +6,8 @@
 #![tactic(auto)]
 
 #[cfg(test)]
+mod crowds;
+#[cfg(test)]
 mod desks;
 #[cfg(test)]
 mod disks;

@@ -1,0 +1,9 @@
+use Rattle.std.proofs.Common.{All}
+use Rattle.np_desk.specs.Pass.{IsOf}
+use Rattle.np_keep_tests.proofs.crowds.hand_out.Given as goal
+
+abbrev pub invariant-loop-thread : goal.invariant-loop-thread
+invariant-loop-thread l = record {
+  own : IsOf l.pass l.desk;
+  all : All (λ p. IsOf p l.desk) l.passes.items;
+}
