@@ -4,11 +4,13 @@
     poolsim run < site.json | python3 timeline.py > run.svg
     poolsim replay < some.script | python3 timeline.py > run.svg
     python3 timeline.py printed-by-poolsim.txt > run.svg
+    python3 timeline.py --pool cloud/main --entries 200-400 printed.txt > part.svg
 
 The input is what `poolsim run` or `poolsim replay` printed: the configuration,
 a line `%%`, one line for each entry of the journal, a line `%%`, and one line
 for each job's fate. The output is one SVG picture, about 1,400 pixels wide for
-a long journal and narrower for a short one.
+a long journal and narrower for a short one. `journal.py`, beside this file,
+reads the input.
 
 The x axis counts the entries of the journal. An entry changes a state at its
 own number, and an entry that was refused changes nothing. From top to bottom
@@ -22,467 +24,102 @@ the picture has:
   inside and a cross where one failed, then ready, in use, used or on hold,
   deleting, failed. A node's bar is thin while the node is given to no request.
   Otherwise the bar names the job, if there is room. The node's last state is
-  written at the right.
+  written at the right;
+- a lane for each thing that is used: the servers, cores and MiB of each pool and
+  of each tenant that has jobs, as far as they have a limit, or else the servers;
+  and the handles of each semaphore that jobs name. A lane is as high as the limit,
+  or as the most that was used if there is none. A tenant's use counts what its
+  accepted requests still wait for. No tenant is drawn if none is listed.
 
-If there are more than 80 lanes (or `--lanes N`), the first jobs and nodes are
-drawn. The picture then says how many were left out, and ends where the last of
-its lanes ends. In a browser, each bar shows its state and its entries under the
-pointer. Locks, semaphores and sweeps are not drawn.
+More than 80 jobs and nodes share lanes: those of one requester or of one pool
+follow one another in as few lanes as they need, each with its number where
+there is room, and jobs are drawn from where they ask for nodes. If there are
+more than 200 lanes even so (or `--lanes N`), the first are drawn, and the
+picture says how much was left out. In a browser, each bar shows its state and
+its entries under the pointer. Locks and sweeps are not drawn.
 
-If a line cannot be read, the tool prints one line to standard error, with the
-number of that line, and the exit status is 1.
+`--job`, `--requester` and `--pool` select, by the number (`j0`, `q0`, `p0`) or
+by the name (`check/unit`, `check`, `cloud/main`); give one more than once for
+more of the same kind. A job is drawn if it is one of the jobs, of one of the
+requesters, and was accepted by one of the pools; a node is drawn if it is of
+one of the pools and was given to a job that is selected. `--entries A-B` draws
+these entries alone.
+
+If a line of the input cannot be read, the tool prints one line to standard
+error, with the number of that line, and the exit status is 1. If an option is
+at fault, it prints one line, and the status is 2.
 """
 
 from __future__ import annotations
 
 import argparse
-import json
 import re
 import sys
-from dataclasses import dataclass, field
-from typing import Dict, List, Optional, Sequence, Set, Tuple
+from dataclasses import dataclass
+from typing import Dict, List, NoReturn, Optional, Sequence, Set, Tuple
 from xml.sax.saxutils import escape, quoteattr
 
-# ---------------------------------------------------------------- what is read
+from journal import DEFAULT, Fault, Job, Lane, Loss, Node, Run, Span, Use, cut, read_run, read_text
 
-BAR = "%%"
-
-# The accepted entries: a capital letter stands for an id, `#` for a number, `|` for "or".
-ENTRY_FORMS = """
-tick = ok
-open launcher|janitor P = session S
-open requester Q = session S
-crash|expire|register S = ok
-submit S J = request R
-revise S J # = ok
-min-ready S L = request R
-lock-request S R = held
-unlock-request|accept S R = ok
-decline S R no-label L = ok
-decline S R never-fits|tenant-never-fits = ok
-decline S R spent N = ok
-take-ready S R N = held
-create S R = node N
-start S N = started # #
-done S N # ok # = ok
-done S N # failed = ok
-fulfil S R = ok
-lock-node S N = held
-lock-node S N = queued #
-unlock-node S N = ok
-acquire|take|withdraw|release S J = ok
-end-node S N used|hold = ok
-finish S J = ended served|lost|failed
-mark-deleting|gone|free-node S N = ok
-reset|fail-declined S R = ok
-sweep S N # = keep|remove
-"""
-
-# What may follow `refused`; `W` is the state that was found.
-REFUSAL_FORMS = """
-no-session|expired|crashed|wrong-role|no-request|no-node|no-job|not-owner|not-registered
-not-held|declined|false-reason|never-fits|tenant-never-fits|spent|full
-taken|busy S
-wrong-state W
-not-first|allocated R
-no-label L
-quota-short|tenant-short # # #
-wrong-attempt|not-all|not-due|enough #
-semaphore-full X
-"""
-
-NUMBER = "(?:0|[1-9][0-9]*)"
-FIELDS = {
-    "#": NUMBER,
-    "R": "[0-9]{3}-[0-9]{10}",
-    "W": "(?:requested|pending|fulfilled|failed|building|in-flight|ready|in-use|used|hold"
-    "|deleting|new|asked|using|over)",
-}
-FIELDS.update({letter.upper(): letter + NUMBER for letter in "jlnpqsx"})
-
-DECLINE = rf" p{NUMBER}:(?:no-label-l{NUMBER}|never-fits|tenant-never-fits|spent-n{NUMBER})"
-FATE = re.compile(
-    rf"served(?: p{NUMBER})?(?: n{NUMBER})*|failed(?:{DECLINE})*|lost|withdrawn"
-    r"|waiting (?:new|asked|using|over)"
-)
+# ------------------------------------------------------------ what is selected of it
 
 
-class Fault(Exception):
-    """What is wrong with a line of the input."""
+@dataclass
+class Selection:
+    """The jobs, requesters and pools to draw, of which none is all, and the entries."""
 
-    def __init__(self, line: int, what: str) -> None:
-        super().__init__(f"line {line}: {what}")
+    jobs: Set[str]
+    requesters: Set[str]
+    pools: Set[str]
+    first: int
+    last: int
+
+    def has_job(self, job: Job) -> bool:
+        return (
+            (not self.jobs or job.word in self.jobs)
+            and (not self.requesters or job.requester in self.requesters)
+            and (not self.pools or not self.pools.isdisjoint(job.pools))
+        )
+
+    def has_node(self, node: Node, jobs: Set[str]) -> bool:
+        is_for_all = not self.jobs and not self.requesters
+        return (not self.pools or node.pool in self.pools) and (
+            is_for_all or not jobs.isdisjoint(node.jobs)
+        )
 
 
-def patterns_of(forms: str) -> List[str]:
-    """A regular expression for each form."""
-    return [
-        " ".join(FIELDS.get(word, f"(?:{word})") for word in form.split(" "))
-        for form in forms.strip().splitlines()
+@dataclass
+class Chosen:
+    """What is drawn of a run: the lanes, and what is used."""
+
+    jobs: List[Job]
+    nodes: List[Node]
+    pools: List[Use]
+    tenants: List[Use]
+    semaphores: List[Use]
+
+
+def chosen_of(run: Run, selection: Selection) -> Chosen:
+    first, last = selection.first, selection.last
+    is_part = (first, last) != (0, run.entries)
+    jobs = [job for job in run.jobs.values() if selection.has_job(job)]
+    words = {job.word for job in jobs}
+    nodes = [node for node in run.nodes.values() if selection.has_node(node, words)]
+    pools = [
+        use
+        for word, pool in run.pools.items()
+        if not selection.pools or word in selection.pools
+        for use in pool.uses
     ]
-
-
-def entry_pattern() -> re.Pattern[str]:
-    accepted = patterns_of(ENTRY_FORMS)
-    events = "|".join(sorted({form.split(" (?:=) ")[0] for form in accepted}))
-    refused = f"(?:{events}) = refused (?:{'|'.join(patterns_of(REFUSAL_FORMS))})"
-    return re.compile("|".join(accepted + [refused]))
-
-
-ENTRY = entry_pattern()
-
-
-@dataclass
-class Text:
-    """The three parts of what poolsim printed; `fates_at` is the line of the first fate."""
-
-    configuration: str
-    entries: List[str]
-    fates: List[str]
-    fates_at: int
-
-
-def read_text(raw: bytes) -> Text:
-    try:
-        lines = raw.decode("utf-8").split("\n")
-    except UnicodeDecodeError as fault:
-        raise Fault(raw.count(b"\n", 0, fault.start) + 1, "not UTF-8")
-    if lines[-1] == "":
-        lines.pop()
-    if not lines:
-        raise Fault(1, "the input is empty")
-    if len(lines) < 2 or lines[1] != BAR:
-        raise Fault(2, f"expected {BAR} after the configuration")
-    if BAR not in lines[2:]:
-        raise Fault(len(lines) + 1, f"expected {BAR} after the journal")
-    end = lines.index(BAR, 2)
-    return Text(lines[0], lines[2:end], lines[end + 1 :], end + 2)
-
-
-# ------------------------------------------------------------ what is drawn of it
-
-
-@dataclass
-class Span:
-    """The entries from `start` to `end` at which a job or a node was in one state."""
-
-    state: str
-    start: int
-    end: Optional[int] = None
-    text: str = ""
-    thin: bool = False
-
-
-@dataclass
-class Lane:
-    """A job with its name, or a node with its pool; its labels, and its states one after another."""
-
-    word: str
-    name: str
-    labels: List[str]
-    spans: List[Span] = field(default_factory=list)
-
-    def enter(self, at: int, state: str, text: str = "", thin: bool = False) -> None:
-        self.leave(at)
-        self.spans.append(Span(state, at, None, text, thin))
-
-    def leave(self, at: int) -> None:
-        if self.spans and self.spans[-1].end is None:
-            self.spans[-1].end = at
-
-    def last_word(self) -> str:
-        """What is written at the right of the lane."""
-        raise NotImplementedError
-
-
-@dataclass
-class Job(Lane):
-    request: str = ""
-    ending: str = ""
-    fate: str = ""
-
-    def last_word(self) -> str:
-        return cut(self.fate, 40)
-
-    def finish(self, at: int, ending: str) -> None:
-        self.leave(at)
-        self.ending = ending
-
-
-@dataclass
-class Launch:
-    start: int
-    end: Optional[int] = None
-    failed: bool = False
-
-
-@dataclass
-class Request:
-    """A job's request, or one of a launcher that keeps nodes ready, which has no job."""
-
-    labels: List[str]
-    job: Optional[Job] = None
-    nodes: List[Node] = field(default_factory=list)
-    declined: Set[str] = field(default_factory=set)
-
-    def enter(self, at: int, state: str, text: str = "") -> None:
-        if self.job:
-            self.job.enter(at, state, text)
-
-    def free_nodes(self, at: int) -> None:
-        for node in self.nodes:
-            if node.request is self:
-                node.give(at, None)
-        self.nodes = []
-
-
-@dataclass
-class Node(Lane):
-    state: str = "building"
-    request: Optional[Request] = None
-    launches: List[Launch] = field(default_factory=list)
-    is_gone: bool = False
-
-    def last_word(self) -> str:
-        return "gone" if self.is_gone else self.state
-
-    def show(self, at: int) -> None:
-        job = self.request.job if self.request else None
-        named = job and self.state in ("ready", "in-use", "used", "hold")
-        if not self.is_gone:
-            self.enter(at, self.state, job.word if job and named else "", self.request is None)
-
-    def turn(self, at: int, state: str) -> None:
-        self.state = state
-        self.show(at)
-
-    def give(self, at: int, request: Optional[Request]) -> None:
-        self.request = request
-        if request:
-            request.nodes.append(self)
-        self.show(at)
-
-    def end_launch(self, at: int, failed: bool = False) -> None:
-        if self.launches and self.launches[-1].end is None:
-            self.launches[-1].end = at
-            self.launches[-1].failed = failed
-
-
-@dataclass
-class Pool:
-    name: str
-    launch_retries: int
-
-
-@dataclass
-class Session:
-    """`place` is the pool of a launcher or a janitor, or the requester."""
-
-    role: str
-    place: str
-
-
-@dataclass
-class Loss:
-    """The end of a session, by `expire` or `crash`."""
-
-    at: int
-    event: str
-    session: str
-    role: str
-
-    def __str__(self) -> str:
-        return f"{self.event} {self.session} {self.role}"
-
-
-class Run:
-    """What became of jobs, nodes and sessions in the course of a journal.
-
-    `play` takes one entry after another. An event that changes something that is
-    drawn has a method `on_EVENT`, which takes the entry's number, the words behind
-    the event's name, and the words of the reply.
-    """
-
-    def __init__(self, configuration: str) -> None:
-        site = json.loads(configuration)
-        labels = [label["name"] for label in site["labels"]]
-        pools = [
-            Pool(f"{provider['name']}/{pool['name']}", int(provider["launch-retries"]))
-            for provider in site["providers"]
-            for pool in provider["pools"]
-        ]
-        jobs = [(requester["name"], job) for requester in site["requesters"] for job in requester["jobs"]]
-        self.labels = {f"l{k}": label for k, label in enumerate(labels)}
-        self.pools = {f"p{k}": pool for k, pool in enumerate(pools)}
-        self.jobs = {
-            f"j{k}": Job(f"j{k}", f"{requester}/{job['name']}", list(job["labels"]))
-            for k, (requester, job) in enumerate(jobs)
-        }
-        self.nodes: Dict[str, Node] = {}
-        self.requests: Dict[str, Request] = {}
-        self.sessions: Dict[str, Session] = {}
-        self.registered: Dict[str, str] = {}
-        self.ticks: List[int] = []
-        self.losses: List[Loss] = []
-        self.entries = 0
-        for job in self.jobs.values():
-            job.enter(0, "new", thin=True)
-
-    def play(self, line: str) -> None:
-        self.entries += 1
-        event, reply = (side.split(" ") for side in line.split(" = "))
-        handler = getattr(self, "on_" + event[0].replace("-", "_"), None)
-        if handler and reply[0] != "refused":
-            handler(self.entries, *event[1:], *reply)
-
-    def close(self) -> None:
-        """Ends what lasts to the end of the journal."""
-        for lane in [*self.jobs.values(), *self.nodes.values()]:
-            lane.leave(self.entries + 1)
-        for node in self.nodes.values():
-            node.end_launch(self.entries + 1)
-
-    def pool_of(self, session: str) -> str:
-        return self.sessions[session].place
-
-    def lose(self, at: int, event: str, session: str) -> None:
-        lost = self.sessions[session]
-        self.losses.append(Loss(at, event, session, f"{lost.role} {lost.place}"))
-
-    # time and sessions
-
-    def on_tick(self, at: int, _ok: str) -> None:
-        self.ticks.append(at)
-
-    def on_open(self, at: int, role: str, place: str, _session: str, session: str) -> None:
-        self.sessions[session] = Session(role, place)
-
-    def on_crash(self, at: int, session: str, _ok: str) -> None:
-        self.lose(at, "crash", session)
-
-    def on_expire(self, at: int, session: str, _ok: str) -> None:
-        self.lose(at, "expire", session)
-        self.registered = {p: holder for p, holder in self.registered.items() if holder != session}
-
-    def on_register(self, at: int, session: str, _ok: str) -> None:
-        self.registered[self.pool_of(session)] = session
-
-    # requests
-
-    def on_submit(self, at: int, session: str, job: str, _request: str, request: str) -> None:
-        asking = self.jobs[job]
-        asking.request = request
-        self.requests[request] = Request(asking.labels, asking)
-        asking.enter(at, "asked")
-
-    def on_min_ready(self, at: int, session: str, label: str, _request: str, request: str) -> None:
-        self.requests[request] = Request([self.labels[label]])
-
-    def on_accept(self, at: int, session: str, request: str, _ok: str) -> None:
-        self.requests[request].enter(at, "accepted", self.pool_of(session))
-
-    def on_decline(self, at: int, session: str, request: str, *_why: str) -> None:
-        declined = self.requests[request]
-        declined.declined.add(self.pool_of(session))
-        declined.free_nodes(at)
-        nobody_left = declined.declined.issuperset(self.registered)
-        state = "request failed" if nobody_left else "asked"
-        declined.enter(at, state, f"{self.pool_of(session)} declined")
-
-    def on_fail_declined(self, at: int, session: str, request: str, _ok: str) -> None:
-        self.requests[request].enter(at, "request failed")
-
-    def on_reset(self, at: int, session: str, request: str, _ok: str) -> None:
-        self.requests[request].free_nodes(at)
-        self.requests[request].enter(at, "asked", "reset")
-
-    def on_fulfil(self, at: int, session: str, request: str, _ok: str) -> None:
-        fulfilled = self.requests[request]
-        fulfilled.enter(at, "fulfilled")
-        if not fulfilled.job:
-            fulfilled.free_nodes(at)
-            del self.requests[request]
-
-    # nodes
-
-    def on_create(self, at: int, session: str, request: str, _node: str, node: str) -> None:
-        asking = self.requests[request]
-        label = asking.labels[len(asking.nodes)]
-        pool = self.pool_of(session)
-        self.nodes[node] = Node(node, f"{pool} {self.pools[pool].name}", [label])
-        self.nodes[node].give(at, asking)
-
-    def on_take_ready(self, at: int, session: str, request: str, node: str, _held: str) -> None:
-        self.nodes[node].give(at, self.requests[request])
-
-    def on_start(self, at: int, session: str, node: str, *_started: str) -> None:
-        self.nodes[node].launches.append(Launch(at))
-
-    def on_done(self, at: int, session: str, node: str, attempt: str, outcome: str, *_rest: str) -> None:
-        launched = self.nodes[node]
-        launched.end_launch(at, failed=outcome == "failed")
-        if outcome == "ok":
-            launched.turn(at, "ready")
-        elif int(attempt) == self.pools[self.pool_of(session)].launch_retries:
-            launched.turn(at, "failed")
-
-    def on_end_node(self, at: int, session: str, node: str, state: str, _ok: str) -> None:
-        self.nodes[node].turn(at, state)
-
-    def on_mark_deleting(self, at: int, session: str, node: str, _ok: str) -> None:
-        self.nodes[node].end_launch(at)
-        self.nodes[node].turn(at, "deleting")
-
-    def on_gone(self, at: int, session: str, node: str, _ok: str) -> None:
-        self.nodes[node].leave(at)
-        self.nodes[node].is_gone = True
-
-    def on_free_node(self, at: int, session: str, node: str, _ok: str) -> None:
-        self.nodes[node].give(at, None)
-
-    # jobs
-
-    def on_take(self, at: int, session: str, job: str, _ok: str) -> None:
-        taken = self.requests.pop(self.jobs[job].request)
-        for node in taken.nodes:
-            node.turn(at, "in-use")
-        taken.enter(at, "using", " ".join(node.word for node in taken.nodes))
-
-    def on_finish(self, at: int, session: str, job: str, _ended: str, ending: str) -> None:
-        self.jobs[job].finish(at, ending)
-
-    def on_withdraw(self, at: int, session: str, job: str, _ok: str) -> None:
-        self.requests.pop(self.jobs[job].request, None)
-        self.jobs[job].finish(at, "withdrawn")
-
-
-def read_run(text: Text) -> Run:
-    try:
-        run = Run(text.configuration)
-    except (ValueError, LookupError, TypeError, AttributeError, RecursionError):
-        raise Fault(1, "not a configuration that poolsim printed")
-    for number, line in enumerate(text.entries, 3):
-        if not ENTRY.fullmatch(line):
-            raise Fault(number, f"not an entry of a journal: {cut(line, 60)!r}")
-        try:
-            run.play(line)
-        except LookupError:
-            raise Fault(number, f"cannot follow the lines before it: {cut(line, 60)!r}")
-    run.close()
-    read_fates(run, text)
-    return run
-
-
-def read_fates(run: Run, text: Text) -> None:
-    jobs = list(run.jobs.values())
-    for number, (job, line) in enumerate(zip(jobs, text.fates), text.fates_at):
-        start = f"{job.word} {job.name} "
-        job.fate = line[len(start) :]
-        if not line.startswith(start) or not FATE.fullmatch(job.fate):
-            raise Fault(number, f"not the fate of {job.word}: {cut(line, 60)!r}")
-    if len(text.fates) != len(jobs):
-        number = text.fates_at + min(len(text.fates), len(jobs))
-        raise Fault(number, f"expected the fates of {len(jobs)} jobs, found {len(text.fates)}")
+    tenants = [] if list(run.tenants) == [DEFAULT] else list(run.tenants)
+    of_jobs = {job.tenant for job in jobs}, {name for job in jobs for name in job.semaphores}
+    return Chosen(
+        [job for job in jobs if not is_part or job.is_in(first, last)],
+        [node for node in nodes if not is_part or node.is_in(first, last)],
+        pools,
+        [use for name in tenants if name in of_jobs[0] for use in run.tenants[name].uses],
+        [run.semaphores[name] for name in run.semaphores if name in of_jobs[1]],
+    )
 
 
 # ------------------------------------------------------------------ how it looks
@@ -578,10 +215,6 @@ def shown(attributes: Dict[str, object]) -> str:
     return "".join(f" {name}={value}" for name, value in pairs)
 
 
-def cut(text: str, most: int) -> str:
-    return text if len(text) <= most else text[: most - 1] + "…"
-
-
 def width_of(text: str, size: int = 12) -> float:
     """About how wide a text is, in pixels."""
     return len(text) * size * 0.58
@@ -649,122 +282,289 @@ def add_ending(svg: Svg, ending: str, x: float, y: float, title: str = "") -> No
 
 @dataclass
 class Frame:
-    """Where the entries are: `left` is the start of the run, `right` its end, and `width` the picture's."""
+    """Where the entries `first` to `last` are: from `left` to `right`; `width` is the picture's."""
 
     left: float
     right: float
     width: float
-    entries: int
+    first: int
+    last: int
 
     def x(self, entry: int) -> float:
-        return self.left + (self.right - self.left) * entry / (self.entries + 1)
+        """Where the entry is; what is before the first entry or after the last is at that edge."""
+        place = min(max(entry, self.first), self.last + 1) - self.first
+        return self.left + (self.right - self.left) * place / (self.last + 1 - self.first)
+
+    def has(self, entry: int) -> bool:
+        return self.first <= entry <= self.last
 
 
-def add_span(svg: Svg, frame: Frame, lane: Lane, span: Span, middle: float) -> None:
-    start, end = span.start, span.end or 0
+def add_span(svg: Svg, frame: Frame, lane: Lane, span: Span, text: str, middle: float) -> None:
+    start, end = span.start, span.end
+    if start > frame.last or end <= frame.first:
+        return
     x, width = frame.x(start), frame.x(end) - frame.x(start)
     title = f"{lane.word} {lane.name}: {span.state} {span.text}".rstrip() + f", entry {start} to {end}"
     add_bar(svg, span.state, x, width, middle, THIN if span.thin else BAR_HEIGHT, title)
     has_mark = isinstance(lane, Job) and lane.ending and span is lane.spans[-1]
-    if span.text and not span.thin:
-        add_bar_text(svg, span, x, width - (7 if has_mark else 0), middle)
+    if text and not span.thin:
+        add_bar_text(svg, span.state, text, x, width - (7 if has_mark else 0), middle)
 
 
-def add_bar_text(svg: Svg, span: Span, x: float, room: float, middle: float) -> None:
+def add_bar_text(svg: Svg, state: str, text: str, x: float, room: float, middle: float) -> None:
     """The text in a bar, if it fits, over a plain ground where the bar has lines."""
-    look, width, centre = LOOKS[span.state], width_of(span.text, 10), x + room / 2
+    look, width, centre = LOOKS[state], width_of(text, 10), x + room / 2
     if width + 4 > room:
         return
     if look.lines:
         svg.add("rect", x=centre - width / 2 - 1, y=middle - 5, width=width + 2, height=10, fill=look.fill)
-    svg.text(centre, middle + 3.6, span.text, 10, look.ink, text_anchor="middle")
+    svg.text(centre, middle + 3.6, text, 10, look.ink, text_anchor="middle")
 
 
 def add_launches(svg: Svg, frame: Frame, node: Node, middle: float) -> None:
     for attempt, launch in enumerate(node.launches, 1):
-        x, end = frame.x(launch.start), frame.x(launch.end or 0)
+        x, end = frame.x(launch.start), frame.x(launch.end)
+        if end == x:
+            continue
         title = f"{node.word}: launch {attempt}, entry {launch.start} to {launch.end}"
         add_bar(svg, "launch", x, end - x, middle, THIN, title + (", failed" if launch.failed else ""))
     for launch in node.launches:
-        if launch.failed:
-            add_cross(svg, frame.x(launch.end or 0), middle, 3.5, "#ffffff", 3.6)
-            add_cross(svg, frame.x(launch.end or 0), middle, 3.5, BLACK, 1.6)
+        if launch.failed and frame.has(launch.end):
+            add_cross(svg, frame.x(launch.end), middle, 3.5, "#ffffff", 3.6)
+            add_cross(svg, frame.x(launch.end), middle, 3.5, BLACK, 1.6)
 
 
 def add_lane(svg: Svg, frame: Frame, lane: Lane, middle: float) -> None:
-    svg.text(12, middle + 4, name_of(lane))
-    svg.text(frame.left - 10, middle + 4, labels_of(lane), 11, FAINT, text_anchor="end")
     for span in lane.spans:
-        add_span(svg, frame, lane, span, middle)
+        add_span(svg, frame, lane, span, span.text, middle)
+    add_marks(svg, frame, lane, middle)
+
+
+def add_marks(svg: Svg, frame: Frame, lane: Lane, middle: float) -> None:
+    """The launches of a node, or the mark of a job's end."""
     if isinstance(lane, Node):
         add_launches(svg, frame, lane, middle)
-    if isinstance(lane, Job) and lane.ending:
-        end = lane.spans[-1].end or 0
+    if isinstance(lane, Job) and lane.ending and frame.has(lane.spans[-1].end):
+        end = lane.spans[-1].end
         title = f"{lane.word} {lane.name}: {lane.ending}, entry {end}"
         add_ending(svg, lane.ending, frame.x(end), middle, title)
-    svg.text(frame.right + 14, middle + 4, lane.last_word(), 11)
+
+
+def add_shared(svg: Svg, frame: Frame, lane: Lane, middle: float) -> None:
+    """A job from where it asks, or a node, with its number in its longest bar, or else over them all."""
+    spans = [span for span in lane.spans if span.state != "new"]
+    longest = max(spans, key=lambda span: 0.0 if span.thin else room_of(frame, span))
+    fits = not longest.thin and room_of(frame, longest) >= width_of(lane.word, 10) + 12
+    for span in spans:
+        text = lane.word if fits and span is longest else ""
+        add_span(svg, frame, lane, span, text, middle)
+    add_marks(svg, frame, lane, middle)
+    if not fits:
+        add_number(svg, lane.word, frame.x(spans[0].start), frame.x(spans[-1].end), middle)
+
+
+def room_of(frame: Frame, span: Span) -> float:
+    return frame.x(span.end) - frame.x(span.start)
+
+
+def add_number(svg: Svg, word: str, left: float, right: float, middle: float) -> None:
+    """A number over several bars, if all of them together are as wide."""
+    width, centre = width_of(word, 9), (left + right - 6) / 2
+    if width + 8 <= right - left:
+        x = centre - width / 2 - 1
+        svg.add("rect", x=x, y=middle - 4.5, width=width + 2, height=9, fill="#ffffff", fill_opacity=0.85)
+        svg.text(centre, middle + 3.2, word, 9, text_anchor="middle")
+
+
+# ------------------------------------------------------------------------ the lanes
+
+
+@dataclass
+class Row:
+    """What one lane of the picture shows: a job or a node alone, or several one after another."""
+
+    name: str
+    labels: str
+    last_word: str
+    lanes: List[Lane]
+    is_shared: bool = False
+
+    def add(self, svg: Svg, frame: Frame, middle: float) -> None:
+        svg.text(12, middle + 4, self.name)
+        svg.text(frame.left - 10, middle + 4, self.labels, 11, FAINT, text_anchor="end")
+        for lane in self.lanes:
+            (add_shared if self.is_shared else add_lane)(svg, frame, lane, middle)
+        svg.text(frame.right + 14, middle + 4, self.last_word, 11)
+
+
+def row_of(lane: Lane) -> Row:
+    name = f"{lane.word} {cut(lane.name, 26)}"
+    return Row(name, cut(" ".join(lane.labels), 22), lane.last_word(), [lane])
+
+
+GAP = 10  # the pixels between two that share a lane, at least: a mark is as wide
+
+
+def shared_rows(frame: Frame, name: str, lanes: Sequence[Lane]) -> List[Row]:
+    """As few rows as these need, in the order in which they begin."""
+    begun = sorted(lanes, key=begin_of)
+    rows: List[Row] = []
+    for lane in begun:
+        start = frame.x(begin_of(lane)) - GAP
+        free = (row for row in rows if frame.x(row.lanes[-1].spans[-1].end) <= start)
+        row = next(free, None)
+        if row is None:
+            row = Row("" if rows else name, "", "", [], True)
+            rows.append(row)
+        row.lanes.append(lane)
+    return rows
+
+
+def begin_of(lane: Lane) -> int:
+    """Where a job asks for nodes, or a node is made."""
+    return next((span.start for span in lane.spans if span.state != "new"), lane.spans[0].end)
 
 
 @dataclass
 class Section:
-    """The lanes of the jobs, or those of the nodes, and how many are left out."""
+    """The lanes of the jobs, or those of the nodes, and what is said of those left out."""
 
     head: str
-    lanes: Sequence[Lane]
-    left_out: int
+    rows: Sequence[Row]
+    note: str
 
     def height(self) -> int:
-        return HEAD + LANE * (len(self.lanes) + (1 if self.left_out or not self.lanes else 0))
+        return HEAD + LANE * (len(self.rows) + (1 if self.note else 0))
 
     def add_bands(self, svg: Svg, frame: Frame, top: float) -> None:
         svg.text(12, top + 16, self.head, 13, font_weight="bold")
-        for place in range(0, len(self.lanes), 2):
+        for place in range(0, len(self.rows), 2):
             y, width = top + HEAD + LANE * place, frame.right - frame.left
             svg.add("rect", x=frame.left, y=y, width=width, height=LANE, fill=BAND)
 
     def add_lanes(self, svg: Svg, frame: Frame, top: float) -> None:
-        for place, lane in enumerate(self.lanes):
-            add_lane(svg, frame, lane, top + HEAD + LANE * (place + 0.5))
-        if self.left_out or not self.lanes:
-            note = f"{self.left_out:,} more left out" if self.left_out else "none"
-            svg.text(12, top + HEAD + LANE * (len(self.lanes) + 0.5) + 4, note, font_style="italic")
+        for place, row in enumerate(self.rows):
+            row.add(svg, frame, top + HEAD + LANE * (place + 0.5))
+        if self.note:
+            y = top + HEAD + LANE * (len(self.rows) + 0.5) + 4
+            svg.text(12, y, self.note, font_style="italic")
 
 
-def sections_of(run: Run, lanes: int) -> Tuple[Section, Section]:
+OWN_LANES = 80  # the most jobs and nodes that have a lane each
+
+
+def rows_of(frame: Frame, run: Run, chosen: Chosen) -> Tuple[List[Row], List[Row]]:
+    """The rows of the jobs and of the nodes: one for each, or shared ones if they are many."""
+    if len(chosen.jobs) + len(chosen.nodes) <= OWN_LANES:
+        return [row_of(job) for job in chosen.jobs], [row_of(node) for node in chosen.nodes]
+    jobs: List[Row] = []
+    for word, name in run.requesters.items():
+        own = [job for job in chosen.jobs if job.requester == word and len(job.spans) > 1]
+        jobs += shared_rows(frame, f"{word} {cut(name, 26)}", own)
+    nodes: List[Row] = []
+    for word, pool in run.pools.items():
+        made = [node for node in chosen.nodes if node.pool == word]
+        nodes += shared_rows(frame, f"{word} {cut(pool.name, 26)}", made)
+    return jobs, nodes
+
+
+def sections_of(frame: Frame, run: Run, chosen: Chosen, lanes: int) -> Tuple[Section, Section]:
     """As many lanes as are allowed, half of them for each kind where both have more."""
-    jobs, nodes = list(run.jobs.values()), list(run.nodes.values())
+    jobs, nodes = rows_of(frame, run, chosen)
     job_lanes = min(len(jobs), max(lanes // 2, lanes - len(nodes), 1))
     node_lanes = min(len(nodes), max(lanes - job_lanes, 1))
     return (
-        Section("Jobs", jobs[:job_lanes], len(jobs) - job_lanes),
-        Section("Nodes", nodes[:node_lanes], len(nodes) - node_lanes),
+        Section("Jobs", jobs[:job_lanes], note_of(chosen.jobs, jobs[:job_lanes])),
+        Section("Nodes", nodes[:node_lanes], note_of(chosen.nodes, nodes[:node_lanes])),
     )
 
 
-def name_of(lane: Lane) -> str:
-    return f"{lane.word} {cut(lane.name, 26)}"
+def note_of(lanes: Sequence[Lane], rows: Sequence[Row]) -> str:
+    """What is not drawn of these."""
+    shown = {lane.word for row in rows for lane in row.lanes}
+    rest = [lane for lane in lanes if lane.word not in shown]
+    new = sum(1 for lane in rest if len(lane.spans) == 1 and lane.spans[0].state == "new")
+    parts = [f"{len(rest) - new:,} more left out"] if len(rest) > new else []
+    parts += [f"{new:,} that never asked for nodes"] if new else []
+    return ", ".join(parts) if lanes else "none"
 
 
-def labels_of(lane: Lane) -> str:
-    return cut(" ".join(lane.labels), 22)
+# ------------------------------------------------------------------------ what is used
+
+USE_LANE = 34
+USE_HEIGHT = 26
+UNITS = {"servers": "servers", "cores": "cores", "ram": "MiB", "handles": "handles"}
 
 
-def last_entry(run: Run, jobs: Section, nodes: Section) -> int:
-    """The last of the journal, or where the last lane ends if lanes are left out."""
-    if not jobs.left_out and not nodes.left_out:
-        return run.entries
-    ends = [lane.spans[-1].end or 0 for lane in [*jobs.lanes, *nodes.lanes]]
-    return min(run.entries, max(ends) + 1)
+@dataclass
+class UseSection:
+    """Lanes that show how much of something is used."""
+
+    head: str
+    uses: Sequence[Use]
+
+    def height(self) -> int:
+        return HEAD + USE_LANE * len(self.uses) if self.uses else 0
+
+    def add(self, svg: Svg, frame: Frame, top: float) -> None:
+        if self.uses:
+            svg.text(12, top + 16, self.head, 13, font_weight="bold")
+        for place, use in enumerate(self.uses):
+            add_use(svg, frame, use, top + HEAD + USE_LANE * place)
 
 
-def frame_of(lanes: Sequence[Lane], entries: int) -> Frame:
+def add_use(svg: Svg, frame: Frame, use: Use, top: float) -> None:
+    """An area whose height is what was used, under a line at the limit."""
+    bottom, peak = top + USE_HEIGHT, use.peak(frame.first, frame.last)
+    height = max(peak if use.most is None else use.most, 1)
+    limit = "" if use.most is None else f" of {use.most:,}"
+    said = f"at most {peak:,}{limit} {UNITS[use.part]}"
+    svg.text(12, bottom - 8, f"{use.word} {cut(use.name, 26)}")
+    svg.text(frame.left - 10, bottom - 8, UNITS[use.part], 11, FAINT, text_anchor="end")
+    svg.add("rect", x=frame.left, y=top, width=frame.right - frame.left, height=USE_HEIGHT, fill=BAND)
+    path = use_path(frame, use, bottom, USE_HEIGHT / height)
+    svg.add("path", title=f"{use.word} {use.name}: {said}", d=path, fill=SKY, stroke=BLUE, stroke_width=0.8)
+    if use.most is not None:
+        svg.line(frame.left, top, frame.right, top, stroke=VERMILION, stroke_width=0.8)
+    svg.text(frame.right + 14, bottom - 8, said, 11)
+
+
+def use_path(frame: Frame, use: Use, bottom: float, scale: float) -> str:
+    """The outline of the area. Of several steps within a pixel it goes up to the greatest."""
+    columns: Dict[int, int] = {}
+    used = after = 0
+    for at, after in use.between(frame.first, frame.last):
+        column = int(frame.x(at))
+        columns[column] = max(columns.get(column, used), after)
+        columns[column + 1] = used = after
+    path = f"M{plain(frame.left)} {plain(bottom)}"
+    for column, height in columns.items():
+        path += f"H{plain(max(float(column), frame.left))}V{plain(bottom - height * scale)}"
+    return path + f"H{plain(frame.right)}V{plain(bottom)}Z"
+
+
+# ------------------------------------------------------------------------ the picture
+
+
+def frame_of(run: Run, chosen: Chosen, selection: Selection) -> Frame:
     """The entries stand between the lanes' names and their last words."""
-    names = [width_of(name_of(lane)) + width_of(labels_of(lane), 11) + 40 for lane in lanes]
-    last_words = [width_of(lane.last_word(), 11) + 24 for lane in lanes]
-    left, margin = max([110.0] + names), max([150.0] + last_words)
-    wanted = ENTRY_WIDTH * (entries + 1.0)
+    lanes: List[Lane] = [*chosen.jobs, *chosen.nodes]
+    names, words = [110.0], [150.0]
+    if len(lanes) <= OWN_LANES:
+        rows = [row_of(lane) for lane in lanes]
+        names += [width_of(row.name) + width_of(row.labels, 11) + 40 for row in rows]
+        words += [width_of(row.last_word, 11) + 24 for row in rows]
+    else:
+        titles = [*run.requesters.values(), *(pool.name for pool in run.pools.values())]
+        names += [width_of("p00 " + cut(title, 26)) + 40 for title in titles]
+    for use in [*chosen.pools, *chosen.tenants, *chosen.semaphores]:
+        names.append(width_of(f"{use.word} {cut(use.name, 26)}") + width_of(UNITS[use.part], 11) + 40)
+        said = f"at most {use.peak(selection.first, selection.last):,} of {use.most or 0:,} handles"
+        words.append(width_of(said, 11) + 24)
+    left, margin = max(names), max(words)
+    wanted = ENTRY_WIDTH * (selection.last + 1.0 - selection.first)
     right = left + max(480.0, min(wanted, WIDTH - left - margin))
-    return Frame(left, right, round(right + margin), entries)
+    return Frame(left, right, round(right + margin), selection.first, selection.last)
 
 
 def rows_of_marks(frame: Frame, losses: Sequence[Loss]) -> List[Optional[int]]:
@@ -794,7 +594,9 @@ def mark_rows(rows: Sequence[Optional[int]]) -> int:
     return max((row + 1 for row in rows if row is not None), default=0)
 
 
-def add_ticks(svg: Svg, frame: Frame, ticks: Sequence[int], top: float, bottom: float) -> None:
+def add_ticks(
+    svg: Svg, frame: Frame, ticks: Sequence[Tuple[int, int]], top: float, bottom: float
+) -> None:
     """A light line for each tick of time, or for every so many, numbered where there is room."""
     if not ticks:
         return
@@ -802,7 +604,7 @@ def add_ticks(svg: Svg, frame: Frame, ticks: Sequence[int], top: float, bottom: 
     label = "time in ticks" if step == 1 else f"time, each {step:,} ticks"
     svg.text(frame.left - 10, top + 11, label, 11, FAINT, text_anchor="end")
     free_from = frame.left
-    for tick, at in enumerate(ticks, 1):
+    for tick, at in ticks:
         if tick % step == 0:
             x, half = frame.x(at), width_of(str(tick), 10) / 2 + 3
             svg.line(x, top + 14, x, bottom, stroke=GRID)
@@ -813,8 +615,8 @@ def add_ticks(svg: Svg, frame: Frame, ticks: Sequence[int], top: float, bottom: 
 
 def add_axis(svg: Svg, frame: Frame, y: float) -> None:
     svg.line(frame.left, y, frame.right, y, stroke=INK)
-    step = round_step((frame.entries + 1) * 50 / (frame.right - frame.left))
-    for entry in range(0, frame.entries + 1, step):
+    step = round_step((frame.last + 1 - frame.first) * 50 / (frame.right - frame.left))
+    for entry in range(-(-frame.first // step) * step, frame.last + 1, step):
         svg.line(frame.x(entry), y, frame.x(entry), y + 5, stroke=INK)
         svg.text(frame.x(entry), y + 17, f"{entry:,}", 11, text_anchor="middle")
     svg.text((frame.left + frame.right) / 2, y + 34, "entry of the journal", text_anchor="middle")
@@ -865,6 +667,11 @@ def add_legend(svg: Svg, y: float, width: float) -> float:
             x, middle = legend.place("launch failed")
             add_cross(svg, x, middle, 3.5, BLACK, 1.6)
     legend.bar("ready", "thin: given to no request", THIN)
+    legend.head("Use")
+    x, y = legend.place("what is used")
+    svg.add("rect", x=x - 12, y=y - 4, width=24, height=11, fill=SKY, stroke=BLUE, stroke_width=0.8)
+    x, y = legend.place("its limit")
+    svg.line(x - 12, y, x + 12, y, stroke=VERMILION, stroke_width=0.8)
     legend.head("Marks")
     for event, word in (("expire", "session expired"), ("crash", "session crashed")):
         x, middle = legend.place(word)
@@ -884,38 +691,48 @@ def heading_of(run: Run) -> str:
     return ", ".join(sizes)
 
 
-def note_of(run: Run, frame: Frame, rows: Sequence[Optional[int]]) -> str:
-    """What the picture leaves out besides lanes."""
-    note = ""
-    if frame.entries < run.entries:
-        note += f"; the picture ends with its last lane, at entry {frame.entries:,}"
-    if None in rows:
-        note += f"; expiries and crashes drawn faintly, without names: {rows.count(None):,}"
-    return note
+def faint_note(rows: Sequence[Optional[int]]) -> str:
+    hidden = rows.count(None)
+    return f"; expiries and crashes drawn faintly, without names: {hidden:,}" if hidden else ""
 
 
-def draw(run: Run, lanes: int) -> str:
-    """The SVG picture of a run, with this many lanes at most."""
-    jobs, nodes = sections_of(run, lanes)
-    frame = frame_of([*jobs.lanes, *nodes.lanes], last_entry(run, jobs, nodes))
-    losses = [loss for loss in run.losses if loss.at <= frame.entries]
-    ticks = [at for at in run.ticks if at <= frame.entries]
+def part_note(run: Run, frame: Frame) -> str:
+    if (frame.first, frame.last) == (0, run.entries):
+        return ""
+    return f"; entries {frame.first:,} to {frame.last:,} of these"
+
+
+def draw(run: Run, selection: Selection, lanes: int) -> str:
+    """The SVG picture of what is selected of a run, with this many lanes at most."""
+    chosen = chosen_of(run, selection)
+    frame = frame_of(run, chosen, selection)
+    sections = sections_of(frame, run, chosen, lanes)
+    uses = (
+        UseSection("Pools", chosen.pools),
+        UseSection("Tenants", chosen.tenants),
+        UseSection("Semaphores", chosen.semaphores),
+    )
+    losses = [loss for loss in run.losses if frame.has(loss.at)]
+    ticks = [(tick, at) for tick, at in enumerate(run.ticks, 1) if frame.has(at)]
     rows = rows_of_marks(frame, losses)
     marks_top = 54.0
     ticks_top = marks_top + MARK_ROW * mark_rows(rows)
-    jobs_top = ticks_top + (18 if ticks else 0)
-    nodes_top = jobs_top + jobs.height() + 10
-    bottom = nodes_top + nodes.height() + 6
+    tops = [ticks_top + (18 if ticks else 0)]
+    for section in (*sections, *uses):
+        tops.append(tops[-1] + (section.height() + 10 if section.height() else 0))
+    bottom = tops[-1] - 4
     svg = Svg()
     add_patterns(svg)
     svg.add("rect", width="100%", height="100%", fill="#ffffff")
     svg.text(12, 24, "A run of poolsim", 16, font_weight="bold")
-    svg.text(12, 42, heading_of(run) + note_of(run, frame, rows), 12, FAINT)
-    jobs.add_bands(svg, frame, jobs_top)
-    nodes.add_bands(svg, frame, nodes_top)
+    svg.text(12, 42, heading_of(run) + part_note(run, frame) + faint_note(rows), 12, FAINT)
+    for section, top in zip(sections, tops):
+        section.add_bands(svg, frame, top)
     add_ticks(svg, frame, ticks, ticks_top, bottom)
-    jobs.add_lanes(svg, frame, jobs_top)
-    nodes.add_lanes(svg, frame, nodes_top)
+    for section, top in zip(sections, tops):
+        section.add_lanes(svg, frame, top)
+    for use_section, top in zip(uses, tops[len(sections) :]):
+        use_section.add(svg, frame, top)
     for loss, row in zip(losses, rows):
         add_loss(svg, loss, frame.x(loss.at), row, ticks_top if row is None else marks_top, bottom)
     add_axis(svg, frame, bottom)
@@ -926,24 +743,89 @@ def draw(run: Run, lanes: int) -> str:
 # ---------------------------------------------------------------------- the command
 
 
-def main() -> int:
-    parser = argparse.ArgumentParser(description="Draw a run of poolsim as an SVG picture.")
+class WrongOption(Exception):
+    """What is wrong with an option."""
+
+
+class Options(argparse.ArgumentParser):
+    """A parser that says what is wrong in one line."""
+
+    def error(self, message: str) -> NoReturn:
+        raise WrongOption(message)
+
+
+MOST_LANES = 10_000
+
+
+def lanes_of(text: str) -> int:
+    if not re.fullmatch("[0-9]{1,5}", text) or not 2 <= int(text) <= MOST_LANES:
+        raise argparse.ArgumentTypeError(f"expected a number from 2 to {MOST_LANES:,}, found {text!r}")
+    return int(text)
+
+
+def entries_of(text: str) -> Tuple[int, Optional[int]]:
+    """The entries `A-B`, or those from `A-` on."""
+    match = re.fullmatch("([0-9]{1,9})-([0-9]{1,9})?", text)
+    if not match or (match[2] and int(match[2]) < int(match[1])):
+        raise argparse.ArgumentTypeError(f"expected A-B with A at most B, or A-, found {text!r}")
+    return int(match[1]), int(match[2]) if match[2] else None
+
+
+def options_of(words: Optional[Sequence[str]]) -> argparse.Namespace:
+    parser = Options(description="Draw a run of poolsim as an SVG picture.")
     parser.add_argument("text", nargs="?", help="a file with what poolsim printed; standard input if absent")
     parser.add_argument("-o", "--output", help="the file for the picture; standard output if absent")
-    parser.add_argument("--lanes", type=int, default=80, help="the most lanes to draw (80)")
-    options = parser.parse_args()
+    for kind, example in (("job", "j0 or check/unit"), ("requester", "q0 or check"), ("pool", "p0 or cloud/main")):
+        parser.add_argument(f"--{kind}", action="append", default=[], help=f"draw this {kind} alone: {example}")
+    parser.add_argument("--entries", type=entries_of, default=(0, None), metavar="A-B", help="draw these entries alone")
+    parser.add_argument("--lanes", type=lanes_of, default=200, help="the most lanes of jobs and nodes (200)")
+    return parser.parse_args(words)
+
+
+def named(kind: str, asked: Sequence[str], names: Dict[str, str]) -> Set[str]:
+    """The words of what is named, by the words or by the names."""
+    found = {text: {word for word, name in names.items() if text in (word, name)} for text in asked}
+    for text, words in found.items():
+        if not words:
+            raise WrongOption(f"argument --{kind}: there is no {kind} {text!r}")
+    return set().union(*found.values())
+
+
+def selection_of(run: Run, options: argparse.Namespace) -> Selection:
+    first, last = options.entries
+    if max(first, last or 0) > run.entries:
+        raise WrongOption(f"argument --entries: the journal has {count_of(run.entries, 'entry', 'entries')}")
+    return Selection(
+        named("job", options.job, {word: job.name for word, job in run.jobs.items()}),
+        named("requester", options.requester, run.requesters),
+        named("pool", options.pool, {word: pool.name for word, pool in run.pools.items()}),
+        first,
+        run.entries if last is None else last,
+    )
+
+
+def picture_of(options: argparse.Namespace) -> bytes:
+    if options.text:
+        with open(options.text, "rb") as source:
+            raw = source.read()
+    else:
+        raw = sys.stdin.buffer.read()
+    run = read_run(read_text(raw))
+    return draw(run, selection_of(run, options), options.lanes).encode("utf-8")
+
+
+def main(words: Optional[Sequence[str]] = None) -> int:
     try:
-        if options.text:
-            with open(options.text, "rb") as source:
-                raw = source.read()
-        else:
-            raw = sys.stdin.buffer.read()
-        picture = draw(read_run(read_text(raw)), options.lanes).encode("utf-8")
+        options = options_of(words)
+        picture = picture_of(options)
         if options.output:
             with open(options.output, "wb") as sink:
                 sink.write(picture)
         else:
             sys.stdout.buffer.write(picture)
+    except WrongOption as fault:
+        print(f"timeline.py: {fault}", file=sys.stderr)
+        return 2
     except (Fault, OSError) as fault:
         print(f"timeline.py: {fault}", file=sys.stderr)
         return 1
