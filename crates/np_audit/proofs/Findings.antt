@@ -8,10 +8,10 @@ use Rattle.np_json.specs.declared.fault.ConfigFault.{ConfigFault}
 use Rattle.np_config_text.specs.Canonical.{canonical}
 use Rattle.np_config_read.specs.Walk.{reads}
 use Rattle.np_event_lines.proofs.KindLemmas.{bytes_eq-refl, same_bytes}
-use Rattle.np_script.specs.declared.script.Script.{Script}
+use Rattle.np_lines.specs.declared.script.Script.{Script}
 use Rattle.np_report.specs.Played.{played}
 use Rattle.np_report.specs.Printed.{IsPrinted}
-use Rattle.np_script.specs.Script.{IsPlayable}
+use Rattle.np_lines.specs.Script.{IsPlayable}
 use Rattle.np_report.specs.Text.{text_of}
 use Rattle.np_report.proofs.OwnText.{reads-canonical}
 use Rattle.np_report.proofs.SafePlay.{printed-script}

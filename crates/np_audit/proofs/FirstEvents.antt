@@ -7,7 +7,7 @@ use Rattle.np_text.specs.Lines.{line_in, line_length, lines_of}
 use Rattle.np_text.proofs.LineLemmas.{lines_of-walk}
 use Rattle.np_event_lines.specs.Line.{HasEventLine, entry_in}
 use Rattle.np_event_lines.proofs.EntryLemmas.{entry_in-told}
-use Rattle.np_script.specs.Script.{IsPlayable}
+use Rattle.np_lines.specs.Script.{IsPlayable}
 use Rattle.np_audit.specs.Entries.{event_told, events_told, first_line, later_lines, leading_events, with_event}
 
 -- ## one line

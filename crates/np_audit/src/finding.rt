@@ -13,8 +13,8 @@ use crate::agreement::common_lines;
 use crate::entries::{leading_events, split_line};
 use np_config::Config;
 use np_config_text::a_worked_text_is_read_and_printed;
+use np_lines::{Script, read_config};
 use np_report::text_of_script;
-use np_script::{Script, read_config};
 use np_text::NoMemory;
 use std::alloc::Global;
 

@@ -6,11 +6,9 @@
 //! accepted event have shown of each change, which is the other law. `specs/Planned` says which changes
 //! a keeper of a state is given.
 //!
-//! The numbers of every state that a run leads to fit.
-//!
 //! `specs/Fits` says when a state fits: its numbers leave room for one more event, and its rows for
 //! one more member (`Fits`); and what a configuration must be for that (`IsFitSite`). The laws in
-//! `law` say that every state of a run fits, and that a sound configuration is such a site.
+//! `numbers` say that every state of a run fits, and that a sound configuration is such a site.
 #![tactic(auto)]
 
 mod asked;

@@ -1,14 +1,10 @@
 //! The configuration as one value: its tables, read by id or whole.
 //!
-//! Ids are places in the tables, whose rows np_config has. Every `Config` is one that a text can have
-//! (np_config's `specs/Sound`): `of_parts` requires it, nothing changes a configuration afterwards, and
-//! `soundness` gives the fact to a caller. Nothing here reads or prints a text.
-//!
-//! What a configuration says: the rows of its tables, and what makes one sound.
-//!
-//! Nothing here reads or prints. Ids are places in the tables. `specs/Configuration` has the tables,
-//! `specs/Sound` the ranges, lengths, order and references of each row, `specs/Word` the words of
-//! planned faults.
+//! Ids are places in the tables. `specs/Configuration` has the tables, `specs/Sound` the ranges,
+//! lengths, order and references of each row, `specs/Word` the words of planned faults. Every
+//! `Config` is one that a text can have: `of_parts` requires that it is sound, nothing changes a
+//! configuration afterwards, and `soundness` gives the fact to a caller. Nothing here reads or prints
+//! a text.
 #![tactic(auto)]
 
 mod config;

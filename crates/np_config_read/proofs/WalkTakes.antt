@@ -44,7 +44,7 @@ use Rattle.np_config_read.proofs.RowTakes.{Rows, RowsAlone, RowsAlone-push, Rows
 use Rattle.np_config_read.proofs.PoolTakes.{Supply, provider_at-takes, supply-none}
 use Rattle.np_config_read.proofs.TenantTakes.{tenant_at-takes}
 use Rattle.np_config_read.proofs.JobTakes.{Demands, requester_at-takes, demands-none}
-use Rattle.np_lists.proofs.Plain.{mapped}
+use Rattle.np_lists.proofs.Plain.{from-map_some}
 
 -- ## Faults
 
@@ -58,13 +58,13 @@ required_word-takes {A} meaning at key d x e =
 
 role_named-takes : (pools : List (List ℕ)) (requesters : List Requester) (k : RoleKind) (text : List ℕ) (r : Role) → role_named pools requesters k text ≡ Some r → IsRole (length pools) (length requesters) r
 role_named-takes pools requesters kind.Launcher text r e =
-    let x = mapped (λ n. role.Launcher (record { 0 = n })) (pool_named pools text) r e in
+    let x = from-map_some (λ n. role.Launcher (record { 0 = n })) (pool_named pools text) r e in
     subst (IsRole (length pools) (length requesters)) x.2 (found_within (bytes_eq text) pools x.0 x.1)
 role_named-takes pools requesters kind.Janitor text r e =
-    let x = mapped (λ n. role.Janitor (record { 0 = n })) (pool_named pools text) r e in
+    let x = from-map_some (λ n. role.Janitor (record { 0 = n })) (pool_named pools text) r e in
     subst (IsRole (length pools) (length requesters)) x.2 (found_within (bytes_eq text) pools x.0 x.1)
 role_named-takes pools requesters kind.Requester text r e =
-    let x = mapped (λ n. role.Requester (record { 0 = n })) (requester_named requesters text) r e in
+    let x = from-map_some (λ n. role.Requester (record { 0 = n })) (requester_named requesters text) r e in
     subst (IsRole (length pools) (length requesters)) x.2 (found_within (λ (q : Requester). bytes_eq text q.name) requesters x.0 x.1)
 
 role_at-takes : (pools : List (List ℕ)) (requesters : List Requester) (at : List ℕ) (d : Data) (r : Role) → role_at pools requesters at d ≡ Ok r → IsRole (length pools) (length requesters) r

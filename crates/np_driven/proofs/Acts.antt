@@ -8,13 +8,13 @@ use Rattle.np_event.specs.declared.event.Event.TheVariants as ev
 use Rattle.np_event.specs.declared.event.Outcome.TheVariants as outcome
 use Rattle.np_event.specs.declared.reply.Done.TheVariants as done
 use Rattle.np_event.specs.declared.reply.Reply.TheVariants as reply
-use Rattle.np_answers.specs.Prelude.{IsReplied, IsSoundAlone, IsUseful, Launch, Server, IsOfServer, Phase, acting, acts, answers, answers_sweep, ended, is_unwanted, looks, of_pool, owes_due, owes_launch, owes_report, owes_swept, recorded, report_of, start_of, sweeps}
+use Rattle.np_driven.specs.Prelude.{IsReplied, IsSoundAlone, IsUseful, Launch, Server, IsOfServer, Phase, acting, acts, answers, answers_sweep, ended, is_unwanted, looks, of_pool, owes_due, owes_launch, owes_report, owes_swept, recorded, report_of, start_of, sweeps}
 use Rattle.np_lists.proofs.Each.{all-push}
-use Rattle.np_answers.specs.declared.ask.Ask.TheVariants as ask
-use Rattle.np_answers.specs.declared.ask.Turn.TheVariants as turn
-use Rattle.np_answers.specs.declared.start.Start.{Start}
-use Rattle.np_answers.specs.Phase.{start_in, start_of, report_of}
-use Rattle.np_answers.specs.Trace.{start_made, IsAskOf, is_idle}
+use Rattle.np_driven.specs.declared.ask.Ask.TheVariants as ask
+use Rattle.np_driven.specs.declared.ask.Turn.TheVariants as turn
+use Rattle.np_driven.specs.declared.start.Start.{Start}
+use Rattle.np_driven.specs.Phase.{start_in, start_of, report_of}
+use Rattle.np_driven.specs.Trace.{start_made, IsAskOf, is_idle}
 use Rattle.np_driven.proofs.Events.{start-parts}
 use Rattle.np_driven.proofs.Choices.{chosen-start}
 use Rattle.np_driven.proofs.Roles.{useful-done, useful-start_role, current-role}
@@ -26,9 +26,9 @@ use Rattle.np_driven.proofs.Waiting.{IsPolite}
 use Rattle.np_driven.proofs.Pools.{was-of, quiet-report, reports-next}
 use Rattle.np_driven.proofs.Stage.{Reportable, Begun, At, at-step, at-quiet, after-next, may-last, IsForeign, numbers-push, fail-push, nobody, IsReportOf, Never, WasStarted, Tells, Held, Calm, IsThere, Reporting, IsLeft, Rest, Stands, tells-gap, held-gap}
 use Rattle.np_machine.proofs.Steps.{next-keeps}
-use Rattle.np_answers.specs.declared.ask.Ask.{Ask}
-use Rattle.np_answers.specs.declared.ask.Turn.{Turn}
-use Rattle.np_answers.proofs.Steps.{TurnCases, goes_on}
+use Rattle.np_driven.specs.declared.ask.Ask.{Ask}
+use Rattle.np_driven.specs.declared.ask.Turn.{Turn}
+use Rattle.np_driven.proofs.Steps.{TurnCases, goes_on}
 
 -- the roles of a pool's worker
 abbrev pub IsOwn : PoolId → Role → Type 0

@@ -7,29 +7,29 @@ use Rattle.std.proofs.lemmas.Option.{same_Some}
 use Rattle.std.proofs.lemmas.List.Elements.{Contains-append_left, Contains-push, Contains-push_cases}
 use Rattle.np_text.specs.declared.word.NodeState.TheVariants as node_state
 use Rattle.np_event.specs.declared.event.Outcome.TheVariants as outcome
-use Rattle.np_answers.specs.Prelude.{Launch, Server, Tag, AreAsksOf, Move, Records, Sight, StartsWith, Walk, asked, launched, launches_of, recorded, removed}
+use Rattle.np_driven.specs.Prelude.{Launch, Server, Tag, AreAsksOf, Move, Records, Sight, StartsWith, Walk, asked, launched, launches_of, recorded, removed}
 use Rattle.np_cloud.specs.declared.driver.TheConstants.{MOST_LAUNCHES}
 use Rattle.np_cloud.specs.Calls.{with_launch, with_launched, without_number}
 use Rattle.np_lists.proofs.Each.{length-filter_at_most}
-use Rattle.np_answers.specs.declared.start.Start.{Start}
-use Rattle.np_answers.specs.Drive.{IsSoundAlone, FailsFull, servers_after, SweepsServers, AreSoundAlone, FailFull}
+use Rattle.np_driven.specs.declared.start.Start.{Start}
+use Rattle.np_driven.specs.Drive.{IsSoundAlone, FailsFull, servers_after, SweepsServers, AreSoundAlone, FailFull}
 use Rattle.np_driven.specs.Nodes.{is_up}
 use Rattle.np_driven.specs.Reports.{number_in, numbers_in, reports_of}
 use Rattle.np_driven.specs.Hosting.{IsServerOf}
 use Rattle.np_driven.proofs.Numbers.{one-launch}
 use Rattle.np_driven.proofs.Pools.{few-reports}
-use Rattle.np_answers.proofs.Leaving.{kept_at, launched_stay}
+use Rattle.np_driven.proofs.Removed.{kept_at, launched_stay}
 use Rattle.np_desk.proofs.HistoryLemmas.{starts_on}
-use Rattle.np_answers.specs.declared.ask.Ask.{Ask}
-use Rattle.np_answers.specs.declared.ask.Turn.{Turn}
-use Rattle.np_answers.specs.declared.ask.Turn.TheVariants as turn
+use Rattle.np_driven.specs.declared.ask.Ask.{Ask}
+use Rattle.np_driven.specs.declared.ask.Turn.{Turn}
+use Rattle.np_driven.specs.declared.ask.Turn.TheVariants as turn
 use Rattle.np_driven.specs.Planned.{answers_of}
 use Rattle.np_driven.proofs.Choices.{plain-answer}
 use Rattle.np_driven.proofs.Histories.{starts_length}
 use Rattle.np_driven.proofs.Leaving.{AreBelow, below-turn, filtered-member}
-use Rattle.np_answers.specs.Phase.{of_pool, Phase, acts, owes_launch, owes_report, looks, owes_due, sweeps, owes_swept, ended, after_turn, after_launch, after_removal, MayAsk, MayLaunch, MayRemove, Leads}
-use Rattle.np_answers.proofs.Gained.{turn_seen, walk_seen}
-use Rattle.np_answers.proofs.Steps.{of_turn}
+use Rattle.np_driven.specs.Phase.{of_pool, Phase, acts, owes_launch, owes_report, looks, owes_due, sweeps, owes_swept, ended, after_turn, after_launch, after_removal, MayAsk, MayLaunch, MayRemove, Leads}
+use Rattle.np_driven.proofs.Gained.{turn_seen, walk_seen}
+use Rattle.np_driven.proofs.Steps.{of_turn}
 use Rattle.np_driven.proofs.Stage.{IsForeign, AreForeign, IsReportOf, IsLate, Never, WasStarted, Held, Calm, IsThere, Reporting, IsGoing, IsLeft, Tells, Rest, Stands, Leaves, stands-gap, tells-gap, leaves-of, leaves-later}
 use Rattle.np_driven.proofs.Acts.{Sees, IsReady, Turned, turns-stand}
 

@@ -4,14 +4,14 @@ use Rattle.std.specs.Prelude.{drop, is_ok}
 use Rattle.std.proofs.lemmas.Bool.{false≢true, and_parts}
 use Rattle.np_changes.specs.Prelude.{Configuration, Entry, Event, Janitor, Launcher, NodeId, NodeRecord, Outcome, PoolId, Reaper, Requester, Role, SessionId, SomeTurn, State, after, judge, judge_start, maker_of, node_in, role_of, same_role, start, turns}
 use Rattle.np_event.specs.declared.event.Event.TheVariants as ev
-use Rattle.np_answers.specs.Prelude.{Move, Says, Sight, Walk, WasOfUse, WasUseful, answers, asked, is_planned, launched, removed}
+use Rattle.np_driven.specs.Prelude.{Move, Says, Sight, Walk, WasOfUse, WasUseful, answers, asked, is_planned, launched, removed}
 use Rattle.np_useful.specs.Sessions.{may_open}
 use Rattle.np_useful.specs.Useful.{IsUseful, is_maker_of, row_holds}
 use Rattle.np_changes.proofs.Tested.{ok-is}
-use Rattle.np_answers.specs.declared.ask.Ask.{Ask}
-use Rattle.np_answers.specs.declared.ask.Ask.TheVariants as ask
-use Rattle.np_answers.specs.declared.ask.Turn.{Turn as Answer}
-use Rattle.np_answers.specs.declared.ask.Turn.TheVariants as turn
+use Rattle.np_driven.specs.declared.ask.Ask.{Ask}
+use Rattle.np_driven.specs.declared.ask.Ask.TheVariants as ask
+use Rattle.np_driven.specs.declared.ask.Turn.{Turn as Answer}
+use Rattle.np_driven.specs.declared.ask.Turn.TheVariants as turn
 use Rattle.np_driven.specs.Makers.{IsOfRole}
 use Rattle.np_driven.specs.Planned.{answers_of, IsChosen, IsTurnAs}
 use Rattle.np_driven.proofs.Places.{turn_after, some-from, turns-append}

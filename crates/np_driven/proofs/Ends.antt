@@ -1,14 +1,14 @@
 -- players and their ends: whose work each is, and the drivers among them
 use Rattle.std.proofs.Common.{Bool, ◌≡◌, ⊎_elim, ℕ, suc, ◌≤◌, List, [], ◌∷◌, map, All, Contains, Option, Some, None, refl, sym, ap, subst, arith, ◌∙◌, ◌++◌, zero, ◌+◌, slice_get, IfSome}
 use Rattle.np_changes.specs.Prelude.{Configuration, Entry, PoolId, Outcome, option_map, NodeId}
-use Rattle.np_answers.specs.Prelude.{Driving, Drove, Move, Work, of_pool, Launch, Tag, asked, launched, launches_of, removed}
+use Rattle.np_driven.specs.Prelude.{Driving, Drove, Move, Work, of_pool, Launch, Tag, asked, launched, launches_of, removed}
 use Rattle.np_driven.specs.Players.{Player, driving_in, drivings_of, IsNumbered, next_number, AreNumbered, AreNamed, WasAnswered, launch_of}
 use Rattle.np_driven.specs.Round.{PlayerEnd, PlaysFrom, EachPlaysFrom}
 use Rattle.np_driven.proofs.Servers.{HasDriver, numbered_driver}
 use Rattle.np_driven.proofs.Histories.{member-cases, no-member, All-left, All-right}
 use Rattle.std.specs.Prelude.{Option, Some, None, IfSome, Contains, All}
 use Rattle.std.proofs.lemmas.List.Elements.{Contains-append_left, Contains-append_right, All-contains, All-cons, All-nil}
-use Rattle.np_answers.specs.Drive.{Driving, FollowsPlan, Drives, Drove}
+use Rattle.np_driven.specs.Drive.{Driving, FollowsPlan, Drives, Drove}
 
 abbrev pub player_of : PlayerEnd → Player
 player_of end = end.player

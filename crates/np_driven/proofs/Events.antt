@@ -8,10 +8,10 @@ use Rattle.np_event.specs.declared.event.Event.TheVariants as ev
 use Rattle.np_event.specs.declared.reply.Reply.TheVariants as reply
 use Rattle.np_event.specs.declared.reply.Done.TheVariants as done
 use Rattle.np_useful.specs.Driven.{is_tick, is_report_of}
-use Rattle.np_answers.specs.declared.ask.Ask.TheVariants as ask
-use Rattle.np_answers.specs.declared.start.Start.{Start}
-use Rattle.np_answers.specs.Phase.{Work, of_pool, of_requester, of_reaper, start_in}
-use Rattle.np_answers.specs.Trace.{IsAskOf}
+use Rattle.np_driven.specs.declared.ask.Ask.TheVariants as ask
+use Rattle.np_driven.specs.declared.start.Start.{Start}
+use Rattle.np_driven.specs.Phase.{Work, of_pool, of_requester, of_reaper, start_in}
+use Rattle.np_driven.specs.Trace.{IsAskOf}
 use Rattle.np_lists.proofs.Plain.{equal-numbers}
 use Rattle.np_machine.proofs.Ids.{session-equal}
 

@@ -4,7 +4,7 @@ use Rattle.np_changes.specs.Prelude.{Configuration, Entry, Event, Launcher, Node
 use Rattle.np_event.specs.declared.event.Event.TheVariants as ev
 use Rattle.np_event.specs.declared.reply.Done.TheVariants as done
 use Rattle.np_event.specs.declared.reply.Reply.TheVariants as reply
-use Rattle.np_answers.specs.Prelude.{Launch, WasOfUse, Work, of_pool, StartsWith, launches_of}
+use Rattle.np_driven.specs.Prelude.{Launch, WasOfUse, Work, of_pool, StartsWith, launches_of}
 use Rattle.np_machine.specs.State.{start as start_state}
 use Rattle.np_useful.specs.Driven.{Says, IsDrivenTurn, IsOfUse, IsTickBetween, IsSweepOfServer, IsReportOfLaunch, BeginsLaunch}
 use Rattle.np_driven.specs.Planned.{IsChosen, IsTurnAs}

@@ -3,9 +3,9 @@ use Rattle.std.proofs.Common.{◌≡◌, ℕ, suc, ◌≤◌, List, [], ◌∷�
 use Rattle.std.specs.Prelude.{Option, Some, None, Contains}
 use Rattle.np_changes.specs.Prelude.{AllByRecursion, Entry}
 use Rattle.std.proofs.lemmas.List.Elements.{All-from_recursion, All-contains, Contains-append_left, All-nil, All-cons, All-head, All-tail}
-use Rattle.np_answers.specs.Prelude.{AreRising, Move, Records, Sight, StartsWith, Walk, asked, launched, recorded, removed}
-use Rattle.np_answers.specs.declared.ask.Ask.{Ask}
-use Rattle.np_answers.specs.declared.ask.Turn.{Turn}
+use Rattle.np_driven.specs.Prelude.{AreRising, Move, Records, Sight, StartsWith, Walk, asked, launched, recorded, removed}
+use Rattle.np_driven.specs.declared.ask.Ask.{Ask}
+use Rattle.np_driven.specs.declared.ask.Turn.{Turn}
 use Rattle.np_desk.proofs.HistoryLemmas.{rising_more}
 use Rattle.np_desk.specs.History.{AreRising}
 

@@ -7,13 +7,13 @@ use Rattle.std.proofs.lemmas.Option.{none-some, same_Some}
 use Rattle.std.proofs.lemmas.List.Elements.{All-head, All-tail, All-contains, Contains-append_left}
 use Rattle.np_event.specs.declared.event.Event.TheVariants as ev
 use Rattle.np_event.specs.declared.event.Outcome.TheVariants as outcome
-use Rattle.np_answers.specs.Prelude.{DrivenBy, Launch, Leads, Phase, Says, Server, StartsWith, Work, ended, first_phase, is_tick, launches_of, of_pool, owes_launch, owes_report}
+use Rattle.np_driven.specs.Prelude.{DrivenBy, Launch, Leads, Phase, Says, Server, StartsWith, Work, ended, first_phase, is_tick, launches_of, of_pool, owes_launch, owes_report}
 use Rattle.np_cloud.specs.Sound.{numbers_of, is_number, DistinctNumbers, Soundness}
 use Rattle.np_lists.proofs.Each.{all-weaker}
 use Rattle.np_changes.proofs.Makers.{launcher-role}
-use Rattle.np_answers.specs.Drive.{Driving, Drives, Drove, servers_after, SweepsServers, AreSoundAlone, FailFull}
-use Rattle.np_answers.proofs.Works.{asks_of}
-use Rattle.np_answers.proofs.Gained.{walk_seen}
+use Rattle.np_driven.specs.Drive.{Driving, Drives, Drove, servers_after, SweepsServers, AreSoundAlone, FailFull}
+use Rattle.np_driven.proofs.Works.{asks_of}
+use Rattle.np_driven.proofs.Gained.{walk_seen}
 use Rattle.np_driven.specs.Planned.{answers_of}
 use Rattle.np_driven.specs.Players.{Player, driving_in, drivings_of, IsNumbered, next_number, AreNumbered, HaveDriven, WasAnswered}
 use Rattle.np_driven.specs.Round.{PlayerEnd, PlaysFrom, EachPlaysFrom, IsCutOff, IsRound, fresh_sight}

@@ -5,8 +5,8 @@ use Rattle.std.proofs.lemmas.List.Elements.{All-push, All-weaker, All-nil}
 use Rattle.np_changes.specs.Prelude.{Configuration, Entry, Outcome, SessionId, SomeTurn, Turn, after, start, turns, turns_from, EachAfter}
 use Rattle.np_event.specs.declared.event.Event.TheVariants as ev
 use Rattle.np_event.specs.declared.event.Outcome.TheVariants as outcome
-use Rattle.np_answers.specs.Prelude.{NamesServer, Server, StartsWith, report_of, with_launched, Driving, Says, is_tick}
-use Rattle.np_answers.specs.declared.start.Start.{Start}
+use Rattle.np_driven.specs.Prelude.{NamesServer, Server, StartsWith, report_of, with_launched, Driving, Says, is_tick}
+use Rattle.np_driven.specs.declared.start.Start.{Start}
 use Rattle.np_driven.specs.Players.{WasNamed, Player, drivings_of, AreNumbered, HaveDrivenAs, WasAnswered, AreNamed}
 use Rattle.np_driven.proofs.Places.{turn_of, turns-append, some-left, turn_after, as-each, each-as, turn-as}
 use Rattle.np_lists.proofs.EachAfterLemmas.{EachAfter-push}

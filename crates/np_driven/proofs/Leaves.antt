@@ -2,7 +2,7 @@
 use Rattle.std.proofs.Common.{◌≡◌, suc, ◌<◌, List, [], ◌∷◌, ◌++◌, map, length, Bool, false, All, Contains, refl, sym, subst, arith}
 use Rattle.std.proofs.lemmas.List.Elements.{All-nil, All-append, All-weaker, All-contains}
 use Rattle.np_changes.specs.Prelude.{Configuration, Entry, Runs, after}
-use Rattle.np_answers.specs.Prelude.{Driving, StartsWith}
+use Rattle.np_driven.specs.Prelude.{Driving, StartsWith}
 use Rattle.np_driven.specs.Players.{Player, driving_in, drivings_of, AreNamed, HaveDrivenAs}
 use Rattle.np_driven.specs.Round.{PlayerEnd, IsCutOff, IsRound}
 use Rattle.np_driven.proofs.Ends.{player_of, round-of}

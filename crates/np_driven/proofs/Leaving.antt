@@ -4,31 +4,31 @@ use Rattle.std.specs.Prelude.{Contains, filter, not, ◌==◌, Some, None, Optio
 use Rattle.std.proofs.lemmas.List.Elements.{All-contains, All-contains_itself, All-filter, Contains-push, Contains-push_cases, All-weaker}
 use Rattle.np_changes.specs.Prelude.{Configuration, Entry, NodeId, Outcome, PoolId, after, is_swept, option_map}
 use Rattle.np_event.specs.declared.event.Outcome.TheVariants as outcome
-use Rattle.np_answers.specs.Prelude.{Answered, IsDue, IsOfServer, Launch, Move, Records, Server, Sight, StartsWith, SweepsServers, Tag, Walk, answers_sweep, asked, is_unwanted, launched, launches_of, of_pool, recorded, removed, servers_after, with_launched, without_number, Drives, Driving, Drove, Leads, Phase, WasKept, Work, ended, first_phase}
-use Rattle.np_answers.specs.declared.ask.Ask.{Ask}
-use Rattle.np_answers.specs.declared.ask.Ask.TheVariants as ask
-use Rattle.np_answers.specs.declared.ask.Turn.{Turn}
-use Rattle.np_answers.specs.declared.ask.Turn.TheVariants as turn
-use Rattle.np_answers.specs.Trace.{IsAskOf, AreAsksOf, NamesServer, AreNamed, WasRemoved, AreInOrder, WasFull, stage_of}
-use Rattle.np_answers.proofs.Leaving.{stays_or_goes}
+use Rattle.np_driven.specs.Prelude.{Answered, IsDue, IsOfServer, Launch, Move, Records, Server, Sight, StartsWith, SweepsServers, Tag, Walk, answers_sweep, asked, is_unwanted, launched, launches_of, of_pool, recorded, removed, servers_after, with_launched, without_number, Drives, Driving, Drove, Leads, Phase, WasKept, Work, ended, first_phase}
+use Rattle.np_driven.specs.declared.ask.Ask.{Ask}
+use Rattle.np_driven.specs.declared.ask.Ask.TheVariants as ask
+use Rattle.np_driven.specs.declared.ask.Turn.{Turn}
+use Rattle.np_driven.specs.declared.ask.Turn.TheVariants as turn
+use Rattle.np_driven.specs.Trace.{IsAskOf, AreAsksOf, NamesServer, AreNamed, WasRemoved, AreInOrder, WasFull, stage_of}
+use Rattle.np_driven.proofs.Removed.{stays_or_goes}
 use Rattle.np_driven.specs.Planned.{answers_of}
 use Rattle.np_driven.specs.Servers.{WasLaunched, IsOfRound, WasDue, WasSwept, IsSweepAt, StaysKept, HasServers, IsOnlyOfItsNumber, IsOnlyNodeOfItsNumber, IsSweptAfter, LeftWithCause}
 use Rattle.np_driven.proofs.Swept.{swept-stays, swept-after}
 use Rattle.np_desk.proofs.HistoryLemmas.{starts_on, starts_same}
-use Rattle.np_answers.proofs.Gained.{turn_seen, walk_seen, get_last}
+use Rattle.np_driven.proofs.Gained.{turn_seen, walk_seen, get_last}
 use Rattle.np_text.specs.declared.id.Role.TheVariants as role
 use Rattle.np_event.specs.declared.reply.Done.TheVariants as done
 use Rattle.np_event.specs.declared.reply.Reply.TheVariants as reply
-use Rattle.np_answers.specs.Phase.{is_remove, is_unwanted}
+use Rattle.np_driven.specs.Phase.{is_remove, is_unwanted}
 use Rattle.np_driven.proofs.Histories.{starts_length}
-use Rattle.np_answers.proofs.Ends.{is_at_end}
-use Rattle.np_answers.proofs.Order.{in_order}
-use Rattle.np_answers.proofs.Removals.{are_named}
-use Rattle.np_answers.proofs.Works.{asks_of}
+use Rattle.np_driven.proofs.RoundEnds.{is_at_end}
+use Rattle.np_driven.proofs.Order.{in_order}
+use Rattle.np_driven.proofs.Removals.{are_named}
+use Rattle.np_driven.proofs.Works.{asks_of}
 use Rattle.np_driven.specs.Players.{Player}
 use Rattle.np_driven.specs.Round.{PlayerEnd, PlaysFrom, fresh_sight}
 use Rattle.np_driven.proofs.Servers.{told}
-use Rattle.np_answers.proofs.SweepLemmas.{sweep-removes}
+use Rattle.np_driven.proofs.SweepLemmas.{sweep-removes}
 
 -- ## members of lists
 

@@ -26,3 +26,17 @@ pub mod Acts
 pub mod Carrying
 pub mod Others
 pub mod Hosted
+pub mod ReplyLemmas
+pub mod LegalLemmas
+pub mod SweepLemmas
+pub mod Recorded
+pub mod Steps
+pub mod Traces
+pub mod Launching
+pub mod Order
+pub mod Removals
+pub mod Gained
+pub mod Taken
+pub mod RoundEnds
+pub mod Works
+pub mod Removed

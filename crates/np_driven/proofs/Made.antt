@@ -3,18 +3,18 @@ use Rattle.std.proofs.Common.{◌≡◌, ◌⊎◌, inl, inr, ⊎_elim, Bool, �
 use Rattle.std.specs.Prelude.{Contains, All, Option, Some, None, not, ◌==◌}
 use Rattle.std.proofs.lemmas.List.Elements.{Contains-push_cases, All-contains, All-filter, Contains-push}
 use Rattle.np_changes.specs.Prelude.{Configuration, Entry, Launcher, NodeId, Outcome, PoolId, Role, SomeTurn, turns}
-use Rattle.np_answers.specs.Prelude.{IsAskOf, IsReplied, Launch, NamesServer, Sight, StartsWith, Unturned, Work, answers_sweep, of_pool, report_of, start_of, Answered, AreAsksOf, IsFull, IsOfServer, Move, Server, SweepsServers, Tag, Walk, asked, launched, launches_of, recorded, removed, servers_after, with_launched, without_number}
-use Rattle.np_answers.specs.declared.ask.Ask.TheVariants as ask
-use Rattle.np_answers.specs.declared.ask.Turn.TheVariants as turn
-use Rattle.np_answers.specs.declared.start.Start.{Start}
+use Rattle.np_driven.specs.Prelude.{IsAskOf, IsReplied, Launch, NamesServer, Sight, StartsWith, Unturned, Work, answers_sweep, of_pool, report_of, start_of, Answered, AreAsksOf, IsFull, IsOfServer, Move, Server, SweepsServers, Tag, Walk, asked, launched, launches_of, recorded, removed, servers_after, with_launched, without_number}
+use Rattle.np_driven.specs.declared.ask.Ask.TheVariants as ask
+use Rattle.np_driven.specs.declared.ask.Turn.TheVariants as turn
+use Rattle.np_driven.specs.declared.start.Start.{Start}
 use Rattle.np_desk.proofs.HistoryLemmas.{starts_more, starts_on, starts_same}
 use Rattle.np_driven.specs.Planned.{IsChosen, answers_of}
 use Rattle.np_driven.proofs.Histories.{starts_equal, contains_later, starts_length}
 use Rattle.np_text.specs.declared.id.Role.TheVariants as role
-use Rattle.np_answers.specs.declared.ask.Ask.{Ask}
-use Rattle.np_answers.specs.declared.ask.Turn.{Turn}
-use Rattle.np_answers.specs.Phase.{Work, of_pool, Phase, acting, acts, owes_launch, owes_report, looks, owes_due, sweeps, owes_swept, ended, first_phase, after_role, after_start, after_entry, after_turn, after_launch, after_removal, is_remove, start_of, report_of, MayAsk, MayLaunch, MayRemove, Leads}
-use Rattle.np_answers.proofs.Steps.{goes_on, of_removal}
+use Rattle.np_driven.specs.declared.ask.Ask.{Ask}
+use Rattle.np_driven.specs.declared.ask.Turn.{Turn}
+use Rattle.np_driven.specs.Phase.{Work, of_pool, Phase, acting, acts, owes_launch, owes_report, looks, owes_due, sweeps, owes_swept, ended, first_phase, after_role, after_start, after_entry, after_turn, after_launch, after_removal, is_remove, start_of, report_of, MayAsk, MayLaunch, MayRemove, Leads}
+use Rattle.np_driven.proofs.Steps.{goes_on, of_removal}
 use Rattle.np_driven.specs.Players.{WasNamed}
 use Rattle.np_driven.proofs.Events.{act-work, sweep-work}
 use Rattle.np_driven.proofs.Journals.{all_named_later, named_later, report_names}

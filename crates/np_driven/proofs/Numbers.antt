@@ -5,7 +5,7 @@ use Rattle.np_changes.specs.Prelude.{AllByRecursion, NodeEntry, NodeId, NodeReco
 use Rattle.std.proofs.lemmas.Bool.{false≢true, and_parts, or_left, or_right, false_from_ne_true}
 use Rattle.std.proofs.lemmas.Bool.Decides.{nat_tests}
 use Rattle.np_event.specs.declared.event.Outcome.TheVariants as outcome
-use Rattle.np_answers.specs.Prelude.{Launch, Server, Tag}
+use Rattle.np_driven.specs.Prelude.{Launch, Server, Tag}
 use Rattle.np_cloud.specs.Sound.{numbers_of, is_number, DistinctNumbers}
 use Rattle.np_driven.proofs.Histories.{member-cases, no-member}
 use Rattle.np_driven.specs.Nodes.{is_up, listed, server_up, servers_up}

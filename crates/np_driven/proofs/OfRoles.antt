@@ -3,8 +3,8 @@ use Rattle.std.proofs.Common.{◌≡◌, ◌∙◌, inl, inr, ℕ, List, ◌∷�
 use Rattle.std.specs.Prelude.{Contains, Some, Bool}
 use Rattle.std.proofs.lemmas.Option.{none-some, same_Some}
 use Rattle.np_changes.specs.Prelude.{Configuration, Entry, Event, Janitor, Launcher, Role, SessionId, State, after, maker_of, role_of}
-use Rattle.np_answers.specs.Prelude.{IsAskOf, Launch, Work}
-use Rattle.np_answers.specs.declared.ask.Ask.TheVariants as ask
+use Rattle.np_driven.specs.Prelude.{IsAskOf, Launch, Work}
+use Rattle.np_driven.specs.declared.ask.Ask.TheVariants as ask
 use Rattle.np_driven.specs.Makers.{IsOfRole, IsOfWorker}
 use Rattle.np_driven.specs.Players.{Player}
 use Rattle.np_driven.specs.Round.{PlayerEnd, PlaysFrom, IsRound}

@@ -3,7 +3,7 @@ use Rattle.std.proofs.Common.{◌≡◌, ◌≢◌, ◌∙◌, sym, ap, subst, i
 use Rattle.std.proofs.lemmas.Option.{same_Some}
 use Rattle.np_changes.specs.Prelude.{Configuration, Entry, Event, Launcher, NodeId, Outcome, PoolId, SessionId, after, maker_of, node_in, role_of, turns}
 use Rattle.np_event.specs.declared.event.Event.TheVariants as ev
-use Rattle.np_answers.specs.Prelude.{DrivenBy, launches_of, of_pool}
+use Rattle.np_driven.specs.Prelude.{DrivenBy, launches_of, of_pool}
 use Rattle.np_laws.proofs.Ids.{same_pool}
 use Rattle.np_driven.specs.Planned.{IsChosen}
 use Rattle.np_driven.specs.Players.{Player, HaveDriven, drivings_of, WasAnswered}

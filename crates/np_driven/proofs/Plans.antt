@@ -1,7 +1,7 @@
 -- drivers that answer as the configuration plans
 use Rattle.std.proofs.Common.{true, ◌≡◌, ℕ, zero, suc, ◌+◌, List, [], ◌∷◌, map, slice_get, Option, Some, IfSome, subst, arith}
 use Rattle.np_changes.specs.Prelude.{Configuration, Entry, NodeId, Outcome, PoolId, outcome_of, turns}
-use Rattle.np_answers.specs.Prelude.{Driving, Tag}
+use Rattle.np_driven.specs.Prelude.{Driving, Tag}
 use Rattle.np_cloud.specs.Clouds.{ArePlanned}
 use Rattle.np_useful.specs.Driven.{DrivenBy, Driven, as_planned}
 use Rattle.np_lists.proofs.EachAfterLemmas.{EachAfter-weaker}

@@ -5,7 +5,7 @@ use Rattle.np_changes.specs.Prelude.{Configuration, Entry, Event, NodeId, NodeRe
 use Rattle.std.proofs.lemmas.Bool.{cases_lt, false_from_ne_true, or_left, or_right}
 use Rattle.std.proofs.lemmas.Option.{same_Some}
 use Rattle.np_event.specs.declared.event.Event.TheVariants as ev
-use Rattle.np_answers.specs.Prelude.{BeginsLaunch, StartsWith}
+use Rattle.np_driven.specs.Prelude.{BeginsLaunch, StartsWith}
 use Rattle.np_changes.specs.declared.changes.Changes.{Changes}
 use Rattle.np_laws.proofs.Lookups.{node_in-below}
 use Rattle.np_laws.proofs.Puts.{Way}

@@ -4,7 +4,7 @@ use Rattle.std.proofs.lemmas.Bool.{cases_lt, false_from_ne_true}
 use Rattle.std.proofs.lemmas.List.Elements.{Contains-append_right}
 use Rattle.np_changes.specs.Prelude.{Configuration, EachTurn, Entry, Event, Outcome, PoolId, Runs, SomeTurn, after, turns}
 use Rattle.np_event.specs.declared.event.Event.TheVariants as ev
-use Rattle.np_answers.specs.Prelude.{AreRising, Says, Work, launches_of, of_pool}
+use Rattle.np_driven.specs.Prelude.{AreRising, Says, Work, launches_of, of_pool}
 use Rattle.np_machine.specs.State.{start as start_state}
 use Rattle.np_useful.specs.Driven.{IsSweepOfServer, IsReportOfLaunch, BeginsLaunch, is_tick, is_report_of}
 use Rattle.np_driven.specs.Planned.{IsChosen, IsTurnAs, DrivenAs}
@@ -14,7 +14,7 @@ use Rattle.np_driven.proofs.Choices.{chosen-tickless, chosen-turn}
 use Rattle.np_driven.proofs.Made.{Cause, Follows, HasReported, IsReported, IsSwept}
 use Rattle.np_driven.proofs.Histories.{split-outer, length-split, none-between}
 use Rattle.np_driven.proofs.Places.{turn_after, some-from, each-from, driven-at, driven-from, turn-as, turn-more_as}
-use Rattle.np_answers.proofs.SweepLemmas.{sweep-removes}
+use Rattle.np_driven.proofs.SweepLemmas.{sweep-removes}
 use Rattle.np_driven.proofs.Servers.{places_rise, places_new}
 use Rattle.np_driven.proofs.Ends.{player_of, player-there, numbered-now, one-end, answer-kept, answer-new}
 use Rattle.np_driven.proofs.Events.{start-parts, report-event, tick-event}

@@ -3,9 +3,9 @@ use Rattle.std.proofs.Common.{◌≡◌, List, [], ap, ◌∙◌, subst, Bool, �
 use Rattle.std.specs.Prelude.{All, Option, Some, None, IfSome, ℕ, Contains}
 use Rattle.np_changes.specs.Prelude.{Configuration, Entry, PoolId, option_map}
 use Rattle.std.proofs.lemmas.List.Elements.{All-head, All-cons, All-nil}
-use Rattle.np_answers.specs.Prelude.{Drives, Driving, Drove, Move, Server, SweepsServers, Work, of_pool, servers_after, AreRising, Launch, Phase, Sight, ended, first_phase, launches_of, owes_launch, owes_report}
+use Rattle.np_driven.specs.Prelude.{Drives, Driving, Drove, Move, Server, SweepsServers, Work, of_pool, servers_after, AreRising, Launch, Phase, Sight, ended, first_phase, launches_of, owes_launch, owes_report}
 use Rattle.np_driven.specs.Players.{WasNamed, AreNamed, driving_in, IsNumbered, Player}
-use Rattle.np_answers.proofs.Works.{asks_of}
+use Rattle.np_driven.proofs.Works.{asks_of}
 use Rattle.np_driven.specs.Planned.{answers_of}
 use Rattle.np_driven.specs.Round.{PlayerEnd, PlaysFrom, IsCutOff, fresh_sight}
 use Rattle.np_driven.proofs.Histories.{Rises, walk_rises, rising_lower, rising_least}

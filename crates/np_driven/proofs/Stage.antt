@@ -4,7 +4,7 @@ use Rattle.std.specs.Prelude.{is_ok}
 use Rattle.np_changes.specs.Prelude.{Answer, Configuration, Done, Entry, Event, Launcher, NodeId, NodeRecord, Outcome, PoolId, SessionId, State, after, judge, judge_done, judge_start, launcher, maker_of, next, node_in, role_of, start, turns, is_deleting, is_wanted}
 use Rattle.np_event.specs.declared.event.Event.TheVariants as ev
 use Rattle.np_event.specs.declared.reply.Done.TheVariants as done
-use Rattle.np_answers.specs.Prelude.{Launch, Server, DistinctNumbers, IsSoundAlone, MayAsk, Phase, acts, ended, looks, owes_due, owes_launch, owes_report, owes_swept, sweeps}
+use Rattle.np_driven.specs.Prelude.{Launch, Server, DistinctNumbers, IsSoundAlone, MayAsk, Phase, acts, ended, looks, owes_due, owes_launch, owes_report, owes_swept, sweeps}
 use Rattle.np_changes.proofs.Makers.{launcher-role}
 use Rattle.np_changes.proofs.Tested.{ok-is}
 use Rattle.np_laws.specs.Parts.{Invariant}
@@ -16,8 +16,8 @@ use Rattle.np_driven.proofs.Idle.{NoLauncherWaits, may-before, may-before_lock, 
 use Rattle.np_driven.proofs.Waiting.{IsPolite}
 use Rattle.np_driven.proofs.Pools.{reports-next}
 use Rattle.np_event.specs.declared.event.Outcome.TheVariants as outcome
-use Rattle.np_answers.specs.declared.ask.Ask.{Ask}
-use Rattle.np_answers.specs.declared.start.Start.{Start}
+use Rattle.np_driven.specs.declared.ask.Ask.{Ask}
+use Rattle.np_driven.specs.declared.start.Start.{Start}
 use Rattle.np_driven.proofs.Numbers.{outcomes, numbers-append}
 
 -- ## reports that may be made next

@@ -10,7 +10,7 @@ use Rattle.np_changes.specs.declared.changes.Maker.{Maker}
 use Rattle.np_changes.specs.declared.changes.Growth.{Growth}
 use Rattle.np_changes.specs.declared.changes.Growth.TheVariants as grow
 use Rattle.np_changes.proofs.PlanLaws.{plan-next}
-use Rattle.np_answers.specs.Phase.{is_remove}
+use Rattle.np_driven.specs.Phase.{is_remove}
 use Rattle.np_driven.proofs.Starts.{state_after-append}
 
 -- ## a pair more

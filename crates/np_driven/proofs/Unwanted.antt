@@ -7,12 +7,12 @@ use Rattle.std.proofs.lemmas.List.Elements.{All-contains}
 use Rattle.np_text.specs.declared.word.EndAs.TheVariants as end_as
 use Rattle.np_event.specs.declared.event.Event.TheVariants as ev
 use Rattle.np_event.specs.declared.event.Outcome.TheVariants as outcome
-use Rattle.np_answers.specs.Prelude.{Server, StartsWith, WasKept, WasOfUse, ended}
+use Rattle.np_driven.specs.Prelude.{Server, StartsWith, WasKept, WasOfUse, ended}
 use Rattle.np_changes.specs.declared.changes.Changes.{Changes}
 use Rattle.np_laws.proofs.Lookups.{node_in-below}
 use Rattle.np_laws.proofs.Puts.{Way}
 use Rattle.np_useful.specs.Driven.{Says, IsDrivenTurn, IsOfUse, IsTickBetween, IsSweepOfServer, IsReportOfLaunch, BeginsLaunch, NamesServer}
-use Rattle.np_answers.specs.Answers.{IsKept}
+use Rattle.np_driven.specs.Answers.{IsKept}
 use Rattle.np_driven.specs.Planned.{IsTurnAs, DrivenAs}
 use Rattle.np_driven.specs.Players.{Player, WasNamed}
 use Rattle.np_driven.specs.Round.{PlayerEnd, PlaysFrom}

@@ -2,7 +2,7 @@
 use Rattle.std.specs.Prelude.{◌≡◌, List, [], ◌∷◌, ◌++◌, map, slice_get, true, Some, IfSome, IsTrue, is_some}
 use Rattle.np_changes.specs.Prelude.{Configuration, Entry, PoolId, after}
 use Rattle.np_event.specs.declared.event.Event.TheVariants as ev
-use Rattle.np_answers.specs.Prelude.{DistinctNumbers, DriverFacts, Driving}
+use Rattle.np_driven.specs.Prelude.{DistinctNumbers, DriverFacts, Driving}
 use Rattle.np_driven.specs.Nodes.{servers_up}
 use Rattle.np_driven.specs.Reports.{reports_of, numbers_in, AreAloneSound, FailAfter}
 

@@ -3,7 +3,7 @@ use Rattle.std.specs.Prelude.{◌≡◌, ◌≤◌, ◌+◌, ℕ, List, [], ◌�
 use Rattle.np_changes.specs.Prelude.{Configuration, Entry, Launcher, NodeId, NodeRecord, Outcome, PoolId, SessionId, State, after, judge, node_in, role_of}
 use Rattle.np_event.specs.declared.event.Event.TheVariants as ev
 use Rattle.np_event.specs.declared.event.Outcome.TheVariants as outcome
-use Rattle.np_answers.specs.Prelude.{Driving, Launch, Server, Soundness, Tag}
+use Rattle.np_driven.specs.Prelude.{Driving, Launch, Server, Soundness, Tag}
 use Rattle.np_driven.specs.Players.{Player, drivings_of, HaveDriven}
 use Rattle.np_driven.specs.Nodes.{is_up, servers_up}
 use Rattle.np_driven.specs.Reports.{reports_of, numbers_in, AreAloneSound, FailAfter}

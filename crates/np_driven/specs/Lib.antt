@@ -7,3 +7,13 @@ pub mod Nodes
 pub mod Reports
 pub mod Carried
 pub mod Hosting
+pub mod Asks
+pub mod Answers
+pub mod Replies
+pub mod Legal
+pub mod Move
+pub mod Phase
+pub mod Drive
+pub mod Walk
+pub mod Trace
+pub mod Prelude

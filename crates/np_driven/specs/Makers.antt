@@ -2,8 +2,8 @@
 use Rattle.std.specs.Prelude.{◌≡◌, ◌++◌, ◌∷◌, [], ℕ, List, length, Some}
 use Rattle.np_changes.specs.Prelude.{Configuration, Entry, Event, Reaper, Role, SessionId, State, after, maker_of, role_of}
 use Rattle.np_event.specs.declared.event.Event.TheVariants as ev
-use Rattle.np_answers.specs.Prelude.{IsAskOf, StartsWith, Work}
-use Rattle.np_answers.specs.declared.ask.Ask.TheVariants as ask
+use Rattle.np_driven.specs.Prelude.{IsAskOf, StartsWith, Work}
+use Rattle.np_driven.specs.declared.ask.Ask.TheVariants as ask
 
 -- the event is the role's: the session that makes it is of the role, a session that it opens is of the role, and sessions are crashed and expired by the reaper alone (own)
 pub record IsOfRole (role : Role) (s : State) (e : Event) : Type 0 where

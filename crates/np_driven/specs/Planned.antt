@@ -1,11 +1,11 @@
 -- journals of parties that may commit what they chose on an older state
 use Rattle.std.specs.Prelude.{◌⊎◌, Bool, true, false, List, []}
 use Rattle.np_changes.specs.Prelude.{Configuration, EachAfter, Entry, Event, Role, Turn, after, turns}
-use Rattle.np_answers.specs.Prelude.{IsUseful, WasOfUse, WasUseful}
+use Rattle.np_driven.specs.Prelude.{IsUseful, WasOfUse, WasUseful}
 use Rattle.np_useful.specs.Driven.{Says, IsDrivenTurn, DrivenBy, as_planned}
-use Rattle.np_answers.specs.declared.ask.Ask.{Ask}
-use Rattle.np_answers.specs.declared.ask.Turn.{Turn as Answer}
-use Rattle.np_answers.specs.Answers.{Also, nothing_else, answers_also}
+use Rattle.np_driven.specs.declared.ask.Ask.{Ask}
+use Rattle.np_driven.specs.declared.ask.Turn.{Turn as Answer}
+use Rattle.np_driven.specs.Answers.{Also, nothing_else, answers_also}
 
 -- ## what a role chooses
 

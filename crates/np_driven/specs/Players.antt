@@ -1,7 +1,7 @@
 -- who plays a site: workers as contracts see them, and what is known of what they drive
 use Rattle.std.specs.Prelude.{◌≡◌, Bool, false, ℕ, suc, List, [], ◌∷◌, ◌++◌, All, Contains, slice_get, Option, Some, None, IfSome}
 use Rattle.np_changes.specs.Prelude.{Configuration, Entry, NodeId, Outcome, PoolId, SomeTurn, turns}
-use Rattle.np_answers.specs.Prelude.{Driving, Launch, NamesServer, Server, Work, of_pool, of_reaper, of_requester}
+use Rattle.np_driven.specs.Prelude.{Driving, Launch, NamesServer, Server, Work, of_pool, of_reaper, of_requester}
 use Rattle.np_driven.specs.Planned.{DrivenAs}
 
 -- a worker: whose it is, and what it drives (own)

@@ -3,7 +3,7 @@ use Rattle.std.specs.Prelude.{ℕ, suc, ◌≤◌, List, [], ◌∷◌, ◌++◌
 use Rattle.np_changes.specs.Prelude.{AllByRecursion, Configuration, Entry, Event, NodeId, Outcome, PoolId, State, Turn, list_any, node_in, option_map_or, turns}
 use Rattle.np_event.specs.declared.event.Event.TheVariants as ev
 use Rattle.np_event.specs.declared.event.Outcome.TheVariants as outcome
-use Rattle.np_answers.specs.Drive.{IsSoundAlone}
+use Rattle.np_driven.specs.Drive.{IsSoundAlone}
 
 -- ## of which pool a report is
 

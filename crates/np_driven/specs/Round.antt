@@ -1,7 +1,7 @@
 -- a round of all players, as each of them took its turns at one history
 use Rattle.std.specs.Prelude.{◌≡◌, ℕ, ◌<◌, ◌≤◌, length, map, List, [], ◌∷◌, All, Contains, Bool, false}
 use Rattle.np_changes.specs.Prelude.{Configuration, Entry}
-use Rattle.np_answers.specs.Prelude.{Drove, Leads, Move, Phase, Sight, StartsWith, Walk, ended, first_phase, owes_launch, owes_report}
+use Rattle.np_driven.specs.Prelude.{Drove, Leads, Move, Phase, Sight, StartsWith, Walk, ended, first_phase, owes_launch, owes_report}
 use Rattle.np_driven.specs.Planned.{answers_of}
 use Rattle.np_driven.specs.Players.{Player}
 

@@ -3,9 +3,9 @@ use Rattle.std.specs.Prelude.{◌≡◌, ◌⊎◌, ◌≤◌, ℕ, true, false,
 use Rattle.np_changes.specs.Prelude.{Configuration, Entry, Janitor, NodeId, NodeRecord, PoolId, SessionId, after, is_swept, is_wanted, node_in}
 use Rattle.np_event.specs.declared.event.Event.TheVariants as event
 use Rattle.np_event.specs.declared.event.Outcome.TheVariants as outcome
-use Rattle.np_answers.specs.Prelude.{Driving, Move, Server, Sight, StartsWith, launches_of}
+use Rattle.np_driven.specs.Prelude.{Driving, Move, Server, Sight, StartsWith, launches_of}
 use Rattle.np_useful.specs.Sessions.{has_current}
-use Rattle.np_answers.specs.Answers.{IsDue, IsKept}
+use Rattle.np_driven.specs.Answers.{IsDue, IsKept}
 use Rattle.np_driven.specs.Players.{Player, WasNamed}
 
 -- ## which servers

@@ -1,3 +1,18 @@
+//! What may be asked of a board, the moves of one worker's round, and the journals that parties and
+//! their clouds drive by such rounds.
+//!
+//! A turn (`Turn`) answers an ask (`Ask`) after the journal so far; `specs/Answers` says which
+//! answers an ask may have. `specs/Legal` tests that a journal's replies are the machine's; the laws
+//! in `legal` say what follows from that test and from an answer. Here is no board: a worker, and what
+//! holds of its rounds, needs only this.
+//!
+//! A round is described by one list of moves (`specs/Move`): its turns with their answers, and what
+//! its driver did, in order. `specs/Phase` says which moves may come one after another,
+//! `specs/Walk` what they saw and made of the history, `specs/Drive` what they did with the driver.
+//! `moves` states what holds of the moves of every round, in the terms of `specs/Trace`. Whatever
+//! the answers to turns, the moves are those of `specs/Phase`. An answer of a wrong kind to a role's
+//! turn counts as nothing to do, and one to a sweep as keeping the server.
+//!
 //! The journals that parties and their clouds drive, and what these say of the clouds' servers: laws
 //! alone.
 //!
@@ -6,7 +21,7 @@
 //! an older state, it is one of `specs/Planned` (`PlannedDriven`, `PlannedBy`); the laws have both
 //! cases, by a parameter `plans`. `specs/Players` says who plays and what is known
 //! of what they drive, `specs/Round` what a round of all players is, as lists of moves at one
-//! history (np_answers) and without threads, `specs/Servers` what became of a driver's servers in it,
+//! history and without threads, `specs/Servers` what became of a driver's servers in it,
 //! `specs/Makers` which role its entries are of. `law` states that such a round continues a driven
 //! journal, that each entry of a worker's round is of a role that the worker acts for, and why
 //! servers left or stayed. np_rounds plays such rounds over threads.
@@ -26,8 +41,13 @@
 //! change none of this (`proofs/Others`).
 #![tactic(auto)]
 
+mod ask;
 mod law;
+mod legal;
+mod moves;
+mod start;
 
+pub use ask::{Ask, Turn};
 pub use law::{
     a_launch_that_was_begun_is_of_its_pool, a_round_is_driven, a_round_keeps_what_is_hosted,
     a_tick_after_a_round_is_driven, a_tick_keeps_what_is_hosted, drivers_begin_to_host,
@@ -36,3 +56,15 @@ pub use law::{
     unwanted_servers_go_in_a_whole_round, what_is_hosted_was_carried,
     what_planned_drivers_drove_was_driven_as_planned,
 };
+pub use legal::{
+    a_beginning_of_a_legal_journal_is_legal, a_journal_that_runs_is_legal, a_legal_journal_goes_on,
+    a_legal_journal_has_the_machines_replies, a_legal_journal_runs,
+    a_recorded_sweep_is_answered_remove, a_sweep_keeps_what_is_wanted,
+    a_turn_records_the_machines_reply,
+};
+pub use moves::{
+    a_full_journal_ends_the_round, asks_are_in_order, asks_are_of_the_worker, removals_are_named,
+    roles_take_their_turns, servers_leave_by_removals, starts_are_launched, starts_are_reported,
+    turns_gain_their_entries,
+};
+pub use start::Start;

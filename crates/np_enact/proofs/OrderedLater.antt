@@ -3,6 +3,7 @@ use Rattle.std.proofs.Common.{◌≡◌, ◌<◌, ℕ, List, [], ◌∷◌, leng
 use Rattle.std.specs.Prelude.{◌==◌, nat_lt, not}
 use Rattle.np_changes.specs.Prelude.{AllByRecursion, Configuration, GrowthPremise, JobId, JobRecord, NodeId, Registration, Rises, Role, RoleRecord, SemId, State, Swept, all_with_handle, all_without_handle, change_at, change_janitor, change_launcher, change_requester, changed, grown, handles_changed, insert_before, is_among, is_pair, is_pair_after, is_session, is_swept, jobs_changed, one_more_act, one_more_start, registers, registrations_left, semaphores_of, struck_unless, with_deed, with_handle, with_mark, with_pair, without_handle}
 use Rattle.std.proofs.lemmas.Bool.Decides.{nat_tests}
+use Rattle.std.proofs.lemmas.Option.{slice_get_within}
 use Rattle.np_text.specs.declared.id.Role.TheVariants as role
 use Rattle.np_lists.proofs.ChangeLemmas.{length-change_at}
 use Rattle.np_lists.proofs.Each.{all-change_at, all-filter, all-insert_before, all-weaker}
@@ -26,7 +27,6 @@ use Rattle.np_laws.proofs.Rising.{rises-insert_before}
 use Rattle.np_layout.specs.Carried.{AreHolders, IsOrdered, is_pair_before}
 use Rattle.np_enact.proofs.KnownRows.{IsKnown, launcher-low}
 use Rattle.np_layout.proofs.Order.{pair-trans}
-use Rattle.np_lists.proofs.Plain.{within}
 
 -- ## handles
 
@@ -159,7 +159,7 @@ module _ (c : Configuration) (s : State) (ch : Changes) (known : IsKnown c s ch)
   handles-grown : (maker : Option Maker) (growth : Growth) → GrowthPremise c s ch growth → AllByRecursion (AreHolders (length c.jobs)) (grown c maker growth s).handles
   handles-grown None (grow.Registration p) premise = known.carried.ordered.handles
   handles-grown (Some m) (grow.Registration p) premise = known.carried.ordered.handles
-  handles-grown maker (grow.Handles j) premise = all-with (length c.jobs) j (semaphores_of c j) s.handles (within c.jobs j.0 premise.job premise.row) known.carried.ordered.handles
+  handles-grown maker (grow.Handles j) premise = all-with (length c.jobs) j (semaphores_of c j) s.handles (slice_get_within c.jobs j.0 premise.job premise.row) known.carried.ordered.handles
   handles-grown maker _ premise = known.carried.ordered.handles
 
   swept-grown : (maker : Option Maker) (growth : Growth) → Rises is_pair_before (grown c maker growth s).swept

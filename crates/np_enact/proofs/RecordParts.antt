@@ -1,5 +1,6 @@
 -- the parts that set one record: of a job, a role or a session, and of the tick
 use Rattle.std.proofs.Common.{◌≡◌, ℕ, zero, suc, ◌+◌, ◌-◌, ◌^◌, ◌<◌, Bool, true, false, cond, List, [], ◌∷◌, length, Option, Some, None, refl, sym, ap, subst, ◌∙◌, arith, length-set}
+use Rattle.std.proofs.lemmas.Option.{slice_get_within}
 use Rattle.std.specs.Prelude.{◌==◌, slice_get, slice_set}
 use Rattle.std.specs.Fmt.{decimal}
 use Rattle.np_changes.specs.Prelude.{AllByRecursion, JobId, JobRecord, NodeId, PoolId, RequesterId, Role, RoleRecord, SessionFacts, SessionId, State, change_at, change_role, change_session, muted, one_more_act, one_more_start, option_map, put_job, session_of, struck_unless, with_mark}
@@ -21,7 +22,7 @@ use Rattle.np_enact.specs.Stands.{Enacts, Stands}
 use Rattle.np_enact.specs.Ways.{DeedsEnact, JobsEnact, SessionsEnact, TicksEnact}
 use Rattle.np_enact.proofs.StandsLemmas.{enacts-none, enacts-set, stands-less}
 use Rattle.np_enact.proofs.Lengths.{job-short, role-short, session-short}
-use Rattle.np_lists.proofs.Plain.{set-here, within}
+use Rattle.np_lists.proofs.Plain.{set-here}
 
 -- ## what is not there does not change
 
@@ -71,7 +72,7 @@ good-jobs s jobs same good = good-tables s s.tick s.sessions jobs s.launchers s.
 job-low : (s : State) (j : JobId) (old : JobRecord) → HasGoodIds s → slice_get s.jobs j.0 ≡ Some old → j.0 < 2 ^ 32
 job-low s j old good there =
     let few = good.jobs in
-    let low = within s.jobs j.0 old there in
+    let low = slice_get_within s.jobs j.0 old there in
     omega arith
 
 put-by : (w : ℕ) (j : JobId) (kept : JobRecord) (s : State) (t : TreeState) (more : ℕ) (o : Option JobRecord) → slice_get s.jobs j.0 ≡ o → Stands s t w (more + 1) → AllByRecursion IsJob (put_job j kept s.jobs) →
@@ -109,7 +110,7 @@ module _ (w : ℕ) (change : RoleRecord → RoleRecord) (s : State) (t : TreeSta
       subst (λ (rows : List RoleRecord). Enacts t w [] (record s { launchers = rows }) more) (change_at-absent p.0 change s.launchers there) (nothing w s t more stands)
   launcher-by p (Some old) there spelled =
       enacts-set s (record s { launchers = change_at p.0 change s.launchers }) t w (LauncherRole p) (role_text (change old)) more stands
-      (let few = stands.good.launchers in let low = within s.launchers p.0 old there in omega arith)
+      (let few = stands.good.launchers in let low = slice_get_within s.launchers p.0 old there in omega arith)
       (good-tables s s.tick s.sessions s.jobs (change_at p.0 change s.launchers) s.janitors s.requesters refl refl (length-change_at p.0 change s.launchers) refl refl stands.good)
       (role-short (change old) (all-at IsRole (change_at p.0 change s.launchers) p.0 (change old) spelled (slice_get-changed p.0 change s.launchers old there)))
       (roles-lay-out s t (role.Launcher p) (LauncherRole p) change old stands.whole stands.good stands.lays refl there)
@@ -120,7 +121,7 @@ module _ (w : ℕ) (change : RoleRecord → RoleRecord) (s : State) (t : TreeSta
       subst (λ (rows : List RoleRecord). Enacts t w [] (record s { janitors = rows }) more) (change_at-absent p.0 change s.janitors there) (nothing w s t more stands)
   janitor-by p (Some old) there spelled =
       enacts-set s (record s { janitors = change_at p.0 change s.janitors }) t w (JanitorRole p) (role_text (change old)) more stands
-      (let few = stands.good.janitors in let low = within s.janitors p.0 old there in omega arith)
+      (let few = stands.good.janitors in let low = slice_get_within s.janitors p.0 old there in omega arith)
       (good-tables s s.tick s.sessions s.jobs s.launchers (change_at p.0 change s.janitors) s.requesters refl refl refl (length-change_at p.0 change s.janitors) refl stands.good)
       (role-short (change old) (all-at IsRole (change_at p.0 change s.janitors) p.0 (change old) spelled (slice_get-changed p.0 change s.janitors old there)))
       (roles-lay-out s t (role.Janitor p) (JanitorRole p) change old stands.whole stands.good stands.lays refl there)
@@ -131,7 +132,7 @@ module _ (w : ℕ) (change : RoleRecord → RoleRecord) (s : State) (t : TreeSta
       subst (λ (rows : List RoleRecord). Enacts t w [] (record s { requesters = rows }) more) (change_at-absent q.0 change s.requesters there) (nothing w s t more stands)
   requester-by q (Some old) there spelled =
       enacts-set s (record s { requesters = change_at q.0 change s.requesters }) t w (RequesterRole q) (role_text (change old)) more stands
-      (let few = stands.good.requesters in let low = within s.requesters q.0 old there in omega arith)
+      (let few = stands.good.requesters in let low = slice_get_within s.requesters q.0 old there in omega arith)
       (good-tables s s.tick s.sessions s.jobs s.launchers s.janitors (change_at q.0 change s.requesters) refl refl refl refl (length-change_at q.0 change s.requesters) stands.good)
       (role-short (change old) (all-at IsRole (change_at q.0 change s.requesters) q.0 (change old) spelled (slice_get-changed q.0 change s.requesters old there)))
       (roles-lay-out s t (role.Requester q) (RequesterRole q) change old stands.whole stands.good stands.lays refl there)
@@ -163,7 +164,7 @@ mute-enacts : (w : ℕ) (session : SessionId) (s : State) (t : TreeState) (more 
 mute-enacts w session s t more facts is stands spelled =
     let there : slice_get s.sessions (session.0 - 1) ≡ Some facts = counted (slice_get s.sessions (session.0 - 1)) facts (session.0 == 0) is in
     let few = stands.good.sessions in
-    let low = within s.sessions (session.0 - 1) facts there in
+    let low = slice_get_within s.sessions (session.0 - 1) facts there in
     enacts-set s (record s { sessions = change_session session muted s.sessions }) t w (Session session) (session_text (record { mute = true; role = facts.role })) more stands (omega arith)
     (good-tables s s.tick (change_session session muted s.sessions) s.jobs s.launchers s.janitors s.requesters (length-change_at (session.0 - 1) muted s.sessions) refl refl refl refl stands.good)
     (session-short true facts.role (all-at (λ (f : SessionFacts). IsSessionRole f.role) s.sessions (session.0 - 1) facts spelled there))

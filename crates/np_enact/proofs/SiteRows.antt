@@ -3,11 +3,12 @@ use Rattle.std.proofs.Common.{◌≡◌, ◌<◌, ◌≤◌, ◌^◌, ℕ, zero,
 use Rattle.std.specs.Prelude.{◌==◌, IfSome, find, option_and_then, slice_get}
 use Rattle.np_changes.specs.Prelude.{AllByRecursion, Configuration, EachAfter, IsJob, IsOffer, IsPool, IsPriority, IsSound, IsTaken, IsWanted, Janitor, Job, JobId, LabelId, Launcher, Offer, Pool, PoolId, Reaper, RequestRecord, Requester, Role, SemId, StandsByOwner, is_offered, is_role, offers_of, option_map, option_map_or, tenant_of_request}
 use Rattle.std.proofs.lemmas.List.Elements.{recursion_from_All}
+use Rattle.std.proofs.lemmas.Option.{slice_get_within}
 use Rattle.np_lists.proofs.Each.{all-find}
 use Rattle.np_lists.proofs.EachAfterLemmas.{All-from_each}
 use Rattle.np_lists.proofs.FoundLemmas.{find-passes}
 use Rattle.np_spelling.specs.Spelling.{IsSessionRole}
-use Rattle.np_lists.proofs.Plain.{some-of, within}
+use Rattle.np_lists.proofs.Plain.{some-of}
 
 -- what each row implies is true of the one at a place
 row-at : {T : Type 0} (P : List T → T → Type 0) (Q : T → Type 0) → ((e : List T) (x : T) → P e x → Q x) → (earlier rows : List T) → EachAfter P earlier rows → (at : ℕ) (x : T) → slice_get rows at ≡ Some x → Q x
@@ -53,7 +54,7 @@ module _ (c : Configuration) (sound : IsSound c) where
 
   -- the number of a job that has a row is below 4096
   pub job-number : (j : JobId) (job : Job) → slice_get c.jobs j.0 ≡ Some job → j.0 < 4096
-  job-number j job is = let below = within c.jobs j.0 job is in let few = sound.demand.few_jobs in omega arith
+  job-number j job is = let below = slice_get_within c.jobs j.0 job is in let few = sound.demand.few_jobs in omega arith
 
   tenant-at : (o : Option Job) → ((job : Job) → o ≡ Some job → job.tenant.0 ≤ length c.tenants) → IfSome (option_map (λ job. job.tenant) o) (λ t. t.0 < 2 ^ 16)
   tenant-at None says = tt
@@ -88,7 +89,7 @@ module _ (c : Configuration) (sound : IsSound c) where
 
   -- a role of the configuration may have a session
   pub role-spelled : (role : Role) → is_role c role ≡ true → IsSessionRole role
-  role-spelled (Launcher p) is = let row = some-of (slice_get c.pools p.0) is in let low = within c.pools p.0 row.0 row.1 in let few = sound.supply.few_pools in omega arith
-  role-spelled (Janitor p) is = let row = some-of (slice_get c.pools p.0) is in let low = within c.pools p.0 row.0 row.1 in let few = sound.supply.few_pools in omega arith
-  role-spelled (Requester q) is = let row = some-of (slice_get c.requesters q.0) is in let low = within c.requesters q.0 row.0 row.1 in let few = sound.few_requesters in omega arith
+  role-spelled (Launcher p) is = let row = some-of (slice_get c.pools p.0) is in let low = slice_get_within c.pools p.0 row.0 row.1 in let few = sound.supply.few_pools in omega arith
+  role-spelled (Janitor p) is = let row = some-of (slice_get c.pools p.0) is in let low = slice_get_within c.pools p.0 row.0 row.1 in let few = sound.supply.few_pools in omega arith
+  role-spelled (Requester q) is = let row = some-of (slice_get c.requesters q.0) is in let low = slice_get_within c.requesters q.0 row.0 row.1 in let few = sound.few_requesters in omega arith
   role-spelled Reaper is = absurd cc

@@ -1,5 +1,6 @@
 -- each request has a spelling after an accepted event
 use Rattle.std.proofs.Common.{◌≡◌, ◌<◌, ◌^◌, ◌⊎◌, inl, inr, ℕ, List, [], length, Bool, true, false, cond, Option, Some, None, ap, sym, subst, arith, length-append}
+use Rattle.std.proofs.lemmas.Option.{slice_get_within}
 use Rattle.std.specs.Prelude.{◌&&◌}
 use Rattle.np_changes.specs.Prelude.{AllByRecursion, Configuration, LabelId, NodeId, PoolId, Reason, RequestEntry, RequestId, RequestRecord, RequestState, SessionId, State, by_maker, edited, grown, is_id_before, is_pending, is_pool, is_requested, joined, left, new_record, next_id, option_map, put_request_queue, request_in, request_left, request_queue, requests_changed, requests_left, same_request}
 use Rattle.np_text.specs.declared.word.RequestState.TheVariants as state
@@ -21,7 +22,6 @@ use Rattle.np_enact.proofs.Settled.{leaves_requests, same-requests}
 use Rattle.np_enact.specs.Ready.{IsTypedEdit, IsTypedRequests}
 use Rattle.np_enact.proofs.SoundRows.{JobRow, job-low, job-row, label-low, pool-low}
 use Rattle.np_enact.proofs.KnownRows.{IsKnown, RequestRow, all-change_found, gained-number, launcher-low, request-row, same-some, worker-low}
-use Rattle.np_lists.proofs.Plain.{within}
 
 -- each of the rows has a record with a spelling
 abbrev pub AreRequests : List RequestEntry → Type 0
@@ -58,7 +58,7 @@ module _ (c : Configuration) (s : State) (ch : Changes) (known : IsKnown c s ch)
   pub asked-for_job : (priority : ℕ) (asked : Asked) → AsksForJob c s ch priority asked → IsRequest (new_record asked)
   asked-for_job priority asked asks =
       let row : JobRow c asks.job = job-row c known.sound asks.number asks.job asks.row in
-      let low = within c.jobs asks.number.0 asks.job asks.row in
+      let low = slice_get_within c.jobs asks.number.0 asks.job asks.row in
       subst (λ (a : Asked). IsRequest (new_record a)) (sym asks.asks) (record {
         few_declined = omega arith;
         declined = tt;
@@ -133,7 +133,7 @@ module _ (c : Configuration) (s : State) (ch : Changes) (known : IsKnown c s ch)
   added-is r n gains =
       let k : RequestRecord = gains.request in
       let row : RequestRow c r k = found-row r k gains.worked_on.stands in
-      let room = within k.labels (length k.nodes) gains.label gains.next in
+      let room = slice_get_within k.labels (length k.nodes) gains.label gains.next in
       let few = row.labels in
       record {
         few_declined = row.is.few_declined;

@@ -12,3 +12,6 @@ pub mod BeginLemmas
 pub mod LockLemmas
 pub mod LeaveLemmas
 pub mod Made
+pub mod OfSite
+pub mod Outside
+pub mod Settles

@@ -1,4 +1,5 @@
-//! What a requester does next: one useful event of its own, or none if and only if there is none.
+//! What a requester does next: one useful event of its own, or none if and only if there is none;
+//! and what any role does next.
 //!
 //! The kinds of events are tried in this order, and the first event that is useful is chosen.
 //!
@@ -42,13 +43,27 @@
 //! A job that is under way comes before one that begins, and what is no longer needed is given back
 //! first: a node before its job is finished, and handles before a new job begins, which may wait
 //! for them. Which events are useful is defined in np_useful.
+//!
+//! Above the three choices stands what any role does next, whatever keeps the state, and whether
+//! nothing is left to do.
+//!
+//! `choose` returns a useful event of a role (np_useful), or none if and only if there is none. A
+//! role that is not in the configuration has none, since each session of a run belongs to a role of
+//! the configuration (`law`). `is_settled` says whether no role has a useful event: a run that
+//! proceeds by choices has then ended. No call takes memory.
 #![tactic(auto)]
 
-mod choose;
+mod choice;
+mod law;
 mod leave;
 mod node;
+mod requester;
 mod rows;
+mod settled;
 mod step;
 mod window;
 
-pub use choose::choose_requester;
+pub use choice::{choose, takes_part};
+pub use law::{a_role_outside_is_idle, a_session_is_of_a_role_of_the_configuration};
+pub use requester::choose_requester;
+pub use settled::is_settled;

@@ -5,7 +5,7 @@ ghost use Rattle.std.specs.List.{list_any};
 ghost use Rattle.std.specs.Str.{bytes_eq};
 
 use indexmap::IndexSet;
-use np_config::Named;
+use np_config::{Name, Named};
 use std::alloc::{AllocError, Global};
 use std::marker::Model;
 
@@ -107,7 +107,6 @@ ghost use Rattle.np_json.specs.Leaf.{new_name, name_at, named_at};
 
 use crate::fault::{ConfigKind, ConfigRead, Place, fault_in};
 use crate::leaf::{object, required, text_of};
-use np_config::Name;
 use np_text::is_name;
 use serde_json::Value;
 

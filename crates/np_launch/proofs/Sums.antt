@@ -27,8 +27,9 @@ use Rattle.np_launch.specs.Choices.{NoneComputed, ChoosesComputed}
 use Rattle.np_launch.proofs.Finds.{find-some}
 use Rattle.np_launch.proofs.Spares.{first-is}
 use Rattle.np_launch.proofs.Reasons.{reason-is, reason-found}
-use Rattle.np_lists.proofs.Plain.{equal-numbers, some-unless, within}
+use Rattle.np_lists.proofs.Plain.{equal-numbers, some-unless}
 use Rattle.std.proofs.lemmas.Bool.{and_parts, true_from_ne_false}
+use Rattle.std.proofs.lemmas.Option.{slice_get_within}
 
 -- ## parts
 
@@ -250,7 +251,7 @@ module _ (c : Configuration) (s : State) (p : PoolId) (session : SessionId) wher
       let label = some-unless (slice_get c.labels l.0) (no-label c s session answer.0 l answer.1) in
       record {
         at = l.0;
-        low = within c.labels l.0 label.0 label.1;
+        low = slice_get_within c.labels l.0 label.0 label.1;
         event = ev.MinReady session l;
         there = ap (λ (o : Option Label). option_map (λ _. ev.MinReady session l) o) label.1;
         useful = useful;

@@ -28,7 +28,7 @@ use Rattle.np_laws.proofs.Came.{CameBy, edit-premise, came}
 use Rattle.np_laws.proofs.Waiters.{queue-after}
 use Rattle.np_laws.proofs.Due.{IsOwn, IsPinned, PinnedStand}
 use Rattle.np_machine.proofs.Ids.{session-equal}
-use Rattle.np_lists.proofs.Plain.{mapped}
+use Rattle.np_lists.proofs.Plain.{from-map_some}
 
 -- ## sessions keep their roles
 
@@ -46,7 +46,7 @@ role-changed x f keeps session facts rows is = by (session.0 == 0) refl is where
       let kept : option_map (λ (y : SessionFacts). y.role) (slice_get (change_session x f rows) (session.0 - 1)) ≡ Some facts.role =
       kept-change_at (λ (o : Option SessionFacts). option_map (λ y. y.role) o) (x.0 - 1) (session.0 - 1) f rows (λ y. ap (λ (role : Role). Some role) (keeps y))
       ∙ ap (λ (o : Option SessionFacts). option_map (λ y. y.role) o) there in
-      let found = mapped (λ (y : SessionFacts). y.role) (slice_get (change_session x f rows) (session.0 - 1)) facts.role kept in
+      let found = from-map_some (λ (y : SessionFacts). y.role) (slice_get (change_session x f rows) (session.0 - 1)) facts.role kept in
       record { facts = found.0; begun = cond-false (session.0 == 0) None (slice_get (change_session x f rows) (session.0 - 1)) positive ∙ found.1; is = found.2 }
 
 roles-settled : (change : SessionsChange) (session : SessionId) (facts : SessionFacts) (rows : List SessionFacts) → facts_in session rows ≡ Some facts → HasRole session facts.role (sessions_changed change rows)

@@ -4,6 +4,7 @@ use Rattle.std.specs.Prelude.{◌==◌, filter_map, find, nat_lt, slice_get}
 use Rattle.np_machine.specs.Prelude.{AllByRecursion, JobId, Rises, SemId, handles_of, option_map, range_with_len}
 use Rattle.std.proofs.lemmas.Bool.{eqb-false}
 use Rattle.std.proofs.lemmas.Bool.Decides.{nat_tests}
+use Rattle.std.proofs.lemmas.Option.{slice_get_within}
 use Rattle.np_lists.proofs.Each.{all-at, all-weaker}
 use Rattle.np_lists.proofs.FoundLemmas.{find-passes}
 use Rattle.np_tree.specs.Prelude.{Row, TreeState, find_named, is_named}
@@ -20,7 +21,6 @@ use Rattle.np_layout.specs.Carried.{AreHolders}
 use Rattle.np_layout.specs.Decoded.{handle_at, owner_of, registration_at}
 use Rattle.np_layout.proofs.Lists.{filter_map-range, map-places}
 use Rattle.np_layout.proofs.Named.{find-keyed}
-use Rattle.np_lists.proofs.Plain.{within}
 
 -- the member that is found has the number
 found-number : {X : Type 0} (key : X → ℕ) (n : ℕ) (xs : List X) (x : X) → find (λ y. key y == n) xs ≡ Some x → key x ≡ n
@@ -102,7 +102,7 @@ pub handles-same : (t : TreeState) (handles : List (List JobId)) (count : ℕ) �
 handles-same t handles count are few_handles few all = map-places (λ x. filter_map (handle_at (record { 0 = x }) t) (range_with_len 0 count)) handles 0 each where
   each : (k x : ℕ) (jobs : List JobId) → 0 + k ≡ x → slice_get handles k ≡ Some jobs → filter_map (handle_at (record { 0 = x }) t) (range_with_len 0 count) ≡ jobs
   each k x jobs same there =
-      let low = within handles k jobs there in
+      let low = slice_get_within handles k jobs there in
       let at : k ≡ x = omega arith in
       let own : handles_of (record { 0 = x }) handles ≡ jobs = ap (λ (o : Option (List JobId)). unwrap_or o []) (ap (slice_get handles) (sym at) ∙ there) in
       let has = at-range (λ at. HasHandles handles t (record { 0 = at })) (length handles) 0 x (omega arith) (omega arith) are.each in

@@ -1,5 +1,6 @@
 -- a set of a job's record
 use Rattle.std.proofs.Common.{◌≡◌, ℕ, ◌+◌, List, [], ◌∷◌, map, Some, refl, ap, ◌∙◌, subst, arith}
+use Rattle.std.proofs.lemmas.Option.{slice_get_within}
 use Rattle.std.specs.Prelude.{slice_get}
 use Rattle.np_machine.specs.Prelude.{JobId, JobRecord, State, change_at, list_any}
 use Rattle.np_lists.proofs.ChangeLemmas.{change_at-set}
@@ -15,7 +16,6 @@ use Rattle.np_layout.proofs.Elsewhere.{frame-stays, launchers-stay, live-stays, 
 use Rattle.np_layout.proofs.SetLists.{any-by_name, by_name-each, put-name, put_bytes}
 use Rattle.np_layout.proofs.SetSteps.{set-goes, sets-row}
 use Rattle.np_layout.proofs.SetTables.{IsTable, table-any, table-change, table-good}
-use Rattle.np_lists.proofs.Plain.{within}
 
 -- the place of each job, and its number
 abbrev job_at : ℕ → Place
@@ -80,5 +80,5 @@ job_changes-lay-out s t j change old whole good lays there = job-set s t j chang
 -- so does the set of another record
 pub jobs-lay-out : JobsLayOut
 jobs-lay-out s t j old kept whole good lays there =
-    subst (λ (jobs : List JobRecord). SetLaysOut (record s { jobs = jobs }) t (Job j) (job_text kept)) (change_at-set j.0 (λ _. kept) s.jobs kept (within s.jobs j.0 old there))
+    subst (λ (jobs : List JobRecord). SetLaysOut (record s { jobs = jobs }) t (Job j) (job_text kept)) (change_at-set j.0 (λ _. kept) s.jobs kept (slice_get_within s.jobs j.0 old there))
     (job-set s t j (λ _. kept) old whole good lays there)

@@ -11,7 +11,6 @@ use Rattle.np_tree.specs.Views.{Row, is_named, name_before, row_before, row_with
 use Rattle.np_tree.proofs.SiblingLemmas.{other-name_back}
 use Rattle.np_layout.specs.Rows.{by_name, rows_from}
 use Rattle.np_layout.proofs.FirstKinds.{rows_put}
-use Rattle.np_lists.proofs.Plain.{within}
 
 -- ## each row of a name gets other bytes
 

@@ -1,5 +1,6 @@
 -- the rows of a list when the record of one member changes
 use Rattle.std.proofs.Common.{◌≡◌, ℕ, ◌+◌, ◌<◌, Bool, true, cond, List, length, map, Some, sym, ap, ◌∙◌, inr, arith}
+use Rattle.std.proofs.lemmas.Option.{slice_get_within}
 use Rattle.std.specs.Prelude.{slice_get}
 use Rattle.np_tree.specs.Prelude.{Row, change_at, is_named, list_any, row_with}
 use Rattle.np_layout.specs.Place.{IsGood, above, place_name}
@@ -7,7 +8,6 @@ use Rattle.np_layout.specs.declared.place.Place.{Place}
 use Rattle.np_layout.specs.Rows.{persistent, rows_from}
 use Rattle.np_layout.proofs.SetLists.{put_bytes, rows_from-any, rows_from-change, rows_from-others}
 use Rattle.np_layout.proofs.SetSteps.{named-here, named-other}
-use Rattle.np_lists.proofs.Plain.{within}
 
 -- the members' places are good, in one directory, and have numbers from the first one on
 pub record IsTable {A : Type 0} (place : ℕ → Place) (number : Place → ℕ) (dir : Place) (first : ℕ) (list : List A) : Type 0 where
@@ -28,7 +28,7 @@ module _ {A : Type 0} (place : ℕ → Place) (number : Place → ℕ) (dir : Pl
   module _ (at k : ℕ) (old : A) (same : first + at ≡ k) (there : slice_get list at ≡ Some old) where
     -- the place of a member is good
     pub table-good : IsGood (place k)
-    table-good = let low = within list at old there in is.good k (omega arith)
+    table-good = let low = slice_get_within list at old there in is.good k (omega arith)
 
     -- its row is there
     pub table-any : list_any (is_named (place_name (place k))) (rows_from row_of first list) ≡ true

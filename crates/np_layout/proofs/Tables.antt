@@ -4,6 +4,7 @@ use Rattle.std.specs.Prelude.{slice_get}
 use Rattle.std.specs.Fmt.{decimal}
 use Rattle.np_machine.specs.Prelude.{AllByRecursion, JobRecord, RoleRecord, list_any, new_job, no_deeds, number_of, range_with_len}
 use Rattle.std.proofs.lemmas.List.Folds.{list_any-append}
+use Rattle.std.proofs.lemmas.Option.{slice_get_within}
 use Rattle.np_text.proofs.SpellingLemmas.{number_of-decimal, some_injective}
 use Rattle.np_lists.proofs.Each.{all-at}
 use Rattle.np_tree.specs.Prelude.{IsWhole, Row, TreeState, find_named, is_named}
@@ -19,7 +20,6 @@ use Rattle.np_layout.specs.Decoded.{job_at, role_at, tick_at}
 use Rattle.np_layout.proofs.Lists.{map-places}
 use Rattle.np_layout.proofs.Named.{all-both, all-rows_from, find-by_name, named-same, text-at_row}
 use Rattle.np_layout.proofs.Texts.{job-read, role-read}
-use Rattle.np_lists.proofs.Plain.{within}
 
 -- ## the tick
 
@@ -44,7 +44,7 @@ module _ {A : Type 0} (place : ℕ → Place) (number : Place → ℕ) (dir : Pl
   table-only k a good there = all-rows_from (λ (other : Row). is_named (place_name (place k)) other ≡ true → other ≡ row_of k a) row_of list 0 each where
     each : (j n : ℕ) (b : A) → 0 + j ≡ n → slice_get list j ≡ Some b → is_named (place_name (place k)) (row_of n b) ≡ true → row_of n b ≡ row_of k a
     each j n b same other named =
-        let low = within list j b other in
+        let low = slice_get_within list j b other in
         let places_same = named-same (place k) (place n) good (is.good n (omega arith)) (is.over n ∙ sym (is.over k)) (row_of n b) refl named in
         let numbers : n ≡ k = sym (is.numbers n) ∙ ap number places_same ∙ is.numbers k in
         let at : j ≡ k = omega arith in
@@ -56,7 +56,7 @@ module _ {A : Type 0} (place : ℕ → Place) (number : Place → ℕ) (dir : Pl
   table-none p row good over apart = all-rows_from (λ (other : Row). is_named (place_name p) other ≡ true → other ≡ row) row_of list 0 each where
     each : (j n : ℕ) (b : A) → 0 + j ≡ n → slice_get list j ≡ Some b → is_named (place_name p) (row_of n b) ≡ true → row_of n b ≡ row
     each j n b same other named =
-        let low = within list j b other in
+        let low = slice_get_within list j b other in
         absurd (apart n (named-same p (place n) good (is.good n (omega arith)) (is.over n ∙ sym over) (row_of n b) refl named))
 
 -- ## jobs
@@ -76,7 +76,7 @@ jobs-same t jobs whole are few spelled = map-places (job_at t) jobs 0 each where
 
   each : (k n : ℕ) (j : JobRecord) → 0 + k ≡ n → slice_get jobs k ≡ Some j → job_at t n ≡ j
   each k n j same there =
-      let low = within jobs k j there in
+      let low = slice_get_within jobs k j there in
       let at : n ≡ k = omega arith in
       let good : IsGood (job_place k) = omega arith in
       let found = find-by_name (place_name (job_place k)) (rows_from job_row 0 jobs) (job_row k j)
@@ -145,7 +145,7 @@ module _ (t : TreeState) (launchers janitors requesters : List RoleRecord) (whol
 
   launcher-same : (k n : ℕ) (kept : RoleRecord) → AllByRecursion IsRole launchers → 0 + k ≡ n → slice_get launchers k ≡ Some kept → role_at (launcher_place n) t ≡ kept
   launcher-same k n kept spelled same there =
-      let low = within launchers k kept there in
+      let low = slice_get_within launchers k kept there in
       let at : n ≡ k = omega arith in
       let good : IsGood (launcher_place k) = are-launchers.good k (omega arith) in
       let row : Row = launcher_role_row k kept in
@@ -160,7 +160,7 @@ module _ (t : TreeState) (launchers janitors requesters : List RoleRecord) (whol
 
   janitor-same : (k n : ℕ) (kept : RoleRecord) → AllByRecursion IsRole janitors → 0 + k ≡ n → slice_get janitors k ≡ Some kept → role_at (janitor_place n) t ≡ kept
   janitor-same k n kept spelled same there =
-      let low = within janitors k kept there in
+      let low = slice_get_within janitors k kept there in
       let at : n ≡ k = omega arith in
       let good : IsGood (janitor_place k) = are-janitors.good k (omega arith) in
       let row : Row = janitor_role_row k kept in
@@ -175,7 +175,7 @@ module _ (t : TreeState) (launchers janitors requesters : List RoleRecord) (whol
 
   requester-same : (k n : ℕ) (kept : RoleRecord) → AllByRecursion IsRole requesters → 0 + k ≡ n → slice_get requesters k ≡ Some kept → role_at (requester_place n) t ≡ kept
   requester-same k n kept spelled same there =
-      let low = within requesters k kept there in
+      let low = slice_get_within requesters k kept there in
       let at : n ≡ k = omega arith in
       let good : IsGood (requester_place k) = are-requesters.good k (omega arith) in
       let row : Row = requester_role_row k kept in

@@ -16,15 +16,13 @@
 //!
 //! The laws are public functions that do nothing: their contracts are the laws.
 //!
-//! The places of the machine's records and locks in the coordination tree.
-//!
-//! A `Place` is data: a directory, a record, or a wait in a lock, with the ids that it is for.
-//! `specs/Place` says what each place's path is, in which directory it is and under which name,
-//! and for which ids a place has a path (`IsGood`). `PathText` is a path's text for the tree's
-//! readers, made without memory, and `to_path` makes a `Path` of it for the calls that change the
-//! tree. `specs/Laws` has what is true of all places, each a public function that does nothing:
-//! paths are in the grammar, a path is its directory's and its name, no two places have the same,
-//! names are in order as their ids are, and 64 bytes are room for each.
+//! A `Place` says where a record or a lock stands, as data: a directory, a record, or a wait in a
+//! lock, with the ids that it is for. `specs/Place` says what each place's path is, in which directory
+//! it is and under which name, and for which ids a place has a path (`IsGood`). `PathText` is a path's
+//! text for the tree's readers, made without memory, and `to_path` makes a `Path` of it for the calls
+//! that change the tree. `specs/PlaceLaws` has what is true of all places, each a public function that
+//! does nothing: paths are in the grammar, a path is its directory's and its name, no two places have
+//! the same, names are in order as their ids are, and 64 bytes are room for each.
 #![tactic(auto)]
 
 mod buffer;

@@ -8,3 +8,6 @@ pub mod Named
 pub mod PlainRows
 pub mod Rows
 pub mod LineRuns
+pub mod LinesRead
+pub mod FirstFault
+pub mod Playable

@@ -12,3 +12,5 @@ pub mod FoundLemmas
 pub mod RefusalLemmas
 pub mod KeptLemmas
 pub mod Plain
+pub mod Places
+pub mod Splits

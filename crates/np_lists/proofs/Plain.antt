@@ -38,12 +38,6 @@ same_number a b e = grind (arith, nat_tests)
 pub below-apart : (n m : ℕ) → n < m → (n == m) ≡ false
 below-apart n m less = grind (arith, nat_tests)
 
-pub any-next : {X Y : Type 0} (p : Y → Bool) (f : X → Y) (xs : List X) (at : ℕ) (x : X) → slice_get xs at ≡ Some x →
-    list_any p (map f (drop at xs)) ≡ (p (f x) || list_any p (map f (drop (suc at) xs)))
-any-next p f [] at x is = absurd cc
-any-next {X} p f (y ∷ xs) zero x is = let same : y ≡ x = cc in ap (λ (z : X). p (f z) || list_any p (map f xs)) same
-any-next p f (y ∷ xs) (suc at) x is = any-next p f xs at x is
-
 pub drop-past : {X : Type 0} (xs : List X) (i : ℕ) → slice_get xs i ≡ None → drop i xs ≡ []
 drop-past [] zero is = refl
 drop-past [] (suc i) is = refl
@@ -79,9 +73,9 @@ pub or_true : (a : Bool) → (a || true) ≡ true
 or_true true = refl
 or_true false = refl
 
-pub untouched : (a b : Bool) → (a ≡ true → b ≡ true) → b ≡ false → a ≡ false
-untouched true b all out = let is : b ≡ true = all refl in cc
-untouched false b all out = refl
+pub contrapositive : (a b : Bool) → (a ≡ true → b ≡ true) → b ≡ false → a ≡ false
+contrapositive true b all out = let is : b ≡ true = all refl in cc
+contrapositive false b all out = refl
 
 pub above-apart : (n m : ℕ) → m < n → (n == m) ≡ false
 above-apart n m less = grind (arith, nat_tests)
@@ -146,11 +140,6 @@ pub and-apart : (s b : Bool) → (s && b) ≡ false → b ≡ true → s ≡ fal
 and-apart true b none is = sym is ∙ none
 and-apart false b none is = refl
 
-pub within : {X : Type 0} (xs : List X) (i : ℕ) (x : X) → slice_get xs i ≡ Some x → i < length xs
-within [] i x there = absurd cc
-within (y ∷ xs) zero x there = omega arith
-within (y ∷ xs) (suc i) x there = let later = within xs i x there in omega (arith, later)
-
 pub not-past : {X : Type 0} (xs : List X) (i : ℕ) → i < length xs → slice_get xs i ≡ None → ⊥
 not-past [] i low none = omega arith
 not-past (x ∷ xs) zero low none = cc
@@ -203,17 +192,17 @@ pub none-is : {X : Type 0} (o : Option X) → is_none o ≡ true → o ≡ None
 none-is None is = refl
 none-is (Some x) is = absurd cc
 
-pub neither : (false ≡ true) ⊎ ⊥ → ⊥
-neither (inl there) = absurd cc
-neither (inr ended) = ended
+pub false_or_empty-apart : (false ≡ true) ⊎ ⊥ → ⊥
+false_or_empty-apart (inl there) = absurd cc
+false_or_empty-apart (inr ended) = ended
 
 pub some-of : {A : Type 0} (o : Option A) → is_some o ≡ true → (a : A) × (o ≡ Some a)
 some-of None is = absurd cc
 some-of (Some a) is = (a, refl)
 
-pub mapped : {A B : Type 0} (f : A → B) (o : Option A) (y : B) → option_map f o ≡ Some y → (x : A) × (o ≡ Some x) × (f x ≡ y)
-mapped f None y e = absurd (cc)
-mapped f (Some x) y e = (x, refl, cc)
+pub from-map_some : {A B : Type 0} (f : A → B) (o : Option A) (y : B) → option_map f o ≡ Some y → (x : A) × (o ≡ Some x) × (f x ≡ y)
+from-map_some f None y e = absurd (cc)
+from-map_some f (Some x) y e = (x, refl, cc)
 
 pub get-map : {A B : Type 0} (f : A → B) (xs : List A) (i : ℕ) → slice_get (map f xs) i ≡ option_map f (slice_get xs i)
 get-map f [] i = refl

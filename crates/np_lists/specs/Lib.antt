@@ -2,3 +2,5 @@ pub mod Change
 pub mod Rising
 pub mod Refusals
 pub mod EachAfter
+pub mod Items
+pub mod Falls

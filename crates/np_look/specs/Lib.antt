@@ -2,3 +2,4 @@ pub mod Views
 pub mod Readers
 pub mod Jobs
 pub mod Given
+pub mod Keys

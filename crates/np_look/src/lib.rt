@@ -2,13 +2,18 @@
 //!
 //! `Rows` reads rows: the tables have it, and a coordination tree. `Look` searches them, and lends
 //! the rows that it searches: whoever keeps an index answers by the index, and `Scan` walks any
-//! rows, place by place. `Store` is where the changes of a state are written. `predicates` has what is true of one row and of those that it names, `walk`
-//! what a walk asks of each row, and `count` and `tenant` what the configuration alone says of pools
-//! and tenants.
+//! rows, place by place. `Store` is where the changes of a state are written. `predicates` has what
+//! is true of one row and of those that it names, `walk` what a walk asks of each row, and `count`
+//! and `tenant` what the configuration alone says of pools and tenants.
+//!
+//! `keys` has the orders of ids, in which every table of such rows is: nodes, jobs and sessions by
+//! number, requests by priority and then sequence, swept pairs by node and then server. `specs/Keys`
+//! has the facts about them.
 #![tactic(auto)]
 
 mod asked;
 mod count;
+mod keys;
 mod look;
 mod predicates;
 mod rows;
@@ -22,6 +27,7 @@ pub use count::{
     NOTHING, amount, amount_of_all, first_unoffered, is_offered, is_too_much, lacks_room, offers,
     ready_age, retries,
 };
+pub use keys::{ByJob, ByNode, ByRequest, BySession, BySwept, JobTable, SweptTable};
 pub use look::Look;
 pub use predicates::{
     ahead_at_node, first_full, given_to, has_handles, is_declined_by_all, is_full, is_given_to,

@@ -2,7 +2,7 @@
 
 ghost use Rattle.std.specs.Prelude.{◌≡◌, [], ◌∷◌, IfOk, nat_lt};
 
-use np_shelf::{Change, Piece, Probe, Shelf};
+use np_lists::{Change, Piece, Probe, Shelf};
 use std::alloc::{AllocError, Global};
 use std::marker::Model;
 use std::mem;

@@ -7,7 +7,7 @@ use crate::bytes::Bytes;
 use crate::mark::Mark;
 use crate::node::{Facts, Node};
 use crate::step::Step;
-use np_shelf::Change;
+use np_lists::Change;
 use std::mem;
 
 /// Other bytes, if there are some, and other facts of a node; after the change, those that the node

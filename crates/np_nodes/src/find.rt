@@ -19,8 +19,8 @@ ghost use Rattle.np_nodes.specs.Order.{AllPaths, IsSorted};
 use crate::kind::Mode;
 use crate::lists::NodeLists;
 use crate::node::Node;
+use np_lists::Probe;
 use np_path::{Path, halves};
-use np_shelf::Probe;
 use np_text::ten_digits;
 use std::cmp::Ordering;
 

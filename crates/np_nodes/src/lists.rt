@@ -11,8 +11,8 @@ use crate::bytes::Bytes;
 use crate::edit::{Edit, Touch};
 use crate::mark::Mark;
 use crate::node::{Facts, Node};
+use np_lists::{Piece, Shelf};
 use np_path::Path;
-use np_shelf::{Piece, Shelf};
 use np_text::NoMemory;
 use std::alloc::Global;
 

@@ -3,8 +3,8 @@
 ghost use Rattle.std.specs.Prelude.{◌≡◌};
 ghost use Rattle.np_nodes.specs.Marks.{mark_before};
 
+use np_lists::Probe;
 use np_path::Path;
-use np_shelf::Probe;
 
 /// An ephemeral node's path, under the session that owns the node.
 #[derive(Drop)]

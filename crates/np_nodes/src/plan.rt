@@ -22,8 +22,8 @@ use crate::lists::NodeLists;
 use crate::mark::{ByMark, Mark};
 use crate::node::{Facts, Node};
 use crate::step::Step;
+use np_lists::{Piece, Shelf};
 use np_path::Path;
-use np_shelf::{Piece, Shelf};
 use np_text::NoMemory;
 use std::alloc::Global;
 

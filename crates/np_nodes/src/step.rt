@@ -3,7 +3,7 @@
 ghost use Rattle.std.specs.Prelude.{◌≡◌};
 ghost use Rattle.np_nodes.specs.Steps.{CanStep, after_step};
 
-use np_shelf::{Piece, Shelf};
+use np_lists::{Piece, Shelf};
 
 /// One item more or fewer in a list.
 #[derive(Drop)]

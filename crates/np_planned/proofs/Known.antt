@@ -13,8 +13,8 @@ use Rattle.np_layout.proofs.DeleteNodeWaits.{found-node, is_node_it}
 use Rattle.np_layout.proofs.DeleteRequestWaits.{is_request_it, request-good}
 use Rattle.np_readers.proofs.Stored.{kept_of, session-sound}
 use Rattle.np_laws.specs.Parts.{IsLive, IsQueue, IsQueued}
-use Rattle.np_lists.proofs.Plain.{within}
 use Rattle.std.proofs.lemmas.Bool.{and_parts}
+use Rattle.std.proofs.lemmas.Option.{slice_get_within}
 
 -- ## the maker
 
@@ -98,7 +98,7 @@ module _ (c : Configuration) (s : State) (t : TreeState) (stored : IsStored c s 
   session-by : (x : SessionId) (facts : SessionFacts) (b : Bool) → cond b None (slice_get s.sessions (x.0 - 1)) ≡ Some facts → x.0 < 2 ^ 32
   session-by x facts true there = absurd cc
   session-by x facts false there =
-      let less = within s.sessions (x.0 - 1) facts there in
+      let less = slice_get_within s.sessions (x.0 - 1) facts there in
       let few = stored.carried.good.sessions in
       omega arith
 

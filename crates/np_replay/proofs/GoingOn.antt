@@ -8,9 +8,9 @@ use Rattle.np_event_lines.specs.Line.{HasEventLine}
 use Rattle.np_event_lines.proofs.EventLemmas.{event_in-spelled}
 use Rattle.np_log.specs.Place.{Place}
 use Rattle.np_log.proofs.BatchLemmas.{lines-append}
-use Rattle.np_script.specs.Script.{IsPlayable, event_said, most_lines}
-use Rattle.np_script.specs.declared.script.Script.{Script}
-use Rattle.np_script.proofs.LinesRead.{lines_read-all, lines_read-few}
+use Rattle.np_lines.specs.Script.{IsPlayable, event_said, most_lines}
+use Rattle.np_lines.specs.declared.script.Script.{Script}
+use Rattle.np_lines.proofs.LinesRead.{lines_read-all, lines_read-few}
 use Rattle.np_replay.specs.Logged.{IsPartOfLog, more_of}
 use Rattle.np_replay.specs.Resume.{IsGoingOn, IsReadLogOf}
 use Rattle.np_replay.specs.Resuming.{IsReady}

@@ -6,9 +6,9 @@ use Rattle.np_config_read.specs.Walk.{reads}
 use Rattle.np_config_text.specs.Canonical.{canonical}
 use Rattle.np_disk.specs.Disk.{DiskFacts, Only}
 use Rattle.np_log.specs.Log.{Content, content_of}
-use Rattle.np_script.specs.declared.lines.LinesFault.{LinesFault}
-use Rattle.np_script.specs.Lines.{lines_read}
-use Rattle.np_script.specs.Script.{event_said, most_lines}
+use Rattle.np_lines.specs.declared.lines.LinesFault.{LinesFault}
+use Rattle.np_lines.specs.Lines.{lines_read}
+use Rattle.np_lines.specs.Script.{event_said, most_lines}
 
 -- ## what a log says
 

@@ -7,7 +7,7 @@ use Rattle.np_changes.specs.Prelude.{Configuration, Event}
 use Rattle.np_event_lines.specs.declared.fault.LineFault.{LineFault}
 use Rattle.np_config_read.specs.Walk.{reads}
 use Rattle.np_config_text.specs.Canonical.{canonical}
-use Rattle.np_script.specs.declared.lines.LinesFault.{LinesFault}
+use Rattle.np_lines.specs.declared.lines.LinesFault.{LinesFault}
 use Rattle.np_report.specs.Played.{played}
 use Rattle.np_report.specs.Printed.{IsPrinted}
 use Rattle.np_replay.specs.declared.ending.Ending.{Ending}

@@ -7,9 +7,9 @@ use Rattle.np_event_lines.specs.declared.fault.LineFault.{LineFault}
 use Rattle.np_config_read.specs.Walk.{reads}
 use Rattle.np_config_text.specs.Canonical.{canonical}
 use Rattle.np_log.specs.Place.{IsSettled, Place}
-use Rattle.np_script.specs.declared.lines.LinesFault.{LinesFault}
-use Rattle.np_script.specs.declared.script.Script.{Script}
-use Rattle.np_script.specs.Script.{IsPlayable}
+use Rattle.np_lines.specs.declared.lines.LinesFault.{LinesFault}
+use Rattle.np_lines.specs.declared.script.Script.{Script}
+use Rattle.np_lines.specs.Script.{IsPlayable}
 use Rattle.np_report.specs.Played.{played}
 use Rattle.np_report.specs.Printed.{IsPrinted}
 use Rattle.np_replay.specs.declared.ending.Ending.{Ending}

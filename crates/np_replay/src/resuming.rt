@@ -16,10 +16,10 @@ use np_config_text::config_text;
 use np_disk::Disk;
 use np_event_lines::LineFault;
 use np_io::{Sink, Source};
+use np_lines::{EventList, LinesFault, Script, read_lines};
 use np_lists::Items;
 use np_log::{Loaded, Log};
 use np_report::text_of_script;
-use np_script::{EventList, LinesFault, Script, read_lines};
 use np_text::{JOURNAL_ENTRIES, NoMemory};
 use std::alloc::Global;
 

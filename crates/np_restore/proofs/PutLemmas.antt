@@ -3,7 +3,7 @@ use Rattle.std.proofs.Common.{◌≡◌, Bool, true, false, cond, List, [], ◌�
 use Rattle.np_changes.specs.Prelude.{AllByRecursion, NonePass, Rises, Swept, insert_before}
 use Rattle.std.proofs.lemmas.Bool.{false_from_ne_true}
 use Rattle.np_lists.proofs.Each.{all-weaker}
-use Rattle.np_keys.specs.Keys.{pair_equal, pair_one_way, same_pair}
+use Rattle.np_look.specs.Keys.{pair_equal, pair_one_way, same_pair}
 use Rattle.np_layout.specs.Carried.{is_pair_before}
 use Rattle.np_layout.proofs.Order.{put_all}
 use Rattle.np_lookups.proofs.Ids.{apart}

@@ -5,7 +5,7 @@ use Rattle.np_changes.specs.Prelude.{AllByRecursion, Configuration, Fits, IsReac
 use Rattle.np_lists.proofs.Each.{all-find}
 use Rattle.np_laws.specs.Parts.{Invariant}
 use Rattle.np_laws.proofs.Runs.{invariant-Runs}
-use Rattle.np_keys.specs.Keys.{is_node_before, node_equal, node_one_way, node_some_way, request_equal, request_one_way, request_some_way, same_node}
+use Rattle.np_look.specs.Keys.{is_node_before, node_equal, node_one_way, node_some_way, request_equal, request_one_way, request_some_way, same_node}
 use Rattle.np_look.specs.Views.{node_view, request_view}
 use Rattle.np_look.specs.declared.asked.NodeView.{NodeView}
 use Rattle.np_look.specs.declared.asked.RequestView.{RequestView}

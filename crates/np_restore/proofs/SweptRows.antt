@@ -3,7 +3,7 @@ use Rattle.std.proofs.Common.{◌≡◌, ◌∙◌, ℕ, zero, suc, ◌+◌, add
 use Rattle.std.specs.Prelude.{slice_get}
 use Rattle.np_changes.specs.Prelude.{NonePass, Rises, Swept, insert_before, option_map}
 use Rattle.np_layout.specs.Prelude.{Row, is_pair_before}
-use Rattle.np_keys.specs.Keys.{same_pair}
+use Rattle.np_look.specs.Keys.{same_pair}
 use Rattle.np_layout.specs.Decoded.{pair_named}
 use Rattle.np_layout.proofs.Order.{put_all}
 use Rattle.np_restore.proofs.PutLemmas.{next_is_new}

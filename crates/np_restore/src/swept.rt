@@ -2,7 +2,7 @@
 
 ghost use Rattle.std.specs.Prelude.{◌≡◌, length, slice_get, IfOk, OnOk};
 ghost use Rattle.np_layout.specs.Prelude.{NonePass, Rises, insert_before, is_pair_before, option_map, under};
-ghost use Rattle.np_keys.specs.Keys.{same_pair};
+ghost use Rattle.np_look.specs.Keys.{same_pair};
 ghost use Rattle.np_layout.specs.declared.place.Place.TheVariants.{SweptPairs};
 ghost use Rattle.np_layout.specs.Decoded.{pair_named, swept_at};
 

@@ -3,7 +3,7 @@ use Rattle.std.proofs.Common.{◌≡◌, ◌<◌, ◌≤◌, ◌+◌, ◌-◌, �
 use Rattle.std.specs.Prelude.{find, filter, map, slice_get, is_some, ◌||◌, ◌&&◌, ◌==◌}
 use Rattle.std.specs.List.{list_any}
 use Rattle.std.proofs.lemmas.Bool.Decides.{nat_tests}
-use Rattle.np_lists.proofs.Plain.{within, drop-there}
+use Rattle.np_lists.proofs.Plain.{drop-there}
 use Rattle.std.proofs.lemmas.Bool.{or_right}
 
 -- the member is at a place of the list

@@ -1,5 +1,6 @@
 -- the first of these events that passes, or none if none does
 use Rattle.std.proofs.Common.{◌≡◌, ◌∙◌, ◌<◌, ℕ, Bool, true, false, Option, Some, None, Ok, refl, sym, ap, subst}
+use Rattle.std.proofs.lemmas.Option.{slice_get_within}
 use Rattle.std.specs.Prelude.{◌&&◌, ◌==◌, slice_get, is_ok, if◌then◌else◌}
 use Rattle.np_changes.specs.Prelude.{Configuration, Done, Event, JobId, JobRecord, NodeEntry, NodeId, RequestEntry, RequestId, Role, SessionId, State, judge, maker_of, node_entry, option_map, request_entry, same_request}
 use Rattle.np_lists.proofs.FoundLemmas.{find-passes}
@@ -21,7 +22,6 @@ use Rattle.np_roles.proofs.Queues.{queued-request, queued-node}
 use Rattle.np_roles.proofs.Accepts.{request-maker, node-maker, job-maker, request-there, node-there, job-there, request-queued, node-queued}
 use Rattle.np_roles.proofs.Currents.{one-current}
 use Rattle.np_machine.proofs.Ids.{request-equal}
-use Rattle.np_lists.proofs.Plain.{within}
 
 -- ## an accepted event names something that is at a place
 
@@ -80,7 +80,7 @@ module _ (c : Configuration) (s : State) (session : SessionId) where
       let kept = entry-of (λ (k : JobRecord). k) (slice_get s.jobs j.0) (λ none. job-there c s session answer.0 kind j answer.1 (as-it-is (slice_get s.jobs j.0) none)) in
       record {
         at = j.0;
-        within = within s.jobs j.0 kept.0 kept.1;
+        within = slice_get_within s.jobs j.0 kept.0 kept.1;
         there = ap (λ (o : Option JobRecord). option_map (λ (k : JobRecord). job_event kind session j) o) kept.1;
       }
     where

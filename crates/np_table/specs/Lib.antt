@@ -1,1 +1,5 @@
 pub mod Roomy
+pub mod Groups
+pub mod Rows
+pub mod Ranks
+pub mod Moves

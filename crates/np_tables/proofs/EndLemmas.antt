@@ -12,7 +12,7 @@ use Rattle.np_changes.specs.Premises.{EndsSession, Premises, SessionsPremise}
 use Rattle.np_changes.specs.declared.changes.SessionsChange.TheVariants as sessions
 use Rattle.np_changes.proofs.PremisesOf.{premises}
 use Rattle.np_laws.proofs.Runs.{invariant-Runs}
-use Rattle.np_keys.specs.Keys.{is_node_before}
+use Rattle.np_look.specs.Keys.{is_node_before}
 use Rattle.np_tables.specs.Queues.{AreQueuesOf}
 use Rattle.np_tables.specs.LeftLast.{CanEnd, changed_in_queues}
 

@@ -5,7 +5,7 @@ use Rattle.np_changes.specs.Prelude.{AllByRecursion, Locked, NodeEntry, NodeId, 
 use Rattle.std.proofs.lemmas.Bool.Decides.{nat_tests}
 use Rattle.np_lists.proofs.Each.{all-filter, all-mapped}
 use Rattle.np_lists.proofs.FilterLemmas.{filter-not_none, none-list_any}
-use Rattle.np_keys.specs.Keys.{is_node_before, same_node}
+use Rattle.np_look.specs.Keys.{is_node_before, same_node}
 use Rattle.np_changes.proofs.Facts.{request-apart}
 use Rattle.np_machine.proofs.Ids.{request-itself}
 

@@ -6,7 +6,7 @@ use Rattle.np_changes.specs.declared.changes.SessionsChange.{SessionsChange}
 use Rattle.np_look.specs.Readers.{queued_nodes, queued_requests}
 use Rattle.np_changes.specs.Changes.{grown, nodes_changed, nodes_left, requests_changed, requests_left, settled}
 use Rattle.np_changes.specs.declared.changes.SessionsChange.TheVariants as sessions
-use Rattle.np_keys.specs.Keys.{is_node_before}
+use Rattle.np_look.specs.Keys.{is_node_before}
 
 -- settled, but a session that ends is still in its queues
 abbrev pub settled_in_queues : Configuration → Changes → State → State

@@ -2,7 +2,7 @@
 
 ghost use Rattle.std.specs.Prelude.{◌≡◌, filter, map};
 ghost use Rattle.np_changes.specs.Prelude.{Rises, is_id_before, is_queued, node_left, request_left};
-ghost use Rattle.np_keys.specs.Keys.{is_node_before};
+ghost use Rattle.np_look.specs.Keys.{is_node_before};
 ghost use Rattle.np_tables.specs.LeftLast.{CanEnd, queues_left};
 
 use crate::edits::Leave;

@@ -6,13 +6,11 @@
 //! `Settled` and `Driven` are based on `Useful`. All of them use the machine's state alone. `law`
 //! has examples of both sides.
 //!
-//! Counterexamples: made-up cases that a definition has to refuse.
-//!
-//! What holds after every step of a run is proved of the machine, in which nothing is ever lost, so
-//! a definition with a weaker word would be proved of it too. Each law of `law` takes cases that
-//! are in no run, and shows that the definition does not hold of them. With a weaker word it would,
-//! and the law would not be proved. Beside such cases stands one that differs from them in little,
-//! and of which the definition does hold.
+//! `refused` has made-up cases that a definition has to refuse. What holds after every step of a run
+//! is proved of the machine, in which nothing is ever lost, so a definition with a weaker word would
+//! be proved of it too. Each law there takes cases that are in no run, and shows that the definition
+//! does not hold of them. With a weaker word it would, and the law would not be proved. Beside such
+//! cases stands one that differs from them in little, and of which the definition does hold.
 //!
 //! Read `specs/Parts`, which has the state that most cases start from, then the files of the
 //! definitions: `Losses` and `Ends` for `Kept`, `Changes` for `Fenced`, `Journals` and `Handles`

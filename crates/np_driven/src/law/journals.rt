@@ -4,7 +4,7 @@ ghost use Rattle.std.specs.Prelude.{◌≡◌, ◌≤◌, List, [], ◌∷◌, �
 ghost use Rattle.np_changes.specs.Prelude.{Configuration, Entry, Runs, after};
 ghost use Rattle.np_event.specs.declared.event.Event.TheVariants as ev;
 ghost use Rattle.np_cloud.specs.Clouds.{ArePlanned};
-ghost use Rattle.np_answers.specs.Prelude.{Driven, DrivenBy, Driving, is_tick};
+ghost use Rattle.np_driven.specs.Prelude.{Driven, DrivenBy, Driving, is_tick};
 ghost use Rattle.np_driven.specs.Planned.{DrivenAs, PlannedBy, PlannedDriven};
 ghost use Rattle.np_driven.specs.Players.{AreNumbered, HaveDrivenAs, Player, WasAnswered, drivings_of};
 ghost use Rattle.np_driven.specs.Round.{IsRound};

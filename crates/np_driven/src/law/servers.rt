@@ -2,7 +2,7 @@
 
 ghost use Rattle.std.specs.Prelude.{Bool, ◌≡◌, ◌⊎◌, List, All, Contains};
 ghost use Rattle.np_changes.specs.Prelude.{Configuration, Entry, PoolId};
-ghost use Rattle.np_answers.specs.Prelude.{Driving, Move, Server, WasKept, ended, of_pool};
+ghost use Rattle.np_driven.specs.Prelude.{Driving, Move, Server, WasKept, ended, of_pool};
 ghost use Rattle.np_driven.specs.Planned.{DrivenAs};
 ghost use Rattle.np_driven.specs.Players.{Player, WasAnswered};
 ghost use Rattle.np_driven.specs.Round.{PlayerEnd, PlaysFrom};

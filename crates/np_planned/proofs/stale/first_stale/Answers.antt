@@ -1,11 +1,12 @@
 use Rattle.std.proofs.Common.{◌≡◌, ◌<◌, ◌≤◌, true, length, List, not, ap, ◌∙◌, subst, arith, below_more}
+use Rattle.std.proofs.lemmas.Option.{slice_get_within}
 use Rattle.np_lists.proofs.Each.{all-from_at}
 use Rattle.np_watch.specs.Fresh.{IsFreshPath, is_fresh}
 use Rattle.np_watch.proofs.FreshLemmas.{test-says-fresh}
 use Rattle.np_planned.specs.Stale.{is_stale}
 use Rattle.np_planned.proofs.Firsts.{first-at, fresh-none, item-at, stale-later, stale-some}
 use Rattle.np_planned.proofs.stale.first_stale.Goals as goal
-use Rattle.np_lists.proofs.Plain.{there-at, within}
+use Rattle.np_lists.proofs.Plain.{there-at}
 
 pub returns-in-Some-clause-answer : goal.returns-in-Some-clause-answer
 returns-in-Some-clause-answer g c =
@@ -45,4 +46,4 @@ pub returns-clause-answer : goal.returns-clause-answer
 returns-clause-answer g c =
     let end : length c.args.paths.now ≤ c.loop-place.place = omega arith in
     all-from_at (IsFreshPath c.args.at (g.R.StatRead.tree c.args.stats.now)) c.args.paths.now
-    (λ k path is. (test-says-fresh (g.R.StatRead.tree c.args.stats.now) c.args.at path).0 (c.loop-place.invariant.fresh k (let less = within c.args.paths.now k path is in omega arith) path is))
+    (λ k path is. (test-says-fresh (g.R.StatRead.tree c.args.stats.now) c.args.at path).0 (c.loop-place.invariant.fresh k (let less = slice_get_within c.args.paths.now k path is in omega arith) path is))

@@ -1,9 +1,10 @@
 use Rattle.std.proofs.Common.{◌≡◌, ◌∙◌, ◌+◌, ◌-◌, ℕ, Bool, true, false, cond, drop, sym, ap, Some, None, arith}
+use Rattle.std.proofs.lemmas.Option.{slice_get_within}
 use Rattle.std.specs.Prelude.{slice_get, filter, ◌&&◌, ◌==◌}
 use Rattle.np_changes.specs.Prelude.{Fault, same_role}
 use Rattle.np_roles.proofs.Places.{filter-first, filter-later, next-parts}
 use Rattle.np_roles.proofs.session.fault_of.Goals as goal
-use Rattle.np_lists.proofs.Plain.{within, drop-past}
+use Rattle.np_lists.proofs.Plain.{drop-past}
 
 pub returns-then-is_next : goal.returns-then-is_next
 returns-then-is_next c =
@@ -17,7 +18,7 @@ returns-then-is_next c =
 pub loop-fault-smaller : goal.loop-fault-smaller
 loop-fault-smaller c =
     let there : slice_get c.args.config.now.faults c.loop-fault.at ≡ Some c.in-Some.fault.now = sym c.in-Some.ensures in
-    omega (arith, within c.args.config.now.faults c.loop-fault.at c.in-Some.fault.now there)
+    omega (arith, slice_get_within c.args.config.now.faults c.loop-fault.at c.in-Some.fault.now there)
 
 pub loop-fault-preserved : goal.loop-fault-preserved
 loop-fault-preserved c =
@@ -25,7 +26,7 @@ loop-fault-preserved c =
     let other : (same_role c.in-Some.fault.now.role c.args.role && (c.loop-fault.left == 0)) ≡ false = sym (c.if-is_next.ensures ∙ ap (λ (b : Bool). b && (c.loop-fault.left == 0)) c.is_same_role-own.ensures) in
     let fewer : c.saturating_sub-left.result ≡ c.loop-fault.left - cond (same_role c.in-Some.fault.now.role c.args.role) 1 0 = c.saturating_sub-left.ensures ∙ ap (λ (n : ℕ). c.loop-fault.left - n) (c.one_if.ensures ∙ ap (λ (b : Bool). cond b 1 0) c.is_same_role-own.ensures) in
     record {
-      within = omega (arith, within c.args.config.now.faults c.loop-fault.at c.in-Some.fault.now there);
+      within = omega (arith, slice_get_within c.args.config.now.faults c.loop-fault.at c.in-Some.fault.now there);
       rest =
           ap (λ (n : ℕ). slice_get (filter (λ (f : Fault). same_role f.role c.args.role) (drop (c.loop-fault.at + 1) c.args.config.now.faults)) n) fewer
           ∙ filter-later (λ (f : Fault). same_role f.role c.args.role) c.args.config.now.faults c.loop-fault.at c.in-Some.fault.now c.loop-fault.left there other

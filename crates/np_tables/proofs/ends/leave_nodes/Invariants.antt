@@ -1,5 +1,5 @@
 use Rattle.std.proofs.Common.{◌≡◌, drop}
-use Rattle.np_keys.specs.Keys.{same_node}
+use Rattle.np_look.specs.Keys.{same_node}
 use Rattle.np_tables.proofs.LeaveLemmas.{each_left}
 use Rattle.np_tables.proofs.ends.leave_nodes.Given as goal
 

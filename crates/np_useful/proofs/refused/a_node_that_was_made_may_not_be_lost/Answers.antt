@@ -4,7 +4,7 @@ use Rattle.np_useful.specs.Parts.{node}
 use Rattle.np_useful.specs.Ends.{crashing, expiring}
 use Rattle.np_useful.proofs.Cases.{neither-of}
 use Rattle.np_useful.proofs.refused.a_node_that_was_made_may_not_be_lost.Goals as goal
-use Rattle.np_lists.proofs.Plain.{neither}
+use Rattle.np_lists.proofs.Plain.{false_or_empty-apart}
 
 no-crash : RemovesNode (node 0) crashing → ⊥
 no-crash crash = let removes = crash.removes in absurd cc
@@ -14,9 +14,9 @@ no-expiry expiry = let removes = expiry.removes in absurd cc
 
 pub returns : goal.returns
 returns c = record {
-  made = λ kept. neither (kept.0 (node 0) refl);
-  later = λ kept. neither (kept.1.0 (node 0) refl);
+  made = λ kept. false_or_empty-apart (kept.0 (node 0) refl);
+  later = λ kept. false_or_empty-apart (kept.1.0 (node 0) refl);
   crash = λ kept. neither-of no-crash (kept.0 (node 0) refl);
   expiry = λ kept. neither-of no-expiry (kept.0 (node 0) refl);
-  early = λ kept. neither (kept.1.0 (node 0) refl);
+  early = λ kept. false_or_empty-apart (kept.1.0 (node 0) refl);
 }

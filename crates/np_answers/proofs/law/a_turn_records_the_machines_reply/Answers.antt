@@ -1,5 +1,0 @@
-use Rattle.np_answers.proofs.Recorded.{turn-replied}
-use Rattle.np_answers.proofs.law.a_turn_records_the_machines_reply.Goals as goal
-
-pub returns : goal.returns
-returns c = turn-replied

@@ -1,5 +1,0 @@
-use Rattle.np_answers.proofs.Works.{asks_of}
-use Rattle.np_answers.proofs.moves.asks_are_of_the_worker.Goals as goal
-
-pub returns : goal.returns
-returns c = asks_of

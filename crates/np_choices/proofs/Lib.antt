@@ -1,3 +1,0 @@
-pub mod OfSite
-pub mod Outside
-pub mod Settles

@@ -1,9 +1,0 @@
-use Rattle.std.proofs.Common.{◌≡◌, false}
-use Rattle.np_useful.specs.Settled.{takes_part}
-use Rattle.np_choices.proofs.Outside.{outside-idle}
-use Rattle.np_choices.proofs.choice.choose.Goals as goal
-
-pub returns-then-not-takes_part : goal.returns-then-not-takes_part
-returns-then-not-takes_part g c =
-    let outside : takes_part (g.L.Look.site c.args.look.now) c.args.role ≡ false = cc in
-    outside-idle (g.L.Look.site c.args.look.now) (g.L.Look.state c.args.look.now) c.args.role c.requires.reached outside

@@ -1,5 +1,0 @@
-use Rattle.np_choices.proofs.OfSite.{role-of}
-use Rattle.np_choices.proofs.law.a_session_is_of_a_role_of_the_configuration.Goals as goal
-
-pub returns : goal.returns
-returns c = role-of

@@ -1,6 +1,0 @@
-use Rattle.std.proofs.Common.{ℕ, ◌<◌}
-use Rattle.np_choices.specs.Idle.{IsPoolIdle}
-use Rattle.np_choices.proofs.settled.are_pools_idle.Given as goal
-
-abbrev pub invariant-loop-at : goal.invariant-loop-at
-invariant-loop-at g l = (k : ℕ) → k < l.at → IsPoolIdle (g.L.Look.site l.look) (g.L.Look.state l.look) (record { 0 = k })

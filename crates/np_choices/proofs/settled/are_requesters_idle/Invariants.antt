@@ -1,7 +1,0 @@
-use Rattle.std.proofs.Common.{ℕ, ◌<◌}
-use Rattle.np_text.specs.declared.id.Role.TheVariants.{Requester}
-use Rattle.np_choices.specs.Idle.{IsIdle}
-use Rattle.np_choices.proofs.settled.are_requesters_idle.Given as goal
-
-abbrev pub invariant-loop-at : goal.invariant-loop-at
-invariant-loop-at g l = (k : ℕ) → k < l.at → IsIdle (g.L.Look.site l.look) (g.L.Look.state l.look) (Requester (record { 0 = k }))

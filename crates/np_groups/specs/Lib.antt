@@ -1,4 +1,0 @@
-pub mod Groups
-pub mod Rows
-pub mod Ranks
-pub mod Moves

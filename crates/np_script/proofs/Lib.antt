@@ -1,3 +1,0 @@
-pub mod LinesRead
-pub mod FirstFault
-pub mod Playable
