@@ -4,6 +4,7 @@ use Rattle.np_changes.specs.Prelude.{Configuration, JobId, LabelId, NodeId, Node
 use Rattle.np_text.specs.declared.word.RequestState.TheVariants as request_state
 use Rattle.np_machine.specs.Reasons.{is_stuck_at}
 use Rattle.np_look.specs.Readers.{current_of, has_request_under_way, unfinished_of}
+use Rattle.np_useful.specs.Launcher.{concurrency_of, has_turn_left}
 use Rattle.np_useful.specs.Sessions.{is_stopped}
 use Rattle.np_useful.specs.Window.{window_of}
 use Rattle.np_causes.specs.declared.fact.Thing.{Thing}
@@ -38,6 +39,8 @@ about_of (fact.Registered p session) = thing.Pool p
 about_of (fact.Unregistered p) = thing.Pool p
 about_of (fact.Busy p) = thing.Work p
 about_of (fact.Idle p) = thing.Work p
+about_of (fact.HasTurn p) = thing.Concurrency p
+about_of (fact.NoTurn p most) = thing.Concurrency p
 about_of (fact.PoolUses p used) = thing.Room p
 about_of (fact.TenantUses t used) = thing.Tenant t
 about_of (fact.Stands n state attempts) = thing.Node n
@@ -108,6 +111,7 @@ IsMissing c s (thing.Offer r p) = request_in r s.requests ≡ None
 IsMissing c s (thing.Next r) = request_in r s.requests ≡ None
 IsMissing c s (thing.Pool p) = ⊥
 IsMissing c s (thing.Work p) = ⊥
+IsMissing c s (thing.Concurrency p) = ⊥
 IsMissing c s (thing.Room p) = ⊥
 IsMissing c s (thing.Tenant t) = ⊥
 IsMissing c s (thing.Node n) = node_in n s.nodes ≡ None
@@ -146,6 +150,8 @@ IsTrueOf c s (fact.Registered p session) = registered p s.registrations ≡ Some
 IsTrueOf c s (fact.Unregistered p) = registered p s.registrations ≡ None
 IsTrueOf c s (fact.Busy p) = has_request_under_way p s ≡ true
 IsTrueOf c s (fact.Idle p) = has_request_under_way p s ≡ false
+IsTrueOf c s (fact.HasTurn p) = has_turn_left c s p ≡ true
+IsTrueOf c s (fact.NoTurn p most) = (concurrency_of c p ≡ Some most) × (has_turn_left c s p ≡ false)
 IsTrueOf c s (fact.PoolUses p used) = count_of c s p ≡ used
 IsTrueOf c s (fact.TenantUses t used) = count_of_tenant c s t ≡ used
 IsTrueOf c s (fact.Stands n state attempts) = (node_state_of n s ≡ Some state) × (option_map (λ k. k.attempts) (node_in n s.nodes) ≡ Some attempts)

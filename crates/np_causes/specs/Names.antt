@@ -1,8 +1,9 @@
 -- which things a fact names
-use Rattle.std.specs.Prelude.{◌==◌, ◌&&◌, false, List, [], ◌∷◌, ◌++◌, if◌then◌else◌, Option, Some, None, length, map, option_and_then, slice_get}
+use Rattle.std.specs.Prelude.{◌==◌, ◌&&◌, ◌||◌, Bool, false, List, [], ◌∷◌, ◌++◌, if◌then◌else◌, Option, Some, None, length, map, option_and_then, slice_get}
 use Rattle.np_changes.specs.Prelude.{Configuration, Janitor, JobId, Launcher, NodeEntry, NodeId, Phase, PoolId, RequestEntry, RequestId, Requester, Role, SessionId, State, TenantId, handles_of, is_pending_of, is_tenant, option_map, option_map_or, range_with_len, request_in, request_of_job, same_role, session_of}
 use Rattle.np_text.specs.declared.word.Phase.TheVariants as phase
 use Rattle.np_look.specs.Readers.{is_under_way_by}
+use Rattle.np_useful.specs.Launcher.{is_held_near, is_served_near}
 use Rattle.np_causes.specs.Fact.{pool_of}
 use Rattle.np_causes.specs.declared.fact.Thing.{Thing}
 use Rattle.np_causes.specs.declared.fact.Thing.TheVariants as thing
@@ -29,6 +30,13 @@ offers_for c r = map (λ k. Some (thing.Offer r (record { 0 = k }))) (range_with
 -- a request that the pool serves and that lacks a node
 abbrev pub if_under_way : PoolId → RequestEntry → Option Thing
 if_under_way p e = if is_under_way_by p e.kept then Some (thing.Request e.id) else None
+
+-- a request on which the launchers of the pool's provider work
+abbrev pub is_near : Configuration → State → PoolId → RequestEntry → Bool
+is_near c s p e = is_served_near c p e || is_held_near c s p e
+
+abbrev pub if_near : Configuration → State → PoolId → RequestEntry → Option Thing
+if_near c s p e = if is_near c s p e then Some (thing.Request e.id) else None
 
 abbrev pub if_of_pool : PoolId → NodeEntry → Option Thing
 if_of_pool p e = if e.kept.pool.0 == p.0 then Some (thing.Node e.id) else None
@@ -82,10 +90,12 @@ named_by c s (fact.Closed r p) = []
 named_by c s (fact.Complete r) = []
 named_by c s (fact.NoRoom r p l) = Some (thing.Room p) ∷ []
 named_by c s (fact.Lacks r l) = []
-named_by c s (fact.Registered p session) = Some (thing.Session session) ∷ Some (thing.Work p) ∷ []
+named_by c s (fact.Registered p session) = Some (thing.Session session) ∷ Some (thing.Work p) ∷ Some (thing.Concurrency p) ∷ []
 named_by c s (fact.Unregistered p) = Some (thing.Role (Launcher p)) ∷ []
 named_by c s (fact.Busy p) = map (if_under_way p) s.requests
 named_by c s (fact.Idle p) = []
+named_by c s (fact.HasTurn p) = []
+named_by c s (fact.NoTurn p most) = map (if_near c s p) s.requests
 named_by c s (fact.PoolUses p used) = map (if_of_pool p) s.nodes
 named_by c s (fact.TenantUses t used) = parts_of c s t
 named_by c s (fact.Stands n state attempts) = Some (thing.Lock n) ∷ Some (thing.Owner n) ∷ []

@@ -35,6 +35,8 @@ pub enum Thing {
     Pool(PoolId),
     /// Whether the pool's launcher is at work on a request.
     Work(PoolId),
+    /// Whether the launchers of the pool's provider may take up one more request.
+    Concurrency(PoolId),
     /// What the pool uses.
     Room(PoolId),
     /// What the tenant uses.
@@ -179,6 +181,15 @@ pub enum Fact {
     Idle {
         pool: PoolId,
     },
+    /// The launchers of the pool's provider may take up one more request.
+    HasTurn {
+        pool: PoolId,
+    },
+    /// The launchers of the pool's provider work on as many requests as they may.
+    NoTurn {
+        pool: PoolId,
+        most: u32,
+    },
     /// The nodes of the pool take this together.
     PoolUses {
         pool: PoolId,
@@ -269,6 +280,7 @@ pub fn about(fact: &Fact) -> Thing
         }
         Fact::Registered { pool, .. } | Fact::Unregistered { pool } => Thing::Pool(pool),
         Fact::Busy { pool } | Fact::Idle { pool } => Thing::Work(pool),
+        Fact::HasTurn { pool } | Fact::NoTurn { pool, .. } => Thing::Concurrency(pool),
         Fact::PoolUses { pool, .. } => Thing::Room(pool),
         Fact::TenantUses { tenant, .. } => Thing::Tenant(tenant),
         Fact::Stands { node, .. } => Thing::Node(node),

@@ -13,6 +13,7 @@ mod explain;
 mod fact;
 mod job;
 mod names;
+mod near;
 mod pool;
 mod request;
 mod role;
@@ -23,6 +24,7 @@ mod worked;
 pub use explain::{causes, waits};
 pub use fact::{Fact, Thing, about};
 pub use names::{Place, named};
+pub use same::is_same;
 pub use tell::fact_of;
 pub use worked::{
     a_launcher_is_lost, a_launcher_stopped, a_node_is_launched_again, a_pool_has_no_room,

@@ -9,6 +9,7 @@ ghost use Rattle.np_causes.specs.Names.{a_node, if_live, if_of_pool, if_of_tenan
 ghost use Rattle.np_causes.specs.declared.fact.Thing.TheVariants as thing;
 
 use crate::fact::{Fact, Thing};
+use crate::near::request_near;
 use np_config::Config;
 use np_look::{Look, RequestView, Rows, is_same_role, tenant_of_job};
 use np_record::RequestRecord;
@@ -80,6 +81,21 @@ fn both(first: Place, second: Place, at: u32) -> Option<Place>
         Some(first)
     } else if at == 1 {
         Some(second)
+    } else {
+        None
+    }
+}
+
+/// A list with three places.
+fn three(first: Place, second: Place, third: Place, at: u32) -> Option<Place>
+    ensures { result ≡ slice_get (first ∷ second ∷ third ∷ []) at }
+{
+    if at == 0 {
+        Some(first)
+    } else if at == 1 {
+        Some(second)
+    } else if at == 2 {
+        Some(third)
     } else {
         None
     }
@@ -341,13 +357,15 @@ pub fn named<L: Look>(look: &L, fact: &Fact, at: u32) -> Option<Place>
             at,
         ),
         Fact::NoRoom { pool, .. } => only(Some(Thing::Room(pool)), at),
-        Fact::Registered { pool, session } => both(
+        Fact::Registered { pool, session } => three(
             Some(Thing::Session(session)),
             Some(Thing::Work(pool)),
+            Some(Thing::Concurrency(pool)),
             at,
         ),
         Fact::Unregistered { pool } => only(Some(Thing::Role(Role::Launcher(pool))), at),
         Fact::Busy { pool } => request_under_way(rows, pool, at),
+        Fact::NoTurn { pool, .. } => request_near(rows, pool, at),
         Fact::PoolUses { pool, .. } => node_of_pool(rows, pool, at),
         Fact::TenantUses { tenant, .. } => part_of_tenant(rows, tenant, at),
         Fact::Stands { node, .. } => both(Some(Thing::Lock(node)), Some(Thing::Owner(node)), at),
@@ -361,6 +379,7 @@ pub fn named<L: Look>(look: &L, fact: &Fact, at: u32) -> Option<Place>
         | Fact::Complete { .. }
         | Fact::Lacks { .. }
         | Fact::Idle { .. }
+        | Fact::HasTurn { .. }
         | Fact::Unheld { .. }
         | Fact::Free { .. }
         | Fact::Known { .. }

@@ -114,8 +114,8 @@ fn is_offer(a: RequestId, b: PoolId, other: Thing) -> bool
     }
 }
 
-/// Whether both are the same thing.
-pub(crate) fn is_same(one: Thing, other: Thing) -> bool
+/// Whether both are the same thing. No clause says that it finds each two that are.
+pub fn is_same(one: Thing, other: Thing) -> bool
     ensures { result ≡ true → one ≡ other }
 {
     match one {
@@ -153,6 +153,10 @@ pub(crate) fn is_same(one: Thing, other: Thing) -> bool
         },
         Thing::Work(a) => match other {
             Thing::Work(b) => is_pool(a, b),
+            _ => false,
+        },
+        Thing::Concurrency(a) => match other {
+            Thing::Concurrency(b) => is_pool(a, b),
             _ => false,
         },
         Thing::Room(a) => match other {

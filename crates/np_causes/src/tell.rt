@@ -8,6 +8,7 @@ use crate::fact::{Fact, Thing};
 use crate::job::{
     fact_of_handle, fact_of_job, fact_of_semaphore, fact_of_supply, fact_of_turn, fact_of_window,
 };
+use crate::near::fact_of_concurrency;
 use crate::pool::{
     fact_of_lock, fact_of_node, fact_of_owner, fact_of_pool, fact_of_room, fact_of_work,
 };
@@ -33,6 +34,7 @@ pub fn fact_of<L: Look>(look: &L, thing: Thing) -> Fact
         Thing::Next(request) => fact_of_next(look, request),
         Thing::Pool(pool) => fact_of_pool(rows, pool),
         Thing::Work(pool) => fact_of_work(look, pool),
+        Thing::Concurrency(pool) => fact_of_concurrency(rows, pool),
         Thing::Room(pool) => fact_of_room(look, pool),
         Thing::Tenant(tenant) => fact_of_tenant(look, tenant),
         Thing::Node(node) => fact_of_node(rows, node),
