@@ -1,0 +1,137 @@
+-- the line of a fact
+use Rattle.std.specs.Prelude.{ℕ, Bool, true, false, List, [], ◌++◌, codes, decimal, Option, Some, None, slice_get}
+use Rattle.np_changes.specs.Prelude.{Amount, Configuration, LabelId, Limit, NodeState, Phase, Reason, SemId, limit_of, limit_of_tenant, option_map}
+use Rattle.np_text.specs.declared.word.NodeState.TheVariants as node_state
+use Rattle.np_text.specs.declared.word.Phase.TheVariants as phase
+use Rattle.np_text.specs.declared.word.Reason.TheVariants as reason
+use Rattle.np_causes.specs.Fact.{about_of}
+use Rattle.np_causes.specs.declared.fact.Thing.{Thing}
+use Rattle.np_causes.specs.declared.fact.Thing.TheVariants as thing
+use Rattle.np_causes.specs.declared.fact.Fact.{Fact}
+use Rattle.np_causes.specs.declared.fact.Fact.TheVariants as fact
+use Rattle.np_explain_lines.specs.Words.{job_words, label_words, node_words, pool_words, request_words, requester_words, role_words, semaphore_words, session_words, tenant_words}
+
+-- ## what the fact is about
+
+abbrev pub subject : Configuration → Thing → List ℕ
+subject c (thing.Job j) = job_words c j
+subject c (thing.Turn j) = job_words c j
+subject c (thing.Window j) = job_words c j
+subject c (thing.Supply j) = job_words c j
+subject c (thing.Semaphore x) = semaphore_words c x
+subject c (thing.Handle x j) = semaphore_words c x
+subject c (thing.Request r) = request_words r
+subject c (thing.Offer r p) = request_words r ++ codes " at " ++ pool_words c p
+subject c (thing.Next r) = request_words r
+subject c (thing.Pool p) = pool_words c p
+subject c (thing.Work p) = pool_words c p
+subject c (thing.Concurrency p) = pool_words c p
+subject c (thing.Room p) = pool_words c p
+subject c (thing.Tenant t) = tenant_words c t
+subject c (thing.Node n) = node_words n
+subject c (thing.Lock n) = node_words n
+subject c (thing.Owner n) = node_words n
+subject c (thing.Session s) = session_words s
+subject c (thing.Role role) = role_words c role
+
+-- ## parts of what it says
+
+abbrev pub phase_said : Phase → List ℕ
+phase_said phase.New = codes "nobody has asked for its nodes yet"
+phase_said phase.Asked = codes "waits for the nodes of its request"
+phase_said phase.Using = codes "has its nodes, and has not ended"
+phase_said phase.Over = codes "is over"
+
+-- so many, and how many there may be, if there is a limit
+abbrev pub of_limit : ℕ → Option ℕ → List ℕ
+of_limit n None = decimal n
+of_limit n (Some most) = decimal n ++ codes " of " ++ decimal most
+
+-- and what there are so many of
+abbrev pub part_words : ℕ → Option ℕ → List ℕ → List ℕ
+part_words n limit word = of_limit n limit ++ word
+
+abbrev pub amount_words : Amount → Limit → List ℕ
+amount_words used limit = part_words used.instances limit.instances (codes " servers, ") ++ part_words used.cores limit.cores (codes " cores, ") ++ part_words used.ram limit.ram (codes " MiB of ram")
+
+abbrev pub reason_words : Configuration → Reason → List ℕ
+reason_words c (reason.NoLabel l) = codes "it does not offer " ++ label_words c l
+reason_words c reason.NeverFits = codes "the labels together exceed a limit of the pool"
+reason_words c reason.TenantNeverFits = codes "the labels together exceed a limit of the job's tenant"
+reason_words c (reason.Spent n) = codes "the last launch of " ++ node_words n ++ codes " that it may try failed"
+
+abbrev pub most_handles : Configuration → SemId → Option ℕ
+most_handles c x = option_map (λ sem. sem.max) (slice_get c.semaphores x.0)
+
+abbrev pub node_said : NodeState → List ℕ
+node_said node_state.Building = codes "is building"
+node_said node_state.Ready = codes "is ready"
+node_said node_state.InUse = codes "is in use"
+node_said node_state.Used = codes "is used"
+node_said node_state.Hold = codes "is on hold"
+node_said node_state.Deleting = codes "is deleting"
+node_said node_state.Failed = codes "is failed"
+
+-- whether the session has expired, and whether its party has stopped
+abbrev pub session_said : Bool → Bool → List ℕ
+session_said true false = codes ", and is live"
+session_said true true = codes ", crashed, and has not expired yet"
+session_said false false = codes ", and has expired"
+session_said false true = codes ", and has expired"
+
+-- the label of the next node
+abbrev pub next_words : Configuration → LabelId → List ℕ
+next_words c l = codes " for its next node, of label " ++ label_words c l
+
+-- as many as there may be
+abbrev pub most_words : ℕ → List ℕ
+most_words most = codes "as many requests as they may, " ++ decimal most
+
+-- ## what it says
+
+abbrev pub said : Configuration → Fact → List ℕ
+said c (fact.InPhase j phase) = phase_said phase
+said c (fact.OfRequester j q) = codes "goes on by requester " ++ requester_words c q
+said c (fact.InWindow j) = codes "is in its requester's window"
+said c (fact.PastWindow j last) = codes "is past its requester's window, whose last job is " ++ job_words c last
+said c (fact.Supplied j) = codes "lacks no semaphore that is full"
+said c (fact.Full j x) = codes "lacks semaphore " ++ semaphore_words c x ++ codes ", which is full"
+said c (fact.Handles x count) = part_words count (most_handles c x) (codes " handles are taken")
+said c (fact.HasHandle x j) = job_words c j ++ codes " has a handle"
+said c (fact.Open r) = codes "nobody has taken it up"
+said c (fact.TakenUp r s) = session_words s ++ codes " has taken it up, and no pool has accepted it"
+said c (fact.Served r s) = codes "a pool serves it, by " ++ session_words s
+said c (fact.Abandoned r) = codes "a pool serves it, and nobody holds it"
+said c (fact.Fulfilled r) = codes "is fulfilled"
+said c (fact.Failed r) = codes "failed"
+said c (fact.Declined r p why) = codes "the pool declined: " ++ reason_words c why
+said c (fact.Blocked r p t) = codes "tenant " ++ tenant_words c t ++ codes " has no room for it now"
+said c (fact.First r p) = codes "it is the first that the pool may take up"
+said c (fact.Behind r p first) = request_words first ++ codes " comes first"
+said c (fact.Closed r p) = codes "the pool may take up no request now"
+said c (fact.Complete r) = codes "has a node for each of its labels"
+said c (fact.NoRoom r p l) = codes "no room in " ++ pool_words c p ++ next_words c l
+said c (fact.Lacks r l) = codes "has no node of label " ++ label_words c l ++ codes " yet"
+said c (fact.Registered p s) = session_words s ++ codes " is registered for it"
+said c (fact.Unregistered p) = codes "no session is registered for it"
+said c (fact.Busy p) = codes "serves a request that lacks a node"
+said c (fact.Idle p) = codes "serves no request that lacks a node"
+said c (fact.HasTurn p) = codes "its provider's launchers may take up one more request"
+said c (fact.NoTurn p most) = codes "its provider's launchers work on " ++ most_words most
+said c (fact.PoolUses p used) = codes "its nodes take " ++ amount_words used (limit_of c p)
+said c (fact.TenantUses t used) = codes "its nodes and pending requests take " ++ amount_words used (limit_of_tenant c t)
+said c (fact.Stands n state attempts) = node_said state ++ codes ", launched " ++ decimal attempts ++ codes " times"
+said c (fact.Held n s) = session_words s ++ codes " holds it"
+said c (fact.Unheld n) = codes "nobody holds it"
+said c (fact.Owned n j) = job_words c j ++ codes " has it"
+said c (fact.Allocated n r) = codes "is allocated to " ++ request_words r
+said c (fact.Free n) = codes "is allocated to no request, and no job has it"
+said c (fact.Known s facts) = codes "is of " ++ role_words c facts.role ++ session_said facts.live facts.mute
+said c (fact.Current role s) = codes "acts by " ++ session_words s
+said c (fact.Stopped role) = codes "has stopped for good"
+said c (fact.MayOpen role) = codes "has no session, and may open one"
+said c (fact.Missing it) = codes "is not there"
+
+-- the line, without its newline: what the fact is about, and what it says
+unfoldable pub line_of : Configuration → Fact → List ℕ
+line_of c f = subject c (about_of f) ++ codes ": " ++ said c f
