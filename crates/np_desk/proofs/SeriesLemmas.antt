@@ -37,21 +37,21 @@ module _ {E : Type 0} where
   pub unturned-same : (v : Sight E) → Unturned v v
   unturned-same v = (starts_same v.seen, refl)
 
-  unturned_on : (u v w : Sight E) → Unturned u v → Unturned v w → Unturned u w
+  pub unturned_on : (u v w : Sight E) → Unturned u v → Unturned v w → Unturned u w
   unturned_on u v w h k = (starts_on w.seen v.seen u.seen k.0 h.0, k.1 ∙ h.1)
 
   pub unturned_grown : (v : Sight E) (h : List E) → StartsWith h v.seen → Unturned v (grown v.mine h h)
   unturned_grown v h s = (s, grown_same v.mine h)
 
 module _ {E A T : Type 0} (step : Sight E → A → T → Sight E → Type 0) where
-  walk-snoc : (v u w : Sight E) (xs : List (Asked A T)) (a : A) (t : T) → Walk step v xs u → step u a t w → Walk step v (xs ++ record { ask = a; turn = t } ∷ []) w
-  walk-snoc v u w [] a t h k = (w, subst (λ (z : Sight E). step z a t w) (sym h) k, refl)
-  walk-snoc v u w (x ∷ xs) a t h k = (h.0, h.1, walk-snoc h.0 u w xs a t h.2 k)
+  pub walk-append : (v u w : Sight E) (xs ys : List (Asked A T)) → Walk step v xs u → Walk step u ys w → Walk step v (xs ++ ys) w
+  walk-append v u w [] ys h k = subst (λ (z : Sight E). Walk step z ys w) (sym h) k
+  walk-append v u w (x ∷ xs) ys h k = (h.0, h.1, walk-append h.0 u w xs ys h.2 k)
 
 module _ {S A T : Type 0} (asks : S → Option A) (hears : S → T → S → Type 0) where
-  heard-snoc : (p q r : S) (xs : List (Asked A T)) (a : A) (t : T) → Heard asks hears p xs q → asks q ≡ Some a → hears q t r → Heard asks hears p (xs ++ record { ask = a; turn = t } ∷ []) r
-  heard-snoc p q r [] a t h e k = (ap asks h ∙ e, r, subst (λ (z : S). hears z t r) (sym h) k, refl)
-  heard-snoc p q r (x ∷ xs) a t h e k = (h.0, h.1, h.2, heard-snoc h.1 q r xs a t h.3 e k)
+  pub heard-append : (p q r : S) (xs ys : List (Asked A T)) → Heard asks hears p xs q → Heard asks hears q ys r → Heard asks hears p (xs ++ ys) r
+  heard-append p q r [] ys h k = subst (λ (z : S). Heard asks hears z ys r) (sym h) k
+  heard-append p q r (x ∷ xs) ys h k = (h.0, h.1, h.2, heard-append h.1 q r xs ys h.3 k)
 
 module _ {E A T S : Type 0} (step : Sight E → A → T → Sight E → Type 0) (asks : S → Option A) (hears : S → T → S → Type 0) where
   -- so many turns of the series were taken
@@ -67,8 +67,8 @@ module _ {E A T S : Type 0} (step : Sight E → A → T → Sight E → Type 0) 
   pub one-more : (v u w : Sight E) (p q r : S) (n : ℕ) (a : A) (t : T) → Went v p n u q → asks q ≡ Some a → step u a t w → hears q t r → Went v p (n + 1) w r
   one-more v u w p q r n a t went e k heard = let x : Asked A T = record { ask = a; turn = t } in record {
     turns = went.turns ++ x ∷ [];
-    walked = walk-snoc step v u w went.turns a t went.walked k;
-    heard = heard-snoc asks hears p q r went.turns a t went.heard e heard;
+    walked = walk-append step v u w went.turns (x ∷ []) went.walked (w, k, refl);
+    heard = heard-append asks hears p q r went.turns (x ∷ []) went.heard (e, r, heard, refl);
     count = omega (arith, length-append went.turns (x ∷ []), went.count);
   }
 

@@ -2,8 +2,9 @@
 
 ghost use Rattle.std.specs.Prelude.{◌≡◌, Option};
 
-/// Asks in one turn after another. What it asks next may follow from the answers that it heard.
-pub trait Series {
+/// Asks in one turn after another. What it asks next may follow from the answers that it heard. A copy
+/// of it asks and hears on by itself.
+pub trait Series: Copy {
     /// What may be asked in a turn.
     type Ask: Copy;
 
