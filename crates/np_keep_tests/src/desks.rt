@@ -87,7 +87,7 @@ fn ask_each<T: Turns<Ask = u64, Turn = bool>>(turns: &mut T, asks: &[u64]) -> bo
 }
 
 /// A list of asks. The series pauses after an answer that nothing was kept.
-#[derive(Drop)]
+#[derive(Clone, Copy)]
 struct Row<'a> {
     asks: &'a [u64],
     next: usize,

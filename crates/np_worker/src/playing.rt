@@ -8,7 +8,7 @@ use np_driven::{Ask, Turn};
 
 /// The series of turns from a stage on, until a launch or a removal comes, or the roles have taken
 /// their turns. It counts the entries of the round.
-#[derive(Drop)]
+#[derive(Clone, Copy)]
 pub(crate) struct Playing {
     pub stage: Stage,
     /// At most 2^64 - 1, however many there are.
