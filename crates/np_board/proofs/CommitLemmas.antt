@@ -1,5 +1,5 @@
 -- what a turn at a board leaves at which launchers plan
-use Rattle.std.proofs.Common.{◌≡◌, ◌∙◌, ◌<◌, ◌+◌, ℕ, true, List, [], ◌∷◌, ◌++◌, take, Option, Some, None, Result, Ok, Err, IfOk, OnErr, refl, sym, ap, subst, arith, append-nil}
+use Rattle.std.proofs.Common.{◌≡◌, ◌∙◌, ◌+◌, ℕ, true, List, [], ◌∷◌, ◌++◌, take, Option, Some, None, Result, Ok, Err, IfOk, OnErr, refl, sym, ap, subst, arith, append-nil}
 use Rattle.std.specs.Prelude.{find, is_ok, option_and_then, slice_get, MatchResult}
 use Rattle.np_changes.specs.Prelude.{Configuration, Done, Entry, Event, Launcher, NoMemory, PoolId, Refusal, Reply, Runs, State, after, is_some, judge, remove_first, reply_of}
 use Rattle.std.proofs.lemmas.Bool.Decides.{nat_tests}

@@ -4,4 +4,5 @@ pub mod PlanLemmas
 pub mod WatchLemmas
 pub mod CommitLemmas
 pub mod PlannerLemmas
-mod LaunchingLemmas
+mod BatchLemmas
+mod TicketLemmas

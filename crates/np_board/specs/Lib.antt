@@ -4,5 +4,5 @@ pub mod Outstanding
 pub mod PlanTaken
 pub mod PlanAnswers
 pub mod PlanTested
-pub mod Launching
+pub mod Batch
 pub mod Planner

@@ -9,17 +9,18 @@
 //!
 //! `PlannedBoard` is such a board at which launchers may also plan: they choose on the tree as it
 //! stands, and commit later, where it is as it was at what their event's judgement reads. `Planner`
-//! has the turns of a desk over it as any party asks for them: a launcher's turn commits the plan that
-//! it made before and plans its next event, or is a plain one where nothing can be planned or no
-//! ticket of four had a commit.
+//! has the turns of a desk over it as any party asks for them: a launcher commits the plan that it made
+//! with an earlier ticket and plans its next event, or its turn is a plain one, where nothing can be
+//! planned or four tickets had no commit. Turns of others come in a row with one ticket.
 //!
 //! Whoever has done with a board calls `close`: what is proved of letting go of its parts is then
 //! proved here alone.
 #![tactic(auto)]
 
+mod batch;
 mod board;
 mod due;
-mod launching;
+mod once;
 mod planned;
 mod planner;
 mod reading;

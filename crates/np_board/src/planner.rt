@@ -1,18 +1,18 @@
 //! Turns at the desk of a board at which launchers plan.
 
-ghost use Rattle.std.specs.Prelude.{◌≡◌, Some};
-ghost use Rattle.np_text.specs.declared.id.Role.TheVariants.{Launcher};
-ghost use Rattle.np_driven.specs.Prelude.{IsOf, Turned, WasUseful, answers, answers_also, recorded, sight_of};
-ghost use Rattle.np_driven.specs.declared.ask.Ask.TheVariants as asks;
-ghost use Rattle.np_board.specs.Planner.{Launches, launchers_before};
+ghost use Rattle.std.specs.Prelude.{◌≡◌, IfOk, Some};
+ghost use Rattle.np_driven.specs.Prelude.{IsOf, Turned, WasUseful, answers_also, recorded, sight_of};
+ghost use Rattle.np_desk.specs.Series.{Took};
+ghost use Rattle.np_board.specs.Planner.{HasEnded, TookWithTicket, TookWithTickets, launchers_before};
 
-use crate::launching::{Launching, Stage};
-use crate::planned::{PlanAsk, PlanTurn, PlannedBoard};
+use crate::batch::{Batch, Stage};
+use crate::once::Once;
+use crate::planned::PlannedBoard;
 use np_config::Config;
 use np_desk::{Desk, Pass, Series, Turns};
 use np_driven::{Ask, Turn};
 use np_event::Entry;
-use np_text::{NoMemory, PoolId, Role};
+use np_text::NoMemory;
 use std::sync::Wait;
 
 /// A pass beside the desk of a board at which launchers plan. A turn may wait for the turns of others.
@@ -25,68 +25,92 @@ pub struct Planner<'a, R: Wait> {
 }
 
 impl<'a, R: Wait> Planner<'a, R> {
-    /// Asks what is asked of any board.
-    fn plain(&mut self, ask: Ask) -> Result<Turn, NoMemory>
+    /// Takes the turns of the series that come with one ticket. After four tickets in which nothing
+    /// was committed the launcher asks what is asked of any board.
+    fn ticket<S: Series<Ask = Ask, Turn = Turn>>(
+        &mut self,
+        series: &mut S,
+        left: &mut u32,
+        tries: u32,
+    ) -> Result<(), NoMemory>
         requires own { IsOf self.old.pass self.old.desk.now }
         ensures own { IsOf self.new.pass self.new.desk.now }
         ensures desk { self.new.desk.now ≡ self.old.desk.now }
         ensures part { self.new.pass.part ≡ self.old.pass.part }
-        ensures turn { Turned answers recorded self.old.desk.now.origin.fixed
-            (sight_of self.old.pass) ask result (sight_of self.new.pass) }
+        ensures turns { TookWithTicket S.asks S.hears self.old.desk.now.origin.fixed
+            (sight_of self.old.pass) series.old left.old (sight_of self.new.pass) series.new left.new }
     {
-        let answer = self.pass.turn(self.rt, self.desk, PlanAsk::Plain(ask))?;
-        match answer {
-            PlanTurn::Plain(turn) => Ok(turn),
-            // A plain ask has no other answer.
-            _ => unreachable!(),
-        }
-    }
-
-    /// What the launcher does with one ticket. Its turn, or `None` if there is none yet.
-    fn ticket(&mut self, pool: PoolId) -> Result<Option<Turn>, NoMemory>
-        requires own { IsOf self.old.pass self.old.desk.now }
-        ensures own { IsOf self.new.pass self.new.desk.now }
-        ensures desk { self.new.desk.now ≡ self.old.desk.now }
-        ensures part { self.new.pass.part ≡ self.old.pass.part }
-        ensures turn { Launches pool self.old.desk.now.origin.fixed
-            (sight_of self.old.pass) result (sight_of self.new.pass) }
-    {
-        let mut launching = Launching {
-            pool,
-            stage: Stage::Committing,
+        let stage = if tries < 4 {
+            Stage::Committing
+        } else {
+            Stage::Asking
         };
-        let end = self.pass.turns(self.rt, self.desk, &mut launching, 4);
-        match launching.turn() {
-            Some(turn) => Ok(Some(turn)),
-            None => match end {
-                Ok(()) => Ok(None),
-                Err(error) => Err(error),
-            },
-        }
+        let mut batch = Batch {
+            series: *series,
+            left: *left,
+            stage,
+        };
+        let most = left.saturating_mul(2).saturating_add(4);
+        let end = self.pass.turns(self.rt, self.desk, &mut batch, most);
+        *series = batch.series;
+        *left = batch.left;
+        end
     }
 
-    /// A launcher's turn: that of the first of at most four tickets that has one, or what any board
-    /// answers.
-    fn launch(&mut self, pool: PoolId) -> Result<Turn, NoMemory>
+    /// Takes the turns of the series until it is over, or no more are left.
+    fn tickets<S: Series<Ask = Ask, Turn = Turn>>(
+        &mut self,
+        series: &mut S,
+        left: &mut u32,
+    ) -> Result<(), NoMemory>
         requires own { IsOf self.old.pass self.old.desk.now }
         ensures own { IsOf self.new.pass self.new.desk.now }
         ensures desk { self.new.desk.now ≡ self.old.desk.now }
         ensures part { self.new.pass.part ≡ self.old.pass.part }
-        ensures turn { Turned (answers_also launchers_before) recorded
-            self.old.desk.now.origin.fixed (sight_of self.old.pass) (asks.Act (Launcher pool)) result
-            (sight_of self.new.pass) }
+        ensures turns { TookWithTickets S.asks S.hears self.old.desk.now.origin.fixed
+            (sight_of self.old.pass) series.old left.old (sight_of self.new.pass) series.new left.new }
+        ensures ended { IfOk result (λ _. HasEnded S.asks series.new left.new) }
     {
-        for _ in 0..4 {
-            let turn = self.ticket(pool)?;
-            if let Some(turn) = turn {
-                return Ok(turn);
+        let mut tries: u32 = 0;
+        for _ in self.rt.forever() {
+            if *left == 0 {
+                return Ok(());
             }
+            let Some(_) = series.ask() else {
+                return Ok(());
+            };
+            let before = *left;
+            self.ticket(series, left, tries)?;
+            tries = if *left < before {
+                0
+            } else {
+                tries.saturating_add(1)
+            };
         }
-        self.plain(Ask::Act(Role::Launcher(pool)))
+        unreachable!()
     }
 
-    /// Takes the turn that the ask names. A launcher's has at most four tickets, and
-    /// one more, and most often one.
+    /// Takes the turns of a series, at most `most` of them. An event that a launcher commits takes one
+    /// ticket, and the turns of others in a row take one together.
+    pub fn take_turns<S: Series<Ask = Ask, Turn = Turn>>(
+        &mut self,
+        series: &mut S,
+        most: u32,
+    ) -> Result<(), NoMemory>
+        requires own { IsOf self.old.pass self.old.desk.now }
+        ensures own { IsOf self.new.pass self.new.desk.now }
+        ensures desk { self.new.desk.now ≡ self.old.desk.now }
+        ensures part { self.new.pass.part ≡ self.old.pass.part }
+        ensures turns { Took (answers_also launchers_before) recorded S.asks S.hears
+            self.old.desk.now.origin.fixed (sight_of self.old.pass) series.old most result
+            (sight_of self.new.pass) series.new }
+    {
+        let mut left = most;
+        self.tickets(series, &mut left)
+    }
+
+    /// Takes the turn that the ask names. A launcher's has at most five tickets, and most often one
+    /// to plan and one to commit.
     pub fn take_turn(&mut self, ask: Ask) -> Result<Turn, NoMemory>
         requires own { IsOf self.old.pass self.old.desk.now }
         ensures own { IsOf self.new.pass self.new.desk.now }
@@ -96,9 +120,16 @@ impl<'a, R: Wait> Planner<'a, R> {
             self.old.desk.now.origin.fixed (sight_of self.old.pass) ask result
             (sight_of self.new.pass) }
     {
-        match ask {
-            Ask::Act(Role::Launcher(pool)) => self.launch(pool),
-            other => self.plain(other),
+        let mut once = Once { ask, turn: None };
+        let mut left = 1;
+        let end = self.tickets(&mut once, &mut left);
+        match once.turn {
+            Some(turn) => Ok(turn),
+            None => match end {
+                Err(error) => Err(error),
+                // A series that is over has heard a turn.
+                Ok(()) => unreachable!(),
+            },
         }
     }
 }
@@ -133,15 +164,6 @@ impl<'a, R: Wait> Turns for Planner<'a, R> {
         series: &mut S,
         most: u32,
     ) -> Result<(), NoMemory> {
-        for _turn in 0..most {
-            match series.ask() {
-                None => return Ok(()),
-                Some(ask) => {
-                    let turn = self.take_turn(ask)?;
-                    series.hear(turn);
-                }
-            }
-        }
-        Ok(())
+        self.take_turns(series, most)
     }
 }

@@ -1,7 +1,12 @@
-use Rattle.np_desk.specs.Pass.{sight_of}
-use Rattle.np_board.specs.Planner.{launchers_before}
-use Rattle.np_board.proofs.PlannerLemmas.{turned-also}
+use Rattle.np_driven.specs.Prelude.{sight_of}
+use Rattle.np_board.proofs.TicketLemmas.{has-heard, never-heard, once-heard}
 use Rattle.np_board.proofs.planner.Planner.take_turn.Goals as goal
 
-pub returns-in_default-clause-turn : goal.returns-in_default-clause-turn
-returns-in_default-clause-turn g c = turned-also c.args.self.now.desk.now.origin.fixed launchers_before (sight_of c.args.self.now.pass) (sight_of c.plain.new.self.pass) c.args.ask c.plain.result c.plain.ensures.turn
+pub unreachable-requires : goal.unreachable-requires
+unreachable-requires g c = has-heard c.args.self.now.desk.now.origin.fixed (sight_of c.args.self.now.pass) (sight_of c.tickets-end.new.self.pass) c.args.ask c.tickets-end.new.series c.tickets-end.new.left c.tickets-end.ensures.turns c.in-Ok.ensures.ended c.in-None.is
+
+pub returns-in-Some-clause-turn : goal.returns-in-Some-clause-turn
+returns-in-Some-clause-turn g c = once-heard c.args.self.now.desk.now.origin.fixed (sight_of c.args.self.now.pass) (sight_of c.tickets-end.new.self.pass) c.args.ask c.tickets-end.new.series c.tickets-end.new.left c.in-Some.turn c.tickets-end.ensures.turns c.in-Some.is
+
+pub returns-in-Err-clause-turn : goal.returns-in-Err-clause-turn
+returns-in-Err-clause-turn g c = never-heard c.args.self.now.desk.now.origin.fixed (sight_of c.args.self.now.pass) (sight_of c.tickets-end.new.self.pass) c.args.ask c.tickets-end.new.series c.tickets-end.new.left c.tickets-end.ensures.turns c.in-None.is
