@@ -49,7 +49,9 @@ fn play_drill<R: Threads + Wait + Sync, G: Gate + Sync>(
     let config = np_gen::drill(alloc, jobs)?;
     config.soundness();
     let (board, full) = play_site(rt, alloc, config, gate)?;
-    ending_at(alloc, &board, full)
+    let ending = ending_at(alloc, &board, full);
+    board.close();
+    ending
 }
 
 /// The same, whichever way it came.

@@ -40,7 +40,9 @@ fn played<R: Threads + Wait + Sync, G: Gate + Sync>(
     ensures { IfOk result (EndsSite hosted_run (hosted_view site)) }
 {
     let (board, full) = play_hosts(rt, alloc, site, gate)?;
-    ending_at(alloc, board.machine(), full)
+    let ending = ending_at(alloc, board.machine(), full);
+    board.close();
+    ending
 }
 
 /// How a run of what the source has left ends.

@@ -98,7 +98,9 @@ fn played_with_plans<R: Threads + Wait + Sync, G: Gate + Sync>(
     ensures { IfOk result (EndsSite planned_run config) }
 {
     let (board, full) = play_planned(rt, alloc, config, gate)?;
-    ending_at(alloc, board.machine(), full)
+    let ending = ending_at(alloc, board.machine(), full);
+    board.close();
+    ending
 }
 
 /// The same at a board at which all choose in the turn in which they record.
@@ -111,7 +113,9 @@ fn played_without<R: Threads + Wait + Sync, G: Gate + Sync>(
     ensures { IfOk result (EndsSite plain_run config) }
 {
     let (board, full) = play_site(rt, alloc, config, gate)?;
-    ending_at(alloc, board.machine(), full)
+    let ending = ending_at(alloc, board.machine(), full);
+    board.close();
+    ending
 }
 
 /// Plays the site to its end, and returns how the run ends then.
