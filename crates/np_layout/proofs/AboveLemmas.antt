@@ -8,8 +8,7 @@ use Rattle.std.specs.Str.{IsAscii}
 use Rattle.np_path.proofs.PartsLemmas.{is_path-below}
 use Rattle.np_path.proofs.PathLaws.{HasParts-below}
 use Rattle.np_layout.specs.Place.{IsGood, above, path_of, place_name}
-use Rattle.np_layout.specs.declared.place.Place.{Place}
-use Rattle.np_layout.specs.declared.place.Place.TheVariants.{Root, RequestWait, NodeLock, NodeWait, Handle}
+use Rattle.np_layout.proofs.Prelude.{Handle, NodeLock, NodeWait, Place, RequestWait, Root}
 use Rattle.np_layout.proofs.NameLemmas.{IsAscii-plain, is_element-plain, is_plain_name, plain_name-of}
 
 -- ## joined

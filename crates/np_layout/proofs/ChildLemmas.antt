@@ -8,9 +8,7 @@ use Rattle.std.specs.Str.{bytes_eq}
 use Rattle.np_text.proofs.OrderLemmas.{length-ten}
 use Rattle.np_text.proofs.RequestLemmas.{request_of-text}
 use Rattle.np_text.proofs.SpellingLemmas.{number_of-decimal, sequence_of-ten_digits_of, some_injective}
-use Rattle.np_layout.specs.Place.{IsGood, above, path_of, place_name}
-use Rattle.np_layout.specs.declared.place.Place.{Place}
-use Rattle.np_layout.specs.declared.place.Place.TheVariants.{Root, Nodepool, Requests, Request, RequestLocks, RequestLock, RequestWait, Nodes, Node, NodeLock, NodeWait, Launchers, Launcher, Zuul, Semaphores, Semaphore, Handle, Poolsim, Jobs, Job, Roles, LauncherRole, JanitorRole, RequesterRole, Sessions, Session, SweptPairs, Swept, Tick}
+use Rattle.np_layout.proofs.Prelude.{Handle, IsGood, JanitorRole, Job, Jobs, Launcher, LauncherRole, Launchers, Node, NodeLock, NodeWait, Nodepool, Nodes, Place, Poolsim, Request, RequestLock, RequestLocks, RequestWait, RequesterRole, Requests, Roles, Root, Semaphore, Semaphores, Session, Sessions, Swept, SweptPairs, Tick, Zuul, above, path_of, place_name}
 use Rattle.np_layout.proofs.AboveLemmas.{Above, above-is_good, each_place, parts-of}
 
 -- ## the place of a name

@@ -9,17 +9,11 @@ use Rattle.np_lists.proofs.Each.{all-at, all-map, all-weaker}
 use Rattle.np_lists.proofs.FilterLemmas.{none-list_any}
 use Rattle.np_tree.specs.Prelude.{HasRoomFor, IsWhole, Persistent, Row, TreeState, after_part, is_in, is_named, owner_at, with_row}
 use Rattle.np_tree.proofs.ViewRoomLemmas.{room-gives}
-use Rattle.np_layout.specs.Place.{IsGood, path_of, place_name}
-use Rattle.np_layout.specs.declared.place.Place.{Place}
-use Rattle.np_layout.specs.declared.place.Place.TheVariants.{Semaphores, Semaphore, Handle, Job}
-use Rattle.np_layout.specs.Creates.{HandlesLayOut}
-use Rattle.np_layout.specs.First.{make}
-use Rattle.np_layout.specs.Layout.{HasHandles, LaysOut}
-use Rattle.np_layout.specs.Rows.{by_name, handle_row, places, semaphore_row}
-use Rattle.np_layout.specs.Sets.{HasGoodIds}
-use Rattle.np_layout.proofs.CreateLists.{by_name-insert}
-use Rattle.np_layout.proofs.CreateSteps.{Step, counter-there, free-named, make-step, owner-there}
-use Rattle.np_layout.proofs.Elsewhere.{frame-stays, handles-stay, jobs-stay, launchers-stay, live-stays, node_locks-stay, nodes-stay, request_locks-stay, requests-stay, roles-stay, rows-stay, sessions-stay, swept-stay}
+use Rattle.np_layout.proofs.Prelude.{Handle, HandlesLayOut, HasGoodIds, HasHandles, IsGood, Job, LaysOut, Place, Semaphore, Semaphores, by_name, handle_row, make, path_of, place_name, places, semaphore_row}
+use Rattle.np_layout.proofs.CreateLists.{none-mapped, by_name-insert}
+use Rattle.np_layout.proofs.CreateSteps.{Step, make-new, owner-there}
+use Rattle.np_layout.proofs.EachTable.{Says, Table, all-tables, each-table, of_semaphores, table-stays}
+use Rattle.np_layout.proofs.Elsewhere.{Stays, handles-stay, rows-stay}
 use Rattle.np_layout.proofs.FirstLists.{all-put}
 use Rattle.np_layout.proofs.SetLists.{any-by_name, at-range}
 use Rattle.np_layout.proofs.SetSteps.{named-here, named-other}
@@ -53,6 +47,39 @@ abbrev sem_of : Place → ℕ
 sem_of (Semaphore x) = x.0
 sem_of other = 0
 
+-- the handles of one semaphore change
+module _ (s : State) (t u : TreeState) (x : SemId) (f : List JobId → List JobId) (good : HasGoodIds s) (lays : LaysOut s t) (stays : Stays (Semaphore x ∷ []) t u) (live : u.live ≡ t.live) (begun : u.begun ≡ t.begun) (here : HasHandles (change_at x.0 f s.handles) u x) where
+  abbrev changed : List (List JobId)
+  changed = change_at x.0 f s.handles
+
+  -- every other semaphore has the handles that it had
+  each-by : (at : ℕ) (b : Bool) → eqb at x.0 ≡ b → at < 2 ^ 16 → HasHandles s.handles t (record { 0 = at }) → HasHandles changed u (record { 0 = at })
+  each-by at true is low_at has = subst (λ (n : ℕ). HasHandles changed u (record { 0 = n })) (sym (eqb-true at x.0 is)) here
+  each-by at false is low_at has =
+      let other = eqb-false at x.0 is in
+      let still = handles-stay (Semaphore x ∷ []) t u stays s.handles (record { 0 = at }) low_at ((λ equal. other (ap sem_of equal)), tt) has in
+      record {
+        rows = still.rows ∙ ap (λ (o : Option (List JobId)). by_name (map (handle_row (record { 0 = at })) (unwrap_or o []))) (sym (slice_get-change_at_other x.0 at f s.handles other));
+        leaves = still.leaves;
+      }
+
+  each : (count at : ℕ) → at + count ≤ 2 ^ 16 → AllByRecursion (λ at. HasHandles s.handles t (record { 0 = at })) (range_with_len at count) → AllByRecursion (λ at. HasHandles changed u (record { 0 = at })) (range_with_len at count)
+  each zero at within all = tt
+  each (suc count) at within all = (each-by at (eqb at x.0) refl (omega arith) all.0, each count (at + 1) (omega arith) all.1)
+
+  -- the state with them is laid out
+  pub changed-lays : LaysOut (record s { handles = changed }) u
+  changed-lays = all-tables _ _ by where
+    long : length changed ≡ length s.handles
+    long = length-change_at x.0 f s.handles
+
+    by : (k : Table) → Says (record s { handles = changed }) u k
+    by of_semaphores = record {
+      rows = rows-stay (Semaphore x ∷ []) t u stays Semaphores tt refl ∙ lays.semaphores.rows ∙ ap (λ (n : ℕ). by_name (map semaphore_row (range_with_len 0 n))) (sym long);
+      each = subst (λ (n : ℕ). AllByRecursion (λ at. HasHandles changed u (record { 0 = at })) (range_with_len 0 n)) (sym long) (each (length s.handles) 0 (let few = good.semaphores in omega arith) lays.semaphores.each);
+    }
+    by k = table-stays s (Semaphore x ∷ []) t u good stays live begun k refl (each-table s t lays k)
+
 module _ (s : State) (t : TreeState) (w : ℕ) (x : SemId) (j : JobId) (whole : IsWhole t.nodes) (good : HasGoodIds s) (lays : LaysOut s t) (live : is_in t.live w ≡ true) (room : HasRoomFor 1 t) (low : x.0 < length s.handles) (small : j.0 < 2 ^ 32) (new : has_handle j s.handles x ≡ false) where
   abbrev jobs : List JobId
   jobs = handles_of x s.handles
@@ -76,40 +103,24 @@ module _ (s : State) (t : TreeState) (w : ℕ) (x : SemId) (j : JobId) (whole : 
   jobs-good = handles-good s x good low
 
   -- no other job's handle has its name
-  others : (list : List JobId) → AllByRecursion (λ k. IsGood (Handle x k)) list → NonePass (λ (k : JobId). k.0 == j.0) list → NonePass (is_named (place_name (Handle x j))) (map (handle_row x) list)
-  others [] all_good none = tt
-  others (k ∷ list) all_good none = (
-    named-other (Handle x j) (Handle x k) j-good all_good.0 refl
-        (λ equal. let itself : (k.0 == k.0) ≡ true = grind (arith, nat_tests) in let same = ap (λ (q : Place). k.0 == job_of q) equal in let none_here = none.0 in absurd cc),
-    others list all_good.1 none.1,
-  )
-
   apart : NonePass (is_named (place_name (Handle x j))) (map (handle_row x) jobs)
-  apart = others jobs jobs-good (none-list_any (λ (k : JobId). k.0 == j.0) jobs new)
+  apart = none-mapped (λ (k : JobId). IsGood (Handle x k)) (handle_row x) (is_named (place_name (Handle x j))) (λ k. k.0 == j.0)
+      (λ k k_good none. named-other (Handle x j) (Handle x k) j-good k_good refl
+      (λ equal. let itself : (k.0 == k.0) ≡ true = grind (arith, nat_tests) in let same = ap (λ (q : Place). k.0 == job_of q) equal in absurd cc))
+      jobs jobs-good (none-list_any (λ (k : JobId). k.0 == j.0) jobs new)
 
   x-rows : HasHandles s.handles t x
   x-rows = at-range (λ n. HasHandles s.handles t (record { 0 = n })) (length s.handles) 0 x.0 (omega arith) (omega arith) lays.semaphores.each
 
   owner : owner_at t (path_of (Semaphore x)) ≡ Some None
-  owner = owner-there t Semaphores (Semaphore x) whole x-good refl
-      (ap (list_any (is_named (place_name (Semaphore x)))) lays.semaphores.rows ∙ any-by_name (is_named (place_name (Semaphore x))) (map semaphore_row (places s.handles))
+  owner = owner-there t Semaphores (Semaphore x) _ whole x-good refl lays.semaphores.rows
+      (any-by_name (is_named (place_name (Semaphore x))) (map semaphore_row (places s.handles))
       ∙ range-any (is_named (place_name (Semaphore x))) semaphore_row x.0 (length s.handles) 0 (omega arith) (omega arith) (named-here (Semaphore x)))
-      (subst (λ (rows : List Row). AllByRecursion (λ row. row.owner ≡ None) rows) (sym lays.semaphores.rows)
-      (all-put (λ (row : Row). row.owner ≡ None) (map semaphore_row (places s.handles)) [] tt (all-map (λ (row : Row). row.owner ≡ None) semaphore_row (places s.handles) (λ n. refl))))
+      (all-put (λ (row : Row). row.owner ≡ None) (map semaphore_row (places s.handles)) [] tt (all-map (λ (row : Row). row.owner ≡ None) semaphore_row (places s.handles) (λ n. refl)))
 
   step : Step (Semaphore x) (Handle x j) Persistent (handle_row x j) t w (make [] (Handle x j))
-  step =
-      let counter = counter-there t (Semaphore x) owner in
-      make-step t w (Semaphore x) (Handle x j) [] Persistent counter.0 j-good refl refl refl (omega arith)
-      (record {
-        whole = whole;
-        live = live;
-        owner = owner;
-        gives = counter.1;
-        free = free-named t (Semaphore x) (Handle x j) whole j-good refl (subst (λ (rows : List Row). NonePass (is_named (place_name (Handle x j))) rows) (sym x-rows.rows)
-            (all-put (λ (row : Row). is_named (place_name (Handle x j)) row ≡ false) (map (handle_row x) jobs) [] tt apart));
-        room = room-gives t 0 room;
-      })
+  step = make-new t w (Semaphore x) (Handle x j) _ [] Persistent owner j-good refl refl (λ counter. refl) (omega arith) whole live (room-gives t 0 room) x-rows.rows
+      (all-put (λ (row : Row). is_named (place_name (Handle x j)) row ≡ false) (map (handle_row x) jobs) [] tt apart)
 
   abbrev u : TreeState
   u = after_part t w (make [] (Handle x j))
@@ -127,48 +138,11 @@ module _ (s : State) (t : TreeState) (w : ℕ) (x : SemId) (j : JobId) (whole : 
     leaves = step.creates.leaves x-rows.leaves;
   }
 
-  -- every other semaphore has the handles that it had
-  each-by : (at : ℕ) (b : Bool) → eqb at x.0 ≡ b → at < 2 ^ 16 → HasHandles s.handles t (record { 0 = at }) → HasHandles more u (record { 0 = at })
-  each-by at true is low_at has = subst (λ (n : ℕ). HasHandles more u (record { 0 = n })) (sym (eqb-true at x.0 is)) here
-  each-by at false is low_at has =
-      let other = eqb-false at x.0 is in
-      let still = handles-stay (Semaphore x ∷ []) t u step.creates.stays s.handles (record { 0 = at }) low_at ((λ equal. other (ap sem_of equal)), tt) has in
-      record {
-        rows = still.rows ∙ ap (λ (o : Option (List JobId)). by_name (map (handle_row (record { 0 = at })) (unwrap_or o []))) (sym (slice_get-change_at_other x.0 at (with_handle j) s.handles other));
-        leaves = still.leaves;
-      }
-
-  each : (count at : ℕ) → at + count ≤ 2 ^ 16 → AllByRecursion (λ at. HasHandles s.handles t (record { 0 = at })) (range_with_len at count) → AllByRecursion (λ at. HasHandles more u (record { 0 = at })) (range_with_len at count)
-  each zero at within all = tt
-  each (suc count) at within all = (each-by at (eqb at x.0) refl (omega arith) all.0, each count (at + 1) (omega arith) all.1)
-
-  handle-lays : LaysOut (record s { handles = more }) u
-  handle-lays =
-      let dirs : List Place = Semaphore x ∷ [] in
-      let stays = step.creates.stays in
-      let few = good.semaphores in
-      let long = length-change_at x.0 (with_handle j) s.handles in
-      record {
-        frame = frame-stays dirs t u stays s.tick refl refl refl refl refl lays.frame;
-        requests = requests-stay dirs t u stays s.requests s.next_request refl lays.requests;
-        request_locks = request_locks-stay dirs t u stays s.requests good.requests refl refl lays.request_locks;
-        nodes = nodes-stay dirs t u stays s.nodes s.next_node refl lays.nodes;
-        node_locks = node_locks-stay dirs t u stays s.nodes good.nodes refl refl lays.node_locks;
-        launchers = launchers-stay dirs t u stays s.registrations refl lays.launchers;
-        semaphores = record {
-          rows = rows-stay dirs t u stays Semaphores tt refl ∙ lays.semaphores.rows ∙ ap (λ (n : ℕ). by_name (map semaphore_row (range_with_len 0 n))) (sym long);
-          each = subst (λ (n : ℕ). AllByRecursion (λ at. HasHandles more u (record { 0 = at })) (range_with_len 0 n)) (sym long) (each (length s.handles) 0 (omega arith) lays.semaphores.each);
-        };
-        jobs = jobs-stay dirs t u stays s.jobs refl lays.jobs;
-        roles = roles-stay dirs t u stays s.launchers s.janitors s.requesters refl lays.roles;
-        sessions = sessions-stay dirs t u stays s.sessions refl lays.sessions;
-        swept = swept-stay dirs t u stays s.swept refl lays.swept;
-        live = live-stays t u step.creates.live step.creates.begun s.sessions lays.live;
-      }
-
 -- a create of a handle lays out the state in which the job has it
 pub handles-lay-out : HandlesLayOut
-handles-lay-out s t w x j whole good lays live room low small new = record {
-  goes = ((step s t w x j whole good lays live room low small new).ok, refl);
-  lays = handle-lays s t w x j whole good lays live room low small new;
-}
+handles-lay-out s t w x j whole good lays live room low small new =
+    let made = step s t w x j whole good lays live room low small new in
+    record {
+      goes = (made.ok, refl);
+      lays = changed-lays s t (after_part t w (make [] (Handle x j))) x (with_handle j) good lays made.creates.stays made.creates.live made.creates.begun (here s t w x j whole good lays live room low small new);
+    }

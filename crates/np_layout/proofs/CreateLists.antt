@@ -64,6 +64,11 @@ module _ {A : Type 0} (row : A → Row) (p : A → Bool) (new : A) where
   pub by_name-insert : (list : List A) → NonePass (is_named (row new).name) (map row list) → by_name (map row (insert_before p new list)) ≡ with_row (row new) (by_name (map row list))
   by_name-insert list others = insert-put list [] others ∙ put-last (row new) (map row list) [] others
 
+-- if no member passes, the rows of none do
+pub none-mapped : {A : Type 0} (P : A → Type 0) (row : A → Row) (test : Row → Bool) (own : A → Bool) → ((a : A) → P a → own a ≡ false → test (row a) ≡ false) → (list : List A) → AllByRecursion P list → NonePass own list → NonePass test (map row list)
+none-mapped P row test own each [] all none = tt
+none-mapped P row test own each (a ∷ list) all none = (each a all.0 none.0, none-mapped P row test own each list all.1 none.1)
+
 -- ## what is found among rows
 
 -- the row of a name that is there has no owner if none has

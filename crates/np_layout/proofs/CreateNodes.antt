@@ -1,7 +1,7 @@
 -- a create of a node's record, then of its lock, and then of its maker's wait
 use Rattle.std.proofs.Common.{◌≡◌, ℕ, ◌+◌, ◌<◌, ◌≤◌, ◌^◌, true, false, List, [], ◌∷◌, ◌++◌, length, Some, None, refl, sym, ap, ◌∙◌, subst, arith}
 use Rattle.std.specs.Ordering.{is_lt}
-use Rattle.np_machine.specs.Prelude.{AllByRecursion, AllZip, NodeEntry, NodeId, NodeRecord, NonePass, SessionId, State, list_any, option_map}
+use Rattle.np_machine.specs.Prelude.{AllByRecursion, AllZip, NodeEntry, NodeId, NodeRecord, NonePass, SessionId, State, option_map}
 use Rattle.np_text.proofs.OrderLemmas.{nat_cmp-less, nat_cmp-more, slice_cmp-ten}
 use Rattle.np_lists.proofs.ChangeLemmas.{insert_before-end}
 use Rattle.np_lists.proofs.Each.{all-push}
@@ -10,18 +10,12 @@ use Rattle.np_nodes.specs.declared.op.Op.TheVariants as op
 use Rattle.np_tree.proofs.ViewRoomLemmas.{room-falls, room-gives}
 use Rattle.np_tree.proofs.SiblingLemmas.{other-name}
 use Rattle.np_spelling.specs.Spelling.{SpellsNode}
-use Rattle.np_layout.specs.Place.{IsGood, path_of, place_name}
-use Rattle.np_layout.specs.declared.place.Place.{Place}
-use Rattle.np_layout.specs.declared.place.Place.TheVariants.{Nodepool, Nodes, Node, NodeLock, NodeWait}
-use Rattle.np_layout.specs.Creates.{GrownNodesLayOut, wait_at}
-use Rattle.np_layout.specs.First.{make}
-use Rattle.np_layout.specs.Layout.{HasNodeLock, IsNodeRow, IsQueue, IsWait, LaysOut, under}
-use Rattle.np_layout.specs.Rows.{persistent, tree_session}
-use Rattle.np_layout.specs.Sets.{HasGoodIds}
+use Rattle.np_layout.proofs.Prelude.{GrownNodesLayOut, HasGoodIds, HasNodeLock, IsGood, IsNodeRow, IsQueue, IsWait, LaysOut, Node, NodeLock, NodeWait, Nodepool, Nodes, Place, make, path_of, persistent, place_name, tree_session, under, wait_at}
 use Rattle.np_layout.proofs.CreateNodeWaits.{is-lock}
 use Rattle.np_layout.proofs.CreateSteps.{Step, create_under-step, free-named, make-step, owner-there}
 use Rattle.np_layout.proofs.CreateWaits.{Waits, waits}
-use Rattle.np_layout.proofs.Elsewhere.{IsApart, Stays, beside-apart, frame-stays, jobs-stay, launchers-stay, live-stays, node_queues-stay, request_locks-stay, requests-stay, roles-stay, semaphores-stay, sessions-stay, stays-more, swept-stay}
+use Rattle.np_layout.proofs.EachTable.{Says, Table, all-tables, each-table, of_node_locks, of_nodes, table-stays}
+use Rattle.np_layout.proofs.Elsewhere.{IsApart, Stays, beside-apart, node_queues-stay, stays-more}
 
 abbrev id_of : Place → NodeId
 id_of (Node n) = n
@@ -38,28 +32,25 @@ node-after a b these those low small = ap is_lt (slice_cmp-ten b.0 a.0 small (om
 -- a new node is before none
 none-after : (n : NodeId) (bytes : List ℕ) (rows : List Row) (entries : List NodeEntry) → n.0 < 2 ^ 32 → AllByRecursion (λ e. e.id.0 < n.0) entries → AllZip IsNodeRow rows entries → NonePass (λ other. row_before (persistent (Node n) bytes) other) rows
 none-after n bytes [] [] small low zip = tt
-none-after n bytes [] (e ∷ entries) small low zip = absurd zip
-none-after n bytes (row ∷ rows) [] small low zip = absurd zip
 none-after n bytes (row ∷ rows) (e ∷ entries) small low zip = (
   ap (row_before (persistent (Node n) bytes)) zip.0.is ∙ node-after e.id n row.bytes bytes low.0 small,
   none-after n bytes rows entries small low.1 zip.1,
 )
+none-after n bytes _ _ small low zip = absurd zip
 
 -- no other node has its name
 none-named : (n : NodeId) (rows : List Row) (entries : List NodeEntry) → n.0 < 2 ^ 32 → AllByRecursion (λ e. e.id.0 < n.0) entries → AllZip IsNodeRow rows entries → NonePass (is_named (place_name (Node n))) rows
 none-named n [] [] small low zip = tt
-none-named n [] (e ∷ entries) small low zip = absurd zip
-none-named n (row ∷ rows) [] small low zip = absurd zip
 none-named n (row ∷ rows) (e ∷ entries) small low zip = (
   ap (is_named (place_name (Node n))) zip.0.is ∙ other-name (persistent (Node e.id) row.bytes) (persistent (Node n) []) (node-before e.id n row.bytes [] low.0 small),
   none-named n rows entries small low.1 zip.1,
 )
+none-named n _ _ small low zip = absurd zip
 
 zip-push : (row : Row) (e : NodeEntry) (rows : List Row) (entries : List NodeEntry) → IsNodeRow row e → AllZip IsNodeRow rows entries → AllZip IsNodeRow (rows ++ row ∷ []) (entries ++ e ∷ [])
 zip-push row e [] [] is zip = (is, tt)
-zip-push row e [] (x ∷ entries) is zip = absurd zip
-zip-push row e (other ∷ rows) [] is zip = absurd zip
 zip-push row e (other ∷ rows) (x ∷ entries) is zip = (zip.0, zip-push row e rows entries is zip.1)
+zip-push row e _ _ is zip = absurd zip
 
 -- lower nodes and their locks are others
 apart : (n : NodeId) (entries : List NodeEntry) → AllByRecursion (λ e. e.id.0 < n.0) entries → AllByRecursion (λ e. IsApart (Node e.id) (Nodes ∷ Node n ∷ NodeLock n ∷ []) × IsApart (NodeLock e.id) (Nodes ∷ Node n ∷ NodeLock n ∷ [])) entries
@@ -91,8 +82,7 @@ module _ (s : State) (t : TreeState) (session : SessionId) (kept : NodeRecord) (
   n-good = let most = (room-gives t 2 room).counter (path_of Nodes) s.next_node lays.nodes.gives in omega arith
 
   owner : owner_at t (path_of Nodes) ≡ Some None
-  owner = owner-there t Nodepool Nodes whole tt refl (ap (list_any (is_named (place_name Nodes))) lays.frame.nodepool)
-      (subst (λ (rows : List Row). AllByRecursion (λ row. row.owner ≡ None) rows) (sym lays.frame.nodepool) (refl, (refl, (refl, (refl, tt)))))
+  owner = owner-there t Nodepool Nodes _ whole tt refl lays.frame.nodepool refl (refl, (refl, (refl, (refl, tt))))
 
   first : Step Nodes (Node n) PersistentSequential (persistent (Node n) bytes) t w part
   first = create_under-step t w Nodes (Node n) bytes PersistentSequential s.next_node n-good refl refl refl refl short
@@ -130,7 +120,7 @@ module _ (s : State) (t : TreeState) (session : SessionId) (kept : NodeRecord) (
 
   third : Waits (NodeLock n) (NodeWait n) [] locked session no-queue.next
   third = waits (NodeLock n) (NodeWait n) [] locked session (is-lock n n-good) no-queue second.creates.whole
-      (ap (λ (list : List ℕ). is_in list w) (second.creates.live ∙ first.creates.live) ∙ live) (room-gives locked 0 (room-falls v w (make [] (NodeLock n)) 1 v-room)) (ap (option_map (λ (seen : Seen). seen.owner)) second.creates.seen)
+      (ap (λ (list : List ℕ). is_in list w) (second.creates.live ∙ first.creates.live) ∙ live) (room-gives locked 0 (room-falls v w (make [] (NodeLock n)) 1 v-room)) (ap (option_map (λ (seen : Seen). seen.owner)) second.creates.seen) refl
 
   abbrev u : TreeState
   u = after_part locked w (wait_at (NodeLock n))
@@ -148,28 +138,22 @@ module _ (s : State) (t : TreeState) (session : SessionId) (kept : NodeRecord) (
   }
 
   node-lays : LaysOut (record s { nodes = s.nodes ++ entry ∷ []; next_node = s.next_node + 1 }) u
-  node-lays =
-      let dirs : List Place = Nodes ∷ Node n ∷ NodeLock n ∷ [] in
-      let aside : IsApart Nodes (Node n ∷ NodeLock n ∷ []) = beside-apart Nodes (Node n ∷ NodeLock n ∷ []) refl in
-      record {
-        frame = frame-stays dirs t u stays s.tick refl refl refl refl refl lays.frame;
-        requests = requests-stay dirs t u stays s.requests s.next_request refl lays.requests;
-        request_locks = request_locks-stay dirs t u stays s.requests good.requests refl refl lays.request_locks;
-        nodes = record {
-          rows = subst (λ (rows : List Row). AllZip IsNodeRow rows (s.nodes ++ entry ∷ []))
-              (sym (later.rows Nodes tt aside ∙ first.creates.rows ∙ insert_before-end (λ other. row_before (persistent (Node n) bytes) other) (persistent (Node n) bytes) (under Nodes t) (none-after n bytes (under Nodes t) s.nodes n-good low lays.nodes.rows)))
-              (zip-push (persistent (Node n) bytes) entry (under Nodes t) s.nodes (record { is = refl; spells = spells }) lays.nodes.rows);
-          gives = later.counters Nodes (s.next_node + 1) tt refl aside (first.creates.counter ∙ ap (option_map (counter_after PersistentSequential)) lays.nodes.gives);
-        };
-        node_locks = all-push (HasNodeLock u) s.nodes entry (node_queues-stay dirs t u stays s.nodes good.nodes (apart n s.nodes low) lays.node_locks) lock;
-        launchers = launchers-stay dirs t u stays s.registrations refl lays.launchers;
-        semaphores = semaphores-stay dirs t u stays s.handles good.semaphores refl refl lays.semaphores;
-        jobs = jobs-stay dirs t u stays s.jobs refl lays.jobs;
-        roles = roles-stay dirs t u stays s.launchers s.janitors s.requesters refl lays.roles;
-        sessions = sessions-stay dirs t u stays s.sessions refl lays.sessions;
-        swept = swept-stay dirs t u stays s.swept refl lays.swept;
-        live = live-stays t u (third.step.creates.live ∙ second.creates.live ∙ first.creates.live) (third.step.creates.begun ∙ second.creates.begun ∙ first.creates.begun) s.sessions lays.live;
-      }
+  node-lays = all-tables _ _ each where
+    dirs : List Place
+    dirs = Nodes ∷ Node n ∷ NodeLock n ∷ []
+
+    aside : IsApart Nodes (Node n ∷ NodeLock n ∷ [])
+    aside = beside-apart Nodes (Node n ∷ NodeLock n ∷ []) refl
+
+    each : (k : Table) → Says (record s { nodes = s.nodes ++ entry ∷ []; next_node = s.next_node + 1 }) u k
+    each of_nodes = record {
+      rows = subst (λ (rows : List Row). AllZip IsNodeRow rows (s.nodes ++ entry ∷ []))
+          (sym (later.rows Nodes tt aside ∙ first.creates.rows ∙ insert_before-end (λ other. row_before (persistent (Node n) bytes) other) (persistent (Node n) bytes) (under Nodes t) (none-after n bytes (under Nodes t) s.nodes n-good low lays.nodes.rows)))
+          (zip-push (persistent (Node n) bytes) entry (under Nodes t) s.nodes (record { is = refl; spells = spells }) lays.nodes.rows);
+      gives = later.counters Nodes (s.next_node + 1) tt refl aside (first.creates.counter ∙ ap (option_map (counter_after PersistentSequential)) lays.nodes.gives);
+    }
+    each of_node_locks = all-push (HasNodeLock u) s.nodes entry (node_queues-stay dirs t u stays s.nodes good.nodes (apart n s.nodes low) lays.node_locks) lock
+    each k = table-stays s dirs t u good stays (third.step.creates.live ∙ second.creates.live ∙ first.creates.live) (third.step.creates.begun ∙ second.creates.begun ∙ first.creates.begun) k refl (each-table s t lays k)
 
 -- creates of a node's record, of its lock and of its maker's wait lay out the state in which the node is
 pub grown_nodes-lay-out : GrownNodesLayOut

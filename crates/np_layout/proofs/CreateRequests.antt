@@ -4,7 +4,7 @@ use Rattle.std.specs.Prelude.{◌==◌, nat_lt}
 use Rattle.std.specs.Fmt.{decimal}
 use Rattle.std.specs.Ordering.{nat_cmp, is_lt, ordering_then}
 use Rattle.std.specs.Cmp.Lexicographic.{slice_cmp}
-use Rattle.np_machine.specs.Prelude.{AllByRecursion, AllZip, NonePass, RequestEntry, RequestId, RequestRecord, State, insert_request, is_id_before, list_all, list_any, next_id, option_map, request_entry, same_request, ten_digits_of}
+use Rattle.np_machine.specs.Prelude.{AllByRecursion, AllZip, NonePass, RequestEntry, RequestId, RequestRecord, State, insert_request, is_id_before, list_all, next_id, option_map, request_entry, same_request, ten_digits_of}
 use Rattle.std.specs.Str.{bytes_eq}
 use Rattle.std.proofs.lemmas.List.Folds.{list_all-append}
 use Rattle.std.proofs.lemmas.Bool.Decides.{nat_tests}
@@ -15,20 +15,15 @@ use Rattle.np_path.proofs.PartsLemmas.{is_path-below}
 use Rattle.np_path.proofs.PathLaws.{HasParts-below}
 use Rattle.np_nodes.specs.declared.op.Op.TheVariants as op
 use Rattle.np_tree.proofs.ViewRoomLemmas.{room-falls, room-gives}
-use Rattle.np_spelling.specs.Spelling.{request_record_text}
-use Rattle.np_layout.specs.Place.{IsGood, path_of, place_name}
-use Rattle.np_layout.specs.declared.place.Place.{Place}
-use Rattle.np_layout.specs.declared.place.Place.TheVariants.{Nodepool, Requests, Request, RequestLocks, RequestLock}
+use Rattle.np_layout.specs.Prelude.{HasGoodIds, IsGood, IsQueue, IsWait, LaysOut, make, path_of, place_name, request_record_text}
+use Rattle.np_layout.proofs.Prelude.{GrownRequestsLayOut, Nodepool, Place, Request, RequestLock, RequestLocks, Requests, persistent, request_lock_row, request_prefix, request_row}
 use Rattle.np_layout.proofs.AboveLemmas.{is_path-of}
 use Rattle.np_layout.proofs.NameLemmas.{is_element-plain, is_plain, is_plain_name, plain_name-decimal}
 use Rattle.np_layout.proofs.OrderLemmas.{requests-rise}
-use Rattle.np_layout.specs.Creates.{GrownRequestsLayOut, request_prefix}
-use Rattle.np_layout.specs.First.{make}
-use Rattle.np_layout.specs.Layout.{IsQueue, IsWait, LaysOut}
-use Rattle.np_layout.specs.Rows.{persistent, request_lock_row, request_row}
-use Rattle.np_layout.specs.Sets.{HasGoodIds}
-use Rattle.np_layout.proofs.CreateSteps.{Step, counter-there, create-step, free-named, make-step, owner-there}
-use Rattle.np_layout.proofs.Elsewhere.{Stays, all-true, beside-apart, frame-stays, jobs-stay, launchers-stay, live-stays, node_locks-stay, nodes-stay, request_queues-stay, roles-stay, semaphores-stay, sessions-stay, stays-more, swept-stay, IsApart}
+use Rattle.np_layout.proofs.CreateLists.{none-mapped}
+use Rattle.np_layout.proofs.CreateSteps.{Step, make-new, create-step, free-named, owner-there}
+use Rattle.np_layout.proofs.EachTable.{Says, Table, all-tables, each-table, of_request_locks, of_requests, table-stays}
+use Rattle.np_layout.proofs.Elsewhere.{Stays, all-true, beside-apart, request_queues-stay, stays-more, IsApart}
 use Rattle.np_layout.proofs.SetRequests.{named-by}
 use Rattle.np_text.specs.Request.{request_text_of}
 
@@ -91,22 +86,18 @@ module _ (s : State) (t : TreeState) (w priority : ℕ) (kept : RequestRecord) (
   -- no other request has its name
   others : (row : RequestEntry → Row) → ((e : RequestEntry) → (row e).name ≡ place_name (Request e.id)) → (list : List RequestEntry) → AllByRecursion (λ e. IsGood (Request e.id)) list → NonePass (λ (e : RequestEntry). same_request e.id r) list →
       NonePass (is_named (place_name (Request r))) (map row list)
-  others row names [] all_good none = tt
-  others row names (e ∷ list) all_good none = (
-    ap (λ (name : List ℕ). bytes_eq name (place_name (Request r))) (names e) ∙ named-by r e.id false none.0 r_good all_good.0,
-    others row names list all_good.1 none.1,
-  )
+  others row names list all_good none =
+      none-mapped (λ (e : RequestEntry). IsGood (Request e.id)) row (is_named (place_name (Request r))) (λ e. same_request e.id r)
+      (λ e e_good other. ap (λ (name : List ℕ). bytes_eq name (place_name (Request r))) (names e) ∙ named-by r e.id false other r_good e_good) list all_good none
 
   none : NonePass (λ (e : RequestEntry). same_request e.id r) s.requests
   none = none-find (λ (e : RequestEntry). same_request e.id r) s.requests new
 
   owner : owner_at t (path_of Requests) ≡ Some None
-  owner = owner-there t Nodepool Requests whole tt refl (ap (list_any (is_named (place_name Requests))) lays.frame.nodepool)
-      (subst (λ (rows : List Row). AllByRecursion (λ row. row.owner ≡ None) rows) (sym lays.frame.nodepool) (refl, (refl, (refl, (refl, tt)))))
+  owner = owner-there t Nodepool Requests _ whole tt refl lays.frame.nodepool refl (refl, (refl, (refl, (refl, tt))))
 
   locks-owner : owner_at t (path_of RequestLocks) ≡ Some None
-  locks-owner = owner-there t Nodepool RequestLocks whole tt refl (ap (list_any (is_named (place_name RequestLocks))) lays.frame.nodepool)
-      (subst (λ (rows : List Row). AllByRecursion (λ row. row.owner ≡ None) rows) (sym lays.frame.nodepool) (refl, (refl, (refl, (refl, tt)))))
+  locks-owner = owner-there t Nodepool RequestLocks _ whole tt refl lays.frame.nodepool refl (refl, (refl, (refl, (refl, tt))))
 
   first : Step Requests (Request r) PersistentSequential (request_row entry) t w part
   first =
@@ -129,17 +120,8 @@ module _ (s : State) (t : TreeState) (w priority : ℕ) (kept : RequestRecord) (
   second : Step RequestLocks (RequestLock r) Persistent (request_lock_row entry) v w (make [] (RequestLock r))
   second =
       let v_owner : owner_at v (path_of RequestLocks) ≡ Some None = ap (option_map (λ (seen : Seen). seen.owner)) (first.creates.other_seen RequestLocks tt (λ same. absurd cc)) ∙ locks-owner in
-      let counter = counter-there v RequestLocks v_owner in
-      make-step v w RequestLocks (RequestLock r) [] Persistent counter.0 r_good refl refl refl (omega arith)
-      (record {
-        whole = first.creates.whole;
-        live = ap (λ (list : List ℕ). is_in list w) first.creates.live ∙ live;
-        owner = v_owner;
-        gives = counter.1;
-        free = first.creates.other_seen (RequestLock r) r_good (λ same. absurd cc)
-            ∙ free-named t RequestLocks (RequestLock r) whole r_good refl (subst (λ (rows : List Row). NonePass (is_named (place_name (RequestLock r))) rows) (sym lays.request_locks.rows) (others request_lock_row (λ e. refl) s.requests good.requests none));
-        room = room-gives v 0 (room-falls t w part 1 room);
-      })
+      make-new v w RequestLocks (RequestLock r) _ [] Persistent v_owner r_good refl refl (λ counter. refl) (omega arith) first.creates.whole (ap (λ (list : List ℕ). is_in list w) first.creates.live ∙ live) (room-gives v 0 (room-falls t w part 1 room))
+      (first.creates.stays.rows RequestLocks tt (beside-apart RequestLocks (Requests ∷ []) refl) ∙ lays.request_locks.rows) (others request_lock_row (λ e. refl) s.requests good.requests none)
 
   abbrev u : TreeState
   u = after_part v w (make [] (RequestLock r))
@@ -151,36 +133,29 @@ module _ (s : State) (t : TreeState) (w priority : ℕ) (kept : RequestRecord) (
   lock-queue = record { next = 0; gives = second.creates.new; waits = subst (λ (rows : List Row). AllZip (IsWait 0) rows []) (sym second.creates.empty) tt }
 
   request-lays : LaysOut (record s { requests = insert_request entry s.requests; next_request = s.next_request + 1 }) u
-  request-lays =
-      let dirs : List Place = Requests ∷ RequestLocks ∷ [] in
-      let aside : IsApart Requests (RequestLocks ∷ []) = beside-apart Requests (RequestLocks ∷ []) refl in
-      let back : IsApart RequestLocks (Requests ∷ []) = beside-apart RequestLocks (Requests ∷ []) refl in
-      record {
-        frame = frame-stays dirs t u stays s.tick refl refl refl refl refl lays.frame;
-        requests = record {
-          rows =
-              second.creates.stays.rows Requests tt aside ∙ first.creates.rows ∙ ap (with_row (request_row entry)) lays.requests.rows
-              ∙ insert-rows request_row (λ e. refl) entry s.requests r_good good.requests;
-          leaves = second.creates.stays.leaves Requests tt refl aside (first.creates.leaves lays.requests.leaves);
-          gives = second.creates.stays.counters Requests (s.next_request + 1) tt refl aside (first.creates.counter ∙ ap (option_map (counter_after PersistentSequential)) lays.requests.gives);
-        };
-        request_locks = record {
-          rows =
-              second.creates.rows ∙ ap (with_row (request_lock_row entry)) (first.creates.stays.rows RequestLocks tt back ∙ lays.request_locks.rows)
-              ∙ insert-rows request_lock_row (λ e. refl) entry s.requests r_good good.requests;
-          queues = all-insert_before (λ (e : RequestEntry). IsQueue (RequestLock e.id) e.queue u) (λ (e : RequestEntry). is_id_before r e.id) entry s.requests lock-queue
-              (request_queues-stay dirs t u stays s.requests good.requests (all-true (λ (e : RequestEntry). IsApart (RequestLock e.id) dirs) (λ e. beside-apart (RequestLock e.id) dirs refl) s.requests) lays.request_locks.queues);
-        };
-        nodes = nodes-stay dirs t u stays s.nodes s.next_node refl lays.nodes;
-        node_locks = node_locks-stay dirs t u stays s.nodes good.nodes refl refl lays.node_locks;
-        launchers = launchers-stay dirs t u stays s.registrations refl lays.launchers;
-        semaphores = semaphores-stay dirs t u stays s.handles good.semaphores refl refl lays.semaphores;
-        jobs = jobs-stay dirs t u stays s.jobs refl lays.jobs;
-        roles = roles-stay dirs t u stays s.launchers s.janitors s.requesters refl lays.roles;
-        sessions = sessions-stay dirs t u stays s.sessions refl lays.sessions;
-        swept = swept-stay dirs t u stays s.swept refl lays.swept;
-        live = live-stays t u (second.creates.live ∙ first.creates.live) (second.creates.begun ∙ first.creates.begun) s.sessions lays.live;
-      }
+  request-lays = all-tables _ _ each where
+    dirs : List Place
+    dirs = Requests ∷ RequestLocks ∷ []
+
+    aside : IsApart Requests (RequestLocks ∷ [])
+    aside = beside-apart Requests (RequestLocks ∷ []) refl
+
+    each : (k : Table) → Says (record s { requests = insert_request entry s.requests; next_request = s.next_request + 1 }) u k
+    each of_requests = record {
+      rows =
+          second.creates.stays.rows Requests tt aside ∙ first.creates.rows ∙ ap (with_row (request_row entry)) lays.requests.rows
+          ∙ insert-rows request_row (λ e. refl) entry s.requests r_good good.requests;
+      leaves = second.creates.stays.leaves Requests tt refl aside (first.creates.leaves lays.requests.leaves);
+      gives = second.creates.stays.counters Requests (s.next_request + 1) tt refl aside (first.creates.counter ∙ ap (option_map (counter_after PersistentSequential)) lays.requests.gives);
+    }
+    each of_request_locks = record {
+      rows =
+          second.creates.rows ∙ ap (with_row (request_lock_row entry)) (first.creates.stays.rows RequestLocks tt (beside-apart RequestLocks (Requests ∷ []) refl) ∙ lays.request_locks.rows)
+          ∙ insert-rows request_lock_row (λ e. refl) entry s.requests r_good good.requests;
+      queues = all-insert_before (λ (e : RequestEntry). IsQueue (RequestLock e.id) e.queue u) (λ (e : RequestEntry). is_id_before r e.id) entry s.requests lock-queue
+          (request_queues-stay dirs t u stays s.requests good.requests (all-true (λ (e : RequestEntry). IsApart (RequestLock e.id) dirs) (λ e. beside-apart (RequestLock e.id) dirs refl) s.requests) lays.request_locks.queues);
+    }
+    each k = table-stays s dirs t u good stays (second.creates.live ∙ first.creates.live) (second.creates.begun ∙ first.creates.begun) k refl (each-table s t lays k)
 
 -- creates of a request's record and of its lock lay out the state in which the request is
 pub grown_requests-lay-out : GrownRequestsLayOut

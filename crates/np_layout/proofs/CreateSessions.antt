@@ -1,26 +1,19 @@
 -- a session begins, and the tree's first session makes its record
-use Rattle.std.proofs.Common.{◌≡◌, ℕ, zero, suc, ◌+◌, ◌<◌, ◌≤◌, ◌^◌, Bool, true, false, ◌||◌, List, [], ◌∷◌, ◌++◌, length, map, Some, None, refl, sym, ap, ◌∙◌, subst, arith}
+use Rattle.std.proofs.Common.{◌≡◌, ℕ, zero, suc, ◌+◌, ◌<◌, ◌≤◌, ◌^◌, Bool, true, false, ◌||◌, List, [], ◌∷◌, ◌++◌, length, map, Some, None, refl, sym, ap, ◌∙◌, arith}
 use Rattle.std.specs.Prelude.{◌==◌}
 use Rattle.std.specs.Ordering.{is_lt}
-use Rattle.np_machine.specs.Prelude.{AllByRecursion, NonePass, Role, State, list_any, range_with_len}
+use Rattle.np_machine.specs.Prelude.{NonePass, Role, State, list_any, range_with_len}
 use Rattle.std.proofs.lemmas.Bool.Decides.{nat_tests}
 use Rattle.np_text.proofs.OrderLemmas.{nat_cmp-less, nat_cmp-more, slice_cmp-ten}
 use Rattle.np_lists.proofs.ChangeLemmas.{insert_before-end}
 use Rattle.np_tree.specs.Prelude.{HasRoomFor, IsWhole, Persistent, Row, TreeState, after_begin, after_part, is_in, is_named, owner_at, row_before, with_row}
 use Rattle.np_tree.proofs.ViewRoomLemmas.{room-gives}
 use Rattle.np_tree.proofs.SiblingLemmas.{other-name}
-use Rattle.np_spelling.specs.Spelling.{session_text}
-use Rattle.np_machine.specs.declared.state.SessionFacts.{SessionFacts}
-use Rattle.np_layout.specs.Place.{path_of, place_name}
-use Rattle.np_layout.specs.declared.place.Place.{Place}
-use Rattle.np_layout.specs.declared.place.Place.TheVariants.{Poolsim, Sessions, Session}
-use Rattle.np_layout.specs.Creates.{SessionsLayOut}
-use Rattle.np_layout.specs.First.{make}
-use Rattle.np_layout.specs.Layout.{AreLive, LaysOut}
-use Rattle.np_layout.specs.Rows.{rows_from, session_row}
-use Rattle.np_layout.specs.Sets.{HasGoodIds}
-use Rattle.np_layout.proofs.CreateSteps.{Step, counter-there, free-named, make-step, owner-there}
-use Rattle.np_layout.proofs.Elsewhere.{Stays, frame-stays, jobs-stay, launchers-stay, node_locks-stay, nodes-stay, request_locks-stay, requests-stay, roles-stay, semaphores-stay, swept-stay}
+use Rattle.np_layout.specs.Prelude.{HasGoodIds, make, path_of, session_text}
+use Rattle.np_layout.proofs.Prelude.{AreLive, LaysOut, Place, Poolsim, Session, SessionFacts, Sessions, SessionsLayOut, rows_from, session_row}
+use Rattle.np_layout.proofs.CreateSteps.{Step, make-new, owner-there}
+use Rattle.np_layout.proofs.EachTable.{Says, Table, all-tables, each-table, of_live, of_sessions, table-beside}
+use Rattle.np_layout.proofs.Elsewhere.{Stays}
 use Rattle.np_lists.proofs.Plain.{or_false, map-push, or_true}
 
 -- ## one member more at the end
@@ -118,24 +111,14 @@ module _ (s : State) (t : TreeState) (role : Role) (whole : IsWhole t.nodes) (go
   from = after_begin t
 
   owner : owner_at from (path_of Sessions) ≡ Some None
-  owner = owner-there from Poolsim Sessions whole tt refl (ap (list_any (is_named (place_name Sessions))) lays.frame.poolsim)
-      (subst (λ (rows : List Row). AllByRecursion (λ row. row.owner ≡ None) rows) (sym lays.frame.poolsim) (refl, (refl, (refl, (refl, (refl, tt))))))
+  owner = owner-there from Poolsim Sessions _ whole tt refl lays.frame.poolsim refl (refl, (refl, (refl, (refl, (refl, tt)))))
 
   from-room : HasRoomFor 1 from
   from-room = record { change = room.change; versions = room.versions; counters = room.counters; rows = room.rows; few = room.few }
 
   step : Step Sessions place Persistent (session_row new facts) from 1 (make bytes place)
-  step =
-      let counter = counter-there from Sessions owner in
-      make-step from 1 Sessions place bytes Persistent counter.0 small refl refl refl short
-      (record {
-        whole = whole;
-        live = old-live t.live (t.begun + 1) 1 lays.live.first;
-        owner = owner;
-        gives = counter.1;
-        free = free-named from Sessions place whole small refl (subst (λ (rows : List Row). NonePass (is_named (place_name place)) rows) (sym lays.sessions.rows) (none-named s.sessions 1 new facts (omega arith) small));
-        room = room-gives from 0 from-room;
-      })
+  step = make-new from 1 Sessions place _ bytes Persistent owner small refl refl (λ counter. refl) short whole (old-live t.live (t.begun + 1) 1 lays.live.first) (room-gives from 0 from-room) lays.sessions.rows
+      (none-named s.sessions 1 new facts (omega arith) small)
 
   abbrev u : TreeState
   u = after_part from 1 (make bytes place)
@@ -145,29 +128,17 @@ module _ (s : State) (t : TreeState) (role : Role) (whole : IsWhole t.nodes) (go
   stays = record { rows = step.creates.stays.rows; leaves = step.creates.stays.leaves; counters = step.creates.stays.counters }
 
   session-lays : LaysOut (record s { sessions = s.sessions ++ facts ∷ [] }) u
-  session-lays =
-      let dirs : List Place = Sessions ∷ [] in
-      let last : 1 + length s.sessions ≡ new = omega arith in
-      record {
-        frame = frame-stays dirs t u stays s.tick refl refl refl refl refl lays.frame;
-        requests = requests-stay dirs t u stays s.requests s.next_request refl lays.requests;
-        request_locks = request_locks-stay dirs t u stays s.requests good.requests refl refl lays.request_locks;
-        nodes = nodes-stay dirs t u stays s.nodes s.next_node refl lays.nodes;
-        node_locks = node_locks-stay dirs t u stays s.nodes good.nodes refl refl lays.node_locks;
-        launchers = launchers-stay dirs t u stays s.registrations refl lays.launchers;
-        semaphores = semaphores-stay dirs t u stays s.handles good.semaphores refl refl lays.semaphores;
-        jobs = jobs-stay dirs t u stays s.jobs refl lays.jobs;
-        roles = roles-stay dirs t u stays s.launchers s.janitors s.requesters refl lays.roles;
-        sessions = record {
-          rows =
-              step.creates.rows ∙ ap (with_row (session_row new facts)) lays.sessions.rows
-              ∙ insert_before-end (λ other. row_before (session_row new facts) other) (session_row new facts) (rows_from session_row 1 s.sessions) (none-after s.sessions 1 new facts (omega arith) small)
-              ∙ sym (rows_from-push session_row s.sessions 1 facts ∙ ap (λ (n : ℕ). rows_from session_row 1 s.sessions ++ session_row n facts ∷ []) last);
-          leaves = step.creates.leaves lays.sessions.leaves;
-        };
-        swept = swept-stay dirs t u stays s.swept refl lays.swept;
-        live = begun-live s.sessions role t u step.creates.live step.creates.begun lays.live;
-      }
+  session-lays = all-tables _ _ each where
+    each : (k : Table) → Says (record s { sessions = s.sessions ++ facts ∷ [] }) u k
+    each of_sessions = record {
+      rows =
+          step.creates.rows ∙ ap (with_row (session_row new facts)) lays.sessions.rows
+          ∙ insert_before-end (λ other. row_before (session_row new facts) other) (session_row new facts) (rows_from session_row 1 s.sessions) (none-after s.sessions 1 new facts (omega arith) small)
+          ∙ sym (rows_from-push session_row s.sessions 1 facts ∙ ap (λ (n : ℕ). rows_from session_row 1 s.sessions ++ session_row n facts ∷ []) (omega arith));
+      leaves = step.creates.leaves lays.sessions.leaves;
+    }
+    each of_live = begun-live s.sessions role t u step.creates.live step.creates.begun lays.live
+    each k = table-beside s (Sessions ∷ []) t _ good stays k refl refl (each-table s t lays k)
 
 -- the begin of a session and a create of its record lay out the state in which it has begun
 pub sessions-lay-out : SessionsLayOut

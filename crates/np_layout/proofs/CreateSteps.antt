@@ -16,11 +16,9 @@ use Rattle.np_tree.specs.Views.{Row, Seen, find_named, is_named, name_given, row
 use Rattle.np_tree.proofs.GoesLemmas.{creates-go, creates-under-go}
 use Rattle.np_tree.proofs.RelationLemmas.{apart-below, creates-show, creates-under-show, parts-change_nodes_alone, seen-is-row, seen-none}
 use Rattle.np_tree.proofs.SiblingLemmas.{child-above}
-use Rattle.np_layout.specs.Place.{IsGood, above, path_of, place_name}
-use Rattle.np_layout.specs.declared.place.Place.{Place}
+use Rattle.np_layout.proofs.Prelude.{HasLeaves, IsGood, Place, above, next_under, path_of, place_name, under}
 use Rattle.np_layout.proofs.AboveLemmas.{Above, IsGood-above, above-is_good, is_path-of, parts-of, path_of-joined}
 use Rattle.np_layout.proofs.ChildLemmas.{same_paths}
-use Rattle.np_layout.specs.Layout.{HasLeaves, next_under, under}
 use Rattle.np_layout.proofs.CreateLists.{owner-none}
 use Rattle.np_layout.proofs.Elsewhere.{IsApart, Stays, has_leaves}
 use Rattle.np_layout.proofs.FirstSteps.{done-part, ok-part}
@@ -185,11 +183,12 @@ free-named t dir p whole good over none =
     ∙ ap (option_map seen_in) (find-none (is_named (place_name p)) (under dir t) none)
 
 -- a good place whose row is there has no owner if no row of its directory has one
-pub owner-there : (t : TreeState) (dir p : Place) → IsWhole t.nodes → IsGood p → above p ≡ Some dir → list_any (is_named (place_name p)) (under dir t) ≡ true → AllByRecursion (λ row. row.owner ≡ None) (under dir t) → owner_at t (path_of p) ≡ Some None
-owner-there t dir p whole good over any none =
+pub owner-there : (t : TreeState) (dir p : Place) (rows : List Row) → IsWhole t.nodes → IsGood p → above p ≡ Some dir → under dir t ≡ rows → list_any (is_named (place_name p)) rows ≡ true → AllByRecursion (λ row. row.owner ≡ None) rows → owner_at t (path_of p) ≡ Some None
+owner-there t dir p rows whole good over same any none =
     ap (option_map (λ (seen : Seen). seen.owner)) (seen-is-row t (path_of p) (path_of dir) whole (is_path-of p good) ((parts-of p good).0 ∙ ap (option_map path_of) over))
     ∙ ap (λ (name : List ℕ). option_map (λ (seen : Seen). seen.owner) (option_map seen_in (find_named name (under dir t)))) (parts-of p good).1
-    ∙ owner-none (place_name p) (under dir t) any none
+    ∙ ap (λ (list : List Row). option_map (λ (seen : Seen). seen.owner) (option_map seen_in (find_named (place_name p) list))) same
+    ∙ owner-none (place_name p) rows any none
 
 -- what is there has a counter
 counter-of : (o : Option Node) → option_map (λ (seen : Seen). seen.owner) (option_map seen_of o) ≡ Some None → (counter : ℕ) × (option_map (λ (n : Node). n.facts.counter) o ≡ Some counter)
@@ -198,3 +197,18 @@ counter-of (Some n) owner = (n.facts.counter, refl)
 
 pub counter-there : (t : TreeState) (dir : Place) → owner_at t (path_of dir) ≡ Some None → (counter : ℕ) × (next_under dir t ≡ Some counter)
 counter-there t dir owner = counter-of (at_path t.nodes (path_of dir)) owner
+
+-- a place whose row is not there can be made in a directory that no session owns
+pub make-new : (t : TreeState) (w : ℕ) (dir p : Place) (rows : List Row) (bytes : List ℕ) (mode : Mode) (owner : owner_at t (path_of dir) ≡ Some None) → IsGood p → above p ≡ Some dir → over_leaves (above dir) ≡ false →
+    ((counter : ℕ) → name_given mode counter (place_name p) ≡ place_name p) → length bytes ≤ 65536 → IsWhole t.nodes → is_in t.live w ≡ true → HasRoom t → under dir t ≡ rows → NonePass (is_named (place_name p)) rows →
+    Step dir p mode (row_given mode (counter-there t dir owner).0 w (place_name p) bytes) t w (op.Create (path_of p) bytes mode)
+make-new t w dir p rows bytes mode owner good over top named short whole live room same none =
+    let counter = counter-there t dir owner in
+    make-step t w dir p bytes mode counter.0 good over top (named counter.0) short (record {
+      whole = whole;
+      live = live;
+      owner = owner;
+      gives = counter.1;
+      free = free-named t dir p whole good over (subst (λ (list : List Row). NonePass (is_named (place_name p)) list) (sym same) none);
+      room = room;
+    })

@@ -8,16 +8,9 @@ use Rattle.np_lists.proofs.Each.{all-find, all-weaker}
 use Rattle.np_tree.specs.Prelude.{IsWhole, Node, Row, Seen, TreeState, after_end, at_path, below, find_named, is_in, is_named, is_owner, name_of, parent_of, row_before, rows_at, seen_at, seen_in, seen_of, without}
 use Rattle.np_tree.specs.Relations.{Ends, is_kept}
 use Rattle.np_tree.proofs.RelationLemmas.{ends-show, rows-rise, seen-is-row}
-use Rattle.np_machine.specs.declared.state.Registration.{Registration}
-use Rattle.np_machine.specs.declared.state.SessionFacts.{SessionFacts}
-use Rattle.np_layout.specs.Place.{IsGood, above, path_of}
-use Rattle.np_layout.specs.declared.place.Place.{Place}
+use Rattle.np_layout.proofs.Prelude.{AreLive, HasGoodIds, HasHandles, HasLeaves, HasNodeLock, IsGood, IsNodeRow, IsQueue, IsWait, LaysOut, Place, Registration, SessionEndsLayOut, SessionFacts, above, by_name, handle_row, janitor_role_row, job_row, launcher_role_row, launcher_row, next_under, path_of, places, request_lock_row, request_row, requester_role_row, rows_from, semaphore_row, session_row, swept_row, tree_session, under, without_session}
 use Rattle.np_layout.specs.declared.place.Place.TheVariants.{Root, Nodepool, Requests, RequestLocks, Request, RequestLock, Nodes, Node as NodePlace, NodeLock, Launchers, Zuul, Semaphores, Semaphore, Poolsim, Jobs, Roles, Sessions, SweptPairs, Tick}
 use Rattle.np_layout.proofs.AboveLemmas.{is_path-of, parts-of}
-use Rattle.np_layout.specs.Deletes.{SessionEndsLayOut, without_session}
-use Rattle.np_layout.specs.Layout.{AreLive, HasHandles, HasLeaves, HasNodeLock, IsNodeRow, IsQueue, IsWait, LaysOut, next_under, under}
-use Rattle.np_layout.specs.Rows.{by_name, handle_row, janitor_role_row, job_row, launcher_role_row, launcher_row, places, request_lock_row, request_row, requester_role_row, rows_from, semaphore_row, session_row, swept_row, tree_session}
-use Rattle.np_layout.specs.Sets.{HasGoodIds}
 use Rattle.np_layout.proofs.DeleteLists.{by_name-kept, filter-mapped}
 use Rattle.np_layout.proofs.DeleteOnce.{zip-filter}
 use Rattle.np_layout.proofs.FirstLists.{all-put}
@@ -45,9 +38,8 @@ plain-from row plain (a ∷ list) at = (plain at a, plain-from row plain list (a
 
 plain-nodes : (rows : List Row) (entries : List NodeEntry) → AllZip IsNodeRow rows entries → ArePlain rows
 plain-nodes [] [] all = tt
-plain-nodes [] (e ∷ entries) all = absurd all
-plain-nodes (row ∷ rows) [] all = absurd all
 plain-nodes (row ∷ rows) (e ∷ entries) all = (ap (λ (r : Row). r.owner) all.0.is, plain-nodes rows entries all.1)
+plain-nodes _ _ all = absurd all
 
 kept-plain : (z : ℕ) (rows : List Row) → ArePlain rows → filter (is_kept z) rows ≡ rows
 kept-plain z [] all = refl
@@ -67,9 +59,8 @@ map-after row f same (a ∷ list) = rw (same a, map-after row f same list) refl
 
 zip-left : (session : SessionId) (rows : List Row) (entries : List NodeEntry) → AllZip IsNodeRow rows entries → AllZip IsNodeRow rows (map (node_left session) entries)
 zip-left session [] [] all = tt
-zip-left session [] (e ∷ entries) all = absurd all
-zip-left session (row ∷ rows) [] all = absurd all
 zip-left session (row ∷ rows) (e ∷ entries) all = (record { is = all.0.is; spells = all.0.spells }, zip-left session rows entries all.1)
+zip-left session _ _ all = absurd all
 
 -- ## live sessions
 

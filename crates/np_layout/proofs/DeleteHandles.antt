@@ -1,25 +1,18 @@
 -- a job gives its handle of a semaphore back
-use Rattle.std.proofs.Common.{◌≡◌, ℕ, zero, suc, ◌+◌, ◌<◌, ◌≤◌, ◌^◌, Bool, true, false, not, ◌||◌, List, [], ◌∷◌, length, map, Option, Some, None, unwrap_or, refl, sym, ap, ◌∙◌, subst, arith}
+use Rattle.std.proofs.Common.{◌≡◌, ℕ, zero, suc, ◌<◌, Bool, true, false, not, ◌||◌, List, [], ◌∷◌, length, map, Option, Some, None, unwrap_or, refl, sym, ap, ◌∙◌, subst, arith}
 use Rattle.std.specs.Prelude.{◌==◌, filter, find, slice_get}
-use Rattle.np_machine.specs.Prelude.{AllByRecursion, JobId, Rises, SemId, State, change_at, handles_of, has_handle, is_among, list_any, option_map, range_with_len, without_handle}
+use Rattle.np_machine.specs.Prelude.{AllByRecursion, JobId, Rises, SemId, State, change_at, handles_of, has_handle, is_among, list_any, option_map, without_handle}
 use Rattle.std.specs.Str.{bytes_eq}
-use Rattle.std.proofs.lemmas.Bool.{eqb-false}
 use Rattle.std.proofs.lemmas.Bool.Decides.{nat_tests}
-use Rattle.np_lists.proofs.ChangeLemmas.{length-change_at, slice_get-change_at, slice_get-change_at_other}
+use Rattle.np_lists.proofs.ChangeLemmas.{slice_get-change_at}
 use Rattle.np_lists.proofs.Each.{all-weaker}
-use Rattle.np_tree.specs.Prelude.{Row, TreeState, after_part, is_named, row_before}
+use Rattle.np_layout.specs.Prelude.{IsGood, Row, TreeState, after_part, is_named, path_of, place_name, row_before}
 use Rattle.np_nodes.proofs.PlaceLemmas.{bytes_eq-from}
 use Rattle.np_tree.proofs.RelationLemmas.{rows-rise}
-use Rattle.np_layout.specs.Place.{IsGood, path_of, place_name}
-use Rattle.np_layout.specs.declared.place.Place.{Place}
-use Rattle.np_layout.specs.declared.place.Place.TheVariants.{Semaphores, Semaphore, Handle}
-use Rattle.np_layout.specs.Deletes.{HandlesGoLayOut, MayDelete, delete}
-use Rattle.np_layout.specs.Layout.{AreSemaphores, HasHandles, LaysOut, under}
-use Rattle.np_layout.specs.Rows.{by_name, handle_row, semaphore_row}
-use Rattle.np_layout.proofs.CreateHandles.{handles-good}
+use Rattle.np_layout.proofs.Prelude.{Handle, HandlesGoLayOut, HasHandles, MayDelete, Place, Semaphore, by_name, delete, handle_row, under}
+use Rattle.np_layout.proofs.CreateHandles.{changed-lays, handles-good}
 use Rattle.np_layout.proofs.DeleteLists.{any-mapped, by_name-kept, filter-mapped}
 use Rattle.np_layout.proofs.DeleteSteps.{DeleteGoes, bare-leaf, delete-goes, is_other}
-use Rattle.np_layout.proofs.Elsewhere.{frame-stays, handles-stay, jobs-stay, launchers-stay, live-stays, node_locks-stay, nodes-stay, request_locks-stay, requests-stay, roles-stay, rows-stay, sessions-stay, swept-stay}
 use Rattle.np_layout.proofs.SetLists.{any-by_name, any-found, at-range}
 use Rattle.np_layout.proofs.SetSteps.{named-other}
 
@@ -66,14 +59,6 @@ without-or j (Some jobs) = refl
 -- the semaphore's own handles change
 here : (x : SemId) (j : JobId) (handles : List (List JobId)) → handles_of x (change_at x.0 (without_handle j) handles) ≡ without_handle j (handles_of x handles)
 here x j handles = ap (λ (o : Option (List JobId)). unwrap_or o []) (slice_get-change_at x.0 (without_handle j) handles) ∙ without-or j (slice_get handles x.0)
-
--- those of others do not
-elsewhere : (x : SemId) (at : ℕ) (j : JobId) (handles : List (List JobId)) → (at ≡ x.0 → ⊥) → handles_of (record { 0 = at }) (change_at x.0 (without_handle j) handles) ≡ handles_of (record { 0 = at }) handles
-elsewhere x at j handles apart = ap (λ (o : Option (List JobId)). unwrap_or o []) (slice_get-change_at_other x.0 at (without_handle j) handles apart)
-
-abbrev semaphore_of : Place → ℕ
-semaphore_of (Semaphore x) = x.0
-semaphore_of other = 0
 
 module _ (s : State) (t : TreeState) (w : ℕ) (x : SemId) (j : JobId) (may : MayDelete s t w) (has : has_handle j s.handles x ≡ true) where
   abbrev jobs : List JobId
@@ -123,50 +108,12 @@ module _ (s : State) (t : TreeState) (w : ℕ) (x : SemId) (j : JobId) (may : Ma
       (all-weaker (λ (other : JobId). is_named name (handle_row x other) ≡ (other.0 == j.0)) (λ (other : JobId). is_other name (handle_row x other) ≡ not (other.0 == j.0)) (λ other same. ap not same) jobs names)
       ∙ ap (map (handle_row x)) (sym (here x j s.handles)))
 
-  one-by : (at : ℕ) (b : Bool) → (at == x.0) ≡ b → at < 2 ^ 16 → HasHandles s.handles t (record { 0 = at }) → HasHandles handles u (record { 0 = at })
-  one-by at true same low is =
-      let number : x.0 ≡ at = grind (arith, nat_tests) in
-      subst (λ (k : ℕ). HasHandles handles u (record { 0 = k })) number (record { rows = rows-here; leaves = deletes.row.leaves x-has.leaves })
-  one-by at false same low is =
-      let apart = eqb-false at x.0 same in
-      let still = handles-stay (Semaphore x ∷ []) t u deletes.row.stays s.handles (record { 0 = at }) low ((λ equal. apart (ap semaphore_of equal)), tt) is in
-      record {
-        rows = still.rows ∙ ap (λ (list : List JobId). by_name (map (handle_row (record { 0 = at })) list)) (sym (elsewhere x at j s.handles apart));
-        leaves = still.leaves;
-      }
-
-  each : (count at : ℕ) → at + count ≤ 2 ^ 16 → AllByRecursion (λ at. HasHandles s.handles t (record { 0 = at })) (range_with_len at count) → AllByRecursion (λ at. HasHandles handles u (record { 0 = at })) (range_with_len at count)
-  each zero at within all = tt
-  each (suc count) at within all = (one-by at (at == x.0) refl (omega arith) all.0, each count (at + 1) (omega arith) all.1)
-
-  semaphores : AreSemaphores handles u
-  semaphores =
-      let same = length-change_at x.0 (without_handle j) s.handles in
-      record {
-        rows = rows-stay (Semaphore x ∷ []) t u deletes.row.stays Semaphores tt refl ∙ may.lays.semaphores.rows ∙ ap (λ (n : ℕ). by_name (map semaphore_row (range_with_len 0 n))) (sym same);
-        each = subst (λ (n : ℕ). AllByRecursion (λ at. HasHandles handles u (record { 0 = at })) (range_with_len 0 n)) (sym same) (each (length s.handles) 0 (let few = may.good.semaphores in omega arith) may.lays.semaphores.each);
-      }
-
-  handle-lays : LaysOut (record s { handles = handles }) u
-  handle-lays =
-      let dirs : List Place = Semaphore x ∷ [] in
-      let stays = deletes.row.stays in
-      let lays = may.lays in
-      record {
-        frame = frame-stays dirs t u stays s.tick refl refl refl refl refl lays.frame;
-        requests = requests-stay dirs t u stays s.requests s.next_request refl lays.requests;
-        request_locks = request_locks-stay dirs t u stays s.requests may.good.requests refl refl lays.request_locks;
-        nodes = nodes-stay dirs t u stays s.nodes s.next_node refl lays.nodes;
-        node_locks = node_locks-stay dirs t u stays s.nodes may.good.nodes refl refl lays.node_locks;
-        launchers = launchers-stay dirs t u stays s.registrations refl lays.launchers;
-        semaphores = semaphores;
-        jobs = jobs-stay dirs t u stays s.jobs refl lays.jobs;
-        roles = roles-stay dirs t u stays s.launchers s.janitors s.requesters refl lays.roles;
-        sessions = sessions-stay dirs t u stays s.sessions refl lays.sessions;
-        swept = swept-stay dirs t u stays s.swept refl lays.swept;
-        live = live-stays t u deletes.row.live deletes.row.begun s.sessions lays.live;
-      }
-
 -- the delete of a handle lays out the state in which the job has none
 pub handles-lay-out : HandlesGoLayOut
-handles-lay-out s t w x j may has = record { goes = (deletes s t w x j may has).goes; lays = handle-lays s t w x j may has }
+handles-lay-out s t w x j may has =
+    let gone = deletes s t w x j may has in
+    record {
+      goes = gone.goes;
+      lays = changed-lays s t (after_part t w (delete (Handle x j))) x (without_handle j) may.good may.lays gone.row.stays gone.row.live gone.row.begun
+          (record { rows = rows-here s t w x j may has; leaves = gone.row.leaves (x-has s t w x j may has).leaves });
+    }

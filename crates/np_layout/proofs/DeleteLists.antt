@@ -1,6 +1,6 @@
 -- the rows of a directory of which some are left out
-use Rattle.std.proofs.Common.{◌≡◌, Bool, true, false, cond, List, [], ◌∷◌, map, refl, sym, ap, ◌∙◌}
-use Rattle.std.specs.Prelude.{filter}
+use Rattle.std.proofs.Common.{◌≡◌, Bool, true, false, ◌||◌, cond, List, [], ◌∷◌, map, Some, refl, sym, ap, ◌∙◌}
+use Rattle.std.specs.Prelude.{filter, find}
 use Rattle.np_tree.specs.Prelude.{AllByRecursion, Rises, Row, list_any, row_before, with_row}
 use Rattle.np_lists.proofs.Each.{all-filter}
 use Rattle.np_layout.specs.Rows.{by_name}
@@ -87,3 +87,14 @@ module _ {A : Type 0} (row : A → Row) (test : Row → Bool) (own : A → Bool)
   pub any-mapped : (list : List A) → AllByRecursion (λ a. test (row a) ≡ own a) list → list_any test (map row list) ≡ list_any own list
   any-mapped [] all = refl
   any-mapped (a ∷ list) all = rw (all.0, any-mapped list all.1) refl
+
+-- ## a member that is found
+
+found-passes : {A : Type 0} (p : A → Bool) (a x : A) (list : List A) (b : Bool) → cond b (Some a) (find p list) ≡ Some x → (find p list ≡ Some x → list_any p list ≡ true) → (b || list_any p list) ≡ true
+found-passes p a x list true there later = refl
+found-passes p a x list false there later = later there
+
+-- one that is found passes
+pub found-any : {A : Type 0} (p : A → Bool) (x : A) (list : List A) → find p list ≡ Some x → list_any p list ≡ true
+found-any p x [] there = absurd cc
+found-any p x (a ∷ list) there = found-passes p a x list (p a) there (found-any p x list)

@@ -25,19 +25,17 @@ tells-mapped name p row (a ∷ list) all = (all.0, tells-mapped name p row list 
 module _ {A : Type 0} (name : List ℕ) (p : A → Bool) where
   none-after : (row : Row) (rows : List Row) (list : List A) → is_named name row ≡ true → AllByRecursion (λ other. row_before row other ≡ true) rows → Tells name p rows list → NonePass p list
   none-after row [] [] is before tells = tt
-  none-after row [] (a ∷ list) is before tells = absurd tells
-  none-after row (other ∷ rows) [] is before tells = absurd tells
   none-after row (other ∷ rows) (a ∷ list) is before tells = (
     sym tells.0 ∙ subst (λ (n : List ℕ). is_named n other ≡ false) (bytes_eq-is row.name name is) (other-name_back row other before.0),
     none-after row rows list is before.1 tells.1,
   )
+  none-after row _ _ is before tells = absurd tells
 
   -- among rows in order a name is there once
   pub once-told : (rows : List Row) (list : List A) → Rises row_before rows → Tells name p rows list → IsOnce p list
   once-told [] [] rises tells = tt
-  once-told [] (a ∷ list) rises tells = absurd tells
-  once-told (row ∷ rows) [] rises tells = absurd tells
   once-told (row ∷ rows) (a ∷ list) rises tells = ((λ passes. none-after row rows list (tells.0 ∙ passes) rises.0 tells.1), once-told rows list rises.1 tells.1)
+  once-told _ _ rises tells = absurd tells
 
 -- ## the one is changed or left out
 
@@ -82,9 +80,8 @@ module _ {A : Type 0} (p : A → Bool) where
 
       pub zip-change_first : (rows : List Row) (list : List A) → AllZip R rows list → AllZip R rows (change_first p f list)
       zip-change_first [] [] all = tt
-      zip-change_first [] (a ∷ list) all = absurd all
-      zip-change_first (row ∷ rows) [] all = absurd all
       zip-change_first (row ∷ rows) (a ∷ list) all = zip-by row rows a list (p a) all.0 all.1 (zip-change_first rows list all.1)
+      zip-change_first _ _ all = absurd all
 
   -- rows and members are left out together
   module _ (R : Row → A → Type 0) (test : Row → Bool) where
@@ -96,6 +93,5 @@ module _ {A : Type 0} (p : A → Bool) where
 
     pub zip-filter : (rows : List Row) (list : List A) → AllZip (λ row a. test row ≡ p a) rows list → AllZip R rows list → AllZip R (filter (λ row. not (test row)) rows) (filter (λ a. not (p a)) list)
     zip-filter [] [] tells all = tt
-    zip-filter [] (a ∷ list) tells all = absurd all
-    zip-filter (row ∷ rows) [] tells all = absurd all
     zip-filter (row ∷ rows) (a ∷ list) tells all = both-by row (filter (λ r. not (test r)) rows) a (filter (λ x. not (p x)) list) (test row) (p a) tells.0 all.0 (zip-filter rows list tells.1 all.1)
+    zip-filter _ _ tells all = absurd all

@@ -1,45 +1,30 @@
 -- several deletes: a queue is cleared, and what stays of a layout when a request or a node goes
-use Rattle.std.proofs.Common.{◌≡◌, ℕ, ◌+◌, ◌<◌, ◌≤◌, ◌^◌, eqb, Bool, true, false, not, ◌||◌, cond, List, [], ◌∷◌, ◌++◌, codes, Some, refl, sym, ap, ◌∙◌, subst, arith}
+use Rattle.std.proofs.Common.{◌≡◌, ℕ, ◌+◌, ◌<◌, ◌≤◌, ◌^◌, Bool, true, false, not, cond, List, [], ◌∷◌, ◌++◌, codes, Some, refl, sym, ap, ◌∙◌, subst, append_assoc, arith}
 use Rattle.std.specs.Prelude.{IsOk, filter, find}
 use Rattle.np_machine.specs.Prelude.{AllByRecursion, AllZip, Rises, SessionId, State, list_any, ten_digits_of}
-use Rattle.std.proofs.lemmas.Bool.Decides.{nat_tests}
 use Rattle.np_lists.proofs.Each.{all-weaker}
 use Rattle.np_lists.proofs.FilterLemmas.{filter-not_none}
-use Rattle.np_tree.specs.Prelude.{Any, Goes, IsWhole, Op, Row, TreeState, after_part, below, delete_parts, find_named, is_in, is_named, part_answer, row_before}
+use Rattle.np_layout.specs.Prelude.{Any, Goes, IsGood, IsWhole, Op, Row, TreeState, above, after_part, below, delete_parts, find_named, is_in, is_named, part_answer, path_of, place_name, row_before, rows_at}
 use Rattle.np_nodes.specs.declared.op.Op.TheVariants as op
 use Rattle.np_nodes.proofs.PlaceLemmas.{bytes_eq-from}
 use Rattle.np_tree.proofs.RelationLemmas.{rows-rise}
-use Rattle.np_tree.proofs.SeveralLemmas.{goes-after}
+use Rattle.np_tree.proofs.SeveralLemmas.{goes-after, goes-joined}
+use Rattle.np_tree.proofs.ViewRoomLemmas.{room-gives}
 use Rattle.np_tree.proofs.SiblingLemmas.{other-name_back}
-use Rattle.np_layout.specs.Place.{IsGood, above, path_of, place_name}
-use Rattle.np_layout.specs.declared.place.Place.{Place}
-use Rattle.np_layout.proofs.AboveLemmas.{path_of-joined}
-use Rattle.np_layout.specs.Creates.{PartsLayOut}
-use Rattle.np_layout.specs.Deletes.{delete}
-use Rattle.np_layout.specs.Layout.{AreLaunchers, AreLive, AreJobs, AreRoles, AreSemaphores, AreSessions, AreSwept, IsFrame, IsWait, LaysOut, under}
-use Rattle.np_layout.specs.Sets.{HasGoodIds}
+use Rattle.np_layout.proofs.Prelude.{HasLeaves, IsQueue, IsWait, LaysOut, MayDelete, PartsLayOut, Place, delete, next_under, under}
+use Rattle.np_layout.proofs.AboveLemmas.{IsGood-above, path_of-joined}
 use Rattle.np_layout.proofs.DeleteOnce.{Tells}
 use Rattle.np_layout.proofs.DeleteQueues.{bare-owned}
 use Rattle.np_layout.proofs.DeleteSteps.{DeleteGoes, DeletesRow, delete-goes, is_other}
-use Rattle.np_layout.proofs.Elsewhere.{Stays, directory, frame-stays, has_counter, jobs-stay, launchers-stay, live-stays, roles-stay, semaphores-stay, sessions-stay, stays-both, stays-same, swept-stay}
+use Rattle.np_layout.proofs.Elsewhere.{IsBeside, Stays, counter-stays, has_counter, has_leaves, leaves-stay, rows-stay, stays-both, stays-same, stays-wider}
 
 -- ## lists
-
--- one that is found passes
-found-passes : {A : Type 0} (p : A → Bool) (a x : A) (list : List A) (b : Bool) → cond b (Some a) (find p list) ≡ Some x → (find p list ≡ Some x → list_any p list ≡ true) → (b || list_any p list) ≡ true
-found-passes p a x list true there later = refl
-found-passes p a x list false there later = later there
-
-pub found-any : {A : Type 0} (p : A → Bool) (x : A) (list : List A) → find p list ≡ Some x → list_any p list ≡ true
-found-any p x [] there = absurd cc
-found-any p x (a ∷ list) there = found-passes p a x list (p a) there (found-any p x list)
 
 -- a row of the name is there if a member passes
 pub any-told : {A : Type 0} (name : List ℕ) (p : A → Bool) (rows : List Row) (list : List A) → Tells name p rows list → list_any (is_named name) rows ≡ list_any p list
 any-told name p [] [] tells = refl
-any-told name p [] (a ∷ list) tells = absurd tells
-any-told name p (row ∷ rows) [] tells = absurd tells
 any-told name p (row ∷ rows) (a ∷ list) tells = rw (tells.0, any-told name p rows list tells.1) refl
+any-told name p _ _ tells = absurd tells
 
 pub all-pair : {A : Type 0} (P Q : A → Type 0) (list : List A) → AllByRecursion P list → AllByRecursion Q list → AllByRecursion (λ a. P a × Q a) list
 all-pair P Q [] first last = tt
@@ -109,8 +94,6 @@ module _ (w : ℕ) (lock : Place) (place : ℕ → Place) (are : AreWaits lock p
     goes = refl;
     clears = record { whole = whole; live = refl; begun = refl; stays = stays-same (lock ∷ []) t; changes = refl; empty = same };
   }
-  clear (x ∷ queue) [] t whole live change same all = absurd all
-  clear [] (row ∷ rows) t whole live change same all = absurd all
   clear (x ∷ queue) (row ∷ rows) t whole live change same all =
       let number : ℕ = all.0.number in
       let given : number < next = all.0.given in
@@ -129,54 +112,80 @@ module _ (w : ℕ) (lock : Place) (place : ℕ → Place) (are : AreWaits lock p
         goes = subst (λ (at : List ℕ). IsOk (part_answer t w (op.Delete at Any)) × Goes (after_part t w (op.Delete at Any)) w (delete_parts (path_of lock) rows) rest.u) path (one.goes, rest.goes);
         clears = clears-more t v rest.u lock p (are.none number) one.row refl rest.clears;
       }
+  clear _ _ t whole live change same all = absurd all
 
--- ## the tables that are neither of requests nor of nodes
+-- ## then the lock goes, and then its record
 
-pub record RestLays (s : State) (t : TreeState) : Type 0 where
-  pub frame : IsFrame s.tick t
-  pub launchers : AreLaunchers s.registrations t
-  pub semaphores : AreSemaphores s.handles t
-  pub jobs : AreJobs s.jobs t
-  pub roles : AreRoles s.launchers s.janitors s.requesters t
-  pub sessions : AreSessions s.sessions t
-  pub swept : AreSwept s.swept t
-  pub live : AreLive s.sessions t
+-- the waits at a lock are gone, and the lock is
+pub record LockGoes (t : TreeState) (w : ℕ) (over lock : Place) : Type 0 where
+  pub v : TreeState
+  pub goes : Goes t w (delete_parts (path_of lock) (under lock t) ++ delete lock ∷ []) v
+  pub whole : IsWhole v.nodes
+  pub live : v.live ≡ t.live
+  pub begun : v.begun ≡ t.begun
+  pub changes : v.changes ≡ t.changes
+  pub stays : Stays (over ∷ lock ∷ []) t v
+  pub rows : under over v ≡ filter (is_other (place_name lock)) (under over t)
 
-pub rest-of : (s : State) (t : TreeState) → LaysOut s t → RestLays s t
-rest-of s t lays = record { frame = lays.frame; launchers = lays.launchers; semaphores = lays.semaphores; jobs = lays.jobs; roles = lays.roles; sessions = lays.sessions; swept = lays.swept; live = lays.live }
-
-kind-below : (k d : ℕ) → k < 3 → 3 ≤ d → eqb k d ≡ false
-kind-below k d low high = grind (arith, nat_tests)
-
-kind-above : (k d : ℕ) → 9 ≤ k → d ≤ 8 → eqb k d ≡ false
-kind-above k d high low = grind (arith, nat_tests)
-
--- directories of requests or of nodes
-abbrev pub AreOfPool : List Place → Type 0
-AreOfPool dirs = AllByRecursion (λ dir. 3 ≤ directory dir × directory dir ≤ 8) dirs
-
-beside-below : (k : ℕ) → k < 3 → (dirs : List Place) → AreOfPool dirs → list_any (λ dir. eqb k (directory dir)) dirs ≡ false
-beside-below k low [] all = refl
-beside-below k low (dir ∷ dirs) all = ap (λ (b : Bool). b || list_any (λ dir. eqb k (directory dir)) dirs) (kind-below k (directory dir) low all.0.0) ∙ beside-below k low dirs all.1
-
-beside-above : (k : ℕ) → 9 ≤ k → (dirs : List Place) → AreOfPool dirs → list_any (λ dir. eqb k (directory dir)) dirs ≡ false
-beside-above k high [] all = refl
-beside-above k high (dir ∷ dirs) all = ap (λ (b : Bool). b || list_any (λ dir. eqb k (directory dir)) dirs) (kind-above k (directory dir) high all.0.1) ∙ beside-above k high dirs all.1
-
--- they stay if directories of requests or of nodes change
-pub rest-stays : (s : State) (dirs : List Place) (t u : TreeState) → HasGoodIds s → AreOfPool dirs → u.live ≡ t.live → u.begun ≡ t.begun → Stays dirs t u → RestLays s t → RestLays s u
-rest-stays s dirs t u good pool live begun stays rest =
-    let up : (k : ℕ) → 9 ≤ k → list_any (λ dir. eqb k (directory dir)) dirs ≡ false = λ k high. beside-above k high dirs pool in
-    let down : (k : ℕ) → k < 3 → list_any (λ dir. eqb k (directory dir)) dirs ≡ false = λ k low. beside-below k low dirs pool in
+pub lock-goes : (s : State) (t : TreeState) (w : ℕ) (over lock : Place) (place : ℕ → Place) (row : Row) (queue : List SessionId) → MayDelete s t w → AreWaits lock place → IsGood lock → above lock ≡ Some over → has_counter lock ≡ true → IsBeside over (lock ∷ []) →
+    find_named (place_name lock) (under over t) ≡ Some row → IsQueue lock queue t → LockGoes t w over lock
+lock-goes s t w over lock place row queue may are good top counts beside there is =
+    let few : is.next ≤ 2 ^ 32 = let low = (room-gives t 0 may.room).counter (path_of lock) is.next is.gives in omega arith in
+    let cleared : Cleared t w lock (under lock t) = clear w lock place are is.next few queue (under lock t) t may.whole may.live may.room.change refl is.waits in
+    let u : TreeState = cleared.u in
+    let live : is_in u.live w ≡ true = ap (λ (list : List ℕ). is_in list w) cleared.clears.live ∙ may.live in
+    let change : u.changes < 18_446_744_073_709_551_615 = let low = may.room.change in let same = cleared.clears.changes in omega arith in
+    let still : under over u ≡ under over t = rows-stay (lock ∷ []) t u cleared.clears.stays over (IsGood-above lock over good top) beside in
+    let one : DeleteGoes u w over lock = delete-goes u w over lock row good top cleared.clears.whole live change (ap (find_named (place_name lock)) still ∙ there) cleared.clears.empty in
+    let v : TreeState = after_part u w (delete lock) in
     record {
-      frame = frame-stays dirs t u stays s.tick (down 1 (omega arith)) (down 2 (omega arith)) (up 10 (omega arith)) (down 0 (omega arith)) (up 13 (omega arith)) rest.frame;
-      launchers = launchers-stay dirs t u stays s.registrations (up 9 (omega arith)) rest.launchers;
-      semaphores = semaphores-stay dirs t u stays s.handles good.semaphores (up 11 (omega arith)) (up 12 (omega arith)) rest.semaphores;
-      jobs = jobs-stay dirs t u stays s.jobs (up 14 (omega arith)) rest.jobs;
-      roles = roles-stay dirs t u stays s.launchers s.janitors s.requesters (up 15 (omega arith)) rest.roles;
-      sessions = sessions-stay dirs t u stays s.sessions (up 16 (omega arith)) rest.sessions;
-      swept = swept-stay dirs t u stays s.swept (up 17 (omega arith)) rest.swept;
-      live = live-stays t u live begun s.sessions rest.live;
+      v = v;
+      goes = goes-joined t u v w (delete_parts (path_of lock) (under lock t)) (delete lock ∷ []) cleared.goes (one.goes, refl);
+      whole = one.row.whole;
+      live = one.row.live ∙ cleared.clears.live;
+      begun = one.row.begun ∙ cleared.clears.begun;
+      changes = cleared.clears.changes;
+      stays = stays-both (over ∷ lock ∷ []) t u v (stays-wider (lock ∷ []) (over ∷ lock ∷ []) t u (λ other apart. apart.1) cleared.clears.stays)
+          (subst (λ (b : Bool). Stays (over ∷ cond b (lock ∷ []) []) u v) counts one.row.stays);
+      rows = one.row.rows ∙ ap (filter (is_other (place_name lock))) still;
+    }
+
+-- so is the record
+pub record RecordGoes (t : TreeState) (w : ℕ) (dir over lock p : Place) (v : TreeState) : Type 0 where
+  pub end : TreeState
+  pub goes : Goes t w (delete_parts (path_of lock) (under lock t) ++ delete lock ∷ delete p ∷ []) end
+  pub live : end.live ≡ t.live
+  pub begun : end.begun ≡ t.begun
+  pub last : Stays (dir ∷ []) v end
+  pub stays : Stays (dir ∷ over ∷ lock ∷ []) t end
+  pub rows : under dir end ≡ filter (is_other (place_name p)) (under dir t)
+  pub leaves : has_leaves dir ≡ true → HasLeaves dir t → HasLeaves dir end
+  pub gives : (next : ℕ) → has_counter dir ≡ true → next_under dir t ≡ Some next → next_under dir end ≡ Some next
+
+pub record-goes : (s : State) (t : TreeState) (w : ℕ) (dir over lock p : Place) (row : Row) → MayDelete s t w → (gone : LockGoes t w over lock) → IsGood p → above p ≡ Some dir → has_counter p ≡ false → IsBeside dir (over ∷ lock ∷ []) →
+    find_named (place_name p) (under dir t) ≡ Some row → rows_at gone.v (path_of p) ≡ [] → RecordGoes t w dir over lock p gone.v
+record-goes s t w dir over lock p row may gone good top none beside there bare =
+    let v : TreeState = gone.v in
+    let dirs : List Place = over ∷ lock ∷ [] in
+    let dir_good : IsGood dir = IsGood-above p dir good top in
+    let still : under dir v ≡ under dir t = rows-stay dirs t v gone.stays dir dir_good beside in
+    let live : is_in v.live w ≡ true = ap (λ (list : List ℕ). is_in list w) gone.live ∙ may.live in
+    let change : v.changes < 18_446_744_073_709_551_615 = let low = may.room.change in let same = gone.changes in omega arith in
+    let one : DeleteGoes v w dir p = delete-goes v w dir p row good top gone.whole live change (ap (find_named (place_name p)) still ∙ there) bare in
+    let end : TreeState = after_part v w (delete p) in
+    let parts : List Op = delete_parts (path_of lock) (under lock t) in
+    let last : Stays (dir ∷ []) v end = subst (λ (b : Bool). Stays (dir ∷ cond b (p ∷ []) []) v end) none one.row.stays in
+    record {
+      end = end;
+      goes = subst (λ (list : List Op). Goes t w list end) (append_assoc parts (delete lock ∷ []) (delete p ∷ [])) (goes-joined t v end w (parts ++ delete lock ∷ []) (delete p ∷ []) gone.goes (one.goes, refl));
+      last = last;
+      live = one.row.live ∙ gone.live;
+      begun = one.row.begun ∙ gone.begun;
+      stays = stays-both (dir ∷ dirs) t v end (stays-wider dirs (dir ∷ dirs) t v (λ other apart. apart.1) gone.stays)
+          (stays-wider (dir ∷ []) (dir ∷ dirs) v end (λ other apart. (apart.0, tt)) last);
+      rows = one.row.rows ∙ ap (filter (is_other (place_name p))) still;
+      leaves = λ has leaves. one.row.leaves (leaves-stay dirs t v gone.stays dir dir_good has beside leaves);
+      gives = λ next has is. one.row.counter ∙ counter-stays dirs t v gone.stays dir next dir_good has beside is;
     }
 
 -- what parts that go leave is the tree after them

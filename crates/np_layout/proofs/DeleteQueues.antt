@@ -4,18 +4,14 @@ use Rattle.std.specs.Prelude.{filter, find, slice_get}
 use Rattle.np_machine.specs.Prelude.{AllByRecursion, AllZip, Rises, SessionId, State, is_queued, is_session, left, option_map}
 use Rattle.std.proofs.lemmas.Bool.Decides.{nat_tests}
 use Rattle.np_lists.proofs.Each.{all-at}
-use Rattle.np_tree.specs.Prelude.{IsWhole, Node, Row, Seen, TreeState, at_path, find_named, is_named, name_of, parent_of, row_before, row_of, rows_at, seen_at, seen_in, seen_of}
+use Rattle.np_layout.specs.Prelude.{IsGood, IsQueue, IsWait, IsWhole, Node, Row, Seen, TreeState, above, at_path, find_named, is_named, name_of, parent_of, path_of, place_name, row_before, row_of, rows_at, seen_at, seen_in, seen_of, under}
 use Rattle.np_nodes.proofs.PlaceLemmas.{bytes_eq-from}
 use Rattle.np_tree.proofs.StandingLemmas.{children_of-ephemeral}
 use Rattle.np_tree.proofs.GoesLemmas.{seen-node}
 use Rattle.np_tree.proofs.RelationLemmas.{rows-rise, seen-is-row}
 use Rattle.np_tree.proofs.SiblingLemmas.{other-name, other-name_back}
-use Rattle.np_layout.specs.Place.{IsGood, above, path_of, place_name}
-use Rattle.np_layout.specs.declared.place.Place.{Place}
+use Rattle.np_layout.proofs.Prelude.{AreDistinct, MayDelete, Place, wait_row}
 use Rattle.np_layout.proofs.AboveLemmas.{is_path-of, parts-of}
-use Rattle.np_layout.specs.Deletes.{AreDistinct, MayDelete}
-use Rattle.np_layout.specs.Layout.{IsQueue, IsWait, under}
-use Rattle.np_layout.specs.Rows.{wait_row}
 use Rattle.np_layout.proofs.DeleteOnce.{zip-filter}
 use Rattle.np_layout.proofs.DeleteSteps.{DeleteGoes, DeletesRow, delete-goes, is_other}
 use Rattle.np_machine.proofs.Ids.{session-equal}

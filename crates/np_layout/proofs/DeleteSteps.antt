@@ -11,12 +11,9 @@ use Rattle.np_tree.proofs.WholeLemmas.{IsWhole-after_part}
 use Rattle.np_tree.specs.Relations.{Deletes}
 use Rattle.np_tree.proofs.GoesLemmas.{deletes-go}
 use Rattle.np_tree.proofs.RelationLemmas.{apart-below, deletes-show, seen-is-row}
-use Rattle.np_layout.specs.Place.{IsGood, above, path_of, place_name}
-use Rattle.np_layout.specs.declared.place.Place.{Place}
+use Rattle.np_layout.proofs.Prelude.{HasLeaves, IsGood, Place, above, delete, next_under, path_of, place_name, under}
 use Rattle.np_layout.proofs.AboveLemmas.{IsGood-above, is_path-of, parts-of, path_of-joined}
 use Rattle.np_layout.proofs.ChildLemmas.{same_paths}
-use Rattle.np_layout.specs.Deletes.{delete}
-use Rattle.np_layout.specs.Layout.{HasLeaves, next_under, under}
 use Rattle.np_layout.proofs.Elsewhere.{IsApart, Stays, has_counter}
 use Rattle.np_layout.proofs.SetSteps.{empty-by}
 use Rattle.np_tree.proofs.ClearLemmas.{ok-then}

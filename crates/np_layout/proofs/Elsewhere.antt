@@ -2,15 +2,10 @@
 use Rattle.std.proofs.Common.{◌≡◌, ℕ, zero, suc, ◌+◌, ◌≤◌, ◌^◌, eqb, eq-eqb, Bool, true, false, ◌||◌, map, List, [], ◌∷◌, ◌++◌, length, Some, refl, ap, ◌∙◌, sym, subst, arith}
 use Rattle.std.specs.Fmt.{decimal}
 use Rattle.np_machine.specs.Prelude.{AllByRecursion, AllZip, JobId, JobRecord, NodeEntry, RequestEntry, RoleRecord, SemId, SessionId, list_any, range_with_len}
-use Rattle.np_tree.specs.Prelude.{Row, TreeState, is_in}
-use Rattle.np_machine.specs.declared.state.Registration.{Registration}
-use Rattle.np_machine.specs.declared.state.SessionFacts.{SessionFacts}
+use Rattle.np_layout.specs.Prelude.{IsGood, Row, TreeState, is_in}
+use Rattle.np_layout.proofs.Prelude.{Jobs, Launchers, Node, NodeLock, Nodepool, Nodes, Place, Poolsim, Registration, Request, RequestLock, RequestLocks, Requests, Roles, Root, Semaphore, Semaphores, SessionFacts, Sessions, SweptPairs, Tick, Zuul, persistent}
 use Rattle.np_machine.specs.declared.state.Swept.{Swept}
-use Rattle.np_layout.specs.Place.{IsGood}
-use Rattle.np_layout.specs.declared.place.Place.{Place}
-use Rattle.np_layout.specs.declared.place.Place.TheVariants.{Root, Nodepool, Requests, Request, RequestLocks, RequestLock, Nodes, Node, NodeLock, Launchers, Zuul, Semaphores, Semaphore, Poolsim, Jobs, Roles, Sessions, SweptPairs, Tick}
 use Rattle.np_layout.specs.Layout.{AreJobs, AreLaunchers, AreLive, AreNodeLocks, AreNodes, AreRequestLocks, AreRequests, AreRoles, AreSemaphores, AreSessions, AreSwept, HasHandles, HasLeaves, HasNodeLock, IsFrame, IsNodeRow, IsQueue, IsWait, directories, next_under, under}
-use Rattle.np_layout.specs.Rows.{persistent}
 
 -- a number for each kind of place with something below it; zero for the others
 abbrev pub directory : Place → ℕ
@@ -81,14 +76,6 @@ pub record Stays (dirs : List Place) (t u : TreeState) : Type 0 where
   pub leaves : (other : Place) → IsGood other → has_leaves other ≡ true → IsApart other dirs → HasLeaves other t → HasLeaves other u
   pub counters : (other : Place) (next : ℕ) → IsGood other → has_counter other ≡ true → IsApart other dirs → next_under other t ≡ Some next → next_under other u ≡ Some next
 
--- what stays in each of two steps stays in both
-pub stays-more : (dir : Place) (dirs : List Place) (t v u : TreeState) → Stays (dir ∷ []) t v → Stays dirs v u → Stays (dir ∷ dirs) t u
-stays-more dir dirs t v u one more = record {
-  rows = λ other good apart. more.rows other good apart.1 ∙ one.rows other good (apart.0, tt);
-  leaves = λ other good has apart leaves. more.leaves other good has apart.1 (one.leaves other good has (apart.0, tt) leaves);
-  counters = λ other next good has apart is. more.counters other next good has apart.1 (one.counters other next good has (apart.0, tt) is);
-}
-
 -- nothing changes
 pub stays-same : (dirs : List Place) (t : TreeState) → Stays dirs t t
 stays-same dirs t = record { rows = λ other good apart. refl; leaves = λ other good has apart leaves. leaves; counters = λ other next good has apart is. is }
@@ -101,15 +88,30 @@ stays-both dirs t v u first last = record {
   counters = λ other next good has apart is. last.counters other next good has apart (first.counters other next good has apart is);
 }
 
+-- what stays beside some places stays beside more
+pub stays-wider : (dirs more : List Place) (t u : TreeState) → ((other : Place) → IsApart other more → IsApart other dirs) → Stays dirs t u → Stays more t u
+stays-wider dirs more t u less stays = record {
+  rows = λ other good apart. stays.rows other good (less other apart);
+  leaves = λ other good has apart. stays.leaves other good has (less other apart);
+  counters = λ other next good has apart. stays.counters other next good has (less other apart);
+}
+
+-- what stays in each of two steps stays in both
+pub stays-more : (dir : Place) (dirs : List Place) (t v u : TreeState) → Stays (dir ∷ []) t v → Stays dirs v u → Stays (dir ∷ dirs) t u
+stays-more dir dirs t v u one more =
+    stays-both (dir ∷ dirs) t v u (stays-wider (dir ∷ []) (dir ∷ dirs) t v (λ other apart. (apart.0, tt)) one) (stays-wider dirs (dir ∷ dirs) v u (λ other apart. apart.1) more)
+
 module _ (dirs : List Place) (t u : TreeState) (stays : Stays dirs t u) where
   -- a directory of another kind
   pub rows-stay : (p : Place) → IsGood p → IsBeside p dirs → under p u ≡ under p t
   rows-stay p good beside = stays.rows p good (beside-apart p dirs beside)
 
-  leaves-stay : (p : Place) → IsGood p → has_leaves p ≡ true → IsBeside p dirs → HasLeaves p t → HasLeaves p u
+  -- its leaves
+  pub leaves-stay : (p : Place) → IsGood p → has_leaves p ≡ true → IsBeside p dirs → HasLeaves p t → HasLeaves p u
   leaves-stay p good has beside = stays.leaves p good has (beside-apart p dirs beside)
 
-  counter-stays : (p : Place) (next : ℕ) → IsGood p → has_counter p ≡ true → IsBeside p dirs → next_under p t ≡ Some next → next_under p u ≡ Some next
+  -- its counter
+  pub counter-stays : (p : Place) (next : ℕ) → IsGood p → has_counter p ≡ true → IsBeside p dirs → next_under p t ≡ Some next → next_under p u ≡ Some next
   counter-stays p next good has beside = stays.counters p next good has (beside-apart p dirs beside)
 
   -- the directories that are always there, with another tick

@@ -1,16 +1,10 @@
 -- requests, nodes and sessions are read back
 use Rattle.std.proofs.Common.{◌≡◌, ℕ, ◌+◌, ◌-◌, Bool, List, [], ◌∷◌, length, map, unwrap_or, refl, ap, ◌∙◌, arith}
 use Rattle.np_machine.specs.Prelude.{AllByRecursion, AllZip, NodeEntry, NodeId, RequestEntry, RequestId, SessionId, SessionRecord, range_with_len}
-use Rattle.np_tree.specs.Prelude.{Row, TreeState, is_in}
+use Rattle.np_layout.specs.Prelude.{IsGood, IsRequest, IsSessionRole, Row, TreeState, is_in, place_name, request_record_text, session_text}
 use Rattle.np_spelling.specs.Reading.{node_in, request_record_in, session_in}
-use Rattle.np_spelling.specs.Spelling.{IsRequest, IsSessionRole, request_record_text, session_text}
 use Rattle.np_machine.specs.declared.state.Locked.{Locked}
-use Rattle.np_machine.specs.declared.state.SessionFacts.{SessionFacts}
-use Rattle.np_layout.specs.Place.{IsGood, place_name}
-use Rattle.np_layout.specs.declared.place.Place.{Place}
-use Rattle.np_layout.specs.declared.place.Place.TheVariants.{Request, RequestLock, Nodes, Node, NodeLock}
-use Rattle.np_layout.specs.Layout.{AreLive, AreNodeLocks, AreNodes, AreRequestLocks, AreRequests, AreSessions, HasNodeLock, IsNodeRow, IsQueue, IsWait, under}
-use Rattle.np_layout.specs.Rows.{request_row, rows_from, session_row}
+use Rattle.np_layout.proofs.Prelude.{AreLive, AreNodeLocks, AreNodes, AreRequestLocks, AreRequests, AreSessions, HasNodeLock, IsNodeRow, IsQueue, IsWait, Node, NodeLock, Nodes, Place, Request, RequestLock, SessionFacts, request_row, rows_from, session_row, under}
 use Rattle.np_layout.specs.Decoded.{no_node, no_request, no_session, node_at, node_named, nodes_at, owner_of, queue_at, request_at, request_named, requests_at, session_at, sessions_at, sessions_from}
 use Rattle.np_layout.proofs.Lists.{map-back}
 use Rattle.np_layout.proofs.Texts.{node-read, node_named-digits, request-read, request_named-text, session-read}
@@ -22,11 +16,10 @@ session-back session = let number : session.0 + 1 - 1 ≡ session.0 = omega arit
 
 owners-same : (next : ℕ) (rows : List Row) (queue : List SessionId) → AllZip (IsWait next) rows queue → map owner_of rows ≡ queue
 owners-same next [] [] waits = refl
-owners-same next [] (session ∷ queue) waits = absurd waits
-owners-same next (row ∷ rows) [] waits = absurd waits
 owners-same next (row ∷ rows) (session ∷ queue) waits =
     ap (λ (owner : SessionId). owner ∷ map owner_of rows) (ap owner_of waits.0.is ∙ session-back session)
     ∙ ap (λ (rest : List SessionId). session ∷ rest) (owners-same next rows queue waits.1)
+owners-same next _ _ waits = absurd waits
 
 -- the owners of a lock's rows are its queue
 pub queue-same : (lock : Place) (queue : List SessionId) (t : TreeState) → IsQueue lock queue t → queue_at lock t ≡ queue
@@ -64,11 +57,10 @@ node-same t row e is good lock =
 
 each-node : (t : TreeState) (rows : List Row) (entries : List NodeEntry) → AllZip IsNodeRow rows entries → AllByRecursion (λ e. IsGood (Node e.id)) entries → AreNodeLocks entries t → map (node_at t) rows ≡ entries
 each-node t [] [] are good locks = refl
-each-node t [] (e ∷ entries) are good locks = absurd are
-each-node t (row ∷ rows) [] are good locks = absurd are
 each-node t (row ∷ rows) (e ∷ entries) are good locks =
     ap (λ (first : NodeEntry). first ∷ map (node_at t) rows) (node-same t row e are.0 good.0 locks.0)
     ∙ ap (λ (rest : List NodeEntry). e ∷ rest) (each-node t rows entries are.1 good.1 locks.1)
+each-node t _ _ are good locks = absurd are
 
 -- each node is what its name, its text and its lock say
 pub nodes-same : (t : TreeState) (entries : List NodeEntry) (next : ℕ) → AreNodes entries next t → AreNodeLocks entries t → AllByRecursion (λ e. IsGood (Node e.id)) entries → nodes_at t ≡ entries

@@ -5,8 +5,7 @@ use Rattle.np_path.specs.Faults.{path_fault}
 use Rattle.np_path.specs.Makes.{Makes}
 use Rattle.np_path.specs.declared.fault.PathFault.TheVariants.{Bad}
 use Rattle.np_path.proofs.GrammarLemmas.{is_path-no_fault}
-use Rattle.np_layout.specs.Place.{IsGood, path_of}
-use Rattle.np_layout.specs.declared.place.Place.{Place}
+use Rattle.np_layout.proofs.Prelude.{IsGood, Place, path_of}
 use Rattle.np_layout.proofs.AboveLemmas.{is_path-of}
 
 none-of : (o : Option ℕ) → is_none o ≡ true → o ≡ None

@@ -1,14 +1,10 @@
 -- several parts of the first call make the nodes of one kind
 use Rattle.std.proofs.Common.{◌≡◌, ℕ, zero, suc, ◌+◌, ◌<◌, ◌≤◌, eqb, false, List, [], ◌∷◌, map, Some, None, refl, ap, ◌∙◌, subst, arith}
-use Rattle.np_tree.specs.Prelude.{HasRoomFor, IsWhole, Row, Seen, TreeState, after_part, find_named, is_in, name_of, option_map, range_with_len, seen_at, seen_in}
+use Rattle.np_layout.specs.Prelude.{HasRoomFor, IsGood, IsWhole, Row, Seen, TreeState, above, after_part, find_named, is_in, make, name_of, option_map, path_of, range_with_len, seen_at, seen_in, under}
 use Rattle.np_tree.proofs.RelationLemmas.{seen-is-row}
 use Rattle.np_tree.proofs.ViewRoomLemmas.{room-falls, room-gives}
-use Rattle.np_layout.specs.Place.{IsGood, above, path_of}
-use Rattle.np_layout.specs.declared.place.Place.{Place}
+use Rattle.np_layout.proofs.Prelude.{Place, persistent}
 use Rattle.np_layout.proofs.AboveLemmas.{IsGood-above, is_path-of, parts-of}
-use Rattle.np_layout.specs.First.{make}
-use Rattle.np_layout.specs.Layout.{under}
-use Rattle.np_layout.specs.Rows.{persistent}
 use Rattle.np_layout.proofs.FirstKinds.{Block, IsKind, Makes, Ready, kind, rows_put}
 use Rattle.np_layout.proofs.FirstSteps.{step}
 

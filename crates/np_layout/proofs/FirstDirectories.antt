@@ -5,11 +5,8 @@ use Rattle.np_tree.proofs.WholeLemmas.{IsWhole-new_tree}
 use Rattle.np_tree.proofs.ElsewhereLemmas.{goes-whole}
 use Rattle.np_tree.proofs.ViewRoomLemmas.{room-falls}
 use Rattle.np_layout.specs.Place.{IsGood, path_of}
-use Rattle.np_layout.specs.declared.place.Place.{Place}
-use Rattle.np_layout.specs.declared.place.Place.TheVariants.{Root, Nodepool, Requests, RequestLocks, Nodes, Launchers, Zuul, Semaphores, Poolsim, Jobs, Roles, Sessions, SweptPairs, Tick}
+use Rattle.np_layout.proofs.Prelude.{Jobs, Launchers, Nodepool, Nodes, Place, Poolsim, RequestLocks, Requests, Roles, Root, Semaphores, Sessions, SweptPairs, Tick, Zuul, directories, first_directories, make, next_under, under}
 use Rattle.np_layout.proofs.AboveLemmas.{is_path-of}
-use Rattle.np_layout.specs.First.{first_directories, make}
-use Rattle.np_layout.specs.Layout.{directories, next_under, under}
 use Rattle.np_layout.proofs.FirstKinds.{Ready}
 
 -- parts that are accepted take room, one each

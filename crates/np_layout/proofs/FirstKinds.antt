@@ -2,13 +2,8 @@
 use Rattle.std.proofs.Common.{◌≡◌, ℕ, ◌<◌, ◌≤◌, eqb, eq-eqb, true, false, List, length, map, Some, None, ap}
 use Rattle.std.specs.Prelude.{fold}
 use Rattle.np_tree.specs.Prelude.{Goes, HasRoomFor, IsWhole, Row, TreeState, is_in, owner_at, range_with_len, seen_at, with_row}
-use Rattle.np_layout.specs.Place.{IsGood, above, path_of}
-use Rattle.np_layout.specs.declared.place.Place.{Place}
-use Rattle.np_layout.specs.declared.place.Place.TheVariants.{Semaphores, Semaphore, Poolsim, Jobs, Job, Roles, LauncherRole, JanitorRole, RequesterRole, Tick}
+use Rattle.np_layout.proofs.Prelude.{IsGood, JanitorRole, Job, Jobs, LauncherRole, Place, Poolsim, RequesterRole, Roles, Semaphore, Semaphores, Tick, above, make, next_under, path_of, persistent, under}
 use Rattle.np_layout.proofs.ChildLemmas.{same_paths}
-use Rattle.np_layout.specs.First.{make}
-use Rattle.np_layout.specs.Layout.{next_under, under}
-use Rattle.np_layout.specs.Rows.{persistent}
 
 -- a number for each kind of place that is made, and for each directory that gets one; zero for the others
 abbrev pub kind : Place → ℕ

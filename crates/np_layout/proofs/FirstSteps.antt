@@ -11,13 +11,9 @@ use Rattle.np_tree.specs.Relations.{Creates, counter_after}
 use Rattle.np_tree.specs.Several.{HasRoom}
 use Rattle.np_tree.proofs.GoesLemmas.{creates-go}
 use Rattle.np_tree.proofs.RelationLemmas.{creates-show, parts-change_nodes_alone}
-use Rattle.np_layout.specs.Place.{IsGood, above, path_of, place_name}
-use Rattle.np_layout.specs.declared.place.Place.{Place}
+use Rattle.np_layout.proofs.Prelude.{IsGood, Place, above, make, next_under, path_of, persistent, place_name}
 use Rattle.np_layout.proofs.AboveLemmas.{IsGood-above, is_path-of, parts-of, path_of-joined}
 use Rattle.np_layout.proofs.ChildLemmas.{same_paths}
-use Rattle.np_layout.specs.First.{make}
-use Rattle.np_layout.specs.Layout.{next_under}
-use Rattle.np_layout.specs.Rows.{persistent}
 use Rattle.np_layout.proofs.FirstKinds.{Makes, apart-kinds, kind}
 
 -- a create that is accepted is a part that is accepted

@@ -5,51 +5,26 @@ use Rattle.std.specs.Fmt.{decimal, digits}
 use Rattle.np_machine.specs.Prelude.{AllByRecursion, AllZip, Configuration, IsSound, JobId, new_job, no_deeds, range_with_len, start}
 use Rattle.std.proofs.lemmas.List.{length-map}
 use Rattle.std.proofs.lemmas.List.Sums.{fold-append}
-use Rattle.np_tree.specs.Prelude.{Goes, HasRoomFor, Row, TreeState, after_begin, after_part, answers_from, below, is_in, new_tree, rows_at, seen_at, with_next_number, with_row}
-use Rattle.np_spelling.specs.Spelling.{job_text, role_text}
+use Rattle.np_layout.specs.Prelude.{Goes, HasRoomFor, IsGood, Row, TreeState, above, after_begin, after_part, answers_from, below, is_in, job_text, new_tree, path_of, place_name, role_text, rows_at, seen_at, with_next_number, with_row}
 use Rattle.np_tree.proofs.RelationLemmas.{nothing-below_nothing}
 use Rattle.np_tree.proofs.ViewRoomLemmas.{room-gives}
 use Rattle.np_tree.proofs.SeveralLemmas.{goes-answered, goes-joined, goes-under-one-number}
-use Rattle.np_layout.specs.Place.{IsGood, above, path_of, place_name}
-use Rattle.np_layout.specs.declared.place.Place.{Place}
-use Rattle.np_layout.specs.declared.place.Place.TheVariants.{Root, Nodepool, Requests, RequestLocks, Nodes, Launchers, Zuul, Semaphores, Semaphore, Poolsim, Jobs, Job, Roles, LauncherRole, JanitorRole, RequesterRole, Sessions, SweptPairs, Tick}
+use Rattle.np_layout.proofs.Prelude.{AreJobs, AreRoles, AreSemaphores, HasHandles, HasLeaves, IsNodeRow, Jobs, Launchers, LaysOut, Nodepool, Nodes, Place, Poolsim, RequestLocks, Requests, Roles, Root, Semaphore, Semaphores, Sessions, SweptPairs, Tick, Zuul, first_directories, first_parts, first_tree, make, make_each, next_under, under}
 use Rattle.np_layout.proofs.AboveLemmas.{path_of-joined}
 use Rattle.np_layout.proofs.LengthLemmas.{length-two}
-use Rattle.np_layout.specs.First.{first_directories, first_parts, first_tree, make, make_each}
-use Rattle.np_layout.specs.Layout.{AreJobs, AreRoles, AreSemaphores, HasHandles, HasLeaves, IsNodeRow, LaysOut, next_under, under}
 use Rattle.np_layout.specs.Rows.{by_name, handle_row, janitor_role_row, job_row, launcher_role_row, persistent, places, requester_role_row, rows_from, semaphore_row}
 use Rattle.np_layout.proofs.FirstBlocks.{block, free-below, ready-after}
 use Rattle.np_layout.proofs.FirstDirectories.{HasDirectory, based, based-goes, based-jobs, based-poolsim, based-ready, based-roles, based-semaphores, based-shows, based-whole}
 use Rattle.np_layout.proofs.FirstKinds.{Block, IsKind, Ready, kind, rows_put}
 use Rattle.np_layout.proofs.FirstLists.{all-numbered, all-put, all-range, get-empty, no_jobs, rows_from-equal}
 use Rattle.np_layout.proofs.FirstSteps.{Step, step}
+use Rattle.np_layout.proofs.SetTables.{janitor_place, job_place, launcher_place, place_number, requester_place}
 
 -- ## the kinds
 
--- the place of each number, one function for each kind
+-- the place of each semaphore
 abbrev semaphore_at : ℕ → Place
 semaphore_at n = Semaphore (record { 0 = n })
-
-abbrev job_at : ℕ → Place
-job_at n = Job (record { 0 = n })
-
-abbrev launcher_at : ℕ → Place
-launcher_at n = LauncherRole (record { 0 = n })
-
-abbrev janitor_at : ℕ → Place
-janitor_at n = JanitorRole (record { 0 = n })
-
-abbrev requester_at : ℕ → Place
-requester_at n = RequesterRole (record { 0 = n })
-
--- the number of a place of one of the kinds
-abbrev number_of : Place → ℕ
-number_of (Semaphore x) = x.0
-number_of (Job j) = j.0
-number_of (LauncherRole p) = p.0
-number_of (JanitorRole p) = p.0
-number_of (RequesterRole q) = q.0
-number_of other = 0
 
 -- a role's first record is short
 short-role : length (role_text no_deeds) ≤ 65536
@@ -63,23 +38,23 @@ short-job = omega arith
 
 -- the semaphores of a site are of one kind
 is-semaphores : (limit : ℕ) → limit ≤ 64 → IsKind semaphore_at Semaphores 1 [] limit
-is-semaphores limit few = record { good = λ n under. omega arith; over = λ n. refl; of = λ n. refl; apart = λ m n same. ap number_of same; beside = refl; short = omega arith }
+is-semaphores limit few = record { good = λ n under. omega arith; over = λ n. refl; of = λ n. refl; apart = λ m n same. ap place_number same; beside = refl; short = omega arith }
 
 -- so are the jobs
-is-jobs : (limit : ℕ) → limit ≤ 4096 → IsKind job_at Jobs 2 (job_text new_job) limit
-is-jobs limit few = record { good = λ n under. omega arith; over = λ n. refl; of = λ n. refl; apart = λ m n same. ap number_of same; beside = refl; short = short-job }
+is-jobs : (limit : ℕ) → limit ≤ 4096 → IsKind job_place Jobs 2 (job_text new_job) limit
+is-jobs limit few = record { good = λ n under. omega arith; over = λ n. refl; of = λ n. refl; apart = λ m n same. ap place_number same; beside = refl; short = short-job }
 
 -- so are the launchers
-is-launchers : (limit : ℕ) → limit ≤ 64 → IsKind launcher_at Roles 3 (role_text no_deeds) limit
-is-launchers limit few = record { good = λ n under. omega arith; over = λ n. refl; of = λ n. refl; apart = λ m n same. ap number_of same; beside = refl; short = short-role }
+is-launchers : (limit : ℕ) → limit ≤ 64 → IsKind launcher_place Roles 3 (role_text no_deeds) limit
+is-launchers limit few = record { good = λ n under. omega arith; over = λ n. refl; of = λ n. refl; apart = λ m n same. ap place_number same; beside = refl; short = short-role }
 
 -- so are the janitors
-is-janitors : (limit : ℕ) → limit ≤ 64 → IsKind janitor_at Roles 4 (role_text no_deeds) limit
-is-janitors limit few = record { good = λ n under. omega arith; over = λ n. refl; of = λ n. refl; apart = λ m n same. ap number_of same; beside = refl; short = short-role }
+is-janitors : (limit : ℕ) → limit ≤ 64 → IsKind janitor_place Roles 4 (role_text no_deeds) limit
+is-janitors limit few = record { good = λ n under. omega arith; over = λ n. refl; of = λ n. refl; apart = λ m n same. ap place_number same; beside = refl; short = short-role }
 
 -- so are the requesters
-is-requesters : (limit : ℕ) → limit ≤ 16 → IsKind requester_at Roles 5 (role_text no_deeds) limit
-is-requesters limit few = record { good = λ n under. omega arith; over = λ n. refl; of = λ n. refl; apart = λ m n same. ap number_of same; beside = refl; short = short-role }
+is-requesters : (limit : ℕ) → limit ≤ 16 → IsKind requester_place Roles 5 (role_text no_deeds) limit
+is-requesters limit few = record { good = λ n under. omega arith; over = λ n. refl; of = λ n. refl; apart = λ m n same. ap place_number same; beside = refl; short = short-role }
 
 -- a directory that was ready is so after the places of one kind
 ready-block : {place : ℕ → Place} {into : Place} {k : ℕ} {bytes : List ℕ} {at count more : ℕ} {t : TreeState} (b : Block place into k bytes at count more t) (dir : Place) (m : ℕ) → IsGood dir → eqb (kind dir) k ≡ false → Ready dir m t → Ready dir more b.u
@@ -133,11 +108,11 @@ module _ (c : Configuration) (sound : IsSound c) where
       (λ n from below. free-below based Semaphores (semaphore_at n) based-whole based-shows.semaphores (is.good n below) refl)
 
   -- the jobs are made after them
-  jobs : Block job_at Jobs 2 (job_text new_job) 0 (length c.jobs) after_jobs semaphores.u
+  jobs : Block job_place Jobs 2 (job_text new_job) 0 (length c.jobs) after_jobs semaphores.u
   jobs =
       let is = is-jobs (length c.jobs) few_jobs in
-      block job_at Jobs 2 (job_text new_job) (length c.jobs) is (length c.jobs) 0 after_jobs semaphores.u (omega arith) (ready-block semaphores Jobs from_start tt refl (ready Jobs based-jobs))
-      (λ n from below. semaphores.makes.seen (job_at n) (is.good n below) refl ∙ free-below based Jobs (job_at n) based-whole based-shows.jobs (is.good n below) refl)
+      block job_place Jobs 2 (job_text new_job) (length c.jobs) is (length c.jobs) 0 after_jobs semaphores.u (omega arith) (ready-block semaphores Jobs from_start tt refl (ready Jobs based-jobs))
+      (λ n from below. semaphores.makes.seen (job_place n) (is.good n below) refl ∙ free-below based Jobs (job_place n) based-whole based-shows.jobs (is.good n below) refl)
 
   -- the directory of roles is ready after the jobs
   roles-ready : Ready Roles after_jobs jobs.u
@@ -148,26 +123,26 @@ module _ (c : Configuration) (sound : IsSound c) where
   role-free p good over not_semaphore not_job = jobs.makes.seen p good not_job ∙ semaphores.makes.seen p good not_semaphore ∙ free-below based Roles p based-whole based-shows.roles good over
 
   -- the launchers are made after the jobs
-  launchers : Block launcher_at Roles 3 (role_text no_deeds) 0 (length c.pools) after_launchers jobs.u
+  launchers : Block launcher_place Roles 3 (role_text no_deeds) 0 (length c.pools) after_launchers jobs.u
   launchers =
       let is = is-launchers (length c.pools) few_pools in
-      block launcher_at Roles 3 (role_text no_deeds) (length c.pools) is (length c.pools) 0 after_launchers jobs.u (omega arith) roles-ready
-      (λ n from below. role-free (launcher_at n) (is.good n below) refl refl refl)
+      block launcher_place Roles 3 (role_text no_deeds) (length c.pools) is (length c.pools) 0 after_launchers jobs.u (omega arith) roles-ready
+      (λ n from below. role-free (launcher_place n) (is.good n below) refl refl refl)
 
   -- the janitors are made after the launchers
-  janitors : Block janitor_at Roles 4 (role_text no_deeds) 0 (length c.pools) after_janitors launchers.u
+  janitors : Block janitor_place Roles 4 (role_text no_deeds) 0 (length c.pools) after_janitors launchers.u
   janitors =
       let is = is-janitors (length c.pools) few_pools in
-      block janitor_at Roles 4 (role_text no_deeds) (length c.pools) is (length c.pools) 0 after_janitors launchers.u (omega arith) (ready-block launchers Roles after_jobs tt refl roles-ready)
-      (λ n from below. launchers.makes.seen (janitor_at n) (is.good n below) refl ∙ role-free (janitor_at n) (is.good n below) refl refl refl)
+      block janitor_place Roles 4 (role_text no_deeds) (length c.pools) is (length c.pools) 0 after_janitors launchers.u (omega arith) (ready-block launchers Roles after_jobs tt refl roles-ready)
+      (λ n from below. launchers.makes.seen (janitor_place n) (is.good n below) refl ∙ role-free (janitor_place n) (is.good n below) refl refl refl)
 
   -- the requesters are made after the janitors
-  requesters : Block requester_at Roles 5 (role_text no_deeds) 0 (length c.requesters) after_requesters janitors.u
+  requesters : Block requester_place Roles 5 (role_text no_deeds) 0 (length c.requesters) after_requesters janitors.u
   requesters =
       let is = is-requesters (length c.requesters) few_requesters in
-      block requester_at Roles 5 (role_text no_deeds) (length c.requesters) is (length c.requesters) 0 after_requesters janitors.u (omega arith)
+      block requester_place Roles 5 (role_text no_deeds) (length c.requesters) is (length c.requesters) 0 after_requesters janitors.u (omega arith)
       (ready-block janitors Roles after_launchers tt refl (ready-block launchers Roles after_jobs tt refl roles-ready))
-      (λ n from below. janitors.makes.seen (requester_at n) (is.good n below) refl ∙ launchers.makes.seen (requester_at n) (is.good n below) refl ∙ role-free (requester_at n) (is.good n below) refl refl refl)
+      (λ n from below. janitors.makes.seen (requester_place n) (is.good n below) refl ∙ launchers.makes.seen (requester_place n) (is.good n below) refl ∙ role-free (requester_place n) (is.good n below) refl refl refl)
 
   -- the directory of the tick is ready after the requesters
   poolsim-ready : Ready Poolsim after_requesters requesters.u
@@ -204,20 +179,20 @@ module _ (c : Configuration) (sound : IsSound c) where
   unfolding made
   made-goes =
       goes-joined (after_begin new_tree) requesters.u made 1
-      (map (make []) first_directories ++ make_each [] semaphore_at c.semaphores ++ make_each (job_text new_job) job_at c.jobs ++ make_each (role_text no_deeds) launcher_at c.pools ++ make_each (role_text no_deeds) janitor_at c.pools ++ make_each (role_text no_deeds) requester_at c.requesters)
+      (map (make []) first_directories ++ make_each [] semaphore_at c.semaphores ++ make_each (job_text new_job) job_place c.jobs ++ make_each (role_text no_deeds) launcher_place c.pools ++ make_each (role_text no_deeds) janitor_place c.pools ++ make_each (role_text no_deeds) requester_place c.requesters)
       (make (decimal 0) Tick ∷ [])
       (goes-joined (after_begin new_tree) janitors.u requesters.u 1
-      (map (make []) first_directories ++ make_each [] semaphore_at c.semaphores ++ make_each (job_text new_job) job_at c.jobs ++ make_each (role_text no_deeds) launcher_at c.pools ++ make_each (role_text no_deeds) janitor_at c.pools)
-      (make_each (role_text no_deeds) requester_at c.requesters)
+      (map (make []) first_directories ++ make_each [] semaphore_at c.semaphores ++ make_each (job_text new_job) job_place c.jobs ++ make_each (role_text no_deeds) launcher_place c.pools ++ make_each (role_text no_deeds) janitor_place c.pools)
+      (make_each (role_text no_deeds) requester_place c.requesters)
       (goes-joined (after_begin new_tree) launchers.u janitors.u 1
-      (map (make []) first_directories ++ make_each [] semaphore_at c.semaphores ++ make_each (job_text new_job) job_at c.jobs ++ make_each (role_text no_deeds) launcher_at c.pools)
-      (make_each (role_text no_deeds) janitor_at c.pools)
+      (map (make []) first_directories ++ make_each [] semaphore_at c.semaphores ++ make_each (job_text new_job) job_place c.jobs ++ make_each (role_text no_deeds) launcher_place c.pools)
+      (make_each (role_text no_deeds) janitor_place c.pools)
       (goes-joined (after_begin new_tree) jobs.u launchers.u 1
-      (map (make []) first_directories ++ make_each [] semaphore_at c.semaphores ++ make_each (job_text new_job) job_at c.jobs)
-      (make_each (role_text no_deeds) launcher_at c.pools)
+      (map (make []) first_directories ++ make_each [] semaphore_at c.semaphores ++ make_each (job_text new_job) job_place c.jobs)
+      (make_each (role_text no_deeds) launcher_place c.pools)
       (goes-joined (after_begin new_tree) semaphores.u jobs.u 1
       (map (make []) first_directories ++ make_each [] semaphore_at c.semaphores)
-      (make_each (job_text new_job) job_at c.jobs)
+      (make_each (job_text new_job) job_place c.jobs)
       (goes-joined (after_begin new_tree) based semaphores.u 1 (map (make []) first_directories) (make_each [] semaphore_at c.semaphores) based-goes semaphores.goes)
       jobs.goes)
       launchers.goes)
@@ -227,16 +202,14 @@ module _ (c : Configuration) (sound : IsSound c) where
 
   -- ## what is as it was
 
+  -- a directory that is not that of roles or of the tick has the rows that it had after the jobs
+  later : (q : Place) → IsGood q → eqb (kind q) 9 ≡ false → eqb (kind q) 10 ≡ false → under q made ≡ under q jobs.u
+  unfolding made
+  later q good d e = ticked.makes.other_rows q good e ∙ requesters.makes.other_rows q good d ∙ janitors.makes.other_rows q good d ∙ launchers.makes.other_rows q good d
+
   -- a directory in which nothing is made has the rows that it had
   others : (q : Place) → IsGood q → eqb (kind q) 7 ≡ false → eqb (kind q) 8 ≡ false → eqb (kind q) 9 ≡ false → eqb (kind q) 10 ≡ false → under q made ≡ under q based
-  unfolding made
-  others q good a b d e =
-      ticked.makes.other_rows q good e
-      ∙ requesters.makes.other_rows q good d
-      ∙ janitors.makes.other_rows q good d
-      ∙ launchers.makes.other_rows q good d
-      ∙ jobs.makes.other_rows q good b
-      ∙ semaphores.makes.other_rows q good a
+  others q good a b d e = later q good d e ∙ jobs.makes.other_rows q good b ∙ semaphores.makes.other_rows q good a
 
   -- a node that is not made has the counter that it had
   counted : (q : Place) → IsGood q → kind q ≡ 0 → next_under q made ≡ next_under q based
@@ -274,38 +247,27 @@ module _ (c : Configuration) (sound : IsSound c) where
   semaphore_rows = map (λ n. persistent (semaphore_at n) []) (range_with_len 0 (length c.semaphores))
 
   abbrev job_rows : List Row
-  job_rows = map (λ n. persistent (job_at n) (job_text new_job)) (range_with_len 0 (length c.jobs))
+  job_rows = map (λ n. persistent (job_place n) (job_text new_job)) (range_with_len 0 (length c.jobs))
 
   abbrev launcher_rows : List Row
-  launcher_rows = map (λ n. persistent (launcher_at n) (role_text no_deeds)) (range_with_len 0 (length c.pools))
+  launcher_rows = map (λ n. persistent (launcher_place n) (role_text no_deeds)) (range_with_len 0 (length c.pools))
 
   abbrev janitor_rows : List Row
-  janitor_rows = map (λ n. persistent (janitor_at n) (role_text no_deeds)) (range_with_len 0 (length c.pools))
+  janitor_rows = map (λ n. persistent (janitor_place n) (role_text no_deeds)) (range_with_len 0 (length c.pools))
 
   abbrev requester_rows : List Row
-  requester_rows = map (λ n. persistent (requester_at n) (role_text no_deeds)) (range_with_len 0 (length c.requesters))
+  requester_rows = map (λ n. persistent (requester_place n) (role_text no_deeds)) (range_with_len 0 (length c.requesters))
 
   -- the directory of semaphores has a row for each semaphore
   semaphores-made : under Semaphores made ≡ rows_put [] semaphore_rows
-  unfolding made
   semaphores-made =
-      ticked.makes.other_rows Semaphores tt refl
-      ∙ requesters.makes.other_rows Semaphores tt refl
-      ∙ janitors.makes.other_rows Semaphores tt refl
-      ∙ launchers.makes.other_rows Semaphores tt refl
-      ∙ jobs.makes.other_rows Semaphores tt refl
-      ∙ semaphores.makes.rows
+      later Semaphores tt refl refl ∙ jobs.makes.other_rows Semaphores tt refl ∙ semaphores.makes.rows
       ∙ ap (λ (sorted : List Row). rows_put sorted semaphore_rows) based-shows.semaphores
 
   -- the directory of jobs has a row for each job
   jobs-made : under Jobs made ≡ rows_put [] job_rows
-  unfolding made
   jobs-made =
-      ticked.makes.other_rows Jobs tt refl
-      ∙ requesters.makes.other_rows Jobs tt refl
-      ∙ janitors.makes.other_rows Jobs tt refl
-      ∙ launchers.makes.other_rows Jobs tt refl
-      ∙ jobs.makes.rows
+      later Jobs tt refl refl ∙ jobs.makes.rows
       ∙ ap (λ (sorted : List Row). rows_put sorted job_rows) (semaphores.makes.other_rows Jobs tt refl ∙ based-shows.jobs)
 
   -- the directory of roles has the rows of launchers, janitors and requesters
@@ -361,8 +323,8 @@ module _ (c : Configuration) (sound : IsSound c) where
         rows = jobs-made ∙ ap by_name (rows_from-equal job_row new_job c.jobs 0);
         leaves = subst (λ (rows : List Row). AllByRecursion is_leaf rows) (sym jobs-made)
             (all-put is_leaf job_rows [] tt
-            (all-numbered is_leaf (λ n. persistent (job_at n) (job_text new_job)) (length c.jobs) 0 (length c.jobs) (omega arith)
-            (λ n within. leaf-below (job_at n) Jobs (is.good n within) refl based-shows.jobs refl refl refl refl)));
+            (all-numbered is_leaf (λ n. persistent (job_place n) (job_text new_job)) (length c.jobs) 0 (length c.jobs) (omega arith)
+            (λ n within. leaf-below (job_place n) Jobs (is.good n within) refl based-shows.jobs refl refl refl refl)));
       }
 
   -- the roles are laid out
@@ -385,12 +347,12 @@ module _ (c : Configuration) (sound : IsSound c) where
             (all-put is_leaf requester_rows (rows_put (rows_put [] launcher_rows) janitor_rows)
             (all-put is_leaf janitor_rows (rows_put [] launcher_rows)
             (all-put is_leaf launcher_rows [] tt
-            (all-numbered is_leaf (λ n. persistent (launcher_at n) (role_text no_deeds)) (length c.pools) 0 (length c.pools) (omega arith)
-            (λ n within. leaf-below (launcher_at n) Roles (is_l.good n within) refl based-shows.roles refl refl refl refl)))
-            (all-numbered is_leaf (λ n. persistent (janitor_at n) (role_text no_deeds)) (length c.pools) 0 (length c.pools) (omega arith)
-            (λ n within. leaf-below (janitor_at n) Roles (is_j.good n within) refl based-shows.roles refl refl refl refl)))
-            (all-numbered is_leaf (λ n. persistent (requester_at n) (role_text no_deeds)) (length c.requesters) 0 (length c.requesters) (omega arith)
-            (λ n within. leaf-below (requester_at n) Roles (is_r.good n within) refl based-shows.roles refl refl refl refl)));
+            (all-numbered is_leaf (λ n. persistent (launcher_place n) (role_text no_deeds)) (length c.pools) 0 (length c.pools) (omega arith)
+            (λ n within. leaf-below (launcher_place n) Roles (is_l.good n within) refl based-shows.roles refl refl refl refl)))
+            (all-numbered is_leaf (λ n. persistent (janitor_place n) (role_text no_deeds)) (length c.pools) 0 (length c.pools) (omega arith)
+            (λ n within. leaf-below (janitor_place n) Roles (is_j.good n within) refl based-shows.roles refl refl refl refl)))
+            (all-numbered is_leaf (λ n. persistent (requester_place n) (role_text no_deeds)) (length c.requesters) 0 (length c.requesters) (omega arith)
+            (λ n within. leaf-below (requester_place n) Roles (is_r.good n within) refl based-shows.roles refl refl refl refl)));
       }
 
   -- a directory that stays empty has leaves alone

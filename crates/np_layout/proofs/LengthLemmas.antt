@@ -6,8 +6,7 @@ use Rattle.np_machine.specs.Prelude.{HasText, RequestId}
 use Rattle.np_text.proofs.OrderLemmas.{length-ten}
 use Rattle.np_text.proofs.RequestLemmas.{decimal_three}
 use Rattle.np_layout.specs.Place.{IsGood, path_of}
-use Rattle.np_layout.specs.declared.place.Place.{Place}
-use Rattle.np_layout.specs.declared.place.Place.TheVariants.{Request, RequestLock, RequestWait, Node, NodeLock, NodeWait, Launcher, Semaphore, Handle, Job, LauncherRole, JanitorRole, RequesterRole, Session, Swept}
+use Rattle.np_layout.proofs.Prelude.{Handle, JanitorRole, Job, Launcher, LauncherRole, Node, NodeLock, NodeWait, Place, Request, RequestLock, RequestWait, RequesterRole, Semaphore, Session, Swept}
 use Rattle.np_lists.proofs.Plain.{decimal-short}
 use Rattle.np_text.specs.Request.{request_text_of}
 

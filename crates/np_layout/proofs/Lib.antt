@@ -1,3 +1,4 @@
+pub mod Prelude
 pub mod Refute
 pub mod FirstKinds
 pub mod FirstSteps
@@ -6,6 +7,7 @@ pub mod FirstDirectories
 pub mod FirstLists
 pub mod FirstTrees
 pub mod Elsewhere
+pub mod EachTable
 pub mod SetLists
 pub mod CreateLists
 pub mod CreateSteps

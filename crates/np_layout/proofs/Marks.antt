@@ -7,17 +7,11 @@ use Rattle.std.proofs.lemmas.Bool.Decides.{nat_tests}
 use Rattle.std.proofs.lemmas.Option.{slice_get_within}
 use Rattle.np_lists.proofs.Each.{all-at, all-weaker}
 use Rattle.np_lists.proofs.FoundLemmas.{find-passes}
-use Rattle.np_tree.specs.Prelude.{Row, TreeState, find_named, is_named}
+use Rattle.np_layout.specs.Prelude.{AreHolders, IsGood, Row, TreeState, find_named, is_named, place_name}
 use Rattle.np_nodes.proofs.PlaceLemmas.{bytes_eq-from}
-use Rattle.np_machine.specs.declared.state.Registration.{Registration}
-use Rattle.np_layout.specs.Place.{IsGood, place_name}
-use Rattle.np_layout.specs.declared.place.Place.{Place}
-use Rattle.np_layout.specs.declared.place.Place.TheVariants.{Launcher, Semaphore, Handle}
-use Rattle.np_layout.specs.Layout.{AreLaunchers, AreSemaphores, HasHandles, under}
-use Rattle.np_layout.specs.Rows.{by_name, handle_row, launcher_row}
+use Rattle.np_layout.proofs.Prelude.{AreLaunchers, AreSemaphores, Handle, HasHandles, Launcher, Place, Registration, Semaphore, by_name, handle_row, launcher_row, under}
 use Rattle.np_layout.proofs.SetLists.{at-range}
 use Rattle.np_layout.proofs.SetSteps.{named-other}
-use Rattle.np_layout.specs.Carried.{AreHolders}
 use Rattle.np_layout.specs.Decoded.{handle_at, owner_of, registration_at}
 use Rattle.np_layout.proofs.Lists.{filter_map-range, map-places}
 use Rattle.np_layout.proofs.Named.{find-keyed}

@@ -11,9 +11,7 @@ use Rattle.std.specs.Str.{IsAscii, all_ascii_digits}
 use Rattle.np_text.proofs.OrderLemmas.{all_ascii_digits-ten, ten-le-length}
 use Rattle.np_text.proofs.SpellingLemmas.{model}
 use Rattle.np_path.specs.Grammar.{is_dots, is_element, is_kept}
-use Rattle.np_layout.specs.Place.{IsGood, above, place_name}
-use Rattle.np_layout.specs.declared.place.Place.{Place}
-use Rattle.np_layout.specs.declared.place.Place.TheVariants.{Request, RequestLock, RequestWait, Node, NodeWait, Launcher, Semaphore, Handle, Job, LauncherRole, JanitorRole, RequesterRole, Session, Swept}
+use Rattle.np_layout.proofs.Prelude.{Handle, IsGood, JanitorRole, Job, Launcher, LauncherRole, Node, NodeWait, Place, Request, RequestLock, RequestWait, RequesterRole, Semaphore, Session, Swept, above, place_name}
 use Rattle.std.proofs.lemmas.Bool.{and_parts, and_from}
 use Rattle.np_text.specs.Request.{request_text_of}
 

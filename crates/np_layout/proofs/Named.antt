@@ -1,21 +1,18 @@
 -- the row of a name among rows in the order of their names, and the bytes at its path
 use Rattle.std.proofs.Common.{◌≡◌, ℕ, zero, suc, ◌+◌, Bool, true, false, List, [], ◌∷◌, ◌++◌, map, Option, Some, None, unwrap_or, refl, sym, ap, ◌∙◌, arith}
 use Rattle.std.specs.Prelude.{◌==◌, find, slice_get}
-use Rattle.np_tree.specs.Prelude.{AllByRecursion, IsWhole, Node, Rises, Row, Seen, TreeState, at_path, find_named, is_named, list_any, option_map, seen_in, seen_of}
+use Rattle.np_layout.specs.Prelude.{AllByRecursion, IsGood, IsWhole, Node, Rises, Row, Seen, TreeState, above, at_path, find_named, is_named, list_any, option_map, path_of, place_name, seen_in, seen_of, under}
 use Rattle.np_lists.proofs.Each.{all-find, all-mapped}
 use Rattle.np_lists.proofs.FilterLemmas.{list_any-none, none-list_any}
 use Rattle.np_lists.proofs.FoundLemmas.{find-passes}
 use Rattle.np_lists.proofs.Halves.{find-none, none-find}
 use Rattle.np_nodes.proofs.PlaceLemmas.{bytes_eq-is}
 use Rattle.np_tree.proofs.RelationLemmas.{seen-is-row}
-use Rattle.np_layout.specs.Place.{IsGood, above, path_of, place_name}
-use Rattle.np_layout.specs.declared.place.Place.{Place}
+use Rattle.np_layout.proofs.Prelude.{Place, by_name, rows_from}
 use Rattle.np_layout.proofs.AboveLemmas.{is_path-of, parts-of}
 use Rattle.np_layout.proofs.ChildLemmas.{same_names}
-use Rattle.np_layout.specs.Layout.{under}
-use Rattle.np_layout.specs.Rows.{by_name, rows_from}
-use Rattle.np_layout.proofs.DeleteLists.{any-mapped}
-use Rattle.np_layout.proofs.DeleteParts.{all-pair, found-any}
+use Rattle.np_layout.proofs.DeleteLists.{any-mapped, found-any}
+use Rattle.np_layout.proofs.DeleteParts.{all-pair}
 use Rattle.np_layout.proofs.FirstLists.{all-put}
 use Rattle.np_layout.proofs.SetLists.{any-by_name, any-found}
 use Rattle.np_layout.specs.Decoded.{text_at}

@@ -2,9 +2,8 @@
 use Rattle.std.proofs.Common.{◌≡◌, ℕ, ◌≤◌, ◌^◌, length, map, Option, unwrap_or, sym, ap, ◌∙◌, arith}
 use Rattle.std.specs.Prelude.{filter_map}
 use Rattle.np_machine.specs.Prelude.{Configuration, State, range_with_len}
-use Rattle.np_nodes.specs.TreeState.{TreeState}
+use Rattle.np_layout.specs.Prelude.{IsStored, TreeState}
 use Rattle.np_layout.specs.declared.place.Place.TheVariants.{LauncherRole, JanitorRole, RequesterRole}
-use Rattle.np_layout.specs.Carried.{IsStored}
 use Rattle.np_layout.specs.Decoded.{TreesHaveOneState, decoded, handle_at, handles_at, janitors_at, job_at, jobs_at, launchers_at, registrations_at, requesters_at, role_at}
 use Rattle.np_layout.proofs.Entries.{nodes-same, requests-same, sessions-same}
 use Rattle.np_layout.proofs.Marks.{handles-same, registrations-same}

@@ -1,12 +1,11 @@
 -- the order of swept pairs, and lists whose members are put one after another at their places
 use Rattle.std.proofs.Common.{◌≡◌, ℕ, Bool, true, false, cond, List, [], ◌∷◌, map, refl, sym, ap, ◌∙◌, subst, arith}
 use Rattle.std.specs.Prelude.{◌==◌, fold, nat_lt}
-use Rattle.np_tree.specs.Prelude.{AllByRecursion, Rises, Row, insert_before, row_before, with_row}
+use Rattle.np_layout.specs.Prelude.{AllByRecursion, Rises, Row, insert_before, is_pair_before, row_before, with_row}
 use Rattle.std.proofs.lemmas.Bool.Decides.{nat_tests}
 use Rattle.np_machine.specs.declared.state.Swept.{Swept}
 use Rattle.np_layout.specs.Rows.{by_name}
 use Rattle.np_layout.proofs.FirstKinds.{rows_put}
-use Rattle.np_layout.specs.Carried.{is_pair_before}
 
 -- ## pairs
 

@@ -8,13 +8,9 @@ use Rattle.np_lists.proofs.Each.{all-change_first}
 use Rattle.np_tree.specs.Prelude.{IsWhole, Row, TreeState, after_part, is_named, row_with}
 use Rattle.np_nodes.proofs.PlaceLemmas.{bytes_eq-from}
 use Rattle.np_spelling.specs.Spelling.{SpellsNode}
-use Rattle.np_layout.specs.Place.{IsGood, place_name}
-use Rattle.np_layout.specs.declared.place.Place.{Place}
-use Rattle.np_layout.specs.declared.place.Place.TheVariants.{Nodes, Node}
-use Rattle.np_layout.specs.Layout.{HasNodeLock, IsNodeRow, LaysOut, under}
-use Rattle.np_layout.specs.Sets.{HasGoodIds, NodesLayOut, set}
-use Rattle.np_layout.proofs.Elsewhere.{frame-stays, jobs-stay, launchers-stay, live-stays, node_locks-stay, request_locks-stay, requests-stay, roles-stay, semaphores-stay, sessions-stay, swept-stay}
-use Rattle.np_layout.proofs.SetSteps.{named-other, set-goes, sets-row}
+use Rattle.np_layout.proofs.Prelude.{HasGoodIds, HasNodeLock, IsGood, IsNodeRow, LaysOut, Node, Nodes, NodesLayOut, Place, place_name, set, under}
+use Rattle.np_layout.proofs.EachTable.{Says, Table, all-tables, each-table, is_touched, of_node_locks, of_nodes, table-stays}
+use Rattle.np_layout.proofs.SetSteps.{SetsRow, named-other, set-goes, sets-row}
 use Rattle.np_machine.proofs.Ids.{node-itself}
 
 -- ## a node's name is its own
@@ -69,12 +65,11 @@ module _ (n : NodeId) (change : NodeRecord → NodeRecord) (old : NodeRecord) (b
   node-rows : (rows : List Row) (entries : List NodeEntry) → AllByRecursion (λ e. IsGood (Node e.id)) entries → IsGood (Node n) → AllZip IsNodeRow rows entries → node_in n entries ≡ Some old →
       AllZip IsNodeRow (change_first (is_named name) (row_with bytes) rows) (change_first is_it with_change entries)
   node-rows [] [] good n_good all there = tt
-  node-rows [] (e ∷ entries) good n_good all there = absurd all
-  node-rows (row ∷ rows) [] good n_good all there = absurd all
   node-rows (row ∷ rows) (e ∷ entries) good n_good all there =
       let rest_rows : List Row = change_first (is_named name) (row_with bytes) rows in
       subst (λ (b : Bool). AllZip IsNodeRow (cond b (row_with bytes row ∷ rows) (row ∷ rest_rows)) (change_first is_it with_change (e ∷ entries))) (sym (row-named row e all.0 n_good good.0))
       (zip-by row e rows rest_rows entries (change_first is_it with_change entries) (is_it e) all.0 all.1 there (λ later. node-rows rows entries good.1 n_good all.1 later))
+  node-rows _ _ good n_good all there = absurd all
 
   any-by : (e : NodeEntry) (entries : List NodeEntry) (rest : Bool) (b : Bool) → option_map (λ (x : NodeEntry). x.kept) (cond b (Some e) (find is_it entries)) ≡ Some old → (node_in n entries ≡ Some old → rest ≡ true) → (b || rest) ≡ true
   any-by e entries rest true there later = refl
@@ -83,38 +78,30 @@ module _ (n : NodeId) (change : NodeRecord → NodeRecord) (old : NodeRecord) (b
   -- its row is there
   node-any : (rows : List Row) (entries : List NodeEntry) → AllByRecursion (λ e. IsGood (Node e.id)) entries → IsGood (Node n) → AllZip IsNodeRow rows entries → node_in n entries ≡ Some old → list_any (is_named name) rows ≡ true
   node-any [] [] good n_good all there = absurd cc
-  node-any [] (e ∷ entries) good n_good all there = absurd all
-  node-any (row ∷ rows) [] good n_good all there = absurd all
   node-any (row ∷ rows) (e ∷ entries) good n_good all there =
       ap (λ (b : Bool). b || list_any (is_named name) rows) (row-named row e all.0 n_good good.0)
       ∙ any-by e entries (list_any (is_named name) rows) (is_it e) there (node-any rows entries good.1 n_good all.1)
+  node-any _ _ good n_good all there = absurd all
 
   module _ (s : State) (t : TreeState) (whole : IsWhole t.nodes) (good : HasGoodIds s) (lays : LaysOut s t) (there : node_in n s.nodes ≡ Some old) where
     n-good : IsGood (Node n)
     n-good = node-good s.nodes good.nodes there
 
     node-lays : (w : ℕ) → LaysOut (record s { nodes = change_first is_it with_change s.nodes }) (after_part t w (set bytes (Node n)))
-    node-lays w =
-        let u : TreeState = after_part t w (set bytes (Node n)) in
-        let sets = sets-row t w Nodes (Node n) bytes n-good refl whole in
-        let stays = sets.stays in
-        record {
-          frame = frame-stays (Nodes ∷ []) t u stays s.tick refl refl refl refl refl lays.frame;
-          requests = requests-stay (Nodes ∷ []) t u stays s.requests s.next_request refl lays.requests;
-          request_locks = request_locks-stay (Nodes ∷ []) t u stays s.requests good.requests refl refl lays.request_locks;
-          nodes = record {
-            rows = subst (λ (rows : List Row). AllZip IsNodeRow rows (change_first is_it with_change s.nodes)) (sym sets.first) (node-rows (under Nodes t) s.nodes good.nodes n-good lays.nodes.rows there);
-            gives = sets.counter ∙ lays.nodes.gives;
-          };
-          node_locks = all-change_first (HasNodeLock u) is_it with_change s.nodes (λ e has. record { rows = has.rows; queue = has.queue }) (node_locks-stay (Nodes ∷ []) t u stays s.nodes good.nodes refl refl lays.node_locks);
-          launchers = launchers-stay (Nodes ∷ []) t u stays s.registrations refl lays.launchers;
-          semaphores = semaphores-stay (Nodes ∷ []) t u stays s.handles good.semaphores refl refl lays.semaphores;
-          jobs = jobs-stay (Nodes ∷ []) t u stays s.jobs refl lays.jobs;
-          roles = roles-stay (Nodes ∷ []) t u stays s.launchers s.janitors s.requesters refl lays.roles;
-          sessions = sessions-stay (Nodes ∷ []) t u stays s.sessions refl lays.sessions;
-          swept = swept-stay (Nodes ∷ []) t u stays s.swept refl lays.swept;
-          live = live-stays t u sets.live sets.begun s.sessions lays.live;
-        }
+    node-lays w = all-tables _ _ each where
+      sets : SetsRow Nodes (Node n) bytes t (after_part t w (set bytes (Node n)))
+      sets = sets-row t w Nodes (Node n) bytes n-good refl whole
+
+      stays : (k : Table) → is_touched (Nodes ∷ []) k ≡ false → Says s (after_part t w (set bytes (Node n))) k
+      stays k none = table-stays s (Nodes ∷ []) t _ good sets.stays sets.live sets.begun k none (each-table s t lays k)
+
+      each : (k : Table) → Says (record s { nodes = change_first is_it with_change s.nodes }) (after_part t w (set bytes (Node n))) k
+      each of_nodes = record {
+        rows = subst (λ (rows : List Row). AllZip IsNodeRow rows (change_first is_it with_change s.nodes)) (sym sets.first) (node-rows (under Nodes t) s.nodes good.nodes n-good lays.nodes.rows there);
+        gives = sets.counter ∙ lays.nodes.gives;
+      }
+      each of_node_locks = all-change_first (HasNodeLock (after_part t w (set bytes (Node n)))) is_it with_change s.nodes (λ e has. record { rows = has.rows; queue = has.queue }) (stays of_node_locks refl)
+      each k = stays k refl
 
 -- a set of a node's record lays out the state with that record, in either spelling of it
 pub nodes-lay-out : NodesLayOut

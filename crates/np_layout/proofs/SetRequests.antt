@@ -6,15 +6,10 @@ use Rattle.std.specs.Str.{bytes_eq}
 use Rattle.np_lists.proofs.Each.{all-change_first}
 use Rattle.np_tree.specs.Prelude.{IsWhole, Row, TreeState, after_part, is_named, row_with}
 use Rattle.np_nodes.proofs.PlaceLemmas.{bytes_eq-from}
-use Rattle.np_spelling.specs.Spelling.{request_record_text}
-use Rattle.np_layout.specs.Place.{IsGood, place_name}
-use Rattle.np_layout.specs.declared.place.Place.{Place}
-use Rattle.np_layout.specs.declared.place.Place.TheVariants.{Requests, Request, RequestLock}
-use Rattle.np_layout.specs.Layout.{AreRequestLocks, IsQueue, LaysOut}
-use Rattle.np_layout.specs.Rows.{request_lock_row, request_row}
-use Rattle.np_layout.specs.Sets.{HasGoodIds, RequestsLayOut, set}
-use Rattle.np_layout.proofs.Elsewhere.{frame-stays, jobs-stay, launchers-stay, live-stays, node_locks-stay, nodes-stay, request_locks-stay, roles-stay, semaphores-stay, sessions-stay, swept-stay}
-use Rattle.np_layout.proofs.SetSteps.{named-other, set-goes, sets-row}
+use Rattle.np_layout.specs.Prelude.{IsGood, place_name, request_record_text}
+use Rattle.np_layout.proofs.Prelude.{AreRequestLocks, HasGoodIds, IsQueue, LaysOut, Place, Request, RequestLock, Requests, RequestsLayOut, request_lock_row, request_row, set}
+use Rattle.np_layout.proofs.EachTable.{Says, Table, all-tables, each-table, is_touched, of_request_locks, of_requests, table-stays}
+use Rattle.np_layout.proofs.SetSteps.{SetsRow, named-other, set-goes, sets-row}
 use Rattle.np_machine.proofs.Ids.{request-itself, request-equal}
 
 -- ## a request's name is its own
@@ -97,30 +92,23 @@ module _ (r : RequestId) (change : RequestRecord → RequestRecord) (old : Reque
     r-good = request-good s.requests good.requests there
 
     request-lays : (w : ℕ) → LaysOut (record s { requests = change_first is_it with_change s.requests }) (after_part t w (set bytes (Request r)))
-    request-lays w =
-        let u : TreeState = after_part t w (set bytes (Request r)) in
-        let sets = sets-row t w Requests (Request r) bytes r-good refl whole in
-        let stays = sets.stays in
-        record {
-          frame = frame-stays (Requests ∷ []) t u stays s.tick refl refl refl refl refl lays.frame;
-          requests = record {
-            rows =
-                sets.first ∙ ap (change_first (is_named (place_name (Request r))) (row_with bytes)) lays.requests.rows
-                ∙ request-rows s.requests good.requests r-good there;
-            leaves = sets.leaves lays.requests.leaves;
-            gives = sets.counter ∙ lays.requests.gives;
-          };
-          request_locks = locks-change s.requests u (request_locks-stay (Requests ∷ []) t u stays s.requests good.requests refl refl lays.request_locks);
-          nodes = nodes-stay (Requests ∷ []) t u stays s.nodes s.next_node refl lays.nodes;
-          node_locks = node_locks-stay (Requests ∷ []) t u stays s.nodes good.nodes refl refl lays.node_locks;
-          launchers = launchers-stay (Requests ∷ []) t u stays s.registrations refl lays.launchers;
-          semaphores = semaphores-stay (Requests ∷ []) t u stays s.handles good.semaphores refl refl lays.semaphores;
-          jobs = jobs-stay (Requests ∷ []) t u stays s.jobs refl lays.jobs;
-          roles = roles-stay (Requests ∷ []) t u stays s.launchers s.janitors s.requesters refl lays.roles;
-          sessions = sessions-stay (Requests ∷ []) t u stays s.sessions refl lays.sessions;
-          swept = swept-stay (Requests ∷ []) t u stays s.swept refl lays.swept;
-          live = live-stays t u sets.live sets.begun s.sessions lays.live;
-        }
+    request-lays w = all-tables _ _ each where
+      sets : SetsRow Requests (Request r) bytes t (after_part t w (set bytes (Request r)))
+      sets = sets-row t w Requests (Request r) bytes r-good refl whole
+
+      stays : (k : Table) → is_touched (Requests ∷ []) k ≡ false → Says s (after_part t w (set bytes (Request r))) k
+      stays k none = table-stays s (Requests ∷ []) t _ good sets.stays sets.live sets.begun k none (each-table s t lays k)
+
+      each : (k : Table) → Says (record s { requests = change_first is_it with_change s.requests }) (after_part t w (set bytes (Request r))) k
+      each of_requests = record {
+        rows =
+            sets.first ∙ ap (change_first (is_named (place_name (Request r))) (row_with bytes)) lays.requests.rows
+            ∙ request-rows s.requests good.requests r-good there;
+        leaves = sets.leaves lays.requests.leaves;
+        gives = sets.counter ∙ lays.requests.gives;
+      }
+      each of_request_locks = locks-change s.requests _ (stays of_request_locks refl)
+      each k = stays k refl
 
 -- a set of a request's record lays out the state with that record
 pub requests-lay-out : RequestsLayOut

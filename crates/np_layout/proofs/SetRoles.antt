@@ -1,39 +1,17 @@
 -- a set of the record of a role
-use Rattle.std.proofs.Common.{◌≡◌, ℕ, Bool, true, false, ◌||◌, List, [], ◌∷◌, ◌++◌, map, Some, refl, ap, ◌∙◌, subst, arith}
+use Rattle.std.proofs.Common.{◌≡◌, ℕ, true, List, [], ◌∷◌, ◌++◌, map, Some, refl, ap, ◌∙◌, subst, arith}
 use Rattle.std.specs.Prelude.{slice_get}
 use Rattle.np_machine.specs.Prelude.{PoolId, RequesterId, RoleRecord, State, change_at, change_role, list_any}
 use Rattle.std.proofs.lemmas.List.{map-append}
-use Rattle.std.proofs.lemmas.List.Folds.{list_any-append}
 use Rattle.np_text.specs.declared.id.Role.TheVariants as role
-use Rattle.np_tree.specs.Prelude.{IsWhole, Row, TreeState, after_part, is_named}
-use Rattle.np_spelling.specs.Spelling.{role_text}
-use Rattle.np_layout.specs.Place.{IsGood, above, place_name}
-use Rattle.np_layout.specs.declared.place.Place.{Place}
-use Rattle.np_layout.specs.declared.place.Place.TheVariants.{Roles, LauncherRole, JanitorRole, RequesterRole}
-use Rattle.np_layout.specs.Layout.{LaysOut}
-use Rattle.np_layout.specs.Rows.{by_name, janitor_role_row, launcher_role_row, requester_role_row, rows_from}
-use Rattle.np_layout.specs.Sets.{HasGoodIds, RolesLayOut, SetLaysOut, set}
-use Rattle.np_layout.proofs.Elsewhere.{frame-stays, jobs-stay, launchers-stay, live-stays, node_locks-stay, nodes-stay, request_locks-stay, requests-stay, semaphores-stay, sessions-stay, swept-stay}
+use Rattle.np_layout.specs.Prelude.{IsGood, IsWhole, LaysOut, Row, TreeState, above, after_part, is_named, place_name, role_text}
+use Rattle.np_layout.proofs.Prelude.{HasGoodIds, JanitorRole, LauncherRole, Place, RequesterRole, Roles, RolesLayOut, SetLaysOut, by_name, janitor_role_row, launcher_role_row, requester_role_row, rows_from, set}
+use Rattle.np_layout.proofs.EachTable.{Says, Table, all-tables, each-table, of_roles, table-stays}
 use Rattle.np_layout.proofs.SetLists.{any-by_name, by_name-each, put-name, put_bytes}
-use Rattle.np_layout.proofs.SetSteps.{set-goes, sets-row}
-use Rattle.np_layout.proofs.SetTables.{IsTable, table-any, table-change, table-good, table-others}
+use Rattle.np_layout.proofs.SetSteps.{SetsRow, set-goes, sets-row}
+use Rattle.np_layout.proofs.SetTables.{any-first, any-last, janitor-table, janitor_place, launcher-table, launcher_place, place_number, requester-table, requester_place, table-any, table-change, table-good, table-others}
 
 -- ## three tables in one directory
-
-abbrev launcher_at : ℕ → Place
-launcher_at n = LauncherRole (record { 0 = n })
-
-abbrev janitor_at : ℕ → Place
-janitor_at n = JanitorRole (record { 0 = n })
-
-abbrev requester_at : ℕ → Place
-requester_at n = RequesterRole (record { 0 = n })
-
-abbrev role_number : Place → ℕ
-role_number (LauncherRole p) = p.0
-role_number (JanitorRole p) = p.0
-role_number (RequesterRole q) = q.0
-role_number other = 0
 
 -- the rows of all, each table after the one before
 abbrev role_rows : List RoleRecord → List RoleRecord → List RoleRecord → List Row
@@ -46,65 +24,36 @@ put-roles f a1 a2 b1 b2 c1 c2 a b c =
     ∙ ap (λ (rows : List Row). rows ++ map f c1) (map-append f a1 b1 ∙ ap (λ (rows : List Row). rows ++ map f b1) a ∙ ap (λ (rows : List Row). a2 ++ rows) b)
     ∙ ap (λ (rows : List Row). a2 ++ b2 ++ rows) c
 
-any-first : (test : Row → Bool) (a b : List Row) → list_any test a ≡ true → list_any test (a ++ b) ≡ true
-any-first test a b is = list_any-append test a b ∙ ap (λ (x : Bool). x || list_any test b) is
-
-any-last : (test : Row → Bool) (a b : List Row) → list_any test b ≡ true → list_any test (a ++ b) ≡ true
-any-last test a b is = list_any-append test a b ∙ ap (λ (x : Bool). list_any test a || x) is ∙ last (list_any test a) where
-  last : (x : Bool) → (x || true) ≡ true
-  last true = refl
-  last false = refl
-
 module _ (s : State) (t : TreeState) (whole : IsWhole t.nodes) (good : HasGoodIds s) (lays : LaysOut s t) where
-  is-launchers : IsTable launcher_at role_number Roles 0 s.launchers
-  is-launchers = record { good = λ n low. let few = good.launchers in omega arith; over = λ n. refl; numbers = λ n. refl }
-
-  is-janitors : IsTable janitor_at role_number Roles 0 s.janitors
-  is-janitors = record { good = λ n low. let few = good.janitors in omega arith; over = λ n. refl; numbers = λ n. refl }
-
-  is-requesters : IsTable requester_at role_number Roles 0 s.requesters
-  is-requesters = record { good = λ n low. let few = good.requesters in omega arith; over = λ n. refl; numbers = λ n. refl }
-
   -- a place of another kind is not in the table of launchers
-  launchers-same : (p : Place) (bytes : List ℕ) → IsGood p → above p ≡ Some Roles → ((n : ℕ) → launcher_at n ≡ p → ⊥) → map (put_bytes (place_name p) bytes) (rows_from launcher_role_row 0 s.launchers) ≡ rows_from launcher_role_row 0 s.launchers
-  launchers-same p bytes p_good over apart = table-others launcher_at role_number Roles 0 s.launchers is-launchers role_text p bytes p_good over apart
+  launchers-same : (p : Place) (bytes : List ℕ) → IsGood p → above p ≡ Some Roles → ((n : ℕ) → launcher_place n ≡ p → ⊥) → map (put_bytes (place_name p) bytes) (rows_from launcher_role_row 0 s.launchers) ≡ rows_from launcher_role_row 0 s.launchers
+  launchers-same p bytes p_good over apart = table-others launcher_place place_number Roles 0 s.launchers (launcher-table s.launchers good.launchers) role_text p bytes p_good over apart
 
   -- nor in that of janitors
-  janitors-same : (p : Place) (bytes : List ℕ) → IsGood p → above p ≡ Some Roles → ((n : ℕ) → janitor_at n ≡ p → ⊥) → map (put_bytes (place_name p) bytes) (rows_from janitor_role_row 0 s.janitors) ≡ rows_from janitor_role_row 0 s.janitors
-  janitors-same p bytes p_good over apart = table-others janitor_at role_number Roles 0 s.janitors is-janitors role_text p bytes p_good over apart
+  janitors-same : (p : Place) (bytes : List ℕ) → IsGood p → above p ≡ Some Roles → ((n : ℕ) → janitor_place n ≡ p → ⊥) → map (put_bytes (place_name p) bytes) (rows_from janitor_role_row 0 s.janitors) ≡ rows_from janitor_role_row 0 s.janitors
+  janitors-same p bytes p_good over apart = table-others janitor_place place_number Roles 0 s.janitors (janitor-table s.janitors good.janitors) role_text p bytes p_good over apart
 
   -- nor in that of requesters
-  requesters-same : (p : Place) (bytes : List ℕ) → IsGood p → above p ≡ Some Roles → ((n : ℕ) → requester_at n ≡ p → ⊥) → map (put_bytes (place_name p) bytes) (rows_from requester_role_row 0 s.requesters) ≡ rows_from requester_role_row 0 s.requesters
-  requesters-same p bytes p_good over apart = table-others requester_at role_number Roles 0 s.requesters is-requesters role_text p bytes p_good over apart
+  requesters-same : (p : Place) (bytes : List ℕ) → IsGood p → above p ≡ Some Roles → ((n : ℕ) → requester_place n ≡ p → ⊥) → map (put_bytes (place_name p) bytes) (rows_from requester_role_row 0 s.requesters) ≡ rows_from requester_role_row 0 s.requesters
+  requesters-same p bytes p_good over apart = table-others requester_place place_number Roles 0 s.requesters (requester-table s.requesters good.requesters) role_text p bytes p_good over apart
 
   -- if a row is there, and the rows change to those of other records, the set lays those out
   role-lays : (p : Place) (bytes : List ℕ) (launchers janitors requesters : List RoleRecord) (w : ℕ) → IsGood p → above p ≡ Some Roles →
       map (put_bytes (place_name p) bytes) (role_rows s.launchers s.janitors s.requesters) ≡ role_rows launchers janitors requesters →
       LaysOut (record s { launchers = launchers; janitors = janitors; requesters = requesters }) (after_part t w (set bytes p))
-  role-lays p bytes launchers janitors requesters w p_good over rows =
-      let u : TreeState = after_part t w (set bytes p) in
-      let sets = sets-row t w Roles p bytes p_good over whole in
-      let stays = sets.stays in
-      record {
-        frame = frame-stays (Roles ∷ []) t u stays s.tick refl refl refl refl refl lays.frame;
-        requests = requests-stay (Roles ∷ []) t u stays s.requests s.next_request refl lays.requests;
-        request_locks = request_locks-stay (Roles ∷ []) t u stays s.requests good.requests refl refl lays.request_locks;
-        nodes = nodes-stay (Roles ∷ []) t u stays s.nodes s.next_node refl lays.nodes;
-        node_locks = node_locks-stay (Roles ∷ []) t u stays s.nodes good.nodes refl refl lays.node_locks;
-        launchers = launchers-stay (Roles ∷ []) t u stays s.registrations refl lays.launchers;
-        semaphores = semaphores-stay (Roles ∷ []) t u stays s.handles good.semaphores refl refl lays.semaphores;
-        jobs = jobs-stay (Roles ∷ []) t u stays s.jobs refl lays.jobs;
-        roles = record {
-          rows =
-              sets.each ∙ ap (λ (list : List Row). map (put_bytes (place_name p) bytes) list) lays.roles.rows
-              ∙ by_name-each (put_bytes (place_name p) bytes) (put-name (place_name p) bytes) (role_rows s.launchers s.janitors s.requesters)
-              ∙ ap by_name rows;
-          leaves = sets.leaves lays.roles.leaves;
-        };
-        sessions = sessions-stay (Roles ∷ []) t u stays s.sessions refl lays.sessions;
-        swept = swept-stay (Roles ∷ []) t u stays s.swept refl lays.swept;
-        live = live-stays t u sets.live sets.begun s.sessions lays.live;
-      }
+  role-lays p bytes launchers janitors requesters w p_good over rows = all-tables _ _ each where
+    sets : SetsRow Roles p bytes t (after_part t w (set bytes p))
+    sets = sets-row t w Roles p bytes p_good over whole
+
+    each : (k : Table) → Says (record s { launchers = launchers; janitors = janitors; requesters = requesters }) (after_part t w (set bytes p)) k
+    each of_roles = record {
+      rows =
+          sets.each ∙ ap (λ (list : List Row). map (put_bytes (place_name p) bytes) list) lays.roles.rows
+          ∙ by_name-each (put_bytes (place_name p) bytes) (put-name (place_name p) bytes) (role_rows s.launchers s.janitors s.requesters)
+          ∙ ap by_name rows;
+      leaves = sets.leaves lays.roles.leaves;
+    }
+    each k = table-stays s (Roles ∷ []) t _ good sets.stays sets.live sets.begun k refl (each-table s t lays k)
 
   role-set : (p : Place) (bytes : List ℕ) (launchers janitors requesters : List RoleRecord) → IsGood p → above p ≡ Some Roles →
       map (put_bytes (place_name p) bytes) (role_rows s.launchers s.janitors s.requesters) ≡ role_rows launchers janitors requesters →
@@ -123,40 +72,40 @@ module _ (s : State) (t : TreeState) (whole : IsWhole t.nodes) (good : HasGoodId
     -- a launcher's record
     launcher-set : (p : PoolId) → slice_get s.launchers p.0 ≡ Some old → SetLaysOut (change_role change (role.Launcher p) s) t (LauncherRole p) bytes
     launcher-set p there =
-        let p_good = table-good launcher_at role_number Roles 0 s.launchers is-launchers role_text p.0 p.0 old (omega arith) there in
+        let p_good = table-good launcher_place place_number Roles 0 s.launchers (launcher-table s.launchers good.launchers) role_text p.0 p.0 old (omega arith) there in
         role-set (LauncherRole p) bytes (change_at p.0 change s.launchers) s.janitors s.requesters p_good refl
         (put-roles (put_bytes (place_name (LauncherRole p)) bytes) (rows_from launcher_role_row 0 s.launchers) (rows_from launcher_role_row 0 (change_at p.0 change s.launchers)) (rows_from janitor_role_row 0 s.janitors) (rows_from janitor_role_row 0 s.janitors) (rows_from requester_role_row 0 s.requesters) (rows_from requester_role_row 0 s.requesters)
-        (table-change launcher_at role_number Roles 0 s.launchers is-launchers role_text p.0 p.0 old (omega arith) there change)
+        (table-change launcher_place place_number Roles 0 s.launchers (launcher-table s.launchers good.launchers) role_text p.0 p.0 old (omega arith) there change)
         (janitors-same (LauncherRole p) bytes p_good refl (λ n same. cc))
         (requesters-same (LauncherRole p) bytes p_good refl (λ n same. cc)))
         (any-first (is_named (place_name (LauncherRole p))) (rows_from launcher_role_row 0 s.launchers ++ rows_from janitor_role_row 0 s.janitors) (rows_from requester_role_row 0 s.requesters)
         (any-first (is_named (place_name (LauncherRole p))) (rows_from launcher_role_row 0 s.launchers) (rows_from janitor_role_row 0 s.janitors)
-        (table-any launcher_at role_number Roles 0 s.launchers is-launchers role_text p.0 p.0 old (omega arith) there)))
+        (table-any launcher_place place_number Roles 0 s.launchers (launcher-table s.launchers good.launchers) role_text p.0 p.0 old (omega arith) there)))
 
     -- a janitor's record
     janitor-set : (p : PoolId) → slice_get s.janitors p.0 ≡ Some old → SetLaysOut (change_role change (role.Janitor p) s) t (JanitorRole p) bytes
     janitor-set p there =
-        let p_good = table-good janitor_at role_number Roles 0 s.janitors is-janitors role_text p.0 p.0 old (omega arith) there in
+        let p_good = table-good janitor_place place_number Roles 0 s.janitors (janitor-table s.janitors good.janitors) role_text p.0 p.0 old (omega arith) there in
         role-set (JanitorRole p) bytes s.launchers (change_at p.0 change s.janitors) s.requesters p_good refl
         (put-roles (put_bytes (place_name (JanitorRole p)) bytes) (rows_from launcher_role_row 0 s.launchers) (rows_from launcher_role_row 0 s.launchers) (rows_from janitor_role_row 0 s.janitors) (rows_from janitor_role_row 0 (change_at p.0 change s.janitors)) (rows_from requester_role_row 0 s.requesters) (rows_from requester_role_row 0 s.requesters)
         (launchers-same (JanitorRole p) bytes p_good refl (λ n same. cc))
-        (table-change janitor_at role_number Roles 0 s.janitors is-janitors role_text p.0 p.0 old (omega arith) there change)
+        (table-change janitor_place place_number Roles 0 s.janitors (janitor-table s.janitors good.janitors) role_text p.0 p.0 old (omega arith) there change)
         (requesters-same (JanitorRole p) bytes p_good refl (λ n same. cc)))
         (any-first (is_named (place_name (JanitorRole p))) (rows_from launcher_role_row 0 s.launchers ++ rows_from janitor_role_row 0 s.janitors) (rows_from requester_role_row 0 s.requesters)
         (any-last (is_named (place_name (JanitorRole p))) (rows_from launcher_role_row 0 s.launchers) (rows_from janitor_role_row 0 s.janitors)
-        (table-any janitor_at role_number Roles 0 s.janitors is-janitors role_text p.0 p.0 old (omega arith) there)))
+        (table-any janitor_place place_number Roles 0 s.janitors (janitor-table s.janitors good.janitors) role_text p.0 p.0 old (omega arith) there)))
 
     -- a requester's record
     requester-set : (q : RequesterId) → slice_get s.requesters q.0 ≡ Some old → SetLaysOut (change_role change (role.Requester q) s) t (RequesterRole q) bytes
     requester-set q there =
-        let q_good = table-good requester_at role_number Roles 0 s.requesters is-requesters role_text q.0 q.0 old (omega arith) there in
+        let q_good = table-good requester_place place_number Roles 0 s.requesters (requester-table s.requesters good.requesters) role_text q.0 q.0 old (omega arith) there in
         role-set (RequesterRole q) bytes s.launchers s.janitors (change_at q.0 change s.requesters) q_good refl
         (put-roles (put_bytes (place_name (RequesterRole q)) bytes) (rows_from launcher_role_row 0 s.launchers) (rows_from launcher_role_row 0 s.launchers) (rows_from janitor_role_row 0 s.janitors) (rows_from janitor_role_row 0 s.janitors) (rows_from requester_role_row 0 s.requesters) (rows_from requester_role_row 0 (change_at q.0 change s.requesters))
         (launchers-same (RequesterRole q) bytes q_good refl (λ n same. cc))
         (janitors-same (RequesterRole q) bytes q_good refl (λ n same. cc))
-        (table-change requester_at role_number Roles 0 s.requesters is-requesters role_text q.0 q.0 old (omega arith) there change))
+        (table-change requester_place place_number Roles 0 s.requesters (requester-table s.requesters good.requesters) role_text q.0 q.0 old (omega arith) there change))
         (any-last (is_named (place_name (RequesterRole q))) (rows_from launcher_role_row 0 s.launchers ++ rows_from janitor_role_row 0 s.janitors) (rows_from requester_role_row 0 s.requesters)
-        (table-any requester_at role_number Roles 0 s.requesters is-requesters role_text q.0 q.0 old (omega arith) there))
+        (table-any requester_place place_number Roles 0 s.requesters (requester-table s.requesters good.requesters) role_text q.0 q.0 old (omega arith) there))
 
 some_place : {p q : Place} → Some p ≡ Some q → p ≡ q
 some_place same = cc

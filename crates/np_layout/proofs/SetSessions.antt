@@ -4,17 +4,11 @@ use Rattle.std.specs.Prelude.{◌==◌, slice_get}
 use Rattle.np_machine.specs.Prelude.{SessionId, State, change_at, change_session, list_any, muted, range_with_len, session_of}
 use Rattle.std.proofs.lemmas.Bool.{eqb-false}
 use Rattle.np_lists.proofs.ChangeLemmas.{length-change_at}
-use Rattle.np_tree.specs.Prelude.{IsWhole, Row, TreeState, after_part, is_in, is_named}
-use Rattle.np_spelling.specs.Spelling.{session_text}
-use Rattle.np_machine.specs.declared.state.SessionFacts.{SessionFacts}
-use Rattle.np_layout.specs.Place.{IsGood, place_name}
-use Rattle.np_layout.specs.declared.place.Place.{Place}
-use Rattle.np_layout.specs.declared.place.Place.TheVariants.{Sessions, Session}
-use Rattle.np_layout.specs.Layout.{AreLive, LaysOut}
-use Rattle.np_layout.specs.Sets.{HasGoodIds, MutesLayOut, set}
-use Rattle.np_layout.proofs.Elsewhere.{frame-stays, jobs-stay, launchers-stay, live-stays, node_locks-stay, nodes-stay, request_locks-stay, requests-stay, roles-stay, semaphores-stay, swept-stay}
+use Rattle.np_layout.specs.Prelude.{IsGood, IsWhole, Row, TreeState, after_part, is_in, is_named, place_name, session_text}
+use Rattle.np_layout.proofs.Prelude.{AreLive, HasGoodIds, LaysOut, MutesLayOut, Place, Session, SessionFacts, Sessions, set}
+use Rattle.np_layout.proofs.EachTable.{Says, Table, all-tables, each-table, is_touched, of_live, of_sessions, table-stays}
 use Rattle.np_layout.proofs.SetLists.{put_bytes}
-use Rattle.np_layout.proofs.SetSteps.{set-goes, sets-row}
+use Rattle.np_layout.proofs.SetSteps.{SetsRow, set-goes, sets-row}
 use Rattle.np_layout.proofs.SetTables.{IsTable, table-any, table-change, table-good}
 
 -- the place of each session, and its number
@@ -69,29 +63,22 @@ module _ (s : State) (t : TreeState) (session : SessionId) (facts : SessionFacts
   session-good = table-good session_at session_number Sessions 1 s.sessions is-sessions text at session.0 facts first there
 
   session-lays : (w : ℕ) → LaysOut (record s { sessions = change_session session muted s.sessions }) (after_part t w (set bytes (Session session)))
-  session-lays w =
-      let u : TreeState = after_part t w (set bytes (Session session)) in
-      let sets = sets-row t w Sessions (Session session) bytes session-good refl whole in
-      let stays = sets.stays in
-      record {
-        frame = frame-stays (Sessions ∷ []) t u stays s.tick refl refl refl refl refl lays.frame;
-        requests = requests-stay (Sessions ∷ []) t u stays s.requests s.next_request refl lays.requests;
-        request_locks = request_locks-stay (Sessions ∷ []) t u stays s.requests good.requests refl refl lays.request_locks;
-        nodes = nodes-stay (Sessions ∷ []) t u stays s.nodes s.next_node refl lays.nodes;
-        node_locks = node_locks-stay (Sessions ∷ []) t u stays s.nodes good.nodes refl refl lays.node_locks;
-        launchers = launchers-stay (Sessions ∷ []) t u stays s.registrations refl lays.launchers;
-        semaphores = semaphores-stay (Sessions ∷ []) t u stays s.handles good.semaphores refl refl lays.semaphores;
-        jobs = jobs-stay (Sessions ∷ []) t u stays s.jobs refl lays.jobs;
-        roles = roles-stay (Sessions ∷ []) t u stays s.launchers s.janitors s.requesters refl lays.roles;
-        sessions = record {
-          rows =
-              sets.each ∙ ap (λ (rows : List Row). map (put_bytes (place_name (Session session)) bytes) rows) lays.sessions.rows
-              ∙ table-change session_at session_number Sessions 1 s.sessions is-sessions text at session.0 facts first there muted;
-          leaves = sets.leaves lays.sessions.leaves;
-        };
-        swept = swept-stay (Sessions ∷ []) t u stays s.swept refl lays.swept;
-        live = mutes-live at s.sessions u (live-stays t u sets.live sets.begun s.sessions lays.live);
-      }
+  session-lays w = all-tables _ _ each where
+    sets : SetsRow Sessions (Session session) bytes t (after_part t w (set bytes (Session session)))
+    sets = sets-row t w Sessions (Session session) bytes session-good refl whole
+
+    stays : (k : Table) → is_touched (Sessions ∷ []) k ≡ false → Says s (after_part t w (set bytes (Session session))) k
+    stays k none = table-stays s (Sessions ∷ []) t _ good sets.stays sets.live sets.begun k none (each-table s t lays k)
+
+    each : (k : Table) → Says (record s { sessions = change_session session muted s.sessions }) (after_part t w (set bytes (Session session))) k
+    each of_sessions = record {
+      rows =
+          sets.each ∙ ap (λ (rows : List Row). map (put_bytes (place_name (Session session)) bytes) rows) lays.sessions.rows
+          ∙ table-change session_at session_number Sessions 1 s.sessions is-sessions text at session.0 facts first there muted;
+      leaves = sets.leaves lays.sessions.leaves;
+    }
+    each of_live = mutes-live at s.sessions _ (stays of_live refl)
+    each k = stays k refl
 
 -- a set of a session's record to mute lays out the state in which it is
 pub mutes-lay-out : MutesLayOut

@@ -11,12 +11,9 @@ use Rattle.np_tree.proofs.GoesLemmas.{seen-node, sets-go}
 use Rattle.np_tree.proofs.RelationLemmas.{rows-rise, seen-is-row}
 use Rattle.np_tree.proofs.ViewRoomLemmas.{room-gives}
 use Rattle.np_tree.proofs.RowLemmas.{rows-changed, rows-changed_other}
-use Rattle.np_layout.specs.Place.{IsGood, above, path_of, place_name}
-use Rattle.np_layout.specs.declared.place.Place.{Place}
+use Rattle.np_layout.proofs.Prelude.{HasLeaves, IsGood, Place, above, next_under, path_of, place_name, set, under}
 use Rattle.np_layout.proofs.AboveLemmas.{IsGood-above, is_path-of, parts-of}
 use Rattle.np_layout.proofs.ChildLemmas.{same_names, same_paths}
-use Rattle.np_layout.specs.Layout.{HasLeaves, next_under, under}
-use Rattle.np_layout.specs.Sets.{set}
 use Rattle.np_layout.proofs.Elsewhere.{IsApart, Stays}
 use Rattle.np_layout.proofs.SetLists.{any-found, put-first, put-name, put_bytes}
 use Rattle.np_lists.proofs.Plain.{bytes_eq-apart}

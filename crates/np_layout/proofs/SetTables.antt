@@ -1,11 +1,11 @@
 -- the rows of a list when the record of one member changes
-use Rattle.std.proofs.Common.{◌≡◌, ℕ, ◌+◌, ◌<◌, Bool, true, cond, List, length, map, Some, sym, ap, ◌∙◌, inr, arith}
+use Rattle.std.proofs.Common.{◌≡◌, ℕ, ◌+◌, ◌<◌, ◌≤◌, ◌^◌, Bool, true, cond, ◌||◌, List, ◌++◌, length, map, Some, refl, sym, ap, ◌∙◌, inr, arith}
 use Rattle.std.proofs.lemmas.Option.{slice_get_within}
 use Rattle.std.specs.Prelude.{slice_get}
 use Rattle.np_tree.specs.Prelude.{Row, change_at, is_named, list_any, row_with}
-use Rattle.np_layout.specs.Place.{IsGood, above, place_name}
-use Rattle.np_layout.specs.declared.place.Place.{Place}
-use Rattle.np_layout.specs.Rows.{persistent, rows_from}
+use Rattle.np_layout.proofs.Prelude.{IsGood, JanitorRole, Job, Jobs, LauncherRole, Place, RequesterRole, Roles, Semaphore, above, persistent, place_name, rows_from}
+use Rattle.std.proofs.lemmas.List.Folds.{list_any-append}
+use Rattle.np_lists.proofs.Plain.{or_true}
 use Rattle.np_layout.proofs.SetLists.{put_bytes, rows_from-any, rows_from-change, rows_from-others}
 use Rattle.np_layout.proofs.SetSteps.{named-here, named-other}
 
@@ -14,6 +14,48 @@ pub record IsTable {A : Type 0} (place : ℕ → Place) (number : Place → ℕ)
   pub good : (n : ℕ) → n < first + length list → IsGood (place n)
   pub over : (n : ℕ) → above (place n) ≡ Some dir
   pub numbers : (n : ℕ) → number (place n) ≡ n
+
+-- the places of the records of jobs and of roles, by their numbers
+abbrev pub job_place : ℕ → Place
+job_place n = Job (record { 0 = n })
+
+abbrev pub launcher_place : ℕ → Place
+launcher_place n = LauncherRole (record { 0 = n })
+
+abbrev pub janitor_place : ℕ → Place
+janitor_place n = JanitorRole (record { 0 = n })
+
+abbrev pub requester_place : ℕ → Place
+requester_place n = RequesterRole (record { 0 = n })
+
+-- the number of such a place, or of a semaphore's
+abbrev pub place_number : Place → ℕ
+place_number (Semaphore x) = x.0
+place_number (Job j) = j.0
+place_number (LauncherRole p) = p.0
+place_number (JanitorRole p) = p.0
+place_number (RequesterRole q) = q.0
+place_number other = 0
+
+-- the records of jobs are a table, and so are those of each kind of role
+pub job-table : {A : Type 0} (list : List A) → length list ≤ 2 ^ 32 → IsTable job_place place_number Jobs 0 list
+job-table list few = record { good = λ n low. omega arith; over = λ n. refl; numbers = λ n. refl }
+
+pub launcher-table : {A : Type 0} (list : List A) → length list ≤ 2 ^ 16 → IsTable launcher_place place_number Roles 0 list
+launcher-table list few = record { good = λ n low. omega arith; over = λ n. refl; numbers = λ n. refl }
+
+pub janitor-table : {A : Type 0} (list : List A) → length list ≤ 2 ^ 16 → IsTable janitor_place place_number Roles 0 list
+janitor-table list few = record { good = λ n low. omega arith; over = λ n. refl; numbers = λ n. refl }
+
+pub requester-table : {A : Type 0} (list : List A) → length list ≤ 2 ^ 16 → IsTable requester_place place_number Roles 0 list
+requester-table list few = record { good = λ n low. omega arith; over = λ n. refl; numbers = λ n. refl }
+
+-- what is among the rows of one table is among those of several
+pub any-first : (test : Row → Bool) (a b : List Row) → list_any test a ≡ true → list_any test (a ++ b) ≡ true
+any-first test a b is = list_any-append test a b ∙ ap (λ (x : Bool). x || list_any test b) is
+
+pub any-last : (test : Row → Bool) (a b : List Row) → list_any test b ≡ true → list_any test (a ++ b) ≡ true
+any-last test a b is = list_any-append test a b ∙ ap (λ (x : Bool). list_any test a || x) is ∙ or_true (list_any test a)
 
 module _ {A : Type 0} (place : ℕ → Place) (number : Place → ℕ) (dir : Place) (first : ℕ) (list : List A) (is : IsTable place number dir first list) (text : A → List ℕ) where
   abbrev row_of : ℕ → A → Row

@@ -1,13 +1,10 @@
 -- the swept pairs are read back
 use Rattle.std.proofs.Common.{◌≡◌, List, [], map, ap, ◌∙◌}
-use Rattle.np_tree.specs.Prelude.{AllByRecursion, Rises, Row, TreeState}
+use Rattle.np_layout.specs.Prelude.{AllByRecursion, IsGood, Rises, Row, TreeState, is_pair_before}
 use Rattle.np_lists.proofs.Each.{all-weaker}
 use Rattle.np_machine.specs.declared.state.Swept.{Swept}
-use Rattle.np_layout.specs.Place.{IsGood}
 use Rattle.np_layout.specs.declared.place.Place.TheVariants.{Swept as SweptPlace}
-use Rattle.np_layout.specs.Layout.{AreSwept}
-use Rattle.np_layout.specs.Rows.{swept_row}
-use Rattle.np_layout.specs.Carried.{is_pair_before}
+use Rattle.np_layout.proofs.Prelude.{AreSwept, swept_row}
 use Rattle.np_layout.specs.Decoded.{pair_named, swept_at}
 use Rattle.np_layout.proofs.Lists.{map-back}
 use Rattle.np_layout.proofs.Order.{put_all, put_all-by_name, put_all-rises}

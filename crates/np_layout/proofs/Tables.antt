@@ -1,21 +1,15 @@
 -- the tick, the jobs and the roles are read back
-use Rattle.std.proofs.Common.{◌≡◌, ℕ, ◌+◌, ◌<◌, ◌≤◌, ◌^◌, Bool, true, false, ◌||◌, List, ◌++◌, length, map, Option, Some, unwrap_or, refl, sym, ap, ◌∙◌, arith}
+use Rattle.std.proofs.Common.{◌≡◌, ℕ, ◌+◌, ◌<◌, ◌≤◌, ◌^◌, true, List, ◌++◌, length, map, Option, Some, unwrap_or, refl, sym, ap, ◌∙◌, arith}
 use Rattle.std.specs.Prelude.{slice_get}
 use Rattle.std.specs.Fmt.{decimal}
 use Rattle.np_machine.specs.Prelude.{AllByRecursion, JobRecord, RoleRecord, list_any, new_job, no_deeds, number_of, range_with_len}
-use Rattle.std.proofs.lemmas.List.Folds.{list_any-append}
 use Rattle.std.proofs.lemmas.Option.{slice_get_within}
 use Rattle.np_text.proofs.SpellingLemmas.{number_of-decimal, some_injective}
 use Rattle.np_lists.proofs.Each.{all-at}
-use Rattle.np_tree.specs.Prelude.{IsWhole, Row, TreeState, find_named, is_named}
+use Rattle.np_layout.specs.Prelude.{IsGood, IsJob, IsRole, IsWhole, Row, TreeState, above, find_named, is_named, job_text, place_name, role_text}
 use Rattle.np_spelling.specs.Reading.{job_in, max_u32, role_in}
-use Rattle.np_spelling.specs.Spelling.{IsJob, IsRole, job_text, role_text}
-use Rattle.np_layout.specs.Place.{IsGood, above, place_name}
-use Rattle.np_layout.specs.declared.place.Place.{Place}
-use Rattle.np_layout.specs.declared.place.Place.TheVariants.{Poolsim, Jobs, Job, Roles, LauncherRole, JanitorRole, RequesterRole, Tick}
-use Rattle.np_layout.specs.Layout.{AreJobs, AreRoles, IsFrame}
-use Rattle.np_layout.specs.Rows.{janitor_role_row, job_row, launcher_role_row, persistent, requester_role_row, rows_from}
-use Rattle.np_layout.proofs.SetTables.{IsTable, table-any}
+use Rattle.np_layout.proofs.Prelude.{AreJobs, AreRoles, IsFrame, Jobs, Place, Poolsim, Roles, Tick, janitor_role_row, job_row, launcher_role_row, persistent, requester_role_row, rows_from}
+use Rattle.np_layout.proofs.SetTables.{IsTable, any-first, any-last, janitor-table, janitor_place, job-table, job_place, launcher-table, launcher_place, place_number, requester-table, requester_place, table-any}
 use Rattle.np_layout.specs.Decoded.{job_at, role_at, tick_at}
 use Rattle.np_layout.proofs.Lists.{map-places}
 use Rattle.np_layout.proofs.Named.{all-both, all-rows_from, find-by_name, named-same, text-at_row}
@@ -61,54 +55,20 @@ module _ {A : Type 0} (place : ℕ → Place) (number : Place → ℕ) (dir : Pl
 
 -- ## jobs
 
-abbrev job_place : ℕ → Place
-job_place n = Job (record { 0 = n })
-
-abbrev job_number : Place → ℕ
-job_number (Job j) = j.0
-job_number other = 0
-
 -- each job is what its text spells
 pub jobs-same : (t : TreeState) (jobs : List JobRecord) → IsWhole t.nodes → AreJobs jobs t → length jobs ≤ 2 ^ 32 → AllByRecursion IsJob jobs → map (job_at t) (range_with_len 0 (length jobs)) ≡ jobs
 jobs-same t jobs whole are few spelled = map-places (job_at t) jobs 0 each where
-  is : IsTable job_place job_number Jobs 0 jobs
-  is = record { good = λ n low. omega arith; over = λ n. refl; numbers = λ n. refl }
-
   each : (k n : ℕ) (j : JobRecord) → 0 + k ≡ n → slice_get jobs k ≡ Some j → job_at t n ≡ j
   each k n j same there =
       let low = slice_get_within jobs k j there in
       let at : n ≡ k = omega arith in
       let good : IsGood (job_place k) = omega arith in
       let found = find-by_name (place_name (job_place k)) (rows_from job_row 0 jobs) (job_row k j)
-      (table-any job_place job_number Jobs 0 jobs is job_text k k j (omega arith) there) (table-only job_place job_number Jobs jobs is job_text k j good there) in
+      (table-any job_place place_number Jobs 0 jobs (job-table jobs few) job_text k k j (omega arith) there) (table-only job_place place_number Jobs jobs (job-table jobs few) job_text k j good there) in
       let text = text-at_row t Jobs (job_place k) (job_row k j) whole good refl (ap (find_named (place_name (job_place k))) are.rows ∙ found) in
       ap (job_at t) at ∙ ap (λ (bytes : List ℕ). unwrap_or (job_in bytes).0 new_job) text ∙ job-read j new_job (all-at IsJob jobs k j spelled there)
 
 -- ## roles
-
-abbrev launcher_place : ℕ → Place
-launcher_place n = LauncherRole (record { 0 = n })
-
-abbrev janitor_place : ℕ → Place
-janitor_place n = JanitorRole (record { 0 = n })
-
-abbrev requester_place : ℕ → Place
-requester_place n = RequesterRole (record { 0 = n })
-
-abbrev role_number : Place → ℕ
-role_number (LauncherRole p) = p.0
-role_number (JanitorRole p) = p.0
-role_number (RequesterRole q) = q.0
-role_number other = 0
-
-any-first : (test : Row → Bool) (xs ys : List Row) → list_any test xs ≡ true → list_any test (xs ++ ys) ≡ true
-any-first test xs ys is = list_any-append test xs ys ∙ ap (λ (b : Bool). b || list_any test ys) is
-
-any-last : (test : Row → Bool) (xs ys : List Row) → list_any test ys ≡ true → list_any test (xs ++ ys) ≡ true
-any-last test xs ys is = list_any-append test xs ys ∙ ap (λ (b : Bool). list_any test xs || b) is ∙ last (list_any test xs) where
-  last : (b : Bool) → (b || true) ≡ true
-  last true = refl
-  last false = refl
 
 module _ (t : TreeState) (launchers janitors requesters : List RoleRecord) (whole : IsWhole t.nodes) (are : AreRoles launchers janitors requesters t) (few : (length launchers ≤ 2 ^ 16) × (length janitors ≤ 2 ^ 16) × (length requesters ≤ 2 ^ 16)) where
   abbrev first : List Row
@@ -119,15 +79,6 @@ module _ (t : TreeState) (launchers janitors requesters : List RoleRecord) (whol
 
   abbrev third : List Row
   third = rows_from requester_role_row 0 requesters
-
-  are-launchers : IsTable launcher_place role_number Roles 0 launchers
-  are-launchers = record { good = λ n low. let least = few.0 in omega arith; over = λ n. refl; numbers = λ n. refl }
-
-  are-janitors : IsTable janitor_place role_number Roles 0 janitors
-  are-janitors = record { good = λ n low. let least = few.1 in omega arith; over = λ n. refl; numbers = λ n. refl }
-
-  are-requesters : IsTable requester_place role_number Roles 0 requesters
-  are-requesters = record { good = λ n low. let least = few.2 in omega arith; over = λ n. refl; numbers = λ n. refl }
 
   -- the record of a role whose row alone has its name
   role-of : (p : Place) (kept : RoleRecord) → IsGood p → above p ≡ Some Roles → IsRole kept → list_any (is_named (place_name p)) (first ++ second ++ third) ≡ true →
@@ -147,46 +98,46 @@ module _ (t : TreeState) (launchers janitors requesters : List RoleRecord) (whol
   launcher-same k n kept spelled same there =
       let low = slice_get_within launchers k kept there in
       let at : n ≡ k = omega arith in
-      let good : IsGood (launcher_place k) = are-launchers.good k (omega arith) in
+      let good : IsGood (launcher_place k) = (launcher-table launchers few.0).good k (omega arith) in
       let row : Row = launcher_role_row k kept in
       ap (λ (m : ℕ). role_at (launcher_place m) t) at
       ∙ role-of (launcher_place k) kept good refl (all-at IsRole launchers k kept spelled there)
       (any-first (is_named (place_name (launcher_place k))) (first ++ second) third (any-first (is_named (place_name (launcher_place k))) first second
-      (table-any launcher_place role_number Roles 0 launchers are-launchers role_text k k kept (omega arith) there)))
+      (table-any launcher_place place_number Roles 0 launchers (launcher-table launchers few.0) role_text k k kept (omega arith) there)))
       (only-all (launcher_place k) row
-      (table-only launcher_place role_number Roles launchers are-launchers role_text k kept good there)
-      (table-none janitor_place role_number Roles janitors are-janitors role_text (launcher_place k) row good refl (λ m equal. absurd cc))
-      (table-none requester_place role_number Roles requesters are-requesters role_text (launcher_place k) row good refl (λ m equal. absurd cc)))
+      (table-only launcher_place place_number Roles launchers (launcher-table launchers few.0) role_text k kept good there)
+      (table-none janitor_place place_number Roles janitors (janitor-table janitors few.1) role_text (launcher_place k) row good refl (λ m equal. absurd cc))
+      (table-none requester_place place_number Roles requesters (requester-table requesters few.2) role_text (launcher_place k) row good refl (λ m equal. absurd cc)))
 
   janitor-same : (k n : ℕ) (kept : RoleRecord) → AllByRecursion IsRole janitors → 0 + k ≡ n → slice_get janitors k ≡ Some kept → role_at (janitor_place n) t ≡ kept
   janitor-same k n kept spelled same there =
       let low = slice_get_within janitors k kept there in
       let at : n ≡ k = omega arith in
-      let good : IsGood (janitor_place k) = are-janitors.good k (omega arith) in
+      let good : IsGood (janitor_place k) = (janitor-table janitors few.1).good k (omega arith) in
       let row : Row = janitor_role_row k kept in
       ap (λ (m : ℕ). role_at (janitor_place m) t) at
       ∙ role-of (janitor_place k) kept good refl (all-at IsRole janitors k kept spelled there)
       (any-first (is_named (place_name (janitor_place k))) (first ++ second) third (any-last (is_named (place_name (janitor_place k))) first second
-      (table-any janitor_place role_number Roles 0 janitors are-janitors role_text k k kept (omega arith) there)))
+      (table-any janitor_place place_number Roles 0 janitors (janitor-table janitors few.1) role_text k k kept (omega arith) there)))
       (only-all (janitor_place k) row
-      (table-none launcher_place role_number Roles launchers are-launchers role_text (janitor_place k) row good refl (λ m equal. absurd cc))
-      (table-only janitor_place role_number Roles janitors are-janitors role_text k kept good there)
-      (table-none requester_place role_number Roles requesters are-requesters role_text (janitor_place k) row good refl (λ m equal. absurd cc)))
+      (table-none launcher_place place_number Roles launchers (launcher-table launchers few.0) role_text (janitor_place k) row good refl (λ m equal. absurd cc))
+      (table-only janitor_place place_number Roles janitors (janitor-table janitors few.1) role_text k kept good there)
+      (table-none requester_place place_number Roles requesters (requester-table requesters few.2) role_text (janitor_place k) row good refl (λ m equal. absurd cc)))
 
   requester-same : (k n : ℕ) (kept : RoleRecord) → AllByRecursion IsRole requesters → 0 + k ≡ n → slice_get requesters k ≡ Some kept → role_at (requester_place n) t ≡ kept
   requester-same k n kept spelled same there =
       let low = slice_get_within requesters k kept there in
       let at : n ≡ k = omega arith in
-      let good : IsGood (requester_place k) = are-requesters.good k (omega arith) in
+      let good : IsGood (requester_place k) = (requester-table requesters few.2).good k (omega arith) in
       let row : Row = requester_role_row k kept in
       ap (λ (m : ℕ). role_at (requester_place m) t) at
       ∙ role-of (requester_place k) kept good refl (all-at IsRole requesters k kept spelled there)
       (any-last (is_named (place_name (requester_place k))) (first ++ second) third
-      (table-any requester_place role_number Roles 0 requesters are-requesters role_text k k kept (omega arith) there))
+      (table-any requester_place place_number Roles 0 requesters (requester-table requesters few.2) role_text k k kept (omega arith) there))
       (only-all (requester_place k) row
-      (table-none launcher_place role_number Roles launchers are-launchers role_text (requester_place k) row good refl (λ m equal. absurd cc))
-      (table-none janitor_place role_number Roles janitors are-janitors role_text (requester_place k) row good refl (λ m equal. absurd cc))
-      (table-only requester_place role_number Roles requesters are-requesters role_text k kept good there))
+      (table-none launcher_place place_number Roles launchers (launcher-table launchers few.0) role_text (requester_place k) row good refl (λ m equal. absurd cc))
+      (table-none janitor_place place_number Roles janitors (janitor-table janitors few.1) role_text (requester_place k) row good refl (λ m equal. absurd cc))
+      (table-only requester_place place_number Roles requesters (requester-table requesters few.2) role_text k kept good there))
 
   -- each launcher is what its text spells
   pub launchers-same : AllByRecursion IsRole launchers → map (λ pool. role_at (launcher_place pool) t) (range_with_len 0 (length launchers)) ≡ launchers
