@@ -16,7 +16,8 @@ use Rattle.np_tree.proofs.RelationLemmas.{ends-show, parts-change_nodes_alone}
 use Rattle.np_tree.proofs.SeveralLemmas.{checks-leave-the-tree, goes-under-one-number}
 use Rattle.np_layout.specs.declared.place.Place.TheVariants.{Launcher, Node as NodePlace, Request}
 use Rattle.np_layout.specs.Deletes.{without_session}
-use Rattle.np_layout.proofs.Elsewhere.{Stays, frame-stays, jobs-stay, launchers-stay, live-stays, node_locks-stay, nodes-stay, request_locks-stay, requests-stay, roles-stay, semaphores-stay, sessions-stay, swept-stay}
+use Rattle.np_layout.proofs.EachTable.{Says, Table, all-tables, each-table, is_touched, of_live, table-stays}
+use Rattle.np_layout.proofs.Elsewhere.{Stays}
 use Rattle.np_enact.specs.Stands.{Stands}
 use Rattle.np_lists.proofs.Plain.{low-min}
 
@@ -110,20 +111,13 @@ number-of t w parts goes = number-by t w parts (list_any (λ part. not (is_check
 
 -- the same nodes and sessions lay out the same state
 same-lays : (s : State) (t u : TreeState) → HasGoodIds s → u.live ≡ t.live → u.begun ≡ t.begun → Stays [] t u → LaysOut s t → LaysOut s u
-same-lays s t u good live begun stays lays = record {
-  frame = frame-stays [] t u stays s.tick refl refl refl refl refl lays.frame;
-  requests = requests-stay [] t u stays s.requests s.next_request refl lays.requests;
-  request_locks = request_locks-stay [] t u stays s.requests good.requests refl refl lays.request_locks;
-  nodes = nodes-stay [] t u stays s.nodes s.next_node refl lays.nodes;
-  node_locks = node_locks-stay [] t u stays s.nodes good.nodes refl refl lays.node_locks;
-  launchers = launchers-stay [] t u stays s.registrations refl lays.launchers;
-  semaphores = semaphores-stay [] t u stays s.handles good.semaphores refl refl lays.semaphores;
-  jobs = jobs-stay [] t u stays s.jobs refl lays.jobs;
-  roles = roles-stay [] t u stays s.launchers s.janitors s.requesters refl lays.roles;
-  sessions = sessions-stay [] t u stays s.sessions refl lays.sessions;
-  swept = swept-stay [] t u stays s.swept refl lays.swept;
-  live = live-stays t u live begun s.sessions lays.live;
-}
+same-lays s t u good live begun stays lays = all-tables s u each where
+  none : (k : Table) → is_touched [] k ≡ false
+  none of_live = refl
+  none other = refl
+
+  each : (k : Table) → Says s u k
+  each k = table-stays s [] t u good stays live begun k (none k) (each-table s t lays k)
 
 -- a tree under another number lays out the same state
 pub stands-numbered : (s : State) (t : TreeState) (w more number : ℕ) → number < 18_446_744_073_709_551_615 → Stands s t w more → Stands s (numbered number t) w more

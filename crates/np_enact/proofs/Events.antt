@@ -1,12 +1,12 @@
 -- the changes of a whole event
-use Rattle.std.proofs.Common.{◌≡◌, ℕ, ◌+◌, ◌<◌, ◌≤◌, Bool, true, false, cond, List, [], ◌∷◌, ◌++◌, Option, Some, None, refl, sym, ap, subst, ◌∙◌, arith}
+use Rattle.std.proofs.Common.{◌≡◌, ℕ, ◌+◌, ◌<◌, ◌≤◌, Bool, true, false, cond, List, [], Option, Some, None, refl, sym, ap, subst, ◌∙◌, arith}
 use Rattle.std.proofs.lemmas.Bool.Decides.{nat_tests}
 use Rattle.std.specs.Prelude.{◌==◌, ◌-◌, slice_get}
-use Rattle.np_changes.specs.Prelude.{Configuration, NodeEntry, RequestEntry, SessionFacts, SessionId, SessionsPremise, State, allocated, is_id_before, joined, new_record, next_id, node_queue, request_queue, same_request, session_of}
+use Rattle.np_changes.specs.Prelude.{AllByRecursion, Configuration, NodeEntry, RequestEntry, SessionFacts, SessionId, SessionsPremise, State, allocated, is_id_before, joined, new_record, next_id, node_queue, request_queue, same_request, session_of}
 use Rattle.np_lists.proofs.Each.{all-change_first, all-insert_before, all-push}
-use Rattle.np_layout.specs.Prelude.{Goes, HasGoodIds, HasRoomFor, HasSpellings, IsNode, IsRequest, IsSessionRole, IsWhole, LaysOut, Op, TreeState, after_multi, after_parts, is_in, next_change, tree_session}
+use Rattle.np_layout.specs.Prelude.{Goes, HasGoodIds, HasRoomFor, HasSpellings, IsJob, IsNode, IsRequest, IsRole, IsSessionRole, IsWhole, LaysOut, Op, TreeState, after_multi, after_parts, is_in, next_change, tree_session}
 use Rattle.np_tree.proofs.WholeLemmas.{IsWhole-after_end}
-use Rattle.np_changes.specs.Changes.{by_maker, changed, grown, settled}
+use Rattle.np_changes.specs.Changes.{changed, grown, settled}
 use Rattle.np_changes.specs.declared.changes.Changes.{Changes}
 use Rattle.np_changes.specs.declared.changes.Growth.{Growth}
 use Rattle.np_changes.specs.declared.changes.Growth.TheVariants as grow
@@ -21,99 +21,49 @@ use Rattle.np_enact.specs.Stands.{Enacts, Stands}
 use Rattle.np_enact.specs.Ways.{GrowthReady, GrowthsEnact}
 use Rattle.np_enact.proofs.Calls.{goes-begun, good-ended, number-of, numbered, parts-begun, room-ended, stands-numbered}
 use Rattle.np_enact.proofs.Settled.{SettledReady, TablesEnact, grown-tree, same-requests, same-tick, settled-current, settled-enact, with_all}
+use Rattle.np_enact.proofs.Spelled.{grown-janitors, grown-launchers, grown-requesters}
+use Rattle.np_enact.proofs.SpelledNodes.{granted-is}
 use Rattle.np_enact.proofs.StandsLemmas.{enacts-joined, stands-less}
+use Rattle.np_laws.proofs.JobsLater.{jobs-grown}
 use Rattle.np_lists.proofs.Plain.{low-min}
 
 -- ## what grows
 
--- each record of the grown state has a spelling
+-- the requests of the grown state have a spelling
+requests-grown : (c : Configuration) (maker : Option Maker) (growth : Growth) (s : State) → GrowthReady c maker growth s → AllByRecursion (λ e. IsRequest e.kept) s.requests → AllByRecursion (λ e. IsRequest e.kept) (grown c maker growth s).requests
+requests-grown c maker (grow.Request priority asked) s ready all =
+    all-insert_before (λ (e : RequestEntry). IsRequest e.kept) (λ (e : RequestEntry). is_id_before (next_id priority s) e.id) (record { id = next_id priority s; kept = new_record asked; queue = [] }) s.requests ready.1.0 all
+requests-grown c (Some maker) (grow.JoinRequest r) s ready all =
+    all-change_first (λ (e : RequestEntry). IsRequest e.kept) (λ (e : RequestEntry). same_request e.id r) (λ (e : RequestEntry). record e { queue = joined maker.session (request_queue r s.requests) }) s.requests (λ e is. is) all
+requests-grown c None _ s ready all = all
+requests-grown c (Some maker) _ s ready all = all
+
+-- so have the nodes
+nodes-grown : (c : Configuration) (maker : Option Maker) (growth : Growth) (s : State) → GrowthReady c maker growth s → AllByRecursion (λ e. IsNode e.kept) s.nodes → AllByRecursion (λ e. IsNode e.kept) (grown c maker growth s).nodes
+nodes-grown c maker (grow.Node kept) s ready all = all-push (λ (e : NodeEntry). IsNode e.kept) s.nodes _ all ready.1.0
+nodes-grown c (Some maker) (grow.JoinNode n) s ready all =
+    all-change_first (λ (e : NodeEntry). IsNode e.kept) (λ (e : NodeEntry). e.id.0 == n.0) (λ (e : NodeEntry). record e { queue = joined maker.session (node_queue n s.nodes) }) s.nodes (λ e is. is) all
+nodes-grown c (Some maker) (grow.Allocate n r tenant) s ready all =
+    all-change_first (λ (e : NodeEntry). IsNode e.kept) (λ (e : NodeEntry). e.id.0 == n.0) (allocated r tenant maker.session) s.nodes (λ e is. granted-is e.kept (Some r) tenant is ready.1.0 ready.0) all
+nodes-grown c None _ s ready all = all
+nodes-grown c (Some maker) _ s ready all = all
+
+-- and the sessions
+sessions-grown : (c : Configuration) (maker : Option Maker) (growth : Growth) (s : State) → GrowthReady c maker growth s → AllByRecursion (λ f. IsSessionRole f.role) s.sessions → AllByRecursion (λ f. IsSessionRole f.role) (grown c maker growth s).sessions
+sessions-grown c maker (grow.Session role) s ready all = all-push (λ (f : SessionFacts). IsSessionRole f.role) s.sessions _ all ready.1.1
+sessions-grown c None _ s ready all = all
+sessions-grown c (Some maker) _ s ready all = all
+
+-- each record of the grown state has one
 spelled-grown : (c : Configuration) (maker : Option Maker) (growth : Growth) (s : State) → GrowthReady c maker growth s → HasSpellings s → HasSpellings (grown c maker growth s)
-spelled-grown c maker grow.Nothing s ready spelled = spelled
-spelled-grown c maker (grow.Session role) s ready spelled = record {
-  requests = spelled.requests;
-  nodes = spelled.nodes;
-  jobs = spelled.jobs;
-  launchers = spelled.launchers;
-  janitors = spelled.janitors;
-  requesters = spelled.requesters;
-  sessions = all-push (λ (f : SessionFacts). IsSessionRole f.role) s.sessions (record { role = role; live = true; mute = false }) spelled.sessions ready.1.1;
-}
-spelled-grown c None (grow.Registration p) s ready spelled = spelled
-spelled-grown c (Some maker) (grow.Registration p) s ready spelled = record {
-  requests = spelled.requests;
-  nodes = spelled.nodes;
-  jobs = spelled.jobs;
-  launchers = spelled.launchers;
-  janitors = spelled.janitors;
-  requesters = spelled.requesters;
-  sessions = spelled.sessions;
-}
-spelled-grown c maker (grow.Request priority asked) s ready spelled = record {
-  requests = all-insert_before (λ (e : RequestEntry). IsRequest e.kept) (λ (e : RequestEntry). is_id_before (next_id priority s) e.id) (record { id = next_id priority s; kept = new_record asked; queue = [] }) s.requests ready.1.0 spelled.requests;
-  nodes = spelled.nodes;
-  jobs = spelled.jobs;
-  launchers = spelled.launchers;
-  janitors = spelled.janitors;
-  requesters = spelled.requesters;
-  sessions = spelled.sessions;
-}
-spelled-grown c maker (grow.Node kept) s ready spelled = record {
-  requests = spelled.requests;
-  nodes = all-push (λ (e : NodeEntry). IsNode e.kept) s.nodes (record { id = record { 0 = s.next_node }; kept = kept; queue = by_maker maker (λ session queue. queue ++ session ∷ []) [] }) spelled.nodes ready.1.0;
-  jobs = spelled.jobs;
-  launchers = spelled.launchers;
-  janitors = spelled.janitors;
-  requesters = spelled.requesters;
-  sessions = spelled.sessions;
-}
-spelled-grown c None (grow.JoinRequest r) s ready spelled = spelled
-spelled-grown c (Some maker) (grow.JoinRequest r) s ready spelled = record {
-  requests = all-change_first (λ (e : RequestEntry). IsRequest e.kept) (λ (e : RequestEntry). same_request e.id r) (λ (e : RequestEntry). record e { queue = joined maker.session (request_queue r s.requests) }) s.requests (λ e is. is) spelled.requests;
-  nodes = spelled.nodes;
-  jobs = spelled.jobs;
-  launchers = spelled.launchers;
-  janitors = spelled.janitors;
-  requesters = spelled.requesters;
-  sessions = spelled.sessions;
-}
-spelled-grown c None (grow.JoinNode n) s ready spelled = spelled
-spelled-grown c (Some maker) (grow.JoinNode n) s ready spelled = record {
-  requests = spelled.requests;
-  nodes = all-change_first (λ (e : NodeEntry). IsNode e.kept) (λ (e : NodeEntry). e.id.0 == n.0) (λ (e : NodeEntry). record e { queue = joined maker.session (node_queue n s.nodes) }) s.nodes (λ e is. is) spelled.nodes;
-  jobs = spelled.jobs;
-  launchers = spelled.launchers;
-  janitors = spelled.janitors;
-  requesters = spelled.requesters;
-  sessions = spelled.sessions;
-}
-spelled-grown c None (grow.Allocate n r tenant) s ready spelled = spelled
-spelled-grown c (Some maker) (grow.Allocate n r tenant) s ready spelled = record {
-  requests = spelled.requests;
-  nodes = all-change_first (λ (e : NodeEntry). IsNode e.kept) (λ (e : NodeEntry). e.id.0 == n.0) (allocated r tenant maker.session) s.nodes
-      (λ e is. record { allocated_to = ready.1.0; attempts = is.attempts; label = is.label; pool = is.pool; server = is.server; since = is.since; start = is.start; tenant = ready.0 }) spelled.nodes;
-  jobs = spelled.jobs;
-  launchers = spelled.launchers;
-  janitors = spelled.janitors;
-  requesters = spelled.requesters;
-  sessions = spelled.sessions;
-}
-spelled-grown c maker (grow.Handles j) s ready spelled = record {
-  requests = spelled.requests;
-  nodes = spelled.nodes;
-  jobs = spelled.jobs;
-  launchers = spelled.launchers;
-  janitors = spelled.janitors;
-  requesters = spelled.requesters;
-  sessions = spelled.sessions;
-}
-spelled-grown c maker (grow.Swept n x) s ready spelled = record {
-  requests = spelled.requests;
-  nodes = spelled.nodes;
-  jobs = spelled.jobs;
-  launchers = spelled.launchers;
-  janitors = spelled.janitors;
-  requesters = spelled.requesters;
-  sessions = spelled.sessions;
+spelled-grown c maker growth s ready spelled = record {
+  requests = requests-grown c maker growth s ready spelled.requests;
+  nodes = nodes-grown c maker growth s ready spelled.nodes;
+  jobs = subst (AllByRecursion IsJob) (sym (jobs-grown c maker growth s)) spelled.jobs;
+  launchers = subst (AllByRecursion IsRole) (sym (grown-launchers c maker growth s)) spelled.launchers;
+  janitors = subst (AllByRecursion IsRole) (sym (grown-janitors c maker growth s)) spelled.janitors;
+  requesters = subst (AllByRecursion IsRole) (sym (grown-requesters c maker growth s)) spelled.requesters;
+  sessions = sessions-grown c maker growth s ready spelled.sessions;
 }
 
 -- ## the state after the call, and after a session's end
@@ -171,29 +121,13 @@ record BeginsLast (growth : Growth) (t : TreeState) (w : ℕ) (parts : List Op) 
   is : after_parts (with_begin growth t) w parts ≡ with_begin growth (after_parts t w parts)
 
 begin-last : (growth : Growth) (t : TreeState) (w : ℕ) (parts : List Op) → is_in t.live w ≡ true → Goes (with_begin growth t) w parts (after_parts (with_begin growth t) w parts) → BeginsLast growth t w parts
-begin-last grow.Nothing t w parts live goes = record { goes = goes; is = refl }
 begin-last (grow.Session role) t w parts live goes = record { goes = goes-begun t w parts live goes; is = parts-begun t w parts }
-begin-last (grow.Registration p) t w parts live goes = record { goes = goes; is = refl }
-begin-last (grow.Request priority asked) t w parts live goes = record { goes = goes; is = refl }
-begin-last (grow.Node kept) t w parts live goes = record { goes = goes; is = refl }
-begin-last (grow.JoinRequest r) t w parts live goes = record { goes = goes; is = refl }
-begin-last (grow.JoinNode n) t w parts live goes = record { goes = goes; is = refl }
-begin-last (grow.Allocate n r tenant) t w parts live goes = record { goes = goes; is = refl }
-begin-last (grow.Handles j) t w parts live goes = record { goes = goes; is = refl }
-begin-last (grow.Swept n x) t w parts live goes = record { goes = goes; is = refl }
+begin-last _ t w parts live goes = record { goes = goes; is = refl }
 
 -- the begin of a session does not see the number
 begin-numbered : (growth : Growth) (t : TreeState) (number : ℕ) → with_begin growth (numbered number t) ≡ numbered number (with_begin growth t)
-begin-numbered grow.Nothing t number = refl
 begin-numbered (grow.Session role) t number = refl
-begin-numbered (grow.Registration p) t number = refl
-begin-numbered (grow.Request priority asked) t number = refl
-begin-numbered (grow.Node kept) t number = refl
-begin-numbered (grow.JoinRequest r) t number = refl
-begin-numbered (grow.JoinNode n) t number = refl
-begin-numbered (grow.Allocate n r tenant) t number = refl
-begin-numbered (grow.Handles j) t number = refl
-begin-numbered (grow.Swept n x) t number = refl
+begin-numbered _ t number = refl
 
 module _ (growths : GrowthsEnact) (tables : TablesEnact) (c : Configuration) (ch : Changes) (s : State) (t : TreeState) (more : ℕ) (ready : IsReady c ch s) (stands : Stands s t (writer ch.maker) (more + 64)) (low : t.changes + 2 < 18_446_744_073_709_551_615) where
   abbrev w : ℕ

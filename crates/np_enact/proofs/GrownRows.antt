@@ -1,5 +1,5 @@
 -- what grows by a record of its own: a session, a request and a node
-use Rattle.std.proofs.Common.{◌≡◌, ℕ, ◌+◌, ◌<◌, ◌≤◌, ◌^◌, Bool, true, false, ◌&&◌, ◌||◌, List, [], ◌∷◌, ◌++◌, length, None, refl, ap, ◌∙◌, inl, arith, length-append}
+use Rattle.std.proofs.Common.{◌≡◌, ℕ, ◌+◌, ◌<◌, ◌≤◌, ◌^◌, Bool, true, false, ◌||◌, List, [], ◌∷◌, ◌++◌, length, None, refl, ap, ◌∙◌, inl, arith, length-append}
 use Rattle.std.specs.Prelude.{◌==◌}
 use Rattle.np_changes.specs.Prelude.{AllByRecursion, NodeEntry, NodeId, NodeRecord, RequestEntry, RequestId, RequestRecord, Role, SessionFacts, SessionId, State, insert_request, is_id_before, next_id, request_entry}
 use Rattle.std.proofs.lemmas.List.Folds.{list_any-append}

@@ -15,6 +15,7 @@ use Rattle.np_layout.proofs.DeleteHandles.{handles-lay-out as gone-lays-out}
 use Rattle.np_enact.specs.Parts.{acquire_parts, release_parts}
 use Rattle.np_enact.specs.Stands.{Enacts, Stands}
 use Rattle.np_enact.specs.Ways.{HandlesEnact}
+use Rattle.np_enact.proofs.GoodIds.{good-rows}
 use Rattle.np_enact.proofs.StandsLemmas.{enacts-deletes, enacts-joined, enacts-less, enacts-none, enacts-parts, part-create, part-delete, room-less, stands-less}
 
 -- ## lists
@@ -46,19 +47,9 @@ AreJobs jobs = AllByRecursion (λ k. IsGood (Job k)) jobs
 
 -- the state with other handles: as many semaphores, and each job has a place
 handles-good : (s : State) (list : List (List JobId)) → HasGoodIds s → length list ≡ length s.handles → AllByRecursion AreJobs list → HasGoodIds (record s { handles = list })
-handles-good s list good same all = record {
-  sessions = good.sessions;
-  requests = good.requests;
-  nodes = good.nodes;
-  registrations = good.registrations;
-  semaphores = let few = good.semaphores in omega arith;
-  handles = all;
-  jobs = good.jobs;
-  launchers = good.launchers;
-  janitors = good.janitors;
-  requesters = good.requesters;
-  swept = good.swept;
-}
+handles-good s list good same all =
+    good-rows s s.requests s.nodes s.registrations list s.swept s.next_request s.next_node good
+    good.requests good.nodes good.registrations (let few = good.semaphores in omega arith) all good.swept
 
 with-by : (j : JobId) (jobs : List JobId) (b : Bool) → IsGood (Job j) → AreJobs jobs → AreJobs (cond b jobs (insert_before (λ (other : JobId). nat_lt j.0 other.0) j jobs))
 with-by j jobs true small all = all

@@ -9,6 +9,7 @@ use Rattle.np_layout.specs.declared.place.Place.TheVariants.{Launcher, Swept as 
 use Rattle.np_layout.proofs.CreateLaunchers.{registrations-lay-out}
 use Rattle.np_layout.proofs.CreateSwept.{swept_pairs-lay-out}
 use Rattle.np_enact.specs.Stands.{Enacts, Stands}
+use Rattle.np_enact.proofs.GoodIds.{good-rows}
 use Rattle.np_enact.proofs.StandsLemmas.{enacts-none, enacts-parts, part-create, room-less, stands-less}
 
 -- ## a pair is swept
@@ -21,19 +22,9 @@ pair-by n server list true is_good all = all
 pair-by n server list false is_good all = all-insert_before (λ (pair : Swept). IsGood (SweptPlace pair.node pair.server)) (is_pair_after n server) (record { node = n; server = server }) list is_good all
 
 swept-good : (n : NodeId) (server : ℕ) (s : State) → IsGood (SweptPlace n server) → HasGoodIds s → HasGoodIds (record s { swept = with_pair n server s.swept })
-swept-good n server s is_good good = record {
-  sessions = good.sessions;
-  requests = good.requests;
-  nodes = good.nodes;
-  registrations = good.registrations;
-  semaphores = good.semaphores;
-  handles = good.handles;
-  jobs = good.jobs;
-  launchers = good.launchers;
-  janitors = good.janitors;
-  requesters = good.requesters;
-  swept = pair-by n server s.swept (is_swept n server s.swept) is_good good.swept;
-}
+swept-good n server s is_good good =
+    good-rows s s.requests s.nodes s.registrations s.handles (with_pair n server s.swept) s.next_request s.next_node good
+    good.requests good.nodes good.registrations good.semaphores good.handles (pair-by n server s.swept (is_swept n server s.swept) is_good good.swept)
 
 swept-by : (n : NodeId) (server : ℕ) (s : State) (t : TreeState) (w more : ℕ) (b : Bool) → is_swept n server s.swept ≡ b → IsGood (SweptPlace n server) → Stands s t w (more + 1) →
     Enacts t w (cond b [] (make [] (SweptPlace n server) ∷ [])) (record s { swept = with_pair n server s.swept }) more
@@ -53,19 +44,10 @@ swept-enacts n server s t w more is_good stands = swept-by n server s t w more (
 -- ## a launcher registers
 
 registers-good : (session : SessionId) (p : PoolId) (s : State) → IsGood (Launcher p) → HasGoodIds s → HasGoodIds (registers s session p)
-registers-good session p s is_good good = record {
-  sessions = good.sessions;
-  requests = good.requests;
-  nodes = good.nodes;
-  registrations = all-insert_before (λ (g : Registration). IsGood (Launcher g.pool)) (λ (g : Registration). nat_lt p.0 g.pool.0) (record { pool = p; session = session }) s.registrations is_good good.registrations;
-  semaphores = good.semaphores;
-  handles = good.handles;
-  jobs = good.jobs;
-  launchers = good.launchers;
-  janitors = good.janitors;
-  requesters = good.requesters;
-  swept = good.swept;
-}
+registers-good session p s is_good good =
+    good-rows s s.requests s.nodes (registers s session p).registrations s.handles s.swept s.next_request s.next_node good good.requests good.nodes
+    (all-insert_before (λ (g : Registration). IsGood (Launcher g.pool)) (λ (g : Registration). nat_lt p.0 g.pool.0) (record { pool = p; session = session }) s.registrations is_good good.registrations)
+    good.semaphores good.handles good.swept
 
 -- the part for a registration lays out the state in which the launcher is registered
 pub registration-enacts : (session : SessionId) (p : PoolId) (s : State) (t : TreeState) (more : ℕ) → IsGood (Launcher p) → registered p s.registrations ≡ None → Stands s t (tree_session session) (more + 1) →

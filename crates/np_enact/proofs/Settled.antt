@@ -41,15 +41,9 @@ leaves_requests other = false
 
 pub same-requests : (c : Configuration) (maker : Option Maker) (growth : Growth) (s : State) → leaves_requests growth ≡ true → (grown c maker growth s).requests ≡ s.requests
 same-requests c maker grow.Nothing s leaves = refl
-same-requests c maker (grow.Session role) s leaves = absurd cc
-same-requests c maker (grow.Registration p) s leaves = absurd cc
-same-requests c maker (grow.Request priority asked) s leaves = absurd cc
 same-requests c maker (grow.Node kept) s leaves = refl
-same-requests c maker (grow.JoinRequest r) s leaves = absurd cc
-same-requests c maker (grow.JoinNode n) s leaves = absurd cc
 same-requests c maker (grow.Allocate n r tenant) s leaves = refl
-same-requests c maker (grow.Handles j) s leaves = absurd cc
-same-requests c maker (grow.Swept n x) s leaves = absurd cc
+same-requests c maker _ s leaves = absurd cc
 
 leaves-nothing : (growth : Growth) → growth ≡ grow.Nothing → leaves_requests growth ≡ true
 leaves-nothing growth is = ap leaves_requests is
@@ -109,32 +103,24 @@ reads_node (nodes.Leave n) = true
 reads_node other = false
 
 requests-read : (maker : Option Maker) (change : RequestsChange) (rows : List RequestEntry) (t u : TreeState) → (reads change ≡ true → t ≡ u) → requests_parts maker change rows u ≡ requests_parts maker change rows t
-requests-read maker requests.Same rows t u same = refl
-requests-read maker (requests.Edit r change) rows t u same = refl
 requests-read maker (requests.Remove r) rows t u same = ap (requests_parts maker (requests.Remove r) rows) (sym (same refl))
 requests-read maker (requests.Leave r) rows t u same = ap (requests_parts maker (requests.Leave r) rows) (sym (same refl))
+requests-read maker _ rows t u same = refl
 
 nodes-read : (maker : Option Maker) (tick : ℕ) (old : List RequestEntry) (change : NodesChange) (rows : List NodeEntry) (t u : TreeState) → (reads_node change ≡ true → t ≡ u) → nodes_parts maker tick old change rows u ≡ nodes_parts maker tick old change rows t
-nodes-read maker tick old nodes.Same rows t u same = refl
-nodes-read maker tick old (nodes.Put n kept) rows t u same = refl
 nodes-read maker tick old (nodes.Remove n) rows t u same = ap (nodes_parts maker tick old (nodes.Remove n) rows) (sym (same refl))
 nodes-read maker tick old (nodes.Leave n) rows t u same = ap (nodes_parts maker tick old (nodes.Leave n) rows) (sym (same refl))
-nodes-read maker tick old (nodes.FreeAll r) rows t u same = refl
-nodes-read maker tick old (nodes.TakeOver numbers) rows t u same = refl
+nodes-read maker tick old _ rows t u same = refl
 
 request-reads : (c : Configuration) (s : State) (ch : Changes) (change : RequestsChange) → RequestsPremise c s ch change → reads change ≡ true → ch.grows ≡ grow.Nothing
-request-reads c s ch requests.Same premise is = absurd cc
-request-reads c s ch (requests.Edit r change) premise is = absurd cc
 request-reads c s ch (requests.Remove r) premise is = remove-alone c s ch r premise
 request-reads c s ch (requests.Leave r) premise is = premise.same_size
+request-reads c s ch _ premise is = absurd cc
 
 node-reads : (c : Configuration) (s : State) (ch : Changes) (change : NodesChange) → NodesPremise c s ch change → reads_node change ≡ true → (ch.grows ≡ grow.Nothing) × (ch.requests ≡ requests.Same)
-node-reads c s ch nodes.Same premise is = absurd cc
-node-reads c s ch (nodes.Put n kept) premise is = absurd cc
 node-reads c s ch (nodes.Remove n) premise is = (premise.same_size, premise.same_requests)
 node-reads c s ch (nodes.Leave n) premise is = (premise.same_size, premise.same_requests)
-node-reads c s ch (nodes.FreeAll r) premise is = absurd cc
-node-reads c s ch (nodes.TakeOver numbers) premise is = absurd cc
+node-reads c s ch _ premise is = absurd cc
 
 -- where nothing grows, the tree is as it was
 pub grown-tree : (c : Configuration) (maker : Option Maker) (growth : Growth) (s : State) (t : TreeState) → growth ≡ grow.Nothing → t ≡ after_parts (with_begin growth t) (writer maker) (grown_parts c maker growth s)
@@ -200,11 +186,7 @@ nodes-by law c ch s g u t old more nodes.Same b is request premise kept same wai
 nodes-by law c ch s g u t old more change true is request premise kept same waits spelled_old ready stands spelled = none change is where
   none : (change : NodesChange) → is_same change ≡ true → Enacts u (writer ch.maker) (nodes_parts ch.maker g.tick old change g.nodes t) (record g { nodes = nodes_changed ch.maker g.tick change g.nodes }) more
   none nodes.Same is = enacts-none g u (writer ch.maker) more (stands-less g u (writer ch.maker) (more + 32) more (omega arith) stands)
-  none (nodes.Put n kept) is = absurd cc
-  none (nodes.Remove n) is = absurd cc
-  none (nodes.Leave n) is = absurd cc
-  none (nodes.FreeAll r) is = absurd cc
-  none (nodes.TakeOver numbers) is = absurd cc
+  none _ is = absurd cc
 nodes-by law c ch s g u t old more change false is request premise kept same waits spelled_old ready stands spelled =
     let grows = nodes-grow c s ch change is request premise in
     let rows = kept grows in

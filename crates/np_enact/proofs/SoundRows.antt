@@ -1,5 +1,5 @@
 -- what the rows of a sound configuration say of the numbers in records
-use Rattle.std.proofs.Common.{◌≡◌, ◌<◌, ◌≤◌, ◌^◌, ℕ, List, [], ◌∷◌, ◌++◌, length, true, Option, Some, None, IfSome, refl, arith}
+use Rattle.std.proofs.Common.{◌≡◌, ◌<◌, ◌≤◌, ◌^◌, List, [], ◌∷◌, ◌++◌, length, true, Option, Some, None, IfSome, refl, arith}
 use Rattle.std.specs.Prelude.{◌==◌, All, find, is_some, option_and_then, slice_get}
 use Rattle.np_changes.specs.Prelude.{AllByRecursion, Configuration, EachAfter, IsJob, IsOffer, IsPool, IsPriority, IsSound, IsWanted, Job, JobId, LabelId, Offer, Pool, PoolId, RequestRecord, Role, StandsByOwner, is_offered, is_role, offers_of, option_map, option_map_or, tenant_of_request}
 use Rattle.std.proofs.lemmas.Bool.Decides.{nat_tests}

@@ -1,11 +1,12 @@
 -- each node has a spelling after an accepted event
-use Rattle.std.proofs.Common.{◌≡◌, ◌<◌, ◌^◌, ◌⊎◌, inl, inr, ℕ, List, [], ◌∷◌, length, Bool, true, false, cond, Option, Some, None, IfSome, refl, ap, sym, subst, ◌∙◌, arith}
+use Rattle.std.proofs.Common.{◌≡◌, ◌<◌, ◌^◌, ◌⊎◌, inl, inr, ℕ, ◌+◌, List, [], ◌∷◌, length, Bool, true, false, cond, Option, Some, None, IfSome, refl, ap, sym, subst, ◌∙◌, arith}
 use Rattle.std.specs.Prelude.{◌==◌}
-use Rattle.np_changes.specs.Prelude.{AllByRecursion, Configuration, LabelId, NodeEntry, NodeId, NodeRecord, Outcome, PoolId, RequestId, RequestRecord, SessionId, State, TenantId, all_in_use, by_maker, change_first, freed, freed_from, grown, in_use, is_request, joined, left, new_node, next_label, node_left, node_queue, nodes_changed, nodes_left, put_node_queue, registers, tenant_of_request}
+use Rattle.np_changes.specs.Prelude.{AllByRecursion, Configuration, HasText, LabelId, NodeEntry, NodeId, NodeRecord, NodeState, Outcome, PoolId, RequestId, RequestRecord, SessionId, State, TenantId, all_in_use, by_maker, change_first, freed, freed_from, grown, in_use, is_request, joined, launched, left, new_node, next_label, node_left, node_queue, nodes_changed, nodes_left, put_node_queue, registers, retries_of, tenant_of_request}
 use Rattle.np_lists.proofs.Each.{all-at, all-change_first, all-mapped, all-push, all-remove_first}
 use Rattle.np_spelling.specs.Spelling.{IsLabel, IsNode}
 use Rattle.np_event.specs.declared.event.Outcome.TheVariants as outcome
-use Rattle.np_machine.specs.Node.{allocated, since_after_launch}
+use Rattle.np_machine.specs.Node.{allocated, ended_as, since_after_launch}
+use Rattle.np_text.specs.declared.word.NodeState.TheVariants as node_state
 use Rattle.np_changes.specs.Premises.{EndsNode, Frees, Gains, GivesUp, GrowthPremise, IsMade, IsTaken, NodesPremise, PutsNode, Reports, Starts}
 use Rattle.np_changes.specs.declared.changes.Changes.{Changes}
 use Rattle.np_changes.specs.declared.changes.Growth.{Growth}
@@ -35,17 +36,35 @@ grown-tick c maker _ s = refl
 
 -- ## one record
 
-freed-is : (k : NodeRecord) → IsNode k → IsNode (freed k)
-freed-is k is = record {
-  allocated_to = tt;
+-- a record keeps its spelling with another owner
+pub granted-is : (k : NodeRecord) (to : Option RequestId) (tenant : Option TenantId) → IsNode k → IfSome to HasText → IfSome tenant (λ t. t.0 < 2 ^ 16) → IsNode (record k { allocated_to = to; tenant = tenant })
+granted-is k to tenant is text low = record {
+  allocated_to = text;
   attempts = is.attempts;
   label = is.label;
   pool = is.pool;
   server = is.server;
   since = is.since;
   start = is.start;
-  tenant = tt;
+  tenant = low;
 }
+
+-- and with another state, other counts and another server
+worked-is : (k : NodeRecord) (attempts : ℕ) (in_flight : Bool) (server : Option ℕ) (since start : ℕ) (state : NodeState) → IsNode k → attempts < 2 ^ 8 → IfSome server (λ x. x < 2 ^ 64) → since < 2 ^ 32 → start < 2 ^ 32 →
+    IsNode (record k { attempts = attempts; in_flight = in_flight; server = server; since = since; start = start; state = state })
+worked-is k attempts in_flight server since start state is few_attempts low_server low_since low_start = record {
+  allocated_to = is.allocated_to;
+  attempts = few_attempts;
+  label = is.label;
+  pool = is.pool;
+  server = low_server;
+  since = low_since;
+  start = low_start;
+  tenant = is.tenant;
+}
+
+freed-is : (k : NodeRecord) → IsNode k → IsNode (freed k)
+freed-is k is = granted-is k None None is tt tt
 
 freed_from-is : (r : RequestId) (e : NodeEntry) → IsNode e.kept → IsNode (freed_from r e).kept
 freed_from-is r e is = by (is_request r e.kept.allocated_to) where
@@ -54,16 +73,7 @@ freed_from-is r e is = by (is_request r e.kept.allocated_to) where
   by false = is
 
 in_use-is : (tick : ℕ) (e : NodeEntry) → tick < 2 ^ 32 → IsNode e.kept → IsNode (in_use tick e).kept
-in_use-is tick e low is = record {
-  allocated_to = is.allocated_to;
-  attempts = is.attempts;
-  label = is.label;
-  pool = is.pool;
-  server = is.server;
-  since = low;
-  start = is.start;
-  tenant = is.tenant;
-}
+in_use-is tick e low is = let k = (in_use tick e).kept in worked-is e.kept k.attempts k.in_flight k.server tick k.start k.state is is.attempts is.server low is.start
 
 all-in_use : (tick : ℕ) (numbers : List NodeId) (rows : List NodeEntry) → tick < 2 ^ 32 → AreNodes rows → AreNodes (all_in_use tick numbers rows)
 all-in_use tick [] rows low all = all
@@ -120,32 +130,15 @@ module _ (c : Configuration) (s : State) (ch : Changes) (known : IsKnown c s ch)
   allocated-is : (n : NodeId) (r : RequestId) (tenant : Option TenantId) (session : SessionId) → ch.grows ≡ grow.Allocate n r tenant → Gains c s ch r n → (e : NodeEntry) → IsNode e.kept → IsNode (allocated r tenant session e).kept
   allocated-is n r tenant session grows gains e is =
       let row : RequestRow c r gains.request = request-row c s known.fits known.carried r gains.request gains.worked_on.stands in
-      record {
-        allocated_to = row.text;
-        attempts = is.attempts;
-        label = is.label;
-        pool = is.pool;
-        server = is.server;
-        since = is.since;
-        start = is.start;
-        tenant = allocated-tenant n r tenant grows gains;
-      }
+      granted-is e.kept (Some r) tenant is row.text (allocated-tenant n r tenant grows gains)
 
   nodes-grown : (maker : Option Maker) (growth : Growth) → ch.grows ≡ growth → GrowthPremise c s ch growth → AreNodes (grown c maker growth s).nodes
-  nodes-grown maker grow.Nothing is premise = known.carried.spelled.nodes
-  nodes-grown maker (grow.Session role) is premise = known.carried.spelled.nodes
-  nodes-grown None (grow.Registration p) is premise = known.carried.spelled.nodes
-  nodes-grown (Some m) (grow.Registration p) is premise = known.carried.spelled.nodes
-  nodes-grown maker (grow.Request priority asked) is premise = known.carried.spelled.nodes
   nodes-grown maker (grow.Node kept) is premise = all-push (λ (e : NodeEntry). IsNode e.kept) s.nodes _ known.carried.spelled.nodes (new-node kept is premise)
-  nodes-grown maker (grow.JoinRequest r) is premise = known.carried.spelled.nodes
-  nodes-grown None (grow.JoinNode n) is premise = known.carried.spelled.nodes
   nodes-grown (Some m) (grow.JoinNode n) is premise = nodes-queue n (joined m.session (node_queue n s.nodes)) s.nodes known.carried.spelled.nodes
-  nodes-grown None (grow.Allocate n r tenant) is premise = known.carried.spelled.nodes
   nodes-grown (Some m) (grow.Allocate n r tenant) is premise =
       all-change_first (λ (e : NodeEntry). IsNode e.kept) (λ e. e.id.0 == n.0) (allocated r tenant m.session) s.nodes (allocated-is n r tenant m.session is premise) known.carried.spelled.nodes
-  nodes-grown maker (grow.Handles j) is premise = known.carried.spelled.nodes
-  nodes-grown maker (grow.Swept n x) is premise = known.carried.spelled.nodes
+  nodes-grown None _ is premise = known.carried.spelled.nodes
+  nodes-grown (Some m) _ is premise = known.carried.spelled.nodes
 
   -- ## a record that is put
 
@@ -153,55 +146,23 @@ module _ (c : Configuration) (s : State) (ch : Changes) (known : IsKnown c s ch)
   started-is n k kept row starts low =
       let few = row.attempts starts.idle in
       let start : kept.start ≡ starts.start = ap (λ (x : NodeRecord). x.start) starts.record_after in
-      subst IsNode (sym starts.record_after) (record {
-        allocated_to = row.is.allocated_to;
-        attempts = omega arith;
-        label = row.is.label;
-        pool = row.is.pool;
-        server = row.is.server;
-        since = row.is.since;
-        start = subst (λ (x : ℕ). x < 2 ^ 32) start low;
-        tenant = row.is.tenant;
-      })
+      subst IsNode (sym starts.record_after)
+      (worked-is k (k.attempts + 1) true k.server k.since starts.start k.state row.is (omega arith) row.is.server row.is.since (subst (λ (x : ℕ). x < 2 ^ 32) start low))
 
   reported-is : (n : NodeId) (k kept : NodeRecord) → NodeRow c s n k → Reports c s ch k kept → IfSome kept.server (λ server. server < 2 ^ 64) → IsNode kept
   reported-is n k kept row reports low =
-      subst IsNode (sym reports.record_after) (record {
-        allocated_to = row.is.allocated_to;
-        attempts = row.is.attempts;
-        label = row.is.label;
-        pool = row.is.pool;
-        server = subst (λ (x : NodeRecord). IfSome x.server (λ server. server < 2 ^ 64)) reports.record_after low;
-        since = since-low s.tick k reports.outcome tick-low row.is.since;
-        start = row.is.start;
-        tenant = row.is.tenant;
-      })
+      let later : NodeRecord = launched (retries_of c k.pool) s.tick reports.outcome k in
+      subst IsNode (sym reports.record_after)
+      (worked-is k k.attempts false later.server later.since k.start later.state row.is row.is.attempts
+      (subst (λ (x : NodeRecord). IfSome x.server (λ server. server < 2 ^ 64)) reports.record_after low) (since-low s.tick k reports.outcome tick-low row.is.since) row.is.start)
 
   ended-is : (n : NodeId) (k kept : NodeRecord) → NodeRow c s n k → EndsNode s ch n k kept → IsNode kept
   ended-is n k kept row ends =
-      subst IsNode (sym ends.record_after) (record {
-        allocated_to = row.is.allocated_to;
-        attempts = row.is.attempts;
-        label = row.is.label;
-        pool = row.is.pool;
-        server = row.is.server;
-        since = tick-low;
-        start = row.is.start;
-        tenant = row.is.tenant;
-      })
+      subst IsNode (sym ends.record_after) (worked-is k k.attempts k.in_flight k.server s.tick k.start (ended_as ends.as_what) row.is row.is.attempts row.is.server tick-low row.is.start)
 
   given-is : (n : NodeId) (k kept : NodeRecord) → NodeRow c s n k → GivesUp s ch k kept → IsNode kept
   given-is n k kept row gives =
-      subst IsNode (sym gives.record_after) (record {
-        allocated_to = row.is.allocated_to;
-        attempts = row.is.attempts;
-        label = row.is.label;
-        pool = row.is.pool;
-        server = row.is.server;
-        since = row.is.since;
-        start = row.is.start;
-        tenant = row.is.tenant;
-      })
+      subst IsNode (sym gives.record_after) (worked-is k k.attempts false k.server k.since k.start node_state.Deleting row.is row.is.attempts row.is.server row.is.since row.is.start)
 
   put-by : (n : NodeId) (k kept : NodeRecord) → NodeRow c s n k → IsTypedNodes (nodes.Put n kept) → Starts s ch k kept ⊎ (Reports c s ch k kept ⊎ (EndsNode s ch n k kept ⊎ (GivesUp s ch k kept ⊎ Frees s ch k kept))) → IsNode kept
   put-by n k kept row typed (inl starts) = started-is n k kept row starts typed.0

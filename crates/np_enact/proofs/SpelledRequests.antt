@@ -1,12 +1,13 @@
 -- each request has a spelling after an accepted event
-use Rattle.std.proofs.Common.{◌≡◌, ◌<◌, ◌^◌, ◌⊎◌, inl, inr, ℕ, List, [], length, Bool, true, false, cond, Option, Some, None, ap, sym, subst, arith, length-append}
+use Rattle.std.proofs.Common.{◌≡◌, ◌<◌, ◌≤◌, ◌^◌, ◌⊎◌, inl, inr, ℕ, List, [], ◌∷◌, ◌++◌, length, Bool, true, false, cond, Option, Some, None, ap, sym, subst, arith, length-append}
 use Rattle.std.proofs.lemmas.Option.{slice_get_within}
 use Rattle.std.specs.Prelude.{◌&&◌}
-use Rattle.np_changes.specs.Prelude.{AllByRecursion, Configuration, LabelId, NodeId, PoolId, Reason, RequestEntry, RequestId, RequestRecord, RequestState, SessionId, State, by_maker, edited, grown, is_id_before, is_pending, is_pool, is_requested, joined, left, new_record, next_id, option_map, put_request_queue, request_in, request_left, request_queue, requests_changed, requests_left, same_request}
+use Rattle.np_changes.specs.Prelude.{AllByRecursion, Configuration, Declined, NodeId, PoolId, Reason, RequestEntry, RequestId, RequestRecord, RequestState, SessionId, State, by_maker, edited, grown, is_id_before, is_pending, is_pool, is_requested, joined, left, new_record, next_id, option_map, put_request_queue, request_in, request_left, request_queue, requests_changed, requests_left, same_request}
+use Rattle.np_text.specs.declared.limit.TheConstants.{JOB_LABELS, POOLS}
 use Rattle.np_text.specs.declared.word.RequestState.TheVariants as state
 use Rattle.np_lists.proofs.Each.{all-change_first, all-insert_before, all-mapped, all-push, all-remove_first}
 use Rattle.np_spelling.specs.Spelling.{IsDeclined, IsNodeId, IsReason, IsRequest, IsServed}
-use Rattle.np_changes.specs.Premises.{AsksForJob, AsksToKeep, EditPremise, Gains, GrowthPremise, IsMade, IsTaken, MayDecline, MayFulfil, RequestsPremise}
+use Rattle.np_changes.specs.Premises.{AsksForJob, AsksToKeep, EditPremise, Gains, GrowthPremise, MayDecline, MayFulfil, RequestsPremise}
 use Rattle.np_changes.specs.declared.asked.Asked.{Asked}
 use Rattle.np_changes.specs.declared.changes.Changes.{Changes}
 use Rattle.np_changes.specs.declared.changes.Growth.{Growth}
@@ -18,7 +19,7 @@ use Rattle.np_changes.specs.declared.changes.RequestsChange.{RequestsChange}
 use Rattle.np_changes.specs.declared.changes.RequestsChange.TheVariants as requests
 use Rattle.np_changes.specs.declared.changes.SessionsChange.{SessionsChange}
 use Rattle.np_changes.specs.declared.changes.SessionsChange.TheVariants as sessions
-use Rattle.np_enact.proofs.Settled.{leaves_requests, same-requests}
+use Rattle.np_enact.proofs.Settled.{edit-leaves, same-requests}
 use Rattle.np_enact.specs.Ready.{IsTypedEdit, IsTypedRequests}
 use Rattle.np_enact.proofs.SoundRows.{JobRow, job-low, job-row, label-low, pool-low}
 use Rattle.np_enact.proofs.KnownRows.{IsKnown, RequestRow, all-change_found, gained-number, launcher-low, request-row, same-some, worker-low}
@@ -30,6 +31,26 @@ AreRequests rows = AllByRecursion (λ e. IsRequest e.kept) rows
 -- another queue changes no record
 pub requests-queue : (r : RequestId) (queue : List SessionId) (rows : List RequestEntry) → AreRequests rows → AreRequests (put_request_queue r queue rows)
 requests-queue r queue rows all = all-change_first (λ (e : RequestEntry). IsRequest e.kept) (λ e. same_request e.id r) (λ e. record e { queue = queue }) rows (λ e is. is) all
+
+-- a record that asks for the same keeps its spelling
+edit-is : (k : RequestRecord) (declined : List Declined) (nodes : List NodeId) (s : RequestState) (pool : Option PoolId) (relative : ℕ) → IsRequest k →
+    length declined ≤ POOLS → AllByRecursion IsDeclined declined → length nodes ≤ JOB_LABELS → AllByRecursion IsNodeId nodes → IsServed s pool → relative < 2 ^ 32 →
+    IsRequest (record k { declined = declined; nodes = nodes; state = s; pool = pool; relative_priority = relative })
+edit-is k declined nodes s pool relative is few_declined all_declined few_nodes all_nodes served low = record {
+  few_declined = few_declined;
+  declined = all_declined;
+  asked = is.asked;
+  few_labels = is.few_labels;
+  labels = is.labels;
+  few_nodes = few_nodes;
+  nodes = all_nodes;
+  served = served;
+  relative_priority = low;
+}
+
+-- so does one whose state and pool alone change
+state-is : (k : RequestRecord) (s : RequestState) (pool : Option PoolId) → IsRequest k → IsServed s pool → IsRequest (record k { state = s; pool = pool })
+state-is k s pool is served = edit-is k k.declined k.nodes s pool k.relative_priority is is.few_declined is.declined is.few_nodes is.nodes served is.relative_priority
 
 -- ## the pool that serves a request
 
@@ -93,20 +114,12 @@ module _ (c : Configuration) (s : State) (ch : Changes) (known : IsKnown c s ch)
   new-request priority asked (inr asks) = asked-to_keep priority asked asks
 
   requests-grown : (maker : Option Maker) (growth : Growth) → GrowthPremise c s ch growth → AreRequests (grown c maker growth s).requests
-  requests-grown maker grow.Nothing premise = known.carried.spelled.requests
-  requests-grown maker (grow.Session role) premise = known.carried.spelled.requests
-  requests-grown None (grow.Registration p) premise = known.carried.spelled.requests
-  requests-grown (Some m) (grow.Registration p) premise = known.carried.spelled.requests
   requests-grown maker (grow.Request priority asked) premise =
       all-insert_before (λ (e : RequestEntry). IsRequest e.kept) (λ e. is_id_before (next_id priority s) e.id) (record { id = next_id priority s; kept = new_record asked; queue = [] }) s.requests
       (new-request priority asked premise) known.carried.spelled.requests
-  requests-grown maker (grow.Node kept) premise = known.carried.spelled.requests
-  requests-grown None (grow.JoinRequest r) premise = known.carried.spelled.requests
   requests-grown (Some m) (grow.JoinRequest r) premise = requests-queue r (joined m.session (request_queue r s.requests)) s.requests known.carried.spelled.requests
-  requests-grown maker (grow.JoinNode n) premise = known.carried.spelled.requests
-  requests-grown maker (grow.Allocate n r tenant) premise = known.carried.spelled.requests
-  requests-grown maker (grow.Handles j) premise = known.carried.spelled.requests
-  requests-grown maker (grow.Swept n x) premise = known.carried.spelled.requests
+  requests-grown None _ premise = known.carried.spelled.requests
+  requests-grown (Some m) _ premise = known.carried.spelled.requests
 
   -- ## an edit
 
@@ -115,19 +128,7 @@ module _ (c : Configuration) (s : State) (ch : Changes) (known : IsKnown c s ch)
   found-row r k there = request-row c s known.fits known.carried r k there
 
   served-is : (r : RequestId) (k : RequestRecord) (p : PoolId) → request_in r s.requests ≡ Some k → p.0 < length c.pools → IsRequest (edited (edit.Serve p) k)
-  served-is r k p there low =
-      let row : RequestRow c r k = found-row r k there in
-      record {
-        few_declined = row.is.few_declined;
-        declined = row.is.declined;
-        asked = row.is.asked;
-        few_labels = row.is.few_labels;
-        labels = row.is.labels;
-        few_nodes = row.is.few_nodes;
-        nodes = row.is.nodes;
-        served = pool-low c p known.sound low;
-        relative_priority = row.is.relative_priority;
-      }
+  served-is r k p there low = state-is k state.Pending (Some p) (found-row r k there).is (pool-low c p known.sound low)
 
   added-is : (r : RequestId) (n : NodeId) (gains : Gains c s ch r n) → IsRequest (edited (edit.AddNode n) gains.request)
   added-is r n gains =
@@ -135,17 +136,8 @@ module _ (c : Configuration) (s : State) (ch : Changes) (known : IsKnown c s ch)
       let row : RequestRow c r k = found-row r k gains.worked_on.stands in
       let room = slice_get_within k.labels (length k.nodes) gains.label gains.next in
       let few = row.labels in
-      record {
-        few_declined = row.is.few_declined;
-        declined = row.is.declined;
-        asked = row.is.asked;
-        few_labels = row.is.few_labels;
-        labels = row.is.labels;
-        few_nodes = simp length-append (omega arith);
-        nodes = all-push IsNodeId k.nodes n row.is.nodes (gained-number c s ch gains.pool r k gains.label n known gains.from);
-        served = row.is.served;
-        relative_priority = row.is.relative_priority;
-      }
+      edit-is k k.declined (k.nodes ++ n ∷ []) k.state k.pool k.relative_priority row.is row.is.few_declined row.is.declined
+      (simp length-append (omega arith)) (all-push IsNodeId k.nodes n row.is.nodes (gained-number c s ch gains.pool r k gains.label n known gains.from)) row.is.served row.is.relative_priority
 
   declined-is : (r : RequestId) (p : PoolId) (why : Reason) (failed : Bool) → IsReason why → (may : MayDecline c s ch r p why failed) → IsRequest (edited (edit.Decline p why failed) may.request)
   declined-is r p why failed reason may =
@@ -153,77 +145,28 @@ module _ (c : Configuration) (s : State) (ch : Changes) (known : IsKnown c s ch)
       let row : RequestRow c r k = found-row r k may.worked_on.stands in
       let low : p.0 < length c.pools = worker-low c s ch p r k known may.worked_on in
       let room = row.declined p low may.undeclined in
-      record {
-        few_declined = simp length-append (omega arith);
-        declined = all-push IsDeclined k.declined (record { pool = p; reason = why }) row.is.declined (record { pool = pool-low c p known.sound low; reason = reason });
-        asked = row.is.asked;
-        few_labels = row.is.few_labels;
-        labels = row.is.labels;
-        few_nodes = omega arith;
-        nodes = tt;
-        served = declined-served failed;
-        relative_priority = row.is.relative_priority;
-      }
+      edit-is k (k.declined ++ record { pool = p; reason = why } ∷ []) [] (cond failed state.Failed state.Requested) None k.relative_priority row.is (simp length-append (omega arith))
+      (all-push IsDeclined k.declined (record { pool = p; reason = why }) row.is.declined (record { pool = pool-low c p known.sound low; reason = reason })) (omega arith) tt (declined-served failed) row.is.relative_priority
 
   fulfilled-is : (r : RequestId) (may : MayFulfil s ch r) → IsRequest (edited edit.Fulfil may.request)
   fulfilled-is r may =
       let row : RequestRow c r may.request = found-row r may.request may.worked_on.stands in
-      record {
-        few_declined = row.is.few_declined;
-        declined = row.is.declined;
-        asked = row.is.asked;
-        few_labels = row.is.few_labels;
-        labels = row.is.labels;
-        few_nodes = row.is.few_nodes;
-        nodes = row.is.nodes;
-        served = fulfilled-served may.pool may.request.state may.request.pool may.pending row.is.served;
-        relative_priority = row.is.relative_priority;
-      }
+      state-is may.request state.Fulfilled may.request.pool row.is (fulfilled-served may.pool may.request.state may.request.pool may.pending row.is.served)
 
   given-is : (r : RequestId) (k : RequestRecord) → request_in r s.requests ≡ Some k → IsRequest (edited edit.GiveBack k)
   given-is r k there =
       let row : RequestRow c r k = found-row r k there in
-      record {
-        few_declined = row.is.few_declined;
-        declined = row.is.declined;
-        asked = row.is.asked;
-        few_labels = row.is.few_labels;
-        labels = row.is.labels;
-        few_nodes = omega arith;
-        nodes = tt;
-        served = tt;
-        relative_priority = row.is.relative_priority;
-      }
+      edit-is k k.declined [] state.Requested None k.relative_priority row.is row.is.few_declined row.is.declined (omega arith) tt tt row.is.relative_priority
 
   failed-is : (r : RequestId) (k : RequestRecord) → request_in r s.requests ≡ Some k → is_requested k.state ≡ true → IsRequest (edited edit.Fail k)
   failed-is r k there requested =
       let row : RequestRow c r k = found-row r k there in
-      record {
-        few_declined = row.is.few_declined;
-        declined = row.is.declined;
-        asked = row.is.asked;
-        few_labels = row.is.few_labels;
-        labels = row.is.labels;
-        few_nodes = row.is.few_nodes;
-        nodes = row.is.nodes;
-        served = failed-served k.state k.pool requested row.is.served;
-        relative_priority = row.is.relative_priority;
-      }
+      state-is k state.Failed k.pool row.is (failed-served k.state k.pool requested row.is.served)
 
   revised-is : (r : RequestId) (k : RequestRecord) (relative : ℕ) → request_in r s.requests ≡ Some k → relative < 2 ^ 32 → IsRequest (edited (edit.Revise relative) k)
   revised-is r k relative there low =
       let row : RequestRow c r k = found-row r k there in
-      record {
-        few_declined = row.is.few_declined;
-        declined = row.is.declined;
-        asked = row.is.asked;
-        few_labels = row.is.few_labels;
-        labels = row.is.labels;
-        few_nodes = row.is.few_nodes;
-        nodes = row.is.nodes;
-        served = row.is.served;
-        relative_priority = low;
-      }
+      edit-is k k.declined k.nodes k.state k.pool relative row.is row.is.few_declined row.is.declined row.is.few_nodes row.is.nodes row.is.served low
 
   -- one request is found
   as-found : (r : RequestId) (change : RequestEdit) (request k : RequestRecord) → request_in r s.requests ≡ Some request → request_in r s.requests ≡ Some k → IsRequest (edited change request) → IsRequest (edited change k)
@@ -237,21 +180,6 @@ module _ (c : Configuration) (s : State) (ch : Changes) (known : IsKnown c s ch)
   edited-is r edit.GiveBack premise typed k there = given-is r k there
   edited-is r edit.Fail premise typed k there = as-found r edit.Fail premise.request k premise.stands there (failed-is r premise.request premise.stands premise.requested)
   edited-is r (edit.Revise relative) premise typed k there = revised-is r k relative there typed
-
-  -- ## what grows beside an edit
-
-  gained-leaves : (p : PoolId) (r : RequestId) (request : RequestRecord) (l : LabelId) (n : NodeId) → IsTaken c s ch p r request l n ⊎ IsMade c s ch p r request l n → leaves_requests ch.grows ≡ true
-  gained-leaves p r request l n (inl taken) = ap leaves_requests taken.grows
-  gained-leaves p r request l n (inr made) = ap leaves_requests made.grows
-
-  edit-leaves : (r : RequestId) (change : RequestEdit) → EditPremise c s ch r change → leaves_requests ch.grows ≡ true
-  edit-leaves r (edit.Serve p) premise = ap leaves_requests premise.same_size
-  edit-leaves r (edit.AddNode n) premise = gained-leaves premise.0.pool r premise.0.request premise.0.label n premise.0.from
-  edit-leaves r (edit.Decline p why failed) premise = ap leaves_requests premise.same_size
-  edit-leaves r edit.Fulfil premise = ap leaves_requests premise.0.same_size
-  edit-leaves r edit.GiveBack premise = ap leaves_requests premise.same_size
-  edit-leaves r edit.Fail premise = ap leaves_requests premise.same_size
-  edit-leaves r (edit.Revise relative) premise = ap leaves_requests premise.same_size
 
   edit-rows : (r : RequestId) (change : RequestEdit) → EditPremise c s ch r change → IsTypedEdit change → AreRequests (requests_changed ch.maker (requests.Edit r change) s.requests)
   edit-rows r change premise typed =
@@ -269,7 +197,7 @@ module _ (c : Configuration) (s : State) (ch : Changes) (known : IsKnown c s ch)
     by : (change : RequestsChange) → RequestsPremise c s ch change → IsTypedRequests change → AreRequests (grown c ch.maker ch.grows s).requests → AreRequests (requests_changed ch.maker change (grown c ch.maker ch.grows s).requests)
     by requests.Same premise typed all = all
     by (requests.Edit r change) premise typed all =
-        subst (λ (rows : List RequestEntry). AreRequests (requests_changed ch.maker (requests.Edit r change) rows)) (sym (same-requests c ch.maker ch.grows s (edit-leaves r change premise))) (edit-rows r change premise typed)
+        subst (λ (rows : List RequestEntry). AreRequests (requests_changed ch.maker (requests.Edit r change) rows)) (sym (same-requests c ch.maker ch.grows s (edit-leaves c s ch r change premise))) (edit-rows r change premise typed)
     by (requests.Remove r) premise typed all = all-remove_first (λ (e : RequestEntry). IsRequest e.kept) (λ e. same_request e.id r) (grown c ch.maker ch.grows s).requests all
     by (requests.Leave r) premise typed all = leave ch.maker r (grown c ch.maker ch.grows s).requests all
 
