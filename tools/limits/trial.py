@@ -9,6 +9,7 @@ from limits.sites import ENTRIES, U64, jobs_of, pools_of, written
 
 PATIENCE = 100  # seconds of processor time, after which a run is stopped; if it only waits, after ten times as long
 SLOW = 20  # seconds of processor time, above which a run is said to be slow
+LARGE = 600_000  # KiB of memory, above which a run is said to be large
 
 # Runs a program and writes its status, its processor time and its peak memory in KiB. It is a process of its own, since
 # a child's peak begins with the memory of the process that it was forked from.
@@ -77,6 +78,8 @@ class Trial:
         self.seconds, self.peak = max(self.seconds, told.seconds), max(self.peak, told.peak)
         if told.seconds > SLOW:
             self.fault(words, given, f"slow: {told.seconds:.1f} s")
+        if told.peak > LARGE:
+            self.fault(words, given, f"large: {told.peak / 1024:.0f} MB")
         return told
 
     def fault(self, words, given, what):
