@@ -1,0 +1,7 @@
+use Rattle.std.proofs.Common.{◌≡◌, map}
+use Rattle.std.specs.List.{range_with_len}
+use Rattle.np_listing.specs.Columns.{width}
+use Rattle.np_listing.proofs.columns.widths.Given as goal
+
+abbrev pub invariant-loop-column : goal.invariant-loop-column
+invariant-loop-column l = l.widths.items ≡ map (width l.rows) (range_with_len 0 l.column)

@@ -1,0 +1,8 @@
+use Rattle.std.proofs.Common.{◌≡◌, ◌++◌, drop, codes}
+use Rattle.std.specs.List.{flat_map}
+use Rattle.np_explain_lines.specs.Words.{node_words}
+use Rattle.np_listing.proofs.requests.put_nodes.Given as goal
+
+abbrev pub invariant-loop-node : goal.invariant-loop-node
+invariant-loop-node l = l.out.items ++ flat_map (λ node. codes ", " ++ node_words node) (drop l.node-index l.nodes)
+    ≡ l.fn.out.items ++ flat_map (λ node. codes ", " ++ node_words node) l.nodes
