@@ -1,0 +1,4 @@
+pub mod JournalLines
+pub mod Goes
+pub mod Open
+pub mod Statuses

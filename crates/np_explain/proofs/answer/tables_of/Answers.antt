@@ -1,0 +1,11 @@
+use Rattle.np_rules.proofs.First.{Runs-first}
+use Rattle.np_explain.proofs.answer.tables_of.Goals as goal
+
+pub returns : goal.returns
+returns c =
+    let m = c.args.machine.now in
+    record {
+      state = m.state;
+      runs = Runs-first m.configuration m.earlier m.journal m.state c.requires c.soundness.ensures.runs;
+      lines = rw (c.rows.ensures.site, c.rows.ensures.state) at c.in_ok-text.ensures;
+    }

@@ -1,0 +1,67 @@
+//! The explanation of a run.
+
+ghost use Rattle.std.specs.Prelude.{◌≡◌, ◌++◌, IfOk, OnOk};
+ghost use Rattle.np_tally.specs.Summary.{summary_of};
+ghost use Rattle.np_explain.specs.Explained.{AreChains, IsExplanation, part};
+ghost use Rattle.np_explain.specs.Run.{IsPlayed};
+
+use crate::fails::failures;
+use crate::run::Run;
+use crate::waits::put_links;
+use np_chains::chains;
+use np_explain_lines::put;
+use np_look::{Look, Rows};
+use np_rules::Plain;
+use np_text::NoMemory;
+use std::alloc::Global;
+
+/// The lines of the chains.
+fn waits(alloc: Global, machine: &Plain) -> Result<Vec<u8>, NoMemory>
+    ensures { IfOk result (λ lines. AreChains machine.now.configuration machine.now.state
+        lines.items) }
+{
+    machine.soundness();
+    let links = chains(alloc, machine)?;
+    let mut out = Vec::new(alloc);
+    put_links(&mut out, machine.rows().config(), links.as_slice())?;
+    Ok(out)
+}
+
+/// Appends lines and an empty line after them, or nothing if there are none.
+fn put_part(out: &mut Vec<u8>, lines: &[u8]) -> Result<(), NoMemory>
+    ensures { OnOk result (out.new.items ≡ out.old.items ++ part lines.now) }
+{
+    if lines.is_empty() {
+        return Ok(());
+    }
+    put(out, lines)?;
+    put(out, b"\n")
+}
+
+/// What the run took.
+fn summary_of(alloc: Global, run: &Run) -> Result<Vec<u8>, NoMemory>
+    requires { IsPlayed run.now.machine run.now.tally }
+    ensures { IfOk result (λ text. text.items
+        ≡ summary_of run.now.machine.configuration run.now.machine.journal) }
+{
+    run.machine.soundness();
+    let text = run.tally.summary(alloc, run.machine.rows())?;
+    Ok(text)
+}
+
+/// Why the jobs of the run wait or failed, and what the run took.
+pub(crate) fn explanation(alloc: Global, run: &Run) -> Result<Vec<u8>, NoMemory>
+    requires { IsPlayed run.now.machine run.now.tally }
+    ensures { IfOk result (λ text. IsExplanation run.now.machine.configuration
+        run.now.machine.journal run.now.machine.state text.items) }
+{
+    let rows = run.machine.rows();
+    let waits = waits(alloc, &run.machine)?;
+    let failed = failures(alloc, rows)?;
+    let summary = summary_of(alloc, run)?;
+    let mut out = Vec::new(alloc);
+    put_part(&mut out, waits.as_slice())?;
+    put_part(&mut out, failed.as_slice())?;
+    put(&mut out, summary.as_slice())?;
+    Ok(out)
+}
