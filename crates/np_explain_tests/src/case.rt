@@ -104,8 +104,12 @@ impl<'a> Case<'a> {
 
     /// Whether this was printed as the case says.
     pub fn is_as_said(&self, status: u8, out: &[u8], err: &[u8]) -> bool {
-        let out = std::str::from_utf8(out).unwrap_or("");
-        let err = std::str::from_utf8(err).unwrap_or("");
+        let Ok(out) = std::str::from_utf8(out) else {
+            return false;
+        };
+        let Ok(err) = std::str::from_utf8(err) else {
+            return false;
+        };
         status == self.status
             && has_lines(out, self.lines, ">")
             && lacks_lines(out, self.lines)
