@@ -1,8 +1,5 @@
 -- what an accepted event implies for the holders before it
-use Rattle.std.proofs.Common.{◌≡◌, ℕ, Bool, true, false, not, arith, Some, None, Ok, Err}
-use Rattle.std.specs.Prelude.{slice_get}
-use Rattle.std.proofs.lemmas.Bool.Decides.{nat_tests}
-use Rattle.np_changes.specs.Prelude.{Configuration, Done, JobId, JobRecord, LabelId, NodeId, PoolId, Refusal, RequestId, RequestRecord, SessionId, State, ahead_of, count_of, is_pending_by, is_session_of, is_short, judge_create, judge_done, judge_end_node, judge_free_node, judge_lock_node, judge_lock_request, judge_mark_deleting, judge_start, judge_take, judge_take_ready, need, next_label, node_holder, node_in, node_queue, place_reply, registered, request_holder, request_in, unheld, ◌>>◌}
+use Rattle.np_laws.proofs.Prelude.{Bool, Configuration, Done, Err, JobId, JobRecord, LabelId, NodeId, None, Ok, PoolId, Refusal, RequestId, RequestRecord, SessionId, Some, State, ahead_of, arith, count_of, is_pending_by, is_session_of, is_short, judge_create, judge_lock_node, judge_lock_request, judge_take, judge_take_ready, nat_tests, need, next_label, node_holder, node_in, node_queue, not, place_reply, registered, request_holder, request_in, slice_get, true, ◌>>◌, ◌≡◌}
 use Rattle.np_event.specs.declared.reply.Done.TheVariants as done
 use Rattle.np_event.specs.declared.reply.Refusal.TheVariants as no
 use Rattle.np_machine.specs.Tests.{launcher, wrong_request, quota_short}
@@ -10,33 +7,10 @@ use Rattle.np_machine.specs.Tests.{launcher, wrong_request, quota_short}
 -- what follows four tests that passed
 four-passed : {A E : Type 0} (a b c d : Bool) (first second third fourth : E) (answer what : A) → (need a first >> (need b second >> (need c third >> (need d fourth >> Ok answer)))) ≡ Ok what → what ≡ answer
 four-passed true true true true first second third fourth answer what is = cc
-four-passed true true true false first second third fourth answer what is = absurd cc
-four-passed true true false d first second third fourth answer what is = absurd cc
-four-passed true false c d first second third fourth answer what is = absurd cc
-four-passed false b c d first second third fourth answer what is = absurd cc
+four-passed _ b c d first second third fourth answer what is = absurd cc
 
 module _ (c : Configuration) (s : State) (by : SessionId) (what : Done) where
-  -- ## the maker held the node
-
-  pub start-held : (n : NodeId) → judge_start s by n ≡ Ok what → is_session_of by (node_holder n s.nodes) ≡ true
-  start-held n is = grind (arith, nat_tests)
-
-  pub done-held : (n : NodeId) (attempt : ℕ) → judge_done s by n attempt ≡ Ok what → is_session_of by (node_holder n s.nodes) ≡ true
-  done-held n attempt is = grind (arith, nat_tests)
-
-  pub end_node-held : (n : NodeId) → judge_end_node c s by n ≡ Ok what → is_session_of by (node_holder n s.nodes) ≡ true
-  end_node-held n is = grind (arith, nat_tests)
-
-  pub mark_deleting-held : (n : NodeId) → judge_mark_deleting c s by n ≡ Ok what → is_session_of by (node_holder n s.nodes) ≡ true
-  mark_deleting-held n is = grind (arith, nat_tests)
-
-  pub free_node-held : (n : NodeId) → judge_free_node s by n ≡ Ok what → is_session_of by (node_holder n s.nodes) ≡ true
-  free_node-held n is = grind (arith, nat_tests)
-
-  -- ## nobody held it
-
-  pub take_ready-asked : (r : RequestId) (n : NodeId) → judge_take_ready s by r n ≡ Ok what → request_in r s.requests ≡ None → ⊥
-  take_ready-asked r n is none = grind (arith, nat_tests)
+  -- ## what is locked was there, and nobody held it
 
   pub take_ready-stands : (r : RequestId) (n : NodeId) → judge_take_ready s by r n ≡ Ok what → node_in n s.nodes ≡ None → ⊥
   take_ready-stands r n is none = grind (arith, nat_tests)
@@ -46,9 +20,6 @@ module _ (c : Configuration) (s : State) (by : SessionId) (what : Done) where
 
   pub lock_request-stands : (r : RequestId) → judge_lock_request c s by r ≡ Ok what → request_in r s.requests ≡ None → ⊥
   lock_request-stands r is none = grind (arith, nat_tests)
-
-  pub lock_request-free : (r : RequestId) (other : SessionId) → judge_lock_request c s by r ≡ Ok what → request_holder r s.requests ≡ Some other → ⊥
-  lock_request-free r other is held = grind (arith, nat_tests)
 
   -- ## a new node
 
@@ -69,22 +40,13 @@ module _ (c : Configuration) (s : State) (by : SessionId) (what : Done) where
 
   -- ## a place in the queue
 
-  pub lock_node-stands : (n : NodeId) → judge_lock_node s by n ≡ Ok what → node_in n s.nodes ≡ None → ⊥
-  lock_node-stands n is none = grind (arith, nat_tests)
-
   pub lock_node-place : (n : NodeId) → judge_lock_node s by n ≡ Ok what → what ≡ place_reply (ahead_of by (node_queue n s.nodes))
   lock_node-place n is = grind (arith, nat_tests)
 
   -- ## the nodes of a fulfilled request
-
-  pub take-job : (j : JobId) → judge_take c s by j ≡ Ok what → slice_get s.jobs j.0 ≡ None → ⊥
-  take-job j is none = grind (arith, nat_tests)
 
   pub take-asked : (j : JobId) (kept : JobRecord) → judge_take c s by j ≡ Ok what → slice_get s.jobs j.0 ≡ Some kept → kept.request ≡ None → ⊥
   take-asked j kept is stands none = grind (arith, nat_tests)
 
   pub take-request : (j : JobId) (kept : JobRecord) (r : RequestId) → judge_take c s by j ≡ Ok what → slice_get s.jobs j.0 ≡ Some kept → kept.request ≡ Some r → request_in r s.requests ≡ None → ⊥
   take-request j kept r is stands asks none = grind (arith, nat_tests)
-
-  pub take-held : (j : JobId) (kept : JobRecord) (r : RequestId) (request : RequestRecord) → judge_take c s by j ≡ Ok what → slice_get s.jobs j.0 ≡ Some kept → kept.request ≡ Some r → request_in r s.requests ≡ Some request → unheld s by request.nodes ≡ 0
-  take-held j kept r request is stands asks has = grind (arith, nat_tests)

@@ -1,17 +1,8 @@
 -- what a look-up finds after all the changes of an event: by the maker, by what grows, and by what happens to requests and nodes
-use Rattle.std.proofs.Common.{◌≡◌, ◌∙◌, ◌≤◌, refl, ap, arith, List, Option, Some, None, ℕ, ◌<◌, false, subst}
-use Rattle.std.proofs.lemmas.Bool.Decides.{nat_tests}
-use Rattle.np_changes.specs.Prelude.{Configuration, NodeEntry, NodeId, NodeRecord, RequestEntry, RequestId, SessionId, State, by_maker, changed, grown, joined, left, next_id, node_in, node_queue, nodes_changed, nodes_left, put_node_queue, put_request_queue, registers, request_in, request_queue, requests_changed, requests_left, same_request}
-use Rattle.np_changes.specs.declared.changes.Maker.{Maker}
-use Rattle.np_changes.specs.declared.changes.Changes.{Changes}
-use Rattle.np_changes.specs.declared.changes.Growth.{Growth}
+use Rattle.np_laws.proofs.Prelude.{Asked, Changes, Configuration, Growth, List, Maker, NodeEntry, NodeId, NodeRecord, NodesChange, None, Option, RequestEntry, RequestId, RequestsChange, SessionId, SessionsChange, Some, State, ap, arith, by_maker, changed, false, grown, joined, left, nat_tests, next_id, node_in, node_queue, nodes_changed, nodes_left, put_node_queue, put_request_queue, refl, registers, request_in, request_queue, requests_changed, requests_left, same_request, subst, ℕ, ◌<◌, ◌∙◌, ◌≡◌, ◌≤◌}
 use Rattle.np_changes.specs.declared.changes.Growth.TheVariants as grow
-use Rattle.np_changes.specs.declared.changes.RequestsChange.{RequestsChange}
 use Rattle.np_changes.specs.declared.changes.RequestsChange.TheVariants as requests
-use Rattle.np_changes.specs.declared.changes.NodesChange.{NodesChange}
-use Rattle.np_changes.specs.declared.changes.SessionsChange.{SessionsChange}
 use Rattle.np_changes.specs.declared.changes.SessionsChange.TheVariants as sessions
-use Rattle.np_changes.specs.declared.asked.Asked.{Asked}
 use Rattle.np_laws.proofs.Lookups.{request_in-queue, request_in-left, node_in-queue, node_in-left, request_in-insert}
 
 -- a look that no session's change affects
@@ -63,19 +54,11 @@ grown-node c maker _ s n none = refl
 
 -- the next number of a node does not fall
 pub next-more : (c : Configuration) (maker : Option Maker) (g : Growth) (s : State) → s.next_node ≤ (grown c maker g s).next_node
-next-more c maker (grow.Node kept) s = omega arith
-next-more c maker (grow.Registration p) s =
-    let same : (grown c maker (grow.Registration p) s).next_node ≡ s.next_node = made-look (λ (t : State). t.next_node) maker (λ session t. registers t session p) s (λ session t. refl) in
-    omega arith
-next-more c maker _ s = omega arith
+next-more c maker x2 s = grind (arith, nat_tests)
 
 -- neither does that of a request
 pub next-grown : (c : Configuration) (maker : Option Maker) (g : Growth) (s : State) → s.next_request ≤ (grown c maker g s).next_request
-next-grown c maker (grow.Request priority asked) s = omega arith
-next-grown c maker (grow.Registration p) s =
-    let same : (grown c maker (grow.Registration p) s).next_request ≡ s.next_request = made-look (λ (t : State). t.next_request) maker (λ session t. registers t session p) s (λ session t. refl) in
-    omega arith
-next-grown c maker _ s = omega arith
+next-grown c maker x2 s = grind (arith, nat_tests)
 
 -- ## what happens to requests
 
@@ -101,14 +84,12 @@ leave-node maker n0 n rows =
 -- ## all of it
 
 pub left-request : (ended : SessionsChange) (r : RequestId) (rows : List RequestEntry) → request_in r (requests_left ended rows) ≡ request_in r rows
-left-request sessions.Same r rows = refl
-left-request (sessions.Mute session) r rows = refl
 left-request (sessions.End session) r rows = request_in-left session r rows
+left-request _ r rows = refl
 
 pub left-node : (ended : SessionsChange) (n : NodeId) (rows : List NodeEntry) → node_in n (nodes_left ended rows) ≡ node_in n rows
-left-node sessions.Same n rows = refl
-left-node (sessions.Mute session) n rows = refl
 left-node (sessions.End session) n rows = node_in-left session n rows
+left-node _ n rows = refl
 
 module _ (c : Configuration) (s : State) (ch : Changes) (maker : Option Maker) (g : Growth) where
   pub requests-after : (change : RequestsChange) → ch.maker ≡ maker → ch.grows ≡ g → ch.requests ≡ change → (r : RequestId)

@@ -1,27 +1,13 @@
 -- a node that is allocated to a request is in its list
-use Rattle.std.proofs.Common.{◌≡◌, ◌∙◌, sym, ℕ, ◌<◌, List, [], ◌∷◌, ◌++◌, refl, ap, arith, subst, Option, Some, None, Bool, true, false, cond, inl, inr}
-use Rattle.std.specs.Prelude.{◌==◌, ◌||◌, ◌⊎◌, nat_lt}
-use Rattle.np_changes.specs.Prelude.{Configuration, NodeEntry, NodeId, NodeRecord, Outcome, RequestEntry, RequestId, RequestRecord, Rises, State, all_freed, changed, edited, freed, grown, is_id_before, is_request, joined, launched, left, list_any, new_node, node_in, node_queue, nodes_changed, nodes_left, option_map, request_in, request_queue, requests_changed, same_request}
-use Rattle.std.proofs.lemmas.Bool.Decides.{nat_tests}
-use Rattle.np_event.specs.declared.event.Outcome.TheVariants as outcome
-use Rattle.np_changes.specs.Premises.{Gains, IsTaken, IsMade, Starts, Reports, EndsNode, GivesUp, Frees, PutsNode, GrowthPremise, EditPremise, RequestsPremise, NodesPremise, Premises}
-use Rattle.np_changes.specs.declared.changes.Maker.{Maker}
-use Rattle.np_changes.specs.declared.changes.Changes.{Changes}
-use Rattle.np_changes.specs.declared.changes.Growth.{Growth}
+use Rattle.np_laws.proofs.Prelude.{AllocationsListed, Bool, Changes, Configuration, EditPremise, Gains, Growth, GrowthPremise, IsNumbered, List, Maker, NodeEntry, NodeId, NodeRecord, NodesChange, NodesPremise, None, Option, Premises, PutsNode, RequestEdit, RequestEntry, RequestId, RequestRecord, RequestsChange, RequestsPremise, Rises, SessionsChange, Some, State, all_freed, ap, arith, changed, cond, edited, false, freed, grown, inl, inr, is_id_before, is_request, joined, left, list_any, nat_lt, nat_tests, node_in, node_queue, nodes_changed, nodes_left, option_map, refl, request-equal, request-itself, request_in, request_queue, requests_changed, same_request, subst, sym, true, [], ℕ, ◌++◌, ◌<◌, ◌==◌, ◌||◌, ◌∙◌, ◌∷◌, ◌≡◌, ◌⊎◌}
 use Rattle.np_changes.specs.declared.changes.Growth.TheVariants as grow
-use Rattle.np_changes.specs.declared.changes.RequestEdit.{RequestEdit}
 use Rattle.np_changes.specs.declared.changes.RequestEdit.TheVariants as edit
-use Rattle.np_changes.specs.declared.changes.RequestsChange.{RequestsChange}
 use Rattle.np_changes.specs.declared.changes.RequestsChange.TheVariants as requests
-use Rattle.np_changes.specs.declared.changes.NodesChange.{NodesChange}
 use Rattle.np_changes.specs.declared.changes.NodesChange.TheVariants as nodes
-use Rattle.np_changes.specs.declared.changes.SessionsChange.{SessionsChange}
 use Rattle.np_changes.specs.declared.changes.SessionsChange.TheVariants as sessions
-use Rattle.np_laws.specs.Parts.{IsNumbered, AllocationsListed}
 use Rattle.np_laws.proofs.Lookups.{request_in-edit, request_in-queue, request_in-remove, request_in-removed, request_in-below, same_node-is, node_in-put, node_in-allocated, node_in-queue, node_in-left, node_in-freed, used_from, node_in-in_use, node_in-other, node_in-new, node_in-later, node_in-remove, node_in-removed}
 use Rattle.np_laws.proofs.Numbered.{grown-numbered}
 use Rattle.np_laws.proofs.After.{found-grown, next-grown, left-request}
-use Rattle.np_machine.proofs.Ids.{request-equal, request-itself}
 
 -- the node exists and is allocated to the request
 record IsGivenTo (rows : List NodeEntry) (n : NodeId) (r : RequestId) : Type 0 where
@@ -35,29 +21,13 @@ given-same rows later n r same is = record { node = is.node; stands = sym same �
 
 -- a change of records that allocates no node anew
 given-changed : (rows later : List NodeEntry) (f : NodeRecord → NodeRecord) (n : NodeId) (r : RequestId) → node_in n later ≡ option_map f (node_in n rows) → ((k : NodeRecord) → node_in n rows ≡ Some k → (f k).allocated_to ≡ Some r → k.allocated_to ≡ Some r) → IsGivenTo later n r → IsGivenTo rows n r
-given-changed rows later f n r found back is = by (node_in n rows) refl where
-  by : (o : Option NodeRecord) → node_in n rows ≡ o → IsGivenTo rows n r
-  by None at = absurd (let none : Some is.node ≡ None = sym is.stands ∙ found ∙ ap (λ (x : Option NodeRecord). option_map f x) at in cc)
-  by (Some k) at =
-      let now : Some is.node ≡ Some (f k) = sym is.stands ∙ found ∙ ap (λ (x : Option NodeRecord). option_map f x) at in
-      let same : is.node ≡ f k = cc in
-      record { node = k; stands = at; given = back k at (sym (ap (λ (x : NodeRecord). x.allocated_to) same) ∙ is.given) }
+given-changed rows later f n r found back is = grind (arith, nat_tests)
 
 -- ## what happens to nodes gives none anew
 
 -- the record that is put has the allocation of the one found, or none
 put-given : (c : Configuration) (s : State) (ch : Changes) (n : NodeId) (kept : NodeRecord) (put : PutsNode c s ch n kept) (r : RequestId) → kept.allocated_to ≡ Some r → put.node.allocated_to ≡ Some r
-put-given c s ch n kept put r given = by put.way where
-  after_launch : (o : Outcome) (retries tick : ℕ) (k : NodeRecord) → (launched retries tick o k).allocated_to ≡ k.allocated_to
-  after_launch (outcome.Launched x) retries tick k = refl
-  after_launch outcome.Failed retries tick k = refl
-
-  by : Starts s ch put.node kept ⊎ (Reports c s ch put.node kept ⊎ (EndsNode s ch n put.node kept ⊎ (GivesUp s ch put.node kept ⊎ Frees s ch put.node kept))) → put.node.allocated_to ≡ Some r
-  by (inl starts) = sym (ap (λ (x : NodeRecord). x.allocated_to) starts.record_after) ∙ given
-  by (inr (inl reports)) = sym (ap (λ (x : NodeRecord). x.allocated_to) reports.record_after) ∙ given
-  by (inr (inr (inl ends))) = sym (ap (λ (x : NodeRecord). x.allocated_to) ends.record_after) ∙ given
-  by (inr (inr (inr (inl gives_up)))) = sym (ap (λ (x : NodeRecord). x.allocated_to) gives_up.record_after) ∙ given
-  by (inr (inr (inr (inr frees)))) = absurd (let none : None ≡ Some r = sym (ap (λ (x : NodeRecord). x.allocated_to) frees.record_after) ∙ given in cc)
+put-given c s ch n kept put r given = grind (arith, nat_tests)
 
 -- a node that is freed is allocated to no request
 freed-not : (x : RequestId) (k : NodeRecord) (r : RequestId) (b : Bool) → is_request x k.allocated_to ≡ b → (cond b (freed k) k).allocated_to ≡ Some r → (k.allocated_to ≡ Some r) × (b ≡ false)
@@ -66,7 +36,6 @@ freed-not x k r false is given = (given, refl)
 
 module _ (c : Configuration) (s : State) (ch : Changes) where
   nodes-given : (maker : Option Maker) (tick : ℕ) (change : NodesChange) (rows : List NodeEntry) → Rises (λ a b. nat_lt a.id.0 b.id.0) rows → NodesPremise c s ch change → (ch.grows ≡ grow.Nothing → rows ≡ s.nodes) → (n : NodeId) (r : RequestId) → IsGivenTo (nodes_changed maker tick change rows) n r → IsGivenTo rows n r
-  nodes-given maker tick nodes.Same rows rises premise idle n r is = is
   nodes-given maker tick (nodes.Put n0 kept) rows rises premise idle n r is =
       given-changed rows _ (λ k. cond (n0.0 == n.0) kept k) n r (node_in-put n0 n kept rows) (λ k at given. by k at (n0.0 == n.0) refl given) is
     where
@@ -81,7 +50,6 @@ module _ (c : Configuration) (s : State) (ch : Changes) where
     by : (b : Bool) → (n0.0 == n.0) ≡ b → IsGivenTo rows n r
     by true same = absurd (let none : Some is.node ≡ None = sym is.stands ∙ node_in-removed n0 n rows rises same in cc)
     by false other = given-same rows _ n r (node_in-remove n0 n rows other) is
-  nodes-given None tick (nodes.Leave n0) rows rises premise idle n r is = is
   nodes-given (Some maker) tick (nodes.Leave n0) rows rises premise idle n r is = given-same rows _ n r (node_in-queue n0 n (left maker.session (node_queue n0 rows)) rows) is
   nodes-given maker tick (nodes.FreeAll x) rows rises premise idle n r is =
       given-changed rows _ (λ k. cond (is_request x k.allocated_to) (freed k) k) n r (node_in-freed x n rows) (λ k at given. (freed-not x k r (is_request x k.allocated_to) refl given).0) is
@@ -91,6 +59,7 @@ module _ (c : Configuration) (s : State) (ch : Changes) where
       by : (k : NodeRecord) (b : Bool) → (cond b (used_from tick k) k).allocated_to ≡ Some r → k.allocated_to ≡ Some r
       by k true given = given
       by k false given = given
+  nodes-given maker tick _ rows rises premise idle n r is = is
 
 -- after all nodes of a request are free, none is allocated to it
 none-of : (x : RequestId) (rows : List NodeEntry) (n : NodeId) (r : RequestId) → IsGivenTo (all_freed x rows) n r → same_request r x ≡ false
@@ -104,9 +73,8 @@ none-of x rows n r is = by (node_in n rows) refl where
       sym (ap (λ (o : Option RequestId). is_request x o) both.0) ∙ both.1
 
 nodes-given_after_end : (change : SessionsChange) (rows : List NodeEntry) (n : NodeId) (r : RequestId) → IsGivenTo (nodes_left change rows) n r → IsGivenTo rows n r
-nodes-given_after_end sessions.Same rows n r is = is
-nodes-given_after_end (sessions.Mute quiet) rows n r is = is
 nodes-given_after_end (sessions.End over) rows n r is = given-same rows _ n r (node_in-left over n rows) is
+nodes-given_after_end _ rows n r is = is
 
 -- ## what grows gives a node to a request that gains it
 
@@ -115,20 +83,11 @@ abbrev GivenBy : Configuration → State → Changes → NodeId → RequestId �
 GivenBy c s ch n r = IsGivenTo s.nodes n r ⊎ Gains c s ch r n
 
 new_given : (c : Configuration) (s : State) (r : RequestId) (n : NodeId) (ch : Changes) (gains : Gains c s ch r n) (kept : NodeRecord) → ch.grows ≡ grow.Node kept → kept.allocated_to ≡ Some r
-new_given c s r n ch gains kept grows = by gains.from where
-  by : IsTaken c s ch gains.pool r gains.request gains.label n ⊎ IsMade c s ch gains.pool r gains.request gains.label n → kept.allocated_to ≡ Some r
-  by (inl taken) = absurd (let other : grow.Node kept ≡ grow.Allocate n r _ = sym grows ∙ taken.grows in cc)
-  by (inr made) =
-      let same : grow.Node kept ≡ grow.Node (new_node c s r gains.pool gains.request gains.label) = sym grows ∙ made.grows in
-      let is_it : kept ≡ new_node c s r gains.pool gains.request gains.label = cc in
-      ap (λ (k : NodeRecord). k.allocated_to) is_it
+new_given c s r n ch gains kept grows = grind (arith, nat_tests)
 
 given-grown : (c : Configuration) (s : State) (ch : Changes) → IsNumbered s → (maker : Option Maker) (growth : Growth) → ch.grows ≡ growth → GrowthPremise c s ch growth → (n : NodeId) (r : RequestId) → IsGivenTo (grown c maker growth s).nodes n r → GivenBy c s ch n r
-given-grown c s ch old maker grow.Nothing at premise n r is = inl is
-given-grown c s ch old maker (grow.Session role) at premise n r is = inl is
 given-grown c s ch old None (grow.Registration p) at premise n r is = inl is
 given-grown c s ch old (Some maker) (grow.Registration p) at premise n r is = inl is
-given-grown c s ch old maker (grow.Request priority asked) at premise n r is = inl is
 given-grown c s ch old maker (grow.Node kept) at premise n r is = by (s.next_node == n.0) refl where
   by : (b : Bool) → (s.next_node == n.0) ≡ b → GivenBy c s ch n r
   by true same =
@@ -140,10 +99,7 @@ given-grown c s ch old maker (grow.Node kept) at premise n r is = by (s.next_nod
       let same_r : premise.request ≡ r = cc in
       inr (subst (λ (x : RequestId). Gains c s ch x n) same_r (subst (λ (x : NodeId). Gains c s ch premise.request x) number premise.gains))
   by false other = inl (given-same s.nodes _ n r (node_in-other _ n s.nodes other) is)
-given-grown c s ch old maker (grow.JoinRequest x) at premise n r is = inl is
-given-grown c s ch old None (grow.JoinNode n0) at premise n r is = inl is
 given-grown c s ch old (Some maker) (grow.JoinNode n0) at premise n r is = inl (given-same s.nodes _ n r (node_in-queue n0 n (joined maker.session (node_queue n0 s.nodes)) s.nodes) is)
-given-grown c s ch old None (grow.Allocate n0 x tenant) at premise n r is = inl is
 given-grown c s ch old (Some maker) (grow.Allocate n0 x tenant) at premise n r is = by (node_in n s.nodes) refl (n0.0 == n.0) refl where
   found : (o : Option NodeRecord) → node_in n s.nodes ≡ o → Some is.node ≡ option_map (λ k. cond (n0.0 == n.0) (record k { allocated_to = Some x; tenant = tenant }) k) o
   found o here = sym is.stands ∙ node_in-allocated n0 n x tenant maker.session s.nodes ∙ ap (λ (y : Option NodeRecord). option_map (λ k. cond (n0.0 == n.0) (record k { allocated_to = Some x; tenant = tenant }) k) y) here
@@ -161,8 +117,7 @@ given-grown c s ch old (Some maker) (grow.Allocate n0 x tenant) at premise n r i
       let now : Some is.node ≡ Some k = found (Some k) here ∙ rw other refl in
       let is_it : is.node ≡ k = cc in
       inl (record { node = k; stands = here; given = sym (ap (λ (y : NodeRecord). y.allocated_to) is_it) ∙ is.given })
-given-grown c s ch old maker (grow.Handles j) at premise n r is = inl is
-given-grown c s ch old maker (grow.Swept m x) at premise n r is = inl is
+given-grown c s ch old maker _ at premise n r is = inl is
 
 -- ## the lists of requests
 
@@ -197,21 +152,17 @@ module _ (c : Configuration) (s : State) (ch : Changes) (numbered : IsNumbered s
   gains-by n r change at other gains = other (sym at ∙ gains.edits)
 
   listed-edit : (n : NodeId) (r : RequestId) (q : RequestRecord) (e : RequestEdit) → ch.requests ≡ requests.Edit r e → EditPremise c s ch r e → (ch.nodes ≡ nodes.FreeAll r → ⊥) → GivenBy c s ch n r → request_in r s.requests ≡ Some q → has n (edited e q).nodes ≡ true
-  listed-edit n r q (edit.Serve p) at premise held given there = kept-listed n r q given (gains-by n r _ at (λ is. absurd cc)) there
   listed-edit n r q (edit.AddNode m) at premise held (inl is) there = has-before n m q.nodes (listed-before n r q is there)
   listed-edit n r q (edit.AddNode m) at premise held (inr gains) there =
       let both : requests.Edit r (edit.AddNode n) ≡ requests.Edit r (edit.AddNode m) = sym gains.edits ∙ at in
       let same : n ≡ m = cc in
       subst (λ (k : NodeId). has n (q.nodes ++ k ∷ []) ≡ true) same (has-last n q.nodes)
   listed-edit n r q (edit.Decline p why failed) at premise held given there = absurd (held premise.frees)
-  listed-edit n r q edit.Fulfil at premise held given there = kept-listed n r q given (gains-by n r _ at (λ is. absurd cc)) there
   listed-edit n r q edit.GiveBack at premise held given there = absurd (held premise.frees)
-  listed-edit n r q edit.Fail at premise held given there = kept-listed n r q given (gains-by n r _ at (λ is. absurd cc)) there
-  listed-edit n r q (edit.Revise relative) at premise held given there = kept-listed n r q given (gains-by n r _ at (λ is. absurd cc)) there
+  listed-edit n r q _ at premise held given there = kept-listed n r q given (gains-by n r _ at (λ is. absurd cc)) there
 
   listed-after : (n : NodeId) (r : RequestId) (q : RequestRecord) (maker : Option Maker) (rows : List RequestEntry) → Rises (λ a b. is_id_before a.id b.id) rows → request_in r rows ≡ request_in r s.requests
       → (change : RequestsChange) → ch.requests ≡ change → RequestsPremise c s ch change → (ch.nodes ≡ nodes.FreeAll r → ⊥) → GivenBy c s ch n r → request_in r (requests_changed maker change rows) ≡ Some q → has n q.nodes ≡ true
-  listed-after n r q maker rows rises same requests.Same at premise held given is = kept-listed n r q given (gains-by n r _ at (λ e. absurd cc)) (sym same ∙ is)
   listed-after n r q maker rows rises same (requests.Edit x e) at premise held given is = by (request_in r s.requests) refl (same_request x r) refl where
     found : (o : Option RequestRecord) → request_in r s.requests ≡ o → Some q ≡ option_map (λ k. cond (same_request x r) (edited e k) k) o
     found o here = sym is ∙ request_in-edit x r (edited e) rows ∙ ap (λ (y : Option RequestRecord). option_map (λ k. cond (same_request x r) (edited e k) k) y) (same ∙ here)
@@ -233,9 +184,9 @@ module _ (c : Configuration) (s : State) (ch : Changes) (numbered : IsNumbered s
     by : (b : Bool) → same_request x r ≡ b → has n q.nodes ≡ true
     by true which = absurd (let none : Some q ≡ None = sym is ∙ request_in-removed x r rows rises which in cc)
     by false which = kept-listed n r q given (gains-by n r _ at (λ e. absurd cc)) (sym same ∙ sym (request_in-remove x r rows which) ∙ is)
-  listed-after n r q None rows rises same (requests.Leave x) at premise held given is = kept-listed n r q given (gains-by n r _ at (λ e. absurd cc)) (sym same ∙ is)
   listed-after n r q (Some maker) rows rises same (requests.Leave x) at premise held given is =
       kept-listed n r q given (gains-by n r _ at (λ e. absurd cc)) (sym same ∙ sym (request_in-queue x r (left maker.session (request_queue x rows)) rows) ∙ is)
+  listed-after n r q maker rows rises same _ at premise held given is = kept-listed n r q given (gains-by n r _ at (λ e. absurd cc)) (sym same ∙ is)
 
   below-now : (n : NodeId) (r : RequestId) → GivenBy c s ch n r → r.seq < s.next_request
   below-now n r (inl is) = (old n is.node r is.stands is.given).below

@@ -1,23 +1,12 @@
 -- how a request that is found after an event was before it
-use Rattle.std.proofs.Common.{◌≡◌, ◌∙◌, sym, ℕ, ◌<◌, List, [], refl, ap, subst, Option, Some, None, Bool, true, false, ◌⊎◌, inl, inr}
-use Rattle.np_changes.specs.Prelude.{AllByRecursion, Configuration, EditPremise, Premises, RequestEntry, RequestId, RequestRecord, RequestsPremise, Rises, State, changed, edited, grown, is_id_before, joined, left, new_record, next_id, request_in, request_queue, requests_changed, same_request}
-use Rattle.std.proofs.lemmas.Option.{none-some, same_Some}
-use Rattle.np_changes.specs.declared.asked.Asked.{Asked}
-use Rattle.np_changes.specs.declared.changes.Maker.{Maker}
-use Rattle.np_changes.specs.declared.changes.Changes.{Changes}
-use Rattle.np_changes.specs.declared.changes.Growth.{Growth}
+use Rattle.np_laws.proofs.Prelude.{AllByRecursion, Asked, Bool, Changes, Configuration, EditPremise, Growth, IsNumbered, List, Maker, None, Option, Premises, RequestEdit, RequestEntry, RequestId, RequestRecord, RequestsChange, RequestsPremise, Rises, Some, State, ap, arith, changed, edited, false, grown, inl, inr, is_id_before, joined, left, nat_tests, new_record, next_id, none-some, refl, request-equal, request_in, request_queue, requests_changed, same_Some, same_request, subst, sym, true, [], ℕ, ◌<◌, ◌∙◌, ◌≡◌, ◌⊎◌}
 use Rattle.np_changes.specs.declared.changes.Growth.TheVariants as grow
-use Rattle.np_changes.specs.declared.changes.RequestEdit.{RequestEdit}
-use Rattle.np_changes.specs.declared.changes.RequestEdit.TheVariants as edit
-use Rattle.np_changes.specs.declared.changes.RequestsChange.{RequestsChange}
 use Rattle.np_changes.specs.declared.changes.RequestsChange.TheVariants as requests
-use Rattle.np_laws.specs.Parts.{IsNumbered}
 use Rattle.np_laws.proofs.Lookups.{request_in-edit, request_in-queue, request_in-insert, request_in-new, request_in-remove, request_in-removed, request_in-later, request_in-below}
 use Rattle.np_laws.proofs.Numbered.{grown-numbered}
 use Rattle.np_laws.proofs.After.{found-grown, left-request}
 use Rattle.np_laws.proofs.NextNumbers.{same-seq}
 use Rattle.np_laws.proofs.Places.{IsEdited, edited-by}
-use Rattle.np_machine.proofs.Ids.{request-equal}
 
 -- ## what is found
 
@@ -54,22 +43,14 @@ asked-before c s maker priority asked below r q is false other =
 
 request-grown : (c : Configuration) (s : State) (maker : Option Maker) (growth : Growth) → AllByRecursion (λ e. e.id.seq < s.next_request) s.requests → (r : RequestId) (q : RequestRecord) → request_in r (grown c maker growth s).requests ≡ Some q
     → (request_in r s.requests ≡ Some q) ⊎ IsNew s growth r q
-request-grown c s maker grow.Nothing below r q is = inl is
-request-grown c s maker (grow.Session role) below r q is = inl is
 request-grown c s None (grow.Registration p) below r q is = inl is
 request-grown c s (Some maker) (grow.Registration p) below r q is = inl is
 request-grown c s maker (grow.Request priority asked) below r q is = asked-before c s maker priority asked below r q is (same_request (next_id priority s) r) refl
-request-grown c s maker (grow.Node kept) below r q is = inl is
-request-grown c s None (grow.JoinRequest x) below r q is = inl is
 request-grown c s (Some maker) (grow.JoinRequest x) below r q is = inl (sym (request_in-queue x r (joined maker.session (request_queue x s.requests)) s.requests) ∙ is)
-request-grown c s maker (grow.JoinNode n) below r q is = inl is
-request-grown c s maker (grow.Allocate n x tenant) below r q is = inl is
-request-grown c s maker (grow.Handles j) below r q is = inl is
-request-grown c s maker (grow.Swept n x) below r q is = inl is
+request-grown c s maker _ below r q is = inl is
 
 request-settled : (maker : Option Maker) (change : RequestsChange) (rows : List RequestEntry) → Rises (λ a b. is_id_before a.id b.id) rows → (r : RequestId) (q : RequestRecord) → request_in r (requests_changed maker change rows) ≡ Some q
     → (request_in r rows ≡ Some q) ⊎ IsChanged rows change r q
-request-settled maker requests.Same rows rises r q is = inl is
 request-settled maker (requests.Edit x how) rows rises r q is = by (edited-by (same_request x r) (edited how) (request_in r rows) q (sym (request_in-edit x r (edited how) rows) ∙ is)) where
   by : IsEdited (same_request x r) (edited how) (request_in r rows) q ⊎ ((same_request x r ≡ false) × (request_in r rows ≡ Some q)) → (request_in r rows ≡ Some q) ⊎ IsChanged rows (requests.Edit x how) r q
   by (inl one) = inr (record { old = one.old; how = how; stood = one.was; edits = ap (λ (y : RequestId). requests.Edit y how) (request-equal x r one.passed); is = one.now })
@@ -78,20 +59,14 @@ request-settled maker (requests.Remove x) rows rises r q is = by (same_request x
   by : (b : Bool) → same_request x r ≡ b → (request_in r rows ≡ Some q) ⊎ IsChanged rows (requests.Remove x) r q
   by true same = absurd (none-some q (sym (request_in-removed x r rows rises same) ∙ is))
   by false other = inl (sym (request_in-remove x r rows other) ∙ is)
-request-settled None (requests.Leave x) rows rises r q is = inl is
 request-settled (Some maker) (requests.Leave x) rows rises r q is = inl (sym (request_in-queue x r (left maker.session (request_queue x rows)) rows) ∙ is)
+request-settled maker _ rows rises r q is = inl is
 
 -- ## all of it
 
 -- what is edited was there before the event
 pub edit-stands : (c : Configuration) (s : State) (ch : Changes) (r : RequestId) (how : RequestEdit) → EditPremise c s ch r how → (q : RequestRecord) × (request_in r s.requests ≡ Some q)
-edit-stands c s ch r (edit.Serve p) premise = (premise.request, premise.worked_on.stands)
-edit-stands c s ch r (edit.AddNode n) premise = let gains = premise.0 in (gains.request, gains.worked_on.stands)
-edit-stands c s ch r (edit.Decline p why failed) premise = (premise.request, premise.worked_on.stands)
-edit-stands c s ch r edit.Fulfil premise = let fulfils = premise.0 in (fulfils.request, fulfils.worked_on.stands)
-edit-stands c s ch r edit.GiveBack premise = (premise.request, premise.stands)
-edit-stands c s ch r edit.Fail premise = (premise.request, premise.stands)
-edit-stands c s ch r (edit.Revise relative) premise = (premise.request, premise.stands)
+edit-stands c s ch r x4 premise = grind (arith, nat_tests)
 
 module _ (c : Configuration) (s : State) (ch : Changes) (numbered : IsNumbered s) (premises : Premises c s ch) where
   pub edit-premise : (r : RequestId) (how : RequestEdit) → ch.requests ≡ requests.Edit r how → EditPremise c s ch r how

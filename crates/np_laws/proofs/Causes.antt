@@ -1,25 +1,11 @@
 -- a turn that makes a request fail has its cause
-use Rattle.std.proofs.Common.{◌≡◌, ◌∙◌, sym, ℕ, ◌<◌, List, [], ◌∷◌, ◌++◌, refl, ap, arith, subst, length, Option, Some, None, Bool, true, false, ◌⊎◌, inl, inr}
-use Rattle.std.specs.Prelude.{◌==◌, ◌||◌, not, if◌then◌else◌, is_some, is_none, Contains}
-use Rattle.np_changes.specs.Prelude.{Configuration, Declined, Event, LabelId, NodeId, NodeRecord, PoolId, Reason, Registration, RequestId, RequestRecord, SomeTurn, State, Turn, changed, edited, grown, is_declined_by, is_done, is_failed, is_failed_node, is_last_pool, is_offered, is_pending, is_pending_by, is_pool, is_requested, is_spent, is_true, list_any, never_fits, new_record, node_in, option_map_or, registrations_left, request_in, retries_of, tenant_never_fits}
-use Rattle.std.proofs.lemmas.Bool.{false≢true, true≢false, both_ways, and_parts, and_left, or_cases, not-true}
-use Rattle.std.proofs.lemmas.Option.{same_Some, slice_get_within}
+use Rattle.np_laws.proofs.Prelude.{Asked, AsksForJob, AsksToKeep, Bool, Changes, Configuration, Contains, Declined, DeclinedByAll, EditPremise, Event, FailsNow, Growth, GrowthPremise, HasCause, HasDeclined, Invariant, IsAtRest, IsServed, IsTrueDecline, LabelId, LaunchesSpent, List, MayDecline, MayFail, NodeId, NodeRecord, None, Option, PoolId, Premises, Reason, Registration, ReportsFailure, RequestEdit, RequestId, RequestRecord, Some, SomeTurn, State, Turn, all_declined, and_left, and_parts, ap, arith, both_ways, changed, edited, false, false≢true, has_failed, if◌then◌else◌, inl, inr, is_declined_by, is_done, is_failed, is_failed_node, is_last_pool, is_none, is_offered, is_pending, is_pending_by, is_pool, is_report_on, is_requested, is_some, is_spent, is_true, length, list_any, member-there, nat_tests, never_fits, new_record, node_in, not, not-true, option_map_or, or_cases, refl, request_in, retries_of, same_Some, slice_get_within, subst, sym, tenant_never_fits, true, true≢false, [], ℕ, ◌++◌, ◌<◌, ◌==◌, ◌||◌, ◌∙◌, ◌∷◌, ◌≡◌, ◌⊎◌}
 use Rattle.np_text.specs.declared.word.Reason.TheVariants as reason
 use Rattle.np_text.specs.declared.word.RequestState.TheVariants as request_state
-use Rattle.np_machine.specs.Request.{all_declined}
-use Rattle.np_machine.specs.Caused.{has_failed, FailsNow, IsTrueDecline, HasDeclined, DeclinedByAll, is_report_on, ReportsFailure, LaunchesSpent, HasCause}
-use Rattle.np_changes.specs.Premises.{AsksForJob, AsksToKeep, GrowthPremise, MayDecline, MayFail, EditPremise, SessionsPremise, Premises}
-use Rattle.np_changes.specs.declared.asked.Asked.{Asked}
-use Rattle.np_changes.specs.declared.changes.Changes.{Changes}
-use Rattle.np_changes.specs.declared.changes.Growth.{Growth}
 use Rattle.np_changes.specs.declared.changes.Growth.TheVariants as grow
-use Rattle.np_changes.specs.declared.changes.RequestEdit.{RequestEdit}
 use Rattle.np_changes.specs.declared.changes.RequestEdit.TheVariants as edit
 use Rattle.np_changes.specs.declared.changes.RequestsChange.TheVariants as requests
-use Rattle.np_changes.specs.declared.changes.SessionsChange.{SessionsChange}
-use Rattle.np_changes.specs.declared.changes.SessionsChange.TheVariants as sessions
 use Rattle.np_changes.proofs.Edits.{last-declines}
-use Rattle.np_laws.specs.Parts.{IsAtRest, IsServed, Invariant}
 use Rattle.np_laws.proofs.Ids.{same_pool, same_label}
 use Rattle.np_laws.proofs.Places.{node-place}
 use Rattle.np_laws.proofs.StandsOn.{rest-if, served-if}
@@ -29,7 +15,6 @@ use Rattle.np_laws.proofs.Tells.{IsDecline, Tells}
 use Rattle.np_laws.proofs.Came.{CameBy, edit-premise, came}
 use Rattle.np_laws.proofs.Pinned.{requested-open, own-pool}
 use Rattle.np_laws.proofs.Due.{DeclinesMade, IsPinned, IsDue}
-use Rattle.np_lists.proofs.Plain.{member-there}
 
 -- ## declined by all
 
@@ -100,15 +85,7 @@ module _ (c : Configuration) (past : List Turn) (t : Turn) (ch : Changes) (old :
     (leads : changed c ch t.before ≡ t.later) (made : DeclinesMade c (past ++ t ∷ []) t.later) where
   -- an edit of a request leaves the registrations as they are
   same-registrations : (r : RequestId) (how : RequestEdit) → ch.grows ≡ grow.Nothing → ch.requests ≡ requests.Edit r how → t.later.registrations ≡ t.before.registrations
-  same-registrations r how size at =
-      sym (ap (λ (x : State). x.registrations) leads)
-      ∙ stays ch.sessions premises.sessions (grown c ch.maker ch.grows t.before).registrations
-      ∙ ap (λ (x : Growth). (grown c ch.maker x t.before).registrations) size
-    where
-      stays : (change : SessionsChange) → SessionsPremise t.before ch change → (rows : List Registration) → registrations_left change rows ≡ rows
-      stays sessions.Same premise rows = refl
-      stays (sessions.Mute heard) premise rows = refl
-      stays (sessions.End over) premise rows = absurd (let both : requests.Same ≡ requests.Edit r how = sym premise.same_requests ∙ at in cc)
+  same-registrations r how size at = grind (arith, nat_tests)
 
   -- nobody is left who has not declined
   by-all : (r : RequestId) (q : RequestRecord) (how : RequestEdit) → ch.grows ≡ grow.Nothing → ch.requests ≡ requests.Edit r how → request_in r t.later.requests ≡ Some q → q.pinned ≡ None → 0 < length t.before.registrations → all_declined t.before.registrations q.declined ≡ true → DeclinedByAll c (past ++ t ∷ []) t r q
@@ -196,13 +173,11 @@ module _ (c : Configuration) (past : List Turn) (t : Turn) (ch : Changes) (old :
 
   edit-cause : (r : RequestId) (q : RequestRecord) (how : RequestEdit) → request_in r t.before.requests ≡ Some q → ch.requests ≡ requests.Edit r how → EditPremise c t.before ch r how → is_failed q.state ≡ false → request_in r t.later.requests ≡ Some (edited how q) → is_failed (edited how q).state ≡ true
       → HasCause c (past ++ t ∷ []) t r (edited how q)
-  edit-cause r q (edit.Serve p) stood at premise before stands failed = absurd (false≢true failed)
   edit-cause r q (edit.AddNode n) stood at premise before stands failed = absurd (both_ways (is_failed q.state) before failed)
   edit-cause r q (edit.Decline l why fails) stood at premise before stands failed = decline-cause r q l why fails stood at premise stands (failed-is fails failed)
-  edit-cause r q edit.Fulfil stood at premise before stands failed = absurd (false≢true failed)
-  edit-cause r q edit.GiveBack stood at premise before stands failed = absurd (false≢true failed)
   edit-cause r q edit.Fail stood at premise before stands failed = fail-cause r q stood at premise stands
   edit-cause r q (edit.Revise relative) stood at premise before stands failed = absurd (both_ways (is_failed q.state) before failed)
+  edit-cause r q _ stood at premise before stands failed = absurd (false≢true failed)
 
   pub cause : (r : RequestId) (q : RequestRecord) → FailsNow t r q → HasCause c (past ++ t ∷ []) t r q
   cause r q fails = by (came c t.before ch old.numbered premises r q (subst (λ (x : State). request_in r x.requests ≡ Some q) (sym leads) fails.stands)) where

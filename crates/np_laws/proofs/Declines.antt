@@ -1,15 +1,7 @@
 -- after one more turn, each decline in the list of an existing request was made by a past turn
-use Rattle.std.proofs.Common.{◌≡◌, ◌∙◌, sym, List, [], ◌∷◌, ◌++◌, subst, Some, Bool, true, ◌⊎◌, inl, inr}
-use Rattle.std.specs.Prelude.{Contains}
-use Rattle.std.proofs.lemmas.List.Elements.{Contains-push_cases}
-use Rattle.std.proofs.lemmas.Option.{same_Some}
-use Rattle.np_changes.specs.Prelude.{Configuration, Declined, EditPremise, IsTrueDecline, MayDecline, PoolId, Premises, Reason, RequestId, RequestRecord, changed, edited, is_true, request_in}
-use Rattle.np_machine.specs.Turns.{Turn, SomeTurn, IsAccepted}
-use Rattle.np_changes.specs.declared.changes.Changes.{Changes}
-use Rattle.np_changes.specs.declared.changes.RequestEdit.{RequestEdit}
+use Rattle.np_laws.proofs.Prelude.{Bool, Changes, Configuration, Contains, Contains-push_cases, Declined, EditPremise, IsAccepted, IsNumbered, IsTrueDecline, List, MayDecline, PoolId, Premises, Reason, RequestEdit, RequestId, RequestRecord, Some, SomeTurn, Turn, changed, edited, inl, inr, is_true, request_in, same_Some, subst, sym, true, [], ◌++◌, ◌∙◌, ◌∷◌, ◌≡◌, ◌⊎◌}
 use Rattle.np_changes.specs.declared.changes.RequestEdit.TheVariants as edit
 use Rattle.np_changes.specs.declared.changes.RequestsChange.TheVariants as requests
-use Rattle.np_laws.specs.Parts.{IsNumbered}
 use Rattle.np_laws.proofs.Members.{nothing-in}
 use Rattle.np_laws.proofs.TurnLists.{some-before, some-last}
 use Rattle.np_laws.proofs.Tells.{IsDecline, Tells}
@@ -37,16 +29,11 @@ module _ (c : Configuration) (past : List Turn) (t : Turn) (ch : Changes) (numbe
   was-made r q d stood among = some-before (IsTrueDecline c r d.pool d.reason) past t (old r q stood d among)
 
   edit-made : (r : RequestId) (q : RequestRecord) (how : RequestEdit) (d : Declined) → request_in r t.before.requests ≡ Some q → ch.requests ≡ requests.Edit r how → EditPremise c t.before ch r how → Contains (edited how q).declined d → SomeTurn (IsTrueDecline c r d.pool d.reason) (past ++ t ∷ [])
-  edit-made r q (edit.Serve p) d stood at premise among = was-made r q d stood among
-  edit-made r q (edit.AddNode n) d stood at premise among = was-made r q d stood among
   edit-made r q (edit.Decline p why failed) d stood at premise among = by (Contains-push_cases q.declined (record { pool = p; reason = why }) d among) where
     by : Contains q.declined d ⊎ (record { pool = p; reason = why } ≡ d) → SomeTurn (IsTrueDecline c r d.pool d.reason) (past ++ t ∷ [])
     by (inl before) = was-made r q d stood before
     by (inr same) = some-last (IsTrueDecline c r d.pool d.reason) past t (subst (λ (x : Declined). IsTrueDecline c r x.pool x.reason t) same (turn-declines r q p why failed stood at premise))
-  edit-made r q edit.Fulfil d stood at premise among = was-made r q d stood among
-  edit-made r q edit.GiveBack d stood at premise among = was-made r q d stood among
-  edit-made r q edit.Fail d stood at premise among = was-made r q d stood among
-  edit-made r q (edit.Revise relative) d stood at premise among = was-made r q d stood among
+  edit-made r q _ d stood at premise among = was-made r q d stood among
 
   pub declines-made : DeclinesMade c (past ++ t ∷ []) (changed c ch t.before)
   declines-made r q is d among = by (came c t.before ch numbered premises r q is) where

@@ -1,9 +1,5 @@
 -- what holds of the past turns and the state after them
-use Rattle.std.proofs.Common.{◌≡◌, ℕ, ◌+◌, ◌≤◌, List, [], ◌∷◌, refl, Some, Bool, true, false}
-use Rattle.std.specs.Prelude.{Contains}
-use Rattle.np_changes.specs.Prelude.{AllByRecursion, Configuration, Declined, EachTurn, LabelId, Launcher, NodeId, NodeRecord, PoolId, RequestId, RequestRecord, SessionFacts, SessionId, SomeTurn, State, Turn, is_building, is_failed, is_failed_node, is_offered, never_fits, node_in, request_in, request_queue, retries_of, session_of, start}
-use Rattle.std.proofs.lemmas.Option.{none-some}
-use Rattle.np_machine.specs.Caused.{IsTrueDecline, ReportsFailure, reports_on}
+use Rattle.np_laws.proofs.Prelude.{AllByRecursion, Bool, Configuration, Contains, Declined, EachTurn, IsTrueDecline, LabelId, Launcher, List, NodeId, NodeRecord, PoolId, ReportsFailure, RequestId, RequestRecord, SessionFacts, SessionId, Some, SomeTurn, State, Turn, arith, false, is_building, is_failed, is_failed_node, is_offered, nat_tests, never_fits, node_in, reports_on, request_in, request_queue, retries_of, session_of, start, true, [], ℕ, ◌+◌, ◌∷◌, ◌≡◌, ◌≤◌}
 
 -- ## declines
 
@@ -61,8 +57,4 @@ pub record IsDue (c : Configuration) (past : List Turn) (s : State) : Type 0 whe
 
 -- before the first turn
 pub due-start : (c : Configuration) → IsDue c [] (start c)
-due-start c = record {
-  declines = λ r q is d among. absurd (none-some q is);
-  pinned = λ r q p is pinned. absurd (none-some q is);
-  reports = record { later = λ n late. refl; each = λ n k is. absurd (none-some k is) };
-}
+due-start c = grind (arith, nat_tests)

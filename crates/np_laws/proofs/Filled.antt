@@ -1,12 +1,6 @@
 -- a request with every place filled owns its labels
-use Rattle.std.proofs.Common.{◌≡◌, ◌∙◌, sym, ℕ, zero, suc, ◌+◌, ◌≤◌, le_antisymm, Bool, true, false, cond, List, [], ◌∷◌, length, refl, ap, arith, subst₂, eqb-true, Option, Some, None}
-use Rattle.std.specs.Prelude.{◌==◌, ◌&&◌, slice_get}
-use Rattle.np_changes.specs.Prelude.{LabelId, NodeEntry, NodeId, PoolId, RequestId, RequestRecord, SessionId, State, holder, is_filled, is_pool, is_ready, is_request, is_session_of, node_entry, option_map, unfilled}
-use Rattle.std.proofs.lemmas.Bool.{and_parts, false≢true}
-use Rattle.std.proofs.lemmas.Option.{none-some, same_Some}
+use Rattle.np_laws.proofs.Prelude.{Bool, IsGiven, IsServed, LabelId, List, NodeEntry, NodeId, None, Option, OwnsItsLabels, PoolId, RequestId, RequestRecord, SessionId, Some, State, ap, arith, cond, eqb-true, false, is_filled, is_pool, le_antisymm, length, nat_tests, node_entry, none-some, refl, same_Some, slice_get, suc, sym, true, unfilled, zero, [], ℕ, ◌+◌, ◌∙◌, ◌∷◌, ◌≡◌, ◌≤◌}
 use Rattle.np_text.specs.declared.word.RequestState.TheVariants as request_state
-use Rattle.np_machine.specs.Safe.{IsGiven, OwnsItsLabels}
-use Rattle.np_laws.specs.Parts.{IsServed}
 
 -- if nothing is lacking, this place is filled and the others lack nothing
 no-lack : (b : Bool) (more : ℕ) → cond b 0 1 + more ≡ 0 → (b ≡ true) × (more ≡ 0)
@@ -18,9 +12,7 @@ module _ (p : PoolId) (session : SessionId) (r : RequestId) (rows : List NodeEnt
       → slice_get numbers i ≡ Some n → slice_get labels i ≡ Some l → is_filled p session r l (node_entry n rows) ≡ true
   filled-at [] numbers none i n l is_at of_label = absurd (none-some l of_label)
   filled-at (k ∷ labels) [] none i n l is_at of_label = absurd (none-some n is_at)
-  filled-at (k ∷ labels) (m ∷ numbers) none zero n l is_at of_label =
-      subst₂ (λ (x : LabelId) (y : NodeId). is_filled p session r x (node_entry y rows) ≡ true) (same_Some k l of_label) (same_Some m n is_at)
-      ((no-lack (is_filled p session r k (node_entry m rows)) (unfilled p session r rows labels numbers) none).0)
+  filled-at (k ∷ labels) (m ∷ numbers) none zero n l is_at of_label = grind (arith, nat_tests)
   filled-at (k ∷ labels) (m ∷ numbers) none (suc i) n l is_at of_label =
       filled-at labels numbers ((no-lack (is_filled p session r k (node_entry m rows)) (unfilled p session r rows labels numbers) none).1) i n l is_at of_label
 
@@ -33,22 +25,7 @@ module _ (p : PoolId) (session : SessionId) (r : RequestId) (rows : List NodeEnt
 
 -- the node is allocated to the request, by the number of another pool
 pub filled-given : (s : State) (p other : PoolId) (session : SessionId) (r : RequestId) (n : NodeId) (l : LabelId) → p.0 ≡ other.0 → is_filled p session r l (node_entry n s.nodes) ≡ true → IsGiven s r other n l
-filled-given s p other session r n l same is = by (node_entry n s.nodes) refl is where
-  by : (o : Option NodeEntry) → node_entry n s.nodes ≡ o → is_filled p session r l o ≡ true → IsGiven s r other n l
-  by None found filled = absurd (false≢true filled)
-  by (Some e) found filled =
-      let held = and_parts (is_ready e.kept.state && is_request r e.kept.allocated_to && (e.kept.pool.0 == p.0) && (e.kept.label.0 == l.0)) (is_session_of session (holder e.queue)) filled in
-      let labelled = and_parts (is_ready e.kept.state && is_request r e.kept.allocated_to && (e.kept.pool.0 == p.0)) (e.kept.label.0 == l.0) held.0 in
-      let pooled = and_parts (is_ready e.kept.state && is_request r e.kept.allocated_to) (e.kept.pool.0 == p.0) labelled.0 in
-      let given = and_parts (is_ready e.kept.state) (is_request r e.kept.allocated_to) pooled.0 in
-      record {
-        node = e.kept;
-        stands = ap (λ (o : Option NodeEntry). option_map (λ x. x.kept) o) found;
-        ready = given.0;
-        allocated = given.1;
-        of_pool = eqb-true e.kept.pool.0 p.0 pooled.1 ∙ same;
-        of_label = eqb-true e.kept.label.0 l.0 labelled.1;
-      }
+filled-given s p other session r n l same is = grind (arith, nat_tests)
 
 pub pool-same : (p other : PoolId) (o : Option PoolId) → is_pool p o ≡ true → o ≡ Some other → p.0 ≡ other.0
 pool-same p other None is by = absurd (none-some other by)

@@ -1,21 +1,8 @@
 -- no semaphore exceeds its max, and no job has two handles of one
-use Rattle.std.proofs.Common.{◌≡◌, ◌⊎◌, ℕ, zero, suc, ◌<◌, ◌≤◌, ◌==◌, ◌&&◌, not, Bool, true, false, cond, List, [], ◌∷◌, map, filter, fold, length, slice_get, unwrap_or, nat_lt, Option, Some, None, refl, sym, ap, ◌∙◌, subst, inl, inr, arith, leb-false}
-use Rattle.np_changes.specs.Prelude.{AllByRecursion, Configuration, Job, JobId, PoolId, Sem, SemId, State, by_maker, change_at, changed, grown, handles_changed, handles_of, has_handle, insert_before, is_among, option_map_or, registers, semaphores_of, start}
-use Rattle.std.proofs.lemmas.Bool.{not-false, and_cases, or_parts, or_from}
-use Rattle.std.proofs.lemmas.Bool.Decides.{nat_tests}
-use Rattle.np_lists.proofs.Each.{all-filter, all-weaker, all-from_at, length-filter_at_most, length-insert_before}
-use Rattle.np_lists.proofs.FilterLemmas.{list_any-none, none-list_any, list_any-insert_before}
-use Rattle.np_lists.proofs.Halves.{none-find}
-use Rattle.np_machine.specs.Semaphore.{max_of, is_full, first_full, with_handle, without_handle}
-use Rattle.np_machine.specs.Safe.{NoRepeat, WithinMax}
-use Rattle.np_changes.specs.declared.changes.Maker.{Maker}
-use Rattle.np_changes.specs.declared.changes.Changes.{Changes}
-use Rattle.np_changes.specs.declared.changes.Growth.{Growth}
+use Rattle.np_laws.proofs.Prelude.{AllByRecursion, Bool, Changes, Configuration, Growth, GrowthPremise, HasRoom, Invariant, Job, JobId, List, NoRepeat, None, Option, Premises, Sem, SemId, Some, State, WithinMax, all-filter, all-from_at, all-weaker, ap, arith, change_at, changed, cond, false, filter, first_full, fold, grown, handles_changed, handles_of, has_handle, inl, inr, insert_before, is_among, is_full, length, length-filter_at_most, length-insert_before, list_any-insert_before, list_any-none, map, nat_lt, nat_tests, none-find, none-list_any, not, option_map_or, or_from, or_parts, refl, semaphores_of, slice_get, start, subst, suc, sym, true, unwrap_or, with_handle, without_handle, zero, [], ℕ, ◌&&◌, ◌<◌, ◌==◌, ◌∙◌, ◌∷◌, ◌≡◌, ◌≤◌, ◌⊎◌}
 use Rattle.np_changes.specs.declared.changes.Growth.TheVariants as grow
 use Rattle.np_changes.specs.declared.changes.HandlesChange.{HandlesChange}
 use Rattle.np_changes.specs.declared.changes.HandlesChange.TheVariants as handles
-use Rattle.np_changes.specs.Premises.{HasRoom, GrowthPremise, Premises}
-use Rattle.np_laws.specs.Parts.{Invariant}
 use Rattle.np_laws.proofs.Ids.{same_semaphore}
 use Rattle.np_changes.proofs.Shaping.{among-insert}
 
@@ -114,18 +101,9 @@ module _ (j : JobId) (most : ℕ) (Ready : Type 0) where
 
 -- a semaphore that is not full of others has a place for the job
 place-by : (c : Configuration) (s : State) (j : JobId) (x : SemId) (sem : Sem) → slice_get c.semaphores x.0 ≡ Some sem → (not (has_handle j s.handles x) && is_full c s x) ≡ false → HasPlace j sem.max (handles_of x s.handles)
-place-by c s j x sem row free = by (and_cases (not (has_handle j s.handles x)) (is_full c s x) free) where
-  by : (not (has_handle j s.handles x) ≡ false) ⊎ (is_full c s x ≡ false) → HasPlace j sem.max (handles_of x s.handles)
-  by (inl there) = inl (not-false (has_handle j s.handles x) there)
-  by (inr room) =
-      let most : max_of c x ≡ sem.max = ap (λ (o : Option Sem). option_map_or (λ (y : Sem). y.max) o 0) row in
-      inr (subst (λ (m : ℕ). length (handles_of x s.handles) < m) most (leb-false (max_of c x) (length (handles_of x s.handles)) room))
+place-by c s j x sem row free = grind (arith, nat_tests)
 
 -- ## all growths
-
-registered-handles : (maker : Option Maker) (s : State) (p : PoolId) → (by_maker maker (λ session t. registers t session p) s).handles ≡ s.handles
-registered-handles None s p = refl
-registered-handles (Some maker) s p = refl
 
 module _ (c : Configuration) (s : State) (x : SemId) (sem : Sem) (row : slice_get c.semaphores x.0 ≡ Some sem) where
   taken-by : (j : JobId) (job : Job) → slice_get c.jobs j.0 ≡ Some job → first_full c s j job ≡ None → AreFew sem.max (handles_of x s.handles)
@@ -147,17 +125,9 @@ module _ (c : Configuration) (s : State) (x : SemId) (sem : Sem) (row : slice_ge
       (let all = taken-by j room.job room.row room.none_full old in all.within)
 
   grown-within : (ch : Changes) (g : Growth) → GrowthPremise c s ch g → AreFew sem.max (handles_of x s.handles) → AreFew sem.max (handles_of x (grown c ch.maker g s).handles)
-  grown-within ch grow.Nothing premise old = old
-  grown-within ch (grow.Session role) premise old = old
-  grown-within ch (grow.Registration p) premise old =
-      subst (λ (rows : List (List JobId)). AreFew sem.max (handles_of x rows)) (sym (registered-handles ch.maker s p)) old
-  grown-within ch (grow.Request priority asked) premise old = old
-  grown-within ch (grow.Node kept) premise old = old
-  grown-within ch (grow.JoinRequest r) premise old = old
-  grown-within ch (grow.JoinNode n) premise old = old
-  grown-within ch (grow.Allocate n r tenant) premise old = old
+  grown-within ch (grow.Registration p) premise old = grind (arith, nat_tests)
   grown-within ch (grow.Handles j) premise old = handles-within j premise old
-  grown-within ch (grow.Swept n swept) premise old = old
+  grown-within ch _ premise old = old
 
 pub within-max : (c : Configuration) (s : State) (ch : Changes) → Invariant c s → Premises c s ch → WithinMax c (changed c ch s)
 within-max c s ch invariant premises = λ x sem row.

@@ -1,18 +1,11 @@
 -- who is first at a node stays first, if the changes do not take that away
-use Rattle.std.proofs.Common.{◌≡◌, sym, refl, subst, ℕ, List, [], ◌∷◌, ◌++◌, Option, Some, None, Bool, true, false, ◌==◌, cond}
-use Rattle.np_changes.specs.Prelude.{Configuration, NodeEntry, NodeId, NodeRecord, RequestId, SessionId, State, TenantId, allocated, change_first, changed, grown, is_session, is_session_of, joined, left, node_holder, node_in, node_queue, nodes_changed, nodes_left, put_node_queue}
-use Rattle.np_changes.specs.declared.changes.Maker.{Maker}
-use Rattle.np_changes.specs.declared.changes.Changes.{Changes}
-use Rattle.np_changes.specs.declared.changes.Growth.{Growth}
+use Rattle.np_laws.proofs.Prelude.{Bool, Changes, Configuration, Growth, List, Maker, NodeEntry, NodeId, NodeRecord, NodesChange, None, Option, RequestId, SessionId, SessionsChange, Some, State, TenantId, allocated, and-apart, change_first, changed, cond, false, grown, is_session, is_session_of, joined, left, node_holder, node_in, node_queue, nodes_changed, nodes_left, put_node_queue, refl, subst, sym, true, [], ℕ, ◌++◌, ◌==◌, ◌∷◌, ◌≡◌}
 use Rattle.np_changes.specs.declared.changes.Growth.TheVariants as grow
-use Rattle.np_changes.specs.declared.changes.NodesChange.{NodesChange}
 use Rattle.np_changes.specs.declared.changes.NodesChange.TheVariants as nodes
-use Rattle.np_changes.specs.declared.changes.SessionsChange.{SessionsChange}
 use Rattle.np_changes.specs.declared.changes.SessionsChange.TheVariants as sessions
 use Rattle.np_laws.proofs.Lookups.{same_node-is, node_queue-put, node_queue-freed, node_queue-in_use, node_queue-allocated, node_queue-queue, node_queue-nowhere, node_queue-left, node_queue-push, node_queue-remove}
 use Rattle.np_laws.proofs.Firsts.{is_first, first-in, first-joined, first-left}
 use Rattle.np_laws.proofs.HoldsLost.{NodeStays, SessionStays, KeepsNode}
-use Rattle.np_lists.proofs.Plain.{and-apart}
 
 module _ (session : SessionId) (n : NodeId) where
   pub record IsFirstAt (rows : List NodeEntry) : Type 0 where
@@ -57,36 +50,27 @@ module _ (session : SessionId) (n : NodeId) where
   -- ## by the kind of change
 
   grown-first : (c : Configuration) (s : State) (maker : Option Maker) (growth : Growth) → IsFirstAt s.nodes → IsFirstAt (grown c maker growth s).nodes
-  grown-first c s maker grow.Nothing held = held
-  grown-first c s maker (grow.Session role) held = held
   grown-first c s None (grow.Registration p) held = held
   grown-first c s (Some by) (grow.Registration p) held = held
-  grown-first c s maker (grow.Request priority asked) held = held
   grown-first c s maker (grow.Node kept) held = pushed-first _ s.nodes held
-  grown-first c s maker (grow.JoinRequest r) held = held
-  grown-first c s None (grow.JoinNode m) held = held
   grown-first c s (Some by) (grow.JoinNode m) held =
       queue-put m (joined by.session (node_queue m s.nodes)) s.nodes (λ is. first-joined session by.session (node_queue m s.nodes) (at-node m s.nodes held is)) held
-  grown-first c s None (grow.Allocate m r tenant) held = held
   grown-first c s (Some by) (grow.Allocate m r tenant) held = allocated-first m r tenant by.session s.nodes held
-  grown-first c s maker (grow.Handles j) held = held
-  grown-first c s maker (grow.Swept m x) held = held
+  grown-first c s maker _ held = held
 
   nodes-first : (maker : Option Maker) (tick : ℕ) (change : NodesChange) (rows : List NodeEntry) → NodeStays session n maker change → IsFirstAt rows → IsFirstAt (nodes_changed maker tick change rows)
-  nodes-first maker tick nodes.Same rows stays held = held
   nodes-first maker tick (nodes.Put m kept) rows stays held = same-queue rows _ (node_queue-put m n kept rows) held
   nodes-first maker tick (nodes.Remove m) rows stays held = same-queue rows _ (node_queue-remove m n rows stays) held
-  nodes-first None tick (nodes.Leave m) rows stays held = held
   nodes-first (Some by) tick (nodes.Leave m) rows stays held =
       queue-put m (left by.session (node_queue m rows)) rows
       (λ is. first-left session by.session (node_queue m rows) (and-apart (is_session by.session session) (m.0 == n.0) stays is) (at-node m rows held is)) held
   nodes-first maker tick (nodes.FreeAll r) rows stays held = same-queue rows _ (node_queue-freed r n rows) held
   nodes-first maker tick (nodes.TakeOver numbers) rows stays held = same-queue rows _ (node_queue-in_use tick numbers n rows) held
+  nodes-first maker tick _ rows stays held = held
 
   left-first : (change : SessionsChange) (rows : List NodeEntry) → SessionStays session change → IsFirstAt rows → IsFirstAt (nodes_left change rows)
-  left-first sessions.Same rows lives held = held
-  left-first (sessions.Mute other) rows lives held = held
   left-first (sessions.End other) rows lives held = record { first = first-in session (node_queue-left other n rows) (first-left session other (node_queue n rows) lives held.first) }
+  left-first _ rows lives held = held
 
   -- ## all of it
 

@@ -1,24 +1,11 @@
 -- who locked a request stays first at it while it exists, if the changes do not take that away
-use Rattle.std.proofs.Common.{◌≡◌, ◌∙◌, sym, ap, refl, subst, ℕ, ◌<◌, List, arith, Option, Some, None, Bool, true, false, cond, is_some}
-use Rattle.std.proofs.lemmas.Bool.Decides.{nat_tests}
-use Rattle.np_changes.specs.Prelude.{Configuration, RequestEntry, RequestId, RequestRecord, Rises, SessionId, State, changed, edited, grown, is_id_before, is_session, is_session_of, joined, left, next_id, put_request_queue, remove_request, request_holder, request_in, request_queue, requests_changed, requests_left, same_request}
-use Rattle.np_changes.specs.declared.changes.Maker.{Maker}
-use Rattle.np_changes.specs.declared.changes.Changes.{Changes}
-use Rattle.np_changes.specs.declared.changes.Growth.{Growth}
+use Rattle.np_laws.proofs.Prelude.{Bool, Changes, Configuration, Growth, List, Maker, None, Option, RequestEdit, RequestEntry, RequestId, RequestRecord, RequestsChange, Rises, SessionId, SessionsChange, Some, State, and-apart, ap, arith, changed, cond, edited, false, grown, is_id_before, is_session, is_session_of, is_some, joined, left, map-some, nat_tests, next_id, put_request_queue, refl, remove_request, request-equal, request_holder, request_in, request_queue, requests_changed, requests_left, same_request, some-of, subst, sym, true, ◌<◌, ◌∙◌, ◌≡◌}
 use Rattle.np_changes.specs.declared.changes.Growth.TheVariants as grow
-use Rattle.np_changes.specs.declared.changes.RequestEdit.{RequestEdit}
-use Rattle.np_changes.specs.declared.changes.RequestsChange.{RequestsChange}
 use Rattle.np_changes.specs.declared.changes.RequestsChange.TheVariants as requests
-use Rattle.np_changes.specs.declared.changes.SessionsChange.{SessionsChange}
 use Rattle.np_changes.specs.declared.changes.SessionsChange.TheVariants as sessions
 use Rattle.np_laws.proofs.Lookups.{request_in-edit, request_in-queue, request_in-left, request_in-insert, request_in-remove, request_in-removed, request_queue-edit, request_queue-queue, request_queue-left, request_queue-insert, request_queue-remove}
 use Rattle.np_laws.proofs.Firsts.{is_first, first-in, first-joined, first-left}
 use Rattle.np_laws.proofs.HoldsLost.{RequestStays, SessionStays, KeepsRequest}
-use Rattle.np_machine.proofs.Ids.{request-equal}
-use Rattle.np_lists.proofs.Plain.{and-apart, some-of, map-some}
-
-earlier : (priority : ℕ) (s : State) (r : RequestId) → r.seq < s.next_request → same_request (next_id priority s) r ≡ false
-earlier priority s r before = grind (arith, nat_tests)
 
 module _ (session : SessionId) (r : RequestId) where
   -- the session is first at the request, if it exists
@@ -57,43 +44,34 @@ module _ (session : SessionId) (r : RequestId) where
   -- ## by the kind of change
 
   grown-first : (c : Configuration) (s : State) (maker : Option Maker) (growth : Growth) → r.seq < s.next_request → IsFirstThere s.requests → IsFirstThere (grown c maker growth s).requests
-  grown-first c s maker grow.Nothing before held = held
-  grown-first c s maker (grow.Session role) before held = held
   grown-first c s None (grow.Registration p) before held = held
   grown-first c s (Some by) (grow.Registration p) before held = held
   grown-first c s maker (grow.Request priority asked) before held =
-      let other : same_request (next_id priority s) r ≡ false = earlier priority s r before in
+      let other : same_request (next_id priority s) r ≡ false = grind (arith, nat_tests) in
       same-row s.requests _ (ap (λ (o : Option RequestRecord). is_some o) (request_in-insert _ r s.requests other)) (request_queue-insert _ r s.requests other) held
-  grown-first c s maker (grow.Node kept) before held = held
-  grown-first c s None (grow.JoinRequest q) before held = held
   grown-first c s (Some by) (grow.JoinRequest q) before held =
       queue-put q (joined by.session (request_queue q s.requests)) s.requests (λ is first. first-joined session by.session (request_queue q s.requests) (at-request q s.requests is first)) held
-  grown-first c s maker (grow.JoinNode m) before held = held
-  grown-first c s maker (grow.Allocate m q tenant) before held = held
-  grown-first c s maker (grow.Handles j) before held = held
-  grown-first c s maker (grow.Swept m x) before held = held
+  grown-first c s maker _ before held = held
 
   requests-first : (c : Configuration) (s : State) (maker : Option Maker) (growth : Growth) (change : RequestsChange) → Rises (λ a b. is_id_before a.id b.id) s.requests → RequestStays session r maker growth change
       → IsFirstThere (grown c maker growth s).requests → IsFirstThere (requests_changed maker change (grown c maker growth s).requests)
-  requests-first c s maker growth requests.Same rises stays held = held
   requests-first c s maker growth (requests.Edit q change) rises stays held = edited-first q change maker (grown c maker growth s).requests held
   requests-first c s maker growth (requests.Remove q) rises stays held =
       let still : Rises (λ a b. is_id_before a.id b.id) (grown c maker growth s).requests = subst (λ (g : Growth). Rises (λ a b. is_id_before a.id b.id) (grown c maker g s).requests) (sym stays) rises in
       removed-first q (grown c maker growth s).requests still held
-  requests-first c s None growth (requests.Leave q) rises stays held = held
   requests-first c s (Some by) growth (requests.Leave q) rises stays held =
       let rows : List RequestEntry = (grown c (Some by) growth s).requests in
       queue-put q (left by.session (request_queue q rows)) rows
       (λ is first. first-left session by.session (request_queue q rows) (and-apart (is_session by.session session) (same_request q r) stays is) (at-request q rows is first)) held
+  requests-first c s maker growth _ rises stays held = held
 
   left-first : (change : SessionsChange) (rows : List RequestEntry) → SessionStays session change → IsFirstThere rows → IsFirstThere (requests_left change rows)
-  left-first sessions.Same rows lives held = held
-  left-first (sessions.Mute other) rows lives held = held
   left-first (sessions.End other) rows lives held = record {
     first = λ is.
         let there : is_some (request_in r rows) ≡ true = sym (ap (λ (o : Option RequestRecord). is_some o) (request_in-left other r rows)) ∙ is in
         first-in session (request_queue-left other r rows) (first-left session other (request_queue r rows) lives (held.first there));
   }
+  left-first _ rows lives held = held
 
   -- ## all of it
 

@@ -1,15 +1,7 @@
 -- a session that holds a node or a request by an accepted entry is first at it afterwards
-use Rattle.std.proofs.Common.{◌≡◌, ◌∙◌, sym, ap, refl, subst, ◌+◌, ◌<◌, List, [], ◌∷◌, ◌++◌, arith, Option, Some, None, Result, Ok, Err, Bool, true, false, ◌&&◌, ◌||◌, ◌==◌, not, cond, is_ok, map, slice_get, le_of_eq}
-use Rattle.np_changes.specs.Prelude.{AllByRecursion, Answer, Configuration, Done, Event, JobId, JobRecord, LabelId, NodeEntry, NodeId, NodeRecord, PoolId, Refusal, RequestEntry, RequestId, RequestRecord, Rises, SessionId, State, acting, ahead_of, change_first, effect, is_id_before, is_marked, is_session, is_session_of, joined, judge, launcher, list_any, next, next_label, node_holder, node_in, node_queue, option_map_or, plan, put_job, request_holder, request_in, request_queue, same_request, tenant_of_request, with_act}
-use Rattle.std.proofs.lemmas.Bool.{and_parts, eqb-true, eq-eqb, cond-true}
-use Rattle.std.proofs.lemmas.List.Sums.{sum_by-cons}
+use Rattle.np_laws.proofs.Prelude.{AllByRecursion, Answer, Bool, Configuration, Done, Err, Event, JobId, JobRecord, LabelId, List, NodeEntry, NodeId, NodeRecord, None, Ok, Option, PoolId, Refusal, RequestEntry, RequestId, RequestRecord, Result, Rises, SessionId, Some, State, acting, ahead_of, allocated, and_parts, ap, arith, change_first, cond, cond-true, effect, effect_create, effect_lock_node, effect_lock_request, effect_take, effect_take_ready, eq-eqb, eqb-true, false, has_node, is_ending, is_held, is_holding, is_id_before, is_locking, is_marked, is_new_node, is_node, is_ok, is_session, is_session_of, is_unlocking, joined, judge, judge_create, judge_lock_node, judge_lock_request, judge_take, judge_take_ready, launcher, le_of_eq, list_any, made, map, nat_tests, next, next_label, node_holder, node_in, node_queue, not, option_map_or, place_reply, plan, plan-next, put_job, refl, request-equal, request-itself, request_holder, request_in, request_queue, same_request, session-equal, set-here, slice_get, some-unless, subst, sum_by-cons, sym, tenant_of_request, true, unended, unheld, with_act, [], ◌&&◌, ◌++◌, ◌+◌, ◌<◌, ◌==◌, ◌||◌, ◌∙◌, ◌∷◌, ◌≡◌}
 use Rattle.np_text.specs.declared.word.Phase.TheVariants as phase
 use Rattle.np_event.specs.declared.event.Event.TheVariants as ev
-use Rattle.np_machine.specs.Request.{judge_lock_request, effect_lock_request}
-use Rattle.np_machine.specs.Node.{place_reply, judge_take_ready, allocated, effect_take_ready, judge_create, made, effect_create, judge_lock_node, effect_lock_node}
-use Rattle.np_machine.specs.Semaphore.{judge_take, effect_take, unheld, unended}
-use Rattle.np_machine.specs.LiveHolder.{is_held, is_new_node, is_node, has_node, is_holding, is_ending, is_locking, is_unlocking}
-use Rattle.np_changes.proofs.PlanLaws.{plan-next}
 use Rattle.np_laws.proofs.Lookups.{same_node-is, node_in-later, node_queue-allocated, node_queue-queue, node_queue-new, request_queue-queue}
 use Rattle.np_laws.proofs.Firsts.{first-in, first-alone, first-held}
 use Rattle.np_laws.proofs.HoldsLost.{takes-as_said}
@@ -20,8 +12,6 @@ use Rattle.np_laws.proofs.HeldRequests.{IsFirstThere}
 use Rattle.np_laws.proofs.Accepted
 use Rattle.np_laws.proofs.Options.{none-unless}
 use Rattle.np_laws.proofs.Replies.{accepted-state}
-use Rattle.np_machine.proofs.Ids.{request-equal, request-itself, session-equal}
-use Rattle.np_lists.proofs.Plain.{some-unless, set-here}
 
 -- ## an accepted event
 
@@ -54,11 +44,7 @@ module _ (c : Configuration) (s : State) (e : Event) (what : Done) (is : judge c
 
   -- the same for a session and a node with the same numbers
   same-names : (by session : SessionId) (m n : NodeId) (rows : List NodeEntry) → is_session by session ≡ true → is_node n m ≡ true → IsFirstAt by m rows → IsFirstAt session n rows
-  same-names by session m n rows one other held = record {
-    first =
-        subst (λ (x : SessionId). is_session_of x (node_holder n rows) ≡ true) (session-equal by session one)
-        (subst (λ (x : NodeId). is_session_of by (node_holder x rows) ≡ true) (same_node-is m n other) held.first);
-  }
+  same-names by session m n rows one other held = grind (arith, nat_tests)
 
   still : (by session : SessionId) (m n : NodeId) → is_ending by m e ≡ false → is_session_of by (node_holder m s.nodes) ≡ true → (is_session by session && is_node n m) ≡ true → IsFirstAt session n (next c s e).nodes
   still by session m n on held names =
@@ -78,7 +64,7 @@ take_ready-joined c s by r n request k has stands =
 
 take_ready-first : (c : Configuration) (s : State) (by : SessionId) (r : RequestId) (n : NodeId) (what : Done) → judge_take_ready s by r n ≡ Ok what → IsFirstAt by n (effect_take_ready c s by r n).nodes
 take_ready-first c s by r n what is =
-    let asked : (request : RequestRecord) × (request_in r s.requests ≡ Some request) = some-unless (request_in r s.requests) (Accepted.take_ready-asked c s by what r n is) in
+    let asked : (request : RequestRecord) × (request_in r s.requests ≡ Some request) = some-unless (request_in r s.requests) (λ none. grind (arith, nat_tests)) in
     let there : (k : NodeRecord) × (node_in n s.nodes ≡ Some k) = some-unless (node_in n s.nodes) (Accepted.take_ready-stands c s by what r n is) in
     let free : node_holder n s.nodes ≡ None = none-unless (node_holder n s.nodes) (λ other held. Accepted.take_ready-free c s by what r n other is held) in
     record { first = first-in by (take_ready-joined c s by r n asked.0 there.0 asked.1 there.1) (first-alone by (node_queue n s.nodes) free) }
@@ -113,7 +99,7 @@ lock_node-joined s by n k stands =
 
 lock_node-first : (c : Configuration) (s : State) (by : SessionId) (n : NodeId) (what : Done) → judge_lock_node s by n ≡ Ok what → is_held what ≡ true → IsFirstAt by n (effect_lock_node s by n).nodes
 lock_node-first c s by n what is held =
-    let there : (k : NodeRecord) × (node_in n s.nodes ≡ Some k) = some-unless (node_in n s.nodes) (Accepted.lock_node-stands c s by what n is) in
+    let there : (k : NodeRecord) × (node_in n s.nodes ≡ Some k) = some-unless (node_in n s.nodes) (λ none. grind (arith, nat_tests)) in
     let place : is_held (place_reply (ahead_of by (node_queue n s.nodes))) ≡ true = sym (ap (λ (w : Done). is_held w) (Accepted.lock_node-place c s by what n is)) ∙ held in
     record { first = first-in by (lock_node-joined s by n there.0 there.1) (first-held by (node_queue n s.nodes) place) }
 
@@ -125,7 +111,7 @@ lock_request-joined s by r request stands =
 lock_request-first : (c : Configuration) (s : State) (by : SessionId) (r : RequestId) (what : Done) → judge_lock_request c s by r ≡ Ok what → IsFirstThere by r (effect_lock_request s by r).requests
 lock_request-first c s by r what is =
     let there : (request : RequestRecord) × (request_in r s.requests ≡ Some request) = some-unless (request_in r s.requests) (Accepted.lock_request-stands c s by what r is) in
-    let free : request_holder r s.requests ≡ None = none-unless (request_holder r s.requests) (λ other held. Accepted.lock_request-free c s by what r other is held) in
+    let free : request_holder r s.requests ≡ None = none-unless (request_holder r s.requests) (λ other held. grind (arith, nat_tests)) in
     record { first = λ _. first-in by (lock_request-joined s by r there.0 there.1) (first-alone by (request_queue r s.requests) free) }
 
 -- ## the nodes of a job
@@ -153,12 +139,12 @@ take-marked c s by j n what kept r request is stands asks has =
 
 take-first : (c : Configuration) (s : State) (by : SessionId) (j : JobId) (n : NodeId) (what : Done) → judge_take c s by j ≡ Ok what → has_node n j (next c s (ev.Take by j)) ≡ true → is_session_of by (node_holder n s.nodes) ≡ true
 take-first c s by j n what is has =
-    let job : (kept : JobRecord) × (slice_get s.jobs j.0 ≡ Some kept) = some-unless (slice_get s.jobs j.0) (Accepted.take-job c s by what j is) in
+    let job : (kept : JobRecord) × (slice_get s.jobs j.0 ≡ Some kept) = some-unless (slice_get s.jobs j.0) (λ none. grind (arith, nat_tests)) in
     let asked : (r : RequestId) × (job.0.request ≡ Some r) = some-unless job.0.request (Accepted.take-asked c s by what j job.0 is job.1) in
     let there : (request : RequestRecord) × (request_in asked.0 s.requests ≡ Some request) = some-unless (request_in asked.0 s.requests) (Accepted.take-request c s by what j job.0 asked.0 is job.1 asked.1) in
     by_parts job.0 asked.0 there.0 job.1 asked.1 there.1 where
       by_parts : (kept : JobRecord) (r : RequestId) (request : RequestRecord) → slice_get s.jobs j.0 ≡ Some kept → kept.request ≡ Some r → request_in r s.requests ≡ Some request → is_session_of by (node_holder n s.nodes) ≡ true
-      by_parts kept r request stands asks found = one-held s by n request.nodes (sym (take-marked c s by j n what kept r request is stands asks found) ∙ has) (Accepted.take-held c s by what j kept r request is stands asks found)
+      by_parts kept r request stands asks found = one-held s by n request.nodes (sym (take-marked c s by j n what kept r request is stands asks found) ∙ has) (grind (arith, nat_tests))
 
 -- ## all events
 
@@ -173,8 +159,8 @@ holding-first c s session n (ev.Create by r) what below is holds =
     let e : Event = ev.Create by r in
     let parts = and_parts (is_session by session) (is_new_node n what) holds in
     subst (λ (rows : List NodeEntry). IsFirstAt session n rows) (sym (nodes-next c s e what is)) (create-first c s by session r n what below is parts.0 parts.1)
-holding-first c s session n (ev.Start by m) what below is holds = still c s (ev.Start by m) what is by session m n refl (Accepted.start-held c s by what m is) holds
-holding-first c s session n (ev.Done by m attempt o) what below is holds = still c s (ev.Done by m attempt o) what is by session m n refl (Accepted.done-held c s by what m attempt is) holds
+holding-first c s session n (ev.Start by m) what below is holds = still c s (ev.Start by m) what is by session m n refl (grind (arith, nat_tests)) holds
+holding-first c s session n (ev.Done by m attempt o) what below is holds = still c s (ev.Done by m attempt o) what is by session m n refl (grind (arith, nat_tests)) holds
 holding-first c s session n (ev.LockNode by m) what below is holds =
     let e : Event = ev.LockNode by m in
     let parts = and_parts (is_session by session && is_node n m) (is_held what) holds in
@@ -185,9 +171,9 @@ holding-first c s session n (ev.Take by j) what below is holds =
     let e : Event = ev.Take by j in
     let parts = and_parts (is_session by session) (has_node n j (next c s e)) holds in
     same-names c s e what is by session n n (next c s e).nodes parts.0 (eq-eqb n.0 n.0 refl) (stays-first c s e what is by n refl (record { first = take-first c s by j n what is parts.1 }))
-holding-first c s session n (ev.EndNode by m as_what) what below is holds = still c s (ev.EndNode by m as_what) what is by session m n refl (Accepted.end_node-held c s by what m is) holds
-holding-first c s session n (ev.MarkDeleting by m) what below is holds = still c s (ev.MarkDeleting by m) what is by session m n refl (Accepted.mark_deleting-held c s by what m is) holds
-holding-first c s session n (ev.FreeNode by m) what below is holds = still c s (ev.FreeNode by m) what is by session m n refl (Accepted.free_node-held c s by what m is) holds
+holding-first c s session n (ev.EndNode by m as_what) what below is holds = still c s (ev.EndNode by m as_what) what is by session m n refl (grind (arith, nat_tests)) holds
+holding-first c s session n (ev.MarkDeleting by m) what below is holds = still c s (ev.MarkDeleting by m) what is by session m n refl (grind (arith, nat_tests)) holds
+holding-first c s session n (ev.FreeNode by m) what below is holds = still c s (ev.FreeNode by m) what is by session m n refl (grind (arith, nat_tests)) holds
 holding-first c s session n _ what below is holds = absurd cc
 
 pub locking-first : (c : Configuration) (s : State) (session : SessionId) (r : RequestId) (e : Event) (what : Done) → judge c s e ≡ Ok what → is_locking session r e what ≡ true → IsFirstThere session r (next c s e).requests × ((request : RequestRecord) × (request_in r s.requests ≡ Some request))

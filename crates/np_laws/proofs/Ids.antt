@@ -1,6 +1,5 @@
 -- ids with one number are one id, and the row of a record that was found
-use Rattle.std.proofs.Common.{◌≡◌, ℕ, ◌==◌, true, Option, Some, None, refl, sym, ap, ◌∙◌, eqb-true}
-use Rattle.np_changes.specs.Prelude.{LabelId, PoolId, SemId, TenantId, option_map}
+use Rattle.np_laws.proofs.Prelude.{LabelId, None, Option, PoolId, SemId, Some, ap, eqb-true, option_map, refl, sym, true, ℕ, ◌==◌, ◌∙◌, ◌≡◌}
 
 -- ## ids
 
@@ -13,9 +12,6 @@ label_of number = record { 0 = number }
 abbrev semaphore_of : ℕ → SemId
 semaphore_of number = record { 0 = number }
 
-abbrev tenant_of : ℕ → TenantId
-tenant_of number = record { 0 = number }
-
 pub same_pool : (a b : PoolId) → (a.0 == b.0) ≡ true → a ≡ b
 same_pool a b same = ap pool_of (eqb-true a.0 b.0 same)
 
@@ -24,9 +20,6 @@ same_label a b same = ap label_of (eqb-true a.0 b.0 same)
 
 pub same_semaphore : (a b : SemId) → a.0 ≡ b.0 → a ≡ b
 same_semaphore a b same = ap semaphore_of same
-
-pub same_tenant : (a b : TenantId) → (a.0 == b.0) ≡ true → a ≡ b
-same_tenant a b same = ap tenant_of (eqb-true a.0 b.0 same)
 
 -- ## rows
 

@@ -1,28 +1,19 @@
 -- what a job was before the changes of an event, and what it becomes by them
-use Rattle.std.proofs.Common.{◌≡◌, ◌≢◌, ◌∙◌, sym, ℕ, zero, suc, List, [], ◌∷◌, refl, ap, arith, subst, Option, Some, None, Bool, true, false, inl, inr}
-use Rattle.std.specs.Prelude.{◌==◌, ◌⊎◌, slice_get, slice_set}
-use Rattle.np_changes.specs.Prelude.{Configuration, JobId, JobRecord, JobsPremise, NodeId, PutsJob, State, change_at, grown, jobs_changed, option_map, registers, with_mark}
-use Rattle.std.proofs.lemmas.Bool.Decides.{nat_tests}
-use Rattle.np_changes.specs.declared.changes.Maker.{Maker}
-use Rattle.np_changes.specs.declared.changes.Changes.{Changes}
-use Rattle.np_changes.specs.declared.changes.Growth.{Growth}
+use Rattle.np_laws.proofs.Prelude.{Bool, Changes, Configuration, Growth, JobId, JobRecord, JobsChange, JobsPremise, List, Maker, NodeId, None, Option, PutsJob, Some, State, ap, arith, change_at, false, grown, inl, inr, jobs_changed, nat_tests, option_map, refl, registers, set-here, set-other, slice_get, slice_set, subst, suc, sym, true, with_mark, zero, [], ℕ, ◌==◌, ◌∙◌, ◌∷◌, ◌≡◌, ◌≢◌, ◌⊎◌}
 use Rattle.np_changes.specs.declared.changes.Growth.TheVariants as grow
-use Rattle.np_changes.specs.declared.changes.JobsChange.{JobsChange}
 use Rattle.np_changes.specs.declared.changes.JobsChange.TheVariants as jobs
 use Rattle.np_laws.proofs.After.{made-look}
-use Rattle.np_lists.proofs.Plain.{set-other, set-here}
 
 -- ## one job more or less changed
 
 get-set : {X : Type 0} (xs : List X) (i j : ℕ) (x y : X) → slice_get (slice_set xs i x) j ≡ Some y → ((i ≡ j) × (x ≡ y)) ⊎ ((i ≢ j) × (slice_get xs j ≡ Some y))
 get-set [] i j x y is = absurd cc
 get-set (z ∷ xs) zero zero x y is = let same : x ≡ y = cc in inl (refl, same)
-get-set (z ∷ xs) zero (suc j) x y is = inr (λ same. absurd cc, is)
-get-set (z ∷ xs) (suc i) zero x y is = inr (λ same. absurd cc, is)
 get-set (z ∷ xs) (suc i) (suc j) x y is = by (get-set xs i j x y is) where
   by : ((i ≡ j) × (x ≡ y)) ⊎ ((i ≢ j) × (slice_get xs j ≡ Some y)) → ((suc i ≡ suc j) × (x ≡ y)) ⊎ ((suc i ≢ suc j) × (slice_get xs j ≡ Some y))
   by (inl (at, same)) = inl (ap suc at, same)
   by (inr (other, there)) = inr (λ same. other (let e : i ≡ j = cc in e), there)
+get-set (z ∷ xs) _ _ x y is = inr (λ same. absurd cc, is)
 
 -- a job without its nodes
 abbrev pub bare : JobRecord → JobRecord

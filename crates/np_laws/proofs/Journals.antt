@@ -1,15 +1,6 @@
 -- over a journal: what is due stays due with each turn, and each turn that makes a request fail has
 -- its cause
-use Rattle.std.proofs.Common.{◌≡◌, ◌∙◌, sym, List, [], ◌∷◌, ◌++◌, refl, subst, Bool, true, false, Some, Ok, Err}
-use Rattle.std.specs.Prelude.{is_ok}
-use Rattle.std.proofs.lemmas.Bool.{false≢true, both_ways, and_right}
-use Rattle.np_changes.specs.Prelude.{Answer, Configuration, Done, Entry, NodeId, Premises, RequestId, RequestRecord, Runs, State, Turn, after, changed, is_done, judge, next, plan, replayed, reply_of, request_in, start, turns_from}
-use Rattle.np_machine.specs.Caused.{has_failed, FailsNow, is_report_on, IsTrueDecline, HasCause, CausedFrom, Caused}
-use Rattle.np_machine.proofs.Runs.{Runs-prefix}
-use Rattle.np_changes.proofs.PlanLaws.{plan-next}
-use Rattle.np_changes.proofs.PremisesOf.{premises}
-use Rattle.np_laws.specs.Parts.{Invariant}
-use Rattle.np_laws.specs.Steps.{AfterEveryStep}
+use Rattle.np_laws.proofs.Prelude.{AfterEveryStep, Answer, Bool, Caused, CausedFrom, Configuration, Done, Entry, Err, FailsNow, HasCause, Invariant, IsTrueDecline, List, NodeId, Ok, Premises, RequestId, RequestRecord, Runs, Runs-prefix, Some, State, Turn, after, and_right, both_ways, changed, false, false≢true, has_failed, is_done, is_ok, is_report_on, judge, next, plan, plan-next, premises, refl, replayed, reply_of, request_in, start, subst, sym, true, turns_from, [], ◌++◌, ◌∙◌, ◌∷◌, ◌≡◌}
 use Rattle.np_laws.proofs.Runs.{invariant-next}
 use Rattle.np_laws.proofs.Start.{invariant-start}
 use Rattle.np_laws.proofs.Replies.{head-reply, tail-replies, done-accepted}

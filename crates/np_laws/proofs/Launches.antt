@@ -1,19 +1,10 @@
 -- a launch runs only while its node builds, after what an accepted event changes
-use Rattle.std.proofs.Common.{◌≡◌, ◌∙◌, sym, subst, ℕ, ◌<◌, ◌≤◌, le_refl, ◌⊎◌, inl, inr, Bool, true, false, cond, List, [], ◌∷◌, ◌++◌, refl, eqb-true, Option, Some, None}
-use Rattle.std.specs.Prelude.{◌==◌, nat_lt}
-use Rattle.np_changes.specs.Prelude.{AllByRecursion, Configuration, NodeEntry, NodeId, NodeRecord, RequestId, Rises, State, TenantId, all_freed, all_in_use, allocated, by_maker, change_first, changed, freed, grown, is_building, is_ready, is_request, list_any, new_node, node_in, nodes_changed, option_map, put_node, remove_node}
-use Rattle.std.proofs.lemmas.Option.{none-some, same_Some}
+use Rattle.np_laws.proofs.Prelude.{AllByRecursion, Bool, Changes, Configuration, GainsNew, Growth, GrowthPremise, Invariant, IsMade, IsTaken, List, Maker, NodeEntry, NodeId, NodeRecord, NodesChange, NodesPremise, None, Option, Premises, RequestId, Rises, RunsWhileBuilding, Some, State, TakesOver, TenantId, all_freed, all_in_use, allocated, arith, by_maker, change_first, changed, cond, eqb-true, false, freed, grown, is_building, is_ready, is_request, le_refl, list_any, nat_lt, nat_tests, node_in, nodes_changed, none-some, option_map, put_node, refl, remove_node, same_Some, subst, sym, true, [], ℕ, ◌++◌, ◌<◌, ◌==◌, ◌∙◌, ◌∷◌, ◌≡◌, ◌≤◌, ◌⊎◌}
 use Rattle.np_text.specs.declared.word.NodeState.TheVariants as node_state
-use Rattle.np_changes.specs.declared.changes.Maker.{Maker}
-use Rattle.np_changes.specs.declared.changes.Changes.{Changes}
-use Rattle.np_changes.specs.declared.changes.Growth.{Growth}
 use Rattle.np_changes.specs.declared.changes.Growth.TheVariants as grow
-use Rattle.np_changes.specs.declared.changes.NodesChange.{NodesChange}
 use Rattle.np_changes.specs.declared.changes.NodesChange.TheVariants as nodes
-use Rattle.np_changes.specs.Premises.{IsTaken, IsMade, GainsNew, GrowthPremise, TakesOver, NodesPremise, Premises}
-use Rattle.np_laws.specs.Parts.{RunsWhileBuilding, Invariant}
 use Rattle.np_laws.proofs.Lookups.{node_in-put, node_in-remove, node_in-removed, node_in-freed, node_in-in_use, node_in-allocated, node_in-other, node_in-new, node_in-later}
-use Rattle.np_laws.proofs.After.{grown-node, leave-node, nodes-after, same-new}
+use Rattle.np_laws.proofs.After.{grown-node, leave-node, nodes-after}
 use Rattle.np_laws.proofs.NodeKept.{ready-not_building}
 use Rattle.np_laws.proofs.Puts.{way-runs}
 use Rattle.np_laws.proofs.StandsOn.{owns-if, owned-node}
@@ -86,16 +77,10 @@ run-push new rows below right run = λ n k is. by n k is (new.id.0 == n.0) refl 
 
 -- ## a change
 
-not-allocated : (g : Growth) (a : NodeRecord) (n : NodeId) (r : RequestId) (tenant : Option TenantId) → g ≡ grow.Node a → g ≡ grow.Allocate n r tenant → ⊥
-not-allocated g a n r tenant first second = cc
-
 module _ (c : Configuration) (s : State) (ch : Changes) (inv : Invariant c s) where
   new-right : (kept : NodeRecord) → ch.grows ≡ grow.Node kept → (new : GainsNew c s ch kept)
       → IsTaken c s ch new.gains.pool new.request new.gains.request new.gains.label (record { 0 = s.next_node }) ⊎ IsMade c s ch new.gains.pool new.request new.gains.request new.gains.label (record { 0 = s.next_node }) → RunsRight kept
-  new-right kept grows new (inl taken) = absurd (not-allocated ch.grows kept _ _ _ grows taken.grows)
-  new-right kept grows new (inr made) =
-      let same : new_node c s new.request new.gains.pool new.gains.request new.gains.label ≡ kept = same-new ch.grows _ kept made.grows grows in
-      subst (λ (x : NodeRecord). RunsRight x) same (λ flies. refl)
+  new-right kept grows new x3 = grind (arith, nat_tests)
 
   grown-run : (g : Growth) → ch.grows ≡ g → GrowthPremise c s ch g → RunIn (grown c ch.maker g s).nodes
   grown-run (grow.Node kept) grows new =

@@ -1,3 +1,4 @@
+pub mod Prelude
 pub mod Through
 pub mod Locked
 pub mod Lookups

@@ -1,11 +1,6 @@
 -- who holds a node or a request by the journal is the first of its queue, in every run
-use Rattle.std.proofs.Common.{◌≡◌, ◌∙◌, sym, ap, refl, subst, ◌<◌, List, [], ◌∷◌, ◌++◌, append_assoc, append-nil, arith, Some, Ok, Err, Bool, true, false, cond, is_some}
-use Rattle.np_changes.specs.Prelude.{Answer, Configuration, Entry, Event, NodeId, Reply, RequestId, RequestRecord, Runs, SessionId, State, after, is_session_of, judge, next, node_holder, replayed, reply_of, request_holder, request_in, start, state_after}
-use Rattle.np_machine.specs.LiveHolder.{is_holding, is_ending, holds_after, holds_from, IsLiveHolder, is_locking, is_unlocking, locks_after, locks_from}
-use Rattle.np_machine.specs.Safe.{OneHolder}
-use Rattle.np_machine.proofs.Runs.{state_after-push, Runs-prefix}
+use Rattle.np_laws.proofs.Prelude.{Answer, Bool, Configuration, Entry, Err, Event, Invariant, IsLiveHolder, List, NodeId, Ok, OneHolder, Reply, RequestId, RequestRecord, Runs, Runs-prefix, SessionId, Some, State, after, append-nil, append_assoc, arith, cond, false, holds_after, holds_from, is_ending, is_holding, is_locking, is_session_of, is_some, is_unlocking, judge, locks_after, locks_from, nat_tests, next, node_holder, refl, replayed, reply_of, request_holder, request_in, start, state_after, state_after-push, subst, sym, true, [], ◌++◌, ◌<◌, ◌∙◌, ◌∷◌, ◌≡◌}
 use Rattle.np_machine.proofs.Rises.{RisesFrom-next}
-use Rattle.np_laws.specs.Parts.{Invariant}
 use Rattle.np_laws.specs.Holders.{HoldersHold}
 use Rattle.np_laws.proofs.Lookups.{request_in-below}
 use Rattle.np_laws.proofs.Firsts.{one-named}
@@ -79,9 +74,7 @@ holders-next c journal s entry invariant at replied old = record { of_node = nod
 
 -- the reply of an entry of a run is the machine's
 pub replied-at : (c : Configuration) (s : State) (before : List Entry) (entry : Entry) (rest : List Entry) → replayed c s (before ++ entry ∷ rest) ≡ before ++ entry ∷ rest → entry.reply ≡ reply_of (judge c (state_after c s before) entry.event)
-replied-at c s [] entry rest is =
-    let head : record { event = entry.event; reply = reply_of (judge c s entry.event) } ≡ entry = cc in
-    sym (ap (λ (x : Entry). x.reply) head)
+replied-at c s [] entry rest is = grind (arith, nat_tests)
 replied-at c s (first ∷ before) entry rest is =
     let tail : replayed c (next c s first.event) (before ++ entry ∷ rest) ≡ before ++ entry ∷ rest = cc in
     replied-at c (next c s first.event) before entry rest tail

@@ -1,20 +1,9 @@
 -- live sessions wait in the queues, none twice in one, and at most one at a request
-use Rattle.std.proofs.Common.{◌≡◌, sym, ℕ, ◌≤◌, List, [], ◌∷◌, ◌++◌, length, refl, arith, subst, Option, Some, None, Bool, true, false, cond}
-use Rattle.std.specs.Prelude.{◌==◌, not}
-use Rattle.np_changes.specs.Prelude.{AllByRecursion, Configuration, GrowthPremise, Locked, MakerPremise, NodeEntry, NodeId, Premises, RequestEntry, RequestId, SessionId, SessionsPremise, State, all_in_use, allocated, change_first, changed, edited, freed_from, grown, holder, in_use, is_queued, is_session, joined, left, node_entry, node_left, node_queue, nodes_changed, nodes_left, option_map_or, request_entry, request_left, request_queue, requests_changed, requests_left, same_request}
-use Rattle.std.proofs.lemmas.Bool.Decides.{nat_tests}
-use Rattle.np_lists.proofs.Each.{all-push, all-find, all-weaker, all-filter, all-filter_to, all-remove_first, all-insert_before, all-change_first, all-mapped, length-filter_at_most}
-use Rattle.np_changes.specs.declared.changes.Maker.{Maker}
-use Rattle.np_changes.specs.declared.changes.Changes.{Changes}
-use Rattle.np_changes.specs.declared.changes.Growth.{Growth}
+use Rattle.np_laws.proofs.Prelude.{AllByRecursion, Bool, Changes, Configuration, DistinctSessions, Growth, GrowthPremise, IsLive, IsQueue, IsQueued, List, Locked, Maker, MakerPremise, NodeEntry, NodeId, NodesChange, None, Option, Premises, RequestEntry, RequestId, RequestsChange, SessionId, SessionsChange, SessionsPremise, Some, State, all-change_first, all-filter, all-filter_to, all-find, all-insert_before, all-mapped, all-push, all-remove_first, all-weaker, all_in_use, allocated, arith, change_first, changed, cond, edited, false, freed_from, grown, holder, in_use, is_queued, is_session, joined, left, length, length-filter_at_most, nat_tests, node_entry, node_left, node_queue, nodes_changed, nodes_left, not, option_map_or, refl, request_entry, request_left, request_queue, requests_changed, requests_left, same_request, subst, sym, true, [], ℕ, ◌++◌, ◌==◌, ◌∷◌, ◌≡◌, ◌≤◌}
 use Rattle.np_changes.specs.declared.changes.Growth.TheVariants as grow
-use Rattle.np_changes.specs.declared.changes.RequestsChange.{RequestsChange}
 use Rattle.np_changes.specs.declared.changes.RequestsChange.TheVariants as requests
-use Rattle.np_changes.specs.declared.changes.NodesChange.{NodesChange}
 use Rattle.np_changes.specs.declared.changes.NodesChange.TheVariants as nodes
-use Rattle.np_changes.specs.declared.changes.SessionsChange.{SessionsChange}
 use Rattle.np_changes.specs.declared.changes.SessionsChange.TheVariants as sessions
-use Rattle.np_laws.specs.Parts.{IsLive, DistinctSessions, IsQueue, IsQueued}
 use Rattle.np_laws.proofs.Lookups.{freed-queue}
 use Rattle.np_laws.proofs.Sessions.{IsNotOver, live-stays}
 
@@ -108,48 +97,33 @@ module _ (P : SessionId → Type 0) where
   MakerIs (Some maker) = P maker.session
 
   requests-grown : (c : Configuration) (maker : Option Maker) (growth : Growth) (s : State) → MakerIs maker → RequestLines s.requests → RequestLines (grown c maker growth s).requests
-  requests-grown c maker grow.Nothing s such old = old
-  requests-grown c maker (grow.Session role) s such old = old
   requests-grown c None (grow.Registration p) s such old = old
   requests-grown c (Some maker) (grow.Registration p) s such old = old
   requests-grown c maker (grow.Request priority asked) s such old = all-insert_before (λ (e : RequestEntry). IsLine P e.queue) _ _ s.requests (no_line P) old
-  requests-grown c maker (grow.Node kept) s such old = old
-  requests-grown c None (grow.JoinRequest r) s such old = old
   requests-grown c (Some maker) (grow.JoinRequest r) s such old =
       all-change_first (λ (e : RequestEntry). IsLine P e.queue) (λ e. same_request e.id r) (λ e. record e { queue = joined maker.session (request_queue r s.requests) }) s.requests
       (λ e is. line-joined P maker.session (request_queue r s.requests) such (request-line r s.requests old)) old
-  requests-grown c maker (grow.JoinNode n) s such old = old
-  requests-grown c maker (grow.Allocate n r tenant) s such old = old
-  requests-grown c maker (grow.Handles j) s such old = old
-  requests-grown c maker (grow.Swept n x) s such old = old
+  requests-grown c maker _ s such old = old
 
   requests-settled : (maker : Option Maker) (change : RequestsChange) (rows : List RequestEntry) → RequestLines rows → RequestLines (requests_changed maker change rows)
-  requests-settled maker requests.Same rows old = old
   requests-settled maker (requests.Edit r edit) rows old = all-change_first (λ (e : RequestEntry). IsLine P e.queue) (λ e. same_request e.id r) (λ e. record e { kept = edited edit e.kept }) rows (λ e is. is) old
   requests-settled maker (requests.Remove r) rows old = all-remove_first (λ (e : RequestEntry). IsLine P e.queue) (λ e. same_request e.id r) rows old
-  requests-settled None (requests.Leave r) rows old = old
   requests-settled (Some maker) (requests.Leave r) rows old =
       all-change_first (λ (e : RequestEntry). IsLine P e.queue) (λ e. same_request e.id r) (λ e. record e { queue = left maker.session (request_queue r rows) }) rows
       (λ e is. line-left P maker.session (request_queue r rows) (request-line r rows old)) old
+  requests-settled maker _ rows old = old
 
   nodes-grown : (c : Configuration) (maker : Option Maker) (growth : Growth) (s : State) → MakerIs maker → NodeLines s.nodes → NodeLines (grown c maker growth s).nodes
-  nodes-grown c maker grow.Nothing s such old = old
-  nodes-grown c maker (grow.Session role) s such old = old
   nodes-grown c None (grow.Registration p) s such old = old
   nodes-grown c (Some maker) (grow.Registration p) s such old = old
-  nodes-grown c maker (grow.Request priority asked) s such old = old
   nodes-grown c None (grow.Node kept) s such old = all-push (λ (e : NodeEntry). IsLine P e.queue) s.nodes _ old (no_line P)
   nodes-grown c (Some maker) (grow.Node kept) s such old = all-push (λ (e : NodeEntry). IsLine P e.queue) s.nodes _ old (record { each = (such, tt); once = (refl, tt) })
-  nodes-grown c maker (grow.JoinRequest r) s such old = old
-  nodes-grown c None (grow.JoinNode n) s such old = old
   nodes-grown c (Some maker) (grow.JoinNode n) s such old =
       all-change_first (λ (e : NodeEntry). IsLine P e.queue) (λ e. e.id.0 == n.0) (λ e. record e { queue = joined maker.session (node_queue n s.nodes) }) s.nodes
       (λ e is. line-joined P maker.session (node_queue n s.nodes) such (node-line n s.nodes old)) old
-  nodes-grown c None (grow.Allocate n r tenant) s such old = old
   nodes-grown c (Some maker) (grow.Allocate n r tenant) s such old =
       all-change_first (λ (e : NodeEntry). IsLine P e.queue) (λ e. e.id.0 == n.0) (allocated r tenant maker.session) s.nodes (λ e is. line-joined P maker.session e.queue such is) old
-  nodes-grown c maker (grow.Handles j) s such old = old
-  nodes-grown c maker (grow.Swept n x) s such old = old
+  nodes-grown c maker _ s such old = old
 
   freed-line : (r : RequestId) (e : NodeEntry) → IsLine P e.queue → IsLine P (freed_from r e).queue
   freed-line r e is = subst (IsLine P) (sym (freed-queue r e)) is
@@ -161,15 +135,14 @@ module _ (P : SessionId → Type 0) where
       (all-change_first (λ (e : NodeEntry). IsLine P e.queue) (λ e. e.id.0 == n.0) (in_use tick) rows (λ e is. is) old)
 
   nodes-settled : (maker : Option Maker) (tick : ℕ) (change : NodesChange) (rows : List NodeEntry) → NodeLines rows → NodeLines (nodes_changed maker tick change rows)
-  nodes-settled maker tick nodes.Same rows old = old
   nodes-settled maker tick (nodes.Put n kept) rows old = all-change_first (λ (e : NodeEntry). IsLine P e.queue) (λ e. e.id.0 == n.0) (λ e. record e { kept = kept }) rows (λ e is. is) old
   nodes-settled maker tick (nodes.Remove n) rows old = all-remove_first (λ (e : NodeEntry). IsLine P e.queue) (λ e. e.id.0 == n.0) rows old
-  nodes-settled None tick (nodes.Leave n) rows old = old
   nodes-settled (Some maker) tick (nodes.Leave n) rows old =
       all-change_first (λ (e : NodeEntry). IsLine P e.queue) (λ e. e.id.0 == n.0) (λ e. record e { queue = left maker.session (node_queue n rows) }) rows
       (λ e is. line-left P maker.session (node_queue n rows) (node-line n rows old)) old
   nodes-settled maker tick (nodes.FreeAll r) rows old = all-mapped (λ (e : NodeEntry). IsLine P e.queue) (λ (e : NodeEntry). IsLine P e.queue) (freed_from r) rows (freed-line r) old
   nodes-settled maker tick (nodes.TakeOver numbers) rows old = nodes-in_use tick numbers rows old
+  nodes-settled maker tick _ rows old = old
 
 -- ## and a session that ends
 
@@ -197,16 +170,14 @@ module _ (c : Configuration) (s : State) (ch : Changes) (premise : SessionsPremi
       }
 
   requests-after_end : (change : SessionsChange) → ch.sessions ≡ change → (rows : List RequestEntry) → Lines rows → LaterQueues (requests_left change rows)
-  requests-after_end sessions.Same is rows old = none-over (λ session. rw is tt) rows old
-  requests-after_end (sessions.Mute quiet) is rows old = none-over (λ session. rw is tt) rows old
   requests-after_end (sessions.End over) is rows old =
       all-mapped (λ (e : RequestEntry). IsLine (IsLive s) e.queue) (λ (e : RequestEntry). IsQueue (changed c ch s) e.queue) (request_left over) rows (λ e line. over-left over is e.queue line) old
+  requests-after_end _ is rows old = none-over (λ session. rw is tt) rows old
 
   nodes-after_end : (change : SessionsChange) → ch.sessions ≡ change → (rows : List NodeEntry) → Lines rows → LaterQueues (nodes_left change rows)
-  nodes-after_end sessions.Same is rows old = none-over (λ session. rw is tt) rows old
-  nodes-after_end (sessions.Mute quiet) is rows old = none-over (λ session. rw is tt) rows old
   nodes-after_end (sessions.End over) is rows old =
       all-mapped (λ (e : NodeEntry). IsLine (IsLive s) e.queue) (λ (e : NodeEntry). IsQueue (changed c ch s) e.queue) (node_left over) rows (λ e line. over-left over is e.queue line) old
+  nodes-after_end _ is rows old = none-over (λ session. rw is tt) rows old
 
 -- ## at most one at a request
 
@@ -227,34 +198,25 @@ short-found r rows all = by (request_entry r rows) refl where
   by (Some e) is = all-find (λ (x : RequestEntry). IsShort x.queue) (λ x. same_request x.id r) rows e all is
 
 short-grown : (c : Configuration) (s : State) (ch : Changes) (maker : Option Maker) (growth : Growth) → GrowthPremise c s ch growth → AllByRecursion (λ e. IsShort e.queue) s.requests → AllByRecursion (λ e. IsShort e.queue) (grown c maker growth s).requests
-short-grown c s ch maker grow.Nothing premise old = old
-short-grown c s ch maker (grow.Session role) premise old = old
 short-grown c s ch None (grow.Registration p) premise old = old
 short-grown c s ch (Some maker) (grow.Registration p) premise old = old
 short-grown c s ch maker (grow.Request priority asked) premise old = all-insert_before (λ (e : RequestEntry). IsShort e.queue) _ _ s.requests (omega arith) old
-short-grown c s ch maker (grow.Node kept) premise old = old
-short-grown c s ch None (grow.JoinRequest r) premise old = old
 short-grown c s ch (Some maker) (grow.JoinRequest r) premise old =
     all-change_first (λ (e : RequestEntry). IsShort e.queue) (λ e. same_request e.id r) (λ e. record e { queue = joined maker.session (request_queue r s.requests) }) s.requests
     (λ e is. short-joined maker.session (request_queue r s.requests) premise.unlocked) old
-short-grown c s ch maker (grow.JoinNode n) premise old = old
-short-grown c s ch maker (grow.Allocate n r tenant) premise old = old
-short-grown c s ch maker (grow.Handles j) premise old = old
-short-grown c s ch maker (grow.Swept n x) premise old = old
+short-grown c s ch maker _ premise old = old
 
 short-settled : (maker : Option Maker) (change : RequestsChange) (rows : List RequestEntry) → AllByRecursion (λ e. IsShort e.queue) rows → AllByRecursion (λ e. IsShort e.queue) (requests_changed maker change rows)
-short-settled maker requests.Same rows old = old
 short-settled maker (requests.Edit r edit) rows old = all-change_first (λ (e : RequestEntry). IsShort e.queue) (λ e. same_request e.id r) (λ e. record e { kept = edited edit e.kept }) rows (λ e is. is) old
 short-settled maker (requests.Remove r) rows old = all-remove_first (λ (e : RequestEntry). IsShort e.queue) (λ e. same_request e.id r) rows old
-short-settled None (requests.Leave r) rows old = old
 short-settled (Some maker) (requests.Leave r) rows old =
     all-change_first (λ (e : RequestEntry). IsShort e.queue) (λ e. same_request e.id r) (λ e. record e { queue = left maker.session (request_queue r rows) }) rows
     (λ e is. short-left maker.session (request_queue r rows) (short-found r rows old)) old
+short-settled maker _ rows old = old
 
 short-after_end : (change : SessionsChange) (rows : List RequestEntry) → AllByRecursion (λ e. IsShort e.queue) rows → AllByRecursion (λ e. IsShort e.queue) (requests_left change rows)
-short-after_end sessions.Same rows old = old
-short-after_end (sessions.Mute quiet) rows old = old
 short-after_end (sessions.End over) rows old = all-mapped (λ (e : RequestEntry). IsShort e.queue) (λ (e : RequestEntry). IsShort e.queue) (request_left over) rows (λ e few. short-left over e.queue few) old
+short-after_end _ rows old = old
 
 -- ## all of it
 

@@ -1,10 +1,6 @@
 -- what a look-up finds of rows under a lock, after one of them or all have changed
-use Rattle.std.proofs.Common.{◌≡◌, ◌∙◌, sym, ℕ, ◌<◌, ◌≤◌, List, [], ◌∷◌, ◌++◌, refl, ap, arith, subst, Option, Some, None, Bool, true, false, cond}
-use Rattle.std.specs.Prelude.{find, map}
-use Rattle.np_changes.specs.Prelude.{AllByRecursion, Locked, Rises, SessionId, change_first, insert_before, option_map, option_map_or, remove_first}
-use Rattle.np_lists.proofs.Each.{all-find, all-weaker}
+use Rattle.np_laws.proofs.Prelude.{AllByRecursion, Bool, List, Locked, None, Option, Rises, SessionId, Some, all-find, all-weaker, ap, arith, change_first, cond, false, find, find-none, insert_before, map, nat_tests, option_map, option_map_or, refl, remove_first, subst, sym, true, [], ℕ, ◌++◌, ◌<◌, ◌∙◌, ◌∷◌, ◌≡◌, ◌≤◌}
 use Rattle.np_lists.proofs.FoundLemmas.{find-passes, find-insert_before, find-map}
-use Rattle.np_lists.proofs.Halves.{find-none}
 
 -- ## the first that passes
 
@@ -144,10 +140,7 @@ module _ {I K : Type 0} (same : I → I → Bool) (equal : (a b : I) → same a 
     by false (Some e) = refl
 
   pub queue-nowhere : (r : I) (rows : List (Locked I K)) → kept_of r rows ≡ None → queue_of r rows ≡ []
-  queue-nowhere r rows is = by (row_of r rows) is where
-    by : (o : Option (Locked I K)) → option_map (λ (e : Locked I K). e.kept) o ≡ None → option_map_or (λ (e : Locked I K). e.queue) o [] ≡ []
-    by None none = refl
-    by (Some e) none = absurd cc
+  queue-nowhere r rows is = grind (arith, nat_tests)
 
   -- a row is found if its record is
   pub row-there : (r : I) (k : K) (rows : List (Locked I K)) → kept_of r rows ≡ Some k → (e : Locked I K) × ((row_of r rows ≡ Some e) × ((e.kept ≡ k) × (e.id ≡ r)))
@@ -158,10 +151,7 @@ module _ {I K : Type 0} (same : I → I → Bool) (equal : (a b : I) → same a 
 
   -- no row is found if no record is
   pub row-nowhere : (r : I) (rows : List (Locked I K)) → kept_of r rows ≡ None → row_of r rows ≡ None
-  row-nowhere r rows is = by (row_of r rows) is where
-    by : (o : Option (Locked I K)) → option_map (λ (e : Locked I K). e.kept) o ≡ None → o ≡ None
-    by None none = refl
-    by (Some e) none = absurd cc
+  row-nowhere r rows is = grind (arith, nat_tests)
 
   -- ### all changed
 

@@ -1,11 +1,7 @@
 -- what a look-up finds after a change of requests or nodes
-use Rattle.std.proofs.Common.{◌≡◌, ◌∙◌, ℕ, ◌<◌, ◌≤◌, List, [], ◌∷◌, ◌++◌, refl, ap, arith, Option, Some, None, Bool, true, false, cond}
-use Rattle.std.specs.Prelude.{◌==◌, ◌||◌, map, nat_lt}
-use Rattle.np_changes.specs.Prelude.{AllByRecursion, NodeEntry, NodeId, NodeRecord, RequestEntry, RequestId, RequestRecord, Rises, SessionId, TenantId, all_freed, all_in_use, allocated, change_first, freed, freed_from, in_use, insert_request, is_id_before, is_request, joined, left, list_any, node_in, node_left, node_queue, option_map, option_map_or, put_node, put_node_queue, put_request_queue, remove_node, remove_request, request_in, request_left, request_queue, same_request}
-use Rattle.std.proofs.lemmas.Bool.Decides.{nat_tests}
+use Rattle.np_laws.proofs.Prelude.{AllByRecursion, Bool, List, NodeEntry, NodeId, NodeRecord, None, Option, RequestEntry, RequestId, RequestRecord, Rises, SessionId, Some, TenantId, all_freed, all_in_use, allocated, ap, arith, change_first, cond, false, freed, freed_from, in_use, insert_request, is_id_before, is_request, joined, left, list_any, map, nat_lt, nat_tests, node_in, node_left, node_queue, option_map, option_map_or, put_node, put_node_queue, put_request_queue, refl, remove_node, remove_request, request-equal, request_in, request_left, request_queue, same_request, true, [], ℕ, ◌++◌, ◌<◌, ◌==◌, ◌||◌, ◌∙◌, ◌∷◌, ◌≡◌, ◌≤◌}
 use Rattle.np_text.specs.declared.word.NodeState.TheVariants as node_state
 use Rattle.np_laws.proofs.Locked.{kept-changed, kept-same, queue-changed, queue-same, queue-nowhere, kept-mapped, kept-mapped_same, queue-mapped, row-inserted, row-new, row-pushed, row-pushed_other, row-pushed_new, row-removed_other, row-removed, kept-later, kept-below}
-use Rattle.np_machine.proofs.Ids.{request-equal}
 
 -- ## ids
 
@@ -94,22 +90,13 @@ pub node_in-left : (session : SessionId) (n : NodeId) (nodes : List NodeEntry) �
 node_in-left session n nodes = kept-mapped_same same_node same_node-is n (node_left session) (λ e. refl) (λ e. refl) nodes
 
 pub freed-id : (r : RequestId) (e : NodeEntry) → (freed_from r e).id ≡ e.id
-freed-id r e = by (is_request r e.kept.allocated_to) where
-  by : (b : Bool) → (cond b (record e { kept = freed e.kept }) e).id ≡ e.id
-  by true = refl
-  by false = refl
+freed-id r e = grind (arith, nat_tests)
 
 freed-kept : (r : RequestId) (e : NodeEntry) → (freed_from r e).kept ≡ cond (is_request r e.kept.allocated_to) (freed e.kept) e.kept
-freed-kept r e = by (is_request r e.kept.allocated_to) where
-  by : (b : Bool) → (cond b (record e { kept = freed e.kept }) e).kept ≡ cond b (freed e.kept) e.kept
-  by true = refl
-  by false = refl
+freed-kept r e = grind (arith, nat_tests)
 
 pub freed-queue : (r : RequestId) (e : NodeEntry) → (freed_from r e).queue ≡ e.queue
-freed-queue r e = by (is_request r e.kept.allocated_to) where
-  by : (b : Bool) → (cond b (record e { kept = freed e.kept }) e).queue ≡ e.queue
-  by true = refl
-  by false = refl
+freed-queue r e = grind (arith, nat_tests)
 
 pub node_in-freed : (r : RequestId) (n : NodeId) (nodes : List NodeEntry) → node_in n (all_freed r nodes) ≡ option_map (λ k. cond (is_request r k.allocated_to) (freed k) k) (node_in n nodes)
 node_in-freed r n nodes = kept-mapped same_node same_node-is n (freed_from r) (λ k. cond (is_request r k.allocated_to) (freed k) k) (freed-id r) (freed-kept r) nodes
@@ -119,10 +106,7 @@ abbrev pub used_from : ℕ → NodeRecord → NodeRecord
 used_from tick k = record k { since = tick; state = node_state.InUse }
 
 pub node_in-in_use : (tick : ℕ) (numbers : List NodeId) (n : NodeId) (nodes : List NodeEntry) → node_in n (all_in_use tick numbers nodes) ≡ option_map (λ k. cond (list_any (λ m. m.0 == n.0) numbers) (used_from tick k) k) (node_in n nodes)
-node_in-in_use tick [] n nodes = by (node_in n nodes) where
-  by : (o : Option NodeRecord) → o ≡ option_map (λ k. k) o
-  by None = refl
-  by (Some k) = refl
+node_in-in_use tick [] n nodes = grind (arith, nat_tests)
 node_in-in_use tick (m ∷ numbers) n nodes =
     node_in-in_use tick numbers n (change_first (λ e. e.id.0 == m.0) (in_use tick) nodes)
     ∙ ap (λ (o : Option NodeRecord). option_map (λ k. cond (list_any (λ m. m.0 == n.0) numbers) (used_from tick k) k) o) (kept-changed same_node same_node-is m n (in_use tick) (used_from tick) (λ e. refl) (λ e. refl) nodes)

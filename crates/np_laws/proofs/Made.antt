@@ -1,25 +1,14 @@
 -- what an event makes exists after it, and until its end
-use Rattle.std.proofs.Common.{Bool, ◌≡◌, sym, List, [], ◌∷◌, ◌++◌, refl, ap, arith, subst, Option, Some, None, true, Result, Ok, Err, inl, inr}
-use Rattle.std.specs.Prelude.{◌==◌, ◌⊎◌, is_ok, is_some, slice_get}
-use Rattle.std.proofs.lemmas.Bool.Decides.{nat_tests}
-use Rattle.np_changes.specs.Prelude.{Answer, Configuration, Done, Entry, Event, Job, JobId, JobRecord, LabelId, NodeId, NodeRecord, PoolId, Refusal, Reply, RequestEntry, RequestId, RequestRecord, Runs, SessionId, SomeTurn, State, Turn, after, judge, launcher, next, next_label, node_in, replayed, reply_of, request_in, same_request, start, state_after, turns_from}
+use Rattle.np_laws.proofs.Prelude.{AfterEveryStep, Answer, Bool, Configuration, Done, EndsRequest, Entry, Err, Event, Invariant, Job, JobId, JobRecord, Kept, LabelId, List, NodeId, NodeRecord, NodesKept, None, Ok, Option, PoolId, Refusal, RemovesNode, Reply, RequestEntry, RequestId, RequestRecord, RequestsKept, Result, Runs, Runs-prefix, SessionId, Some, SomeTurn, State, Turn, after, ap, arith, asked_by, effect_create, effect_min_ready, effect_submit, inl, inr, insert_request, is_node_made, is_ok, is_request_made, is_some, judge, judge_create, judge_min_ready, judge_submit, kept_ready_by, launcher, made, nat_tests, next, next_id, next_label, node_in, refl, replayed, reply_of, request-equal, request-itself, request_in, same_request, slice_get, some-of, start, state_after, subst, sym, true, turns_from, [], ◌++◌, ◌==◌, ◌∷◌, ◌≡◌, ◌⊎◌}
 use Rattle.np_event.specs.declared.event.Event.TheVariants as ev
 use Rattle.np_event.specs.declared.reply.Done.TheVariants as done
 use Rattle.np_event.specs.declared.reply.Reply.TheVariants as reply
-use Rattle.np_machine.specs.Request.{judge_submit, effect_submit, asked_by, insert_request, judge_min_ready, effect_min_ready, kept_ready_by, next_id}
-use Rattle.np_machine.specs.Node.{judge_create, effect_create, made}
-use Rattle.np_machine.specs.Kept.{is_request_made, EndsRequest, RequestsKept, is_node_made, RemovesNode, NodesKept, Kept}
-use Rattle.np_machine.proofs.Runs.{Runs-prefix}
-use Rattle.np_laws.specs.Parts.{Invariant}
-use Rattle.np_laws.specs.Steps.{AfterEveryStep}
 use Rattle.np_laws.proofs.Lookups.{request_in-new, request_in-later, node_in-new, node_in-later}
 use Rattle.np_laws.proofs.Accepted.{create-maker, create-asked, create-next, create-number}
 use Rattle.np_laws.proofs.Runs.{invariant-next}
 use Rattle.np_laws.proofs.Start.{invariant-start}
 use Rattle.np_laws.proofs.Replies.{accepted-state, head-reply, tail-replies, accepted-reply}
 use Rattle.np_laws.proofs.Records.{all-losses, RequestGoesOn, NodeGoesOn, request-goes, node-goes}
-use Rattle.np_machine.proofs.Ids.{request-equal, request-itself}
-use Rattle.np_lists.proofs.Plain.{some-of}
 
 -- ## a new request
 
@@ -31,22 +20,13 @@ new-request c s old new number =
 
 -- ## submit
 
-submit-says : (c : Configuration) (s : State) (session : SessionId) (j : JobId) (what : Done) (job : Job) → judge_submit c s session j ≡ Ok what → slice_get c.jobs j.0 ≡ Some job → what ≡ done.Request (next_id job.priority s)
-submit-says c s session j what job is row = grind (arith, nat_tests)
-
-submit-job : (c : Configuration) (s : State) (session : SessionId) (j : JobId) (what : Done) → judge_submit c s session j ≡ Ok what → slice_get c.jobs j.0 ≡ None → ⊥
-submit-job c s session j what is none = grind (arith, nat_tests)
-
-submit-record : (c : Configuration) (s : State) (session : SessionId) (j : JobId) (what : Done) → judge_submit c s session j ≡ Ok what → slice_get s.jobs j.0 ≡ None → ⊥
-submit-record c s session j what is none = grind (arith, nat_tests)
-
 submit-made : (c : Configuration) (s : State) (session : SessionId) (j : JobId) → Invariant c s → (r : RequestId) (what : Done) → judge_submit c s session j ≡ Ok what → is_request_made r (ev.Submit session j) (reply.Done what) ≡ true → is_some (request_in r (effect_submit c s j).requests) ≡ true
 submit-made c s session j old r what is named = by (slice_get c.jobs j.0) refl (slice_get s.jobs j.0) refl where
   by : (o : Option Job) → slice_get c.jobs j.0 ≡ o → (k : Option JobRecord) → slice_get s.jobs j.0 ≡ k → is_some (request_in r (effect_submit c s j).requests) ≡ true
-  by None row k has = absurd (submit-job c s session j what is row)
-  by (Some job) row None has = absurd (submit-record c s session j what is has)
+  by None row k has = grind (arith, nat_tests)
+  by (Some job) row None has = grind (arith, nat_tests)
   by (Some job) row (Some kept) has =
-      let says : what ≡ done.Request (next_id job.priority s) = submit-says c s session j what job is row in
+      let says : what ≡ done.Request (next_id job.priority s) = grind (arith, nat_tests) in
       let same : same_request (next_id job.priority s) r ≡ true = subst (λ (d : Done). is_request_made r (ev.Submit session j) (reply.Done d) ≡ true) says named in
       let id : next_id job.priority s ≡ r = request-equal (next_id job.priority s) r same in
       let here : is_some (request_in (next_id job.priority s) (insert_request (asked_by (next_id job.priority s) j job) s.requests)) ≡ true = new-request c s old (asked_by (next_id job.priority s) j job) refl in
@@ -55,18 +35,12 @@ submit-made c s session j old r what is named = by (slice_get c.jobs j.0) refl (
 
 -- ## min-ready
 
-min_ready-says : (c : Configuration) (s : State) (session : SessionId) (l : LabelId) (what : Done) → judge_min_ready c s session l ≡ Ok what → what ≡ done.Request (next_id 400 s)
-min_ready-says c s session l what is = grind (arith, nat_tests)
-
-min_ready-launcher : (c : Configuration) (s : State) (session : SessionId) (l : LabelId) (what : Done) (why : Refusal) → judge_min_ready c s session l ≡ Ok what → launcher s session ≡ Err why → ⊥
-min_ready-launcher c s session l what why is none = grind (arith, nat_tests)
-
 min_ready-made : (c : Configuration) (s : State) (session : SessionId) (l : LabelId) → Invariant c s → (r : RequestId) (what : Done) → judge_min_ready c s session l ≡ Ok what → is_request_made r (ev.MinReady session l) (reply.Done what) ≡ true → is_some (request_in r (effect_min_ready s session l).requests) ≡ true
 min_ready-made c s session l old r what is named = by (launcher s session) refl where
   by : (o : Result PoolId Refusal) → launcher s session ≡ o → is_some (request_in r (effect_min_ready s session l).requests) ≡ true
-  by (Err why) who = absurd (min_ready-launcher c s session l what why is who)
+  by (Err why) who = grind (arith, nat_tests)
   by (Ok p) who =
-      let says : what ≡ done.Request (next_id 400 s) = min_ready-says c s session l what is in
+      let says : what ≡ done.Request (next_id 400 s) = grind (arith, nat_tests) in
       let same : same_request (next_id 400 s) r ≡ true = subst (λ (d : Done). is_request_made r (ev.MinReady session l) (reply.Done d) ≡ true) says named in
       let id : next_id 400 s ≡ r = request-equal (next_id 400 s) r same in
       let here : is_some (request_in (next_id 400 s) (insert_request (kept_ready_by (next_id 400 s) p l) s.requests)) ≡ true = new-request c s old (kept_ready_by (next_id 400 s) p l) refl in
@@ -97,18 +71,15 @@ request-made : (c : Configuration) (s : State) (e : Event) → Invariant c s →
 request-made c s (ev.Submit session j) old r (Ok what) is named =
     let ok : is_ok (judge c s (ev.Submit session j)) ≡ true = ap (λ (a : Answer). is_ok a) is in
     rw (accepted-state c s (ev.Submit session j) ok) (submit-made c s session j old r what is named)
-request-made c s (ev.Submit session j) old r (Err why) is named = absurd cc
 request-made c s (ev.MinReady session l) old r (Ok what) is named =
     let ok : is_ok (judge c s (ev.MinReady session l)) ≡ true = ap (λ (a : Answer). is_ok a) is in
     rw (accepted-state c s (ev.MinReady session l) ok) (min_ready-made c s session l old r what is named)
-request-made c s (ev.MinReady session l) old r (Err why) is named = absurd cc
 request-made c s _ old r a is named = absurd cc
 
 node-made : (c : Configuration) (s : State) (e : Event) → Invariant c s → (n : NodeId) (a : Answer) → judge c s e ≡ a → is_node_made n e (reply_of a) ≡ true → is_some (node_in n (next c s e).nodes) ≡ true
 node-made c s (ev.Create session r) old n (Ok what) is named =
     let ok : is_ok (judge c s (ev.Create session r)) ≡ true = ap (λ (a : Answer). is_ok a) is in
     rw (accepted-state c s (ev.Create session r) ok) (create-made c s session r old n what is named)
-node-made c s (ev.Create session r) old n (Err why) is named = absurd cc
 node-made c s _ old n a is named = absurd cc
 
 -- ## over a journal

@@ -1,14 +1,6 @@
--- members of lists, and what an option had before it was mapped
-use Rattle.std.proofs.Common.{◌≡◌, ℕ, ◌+◌, ◌<◌, List, [], ◌∷◌, refl, arith, length, Bool, true, false, cond}
-use Rattle.std.specs.Prelude.{◌==◌, ◌&&◌, not, Contains, count_by}
-use Rattle.np_changes.specs.Prelude.{PoolId, Registration, RequestRecord, SessionId, is_declined_by, is_session_of, list_all, list_any, registered}
-use Rattle.std.proofs.lemmas.Bool.{false≢true, and_from, cond-true, not_from_false}
-use Rattle.std.proofs.lemmas.List.Elements.{All-contains}
+-- members of lists
+use Rattle.np_laws.proofs.Prelude.{All-contains, AllPass-from_list_all, Bool, Contains, List, PoolId, Registration, RequestRecord, SessionId, all_declined, and_from, arith, cond, cond-true, count_by, false, false≢true, is_declined_by, is_session_of, length, list_all, list_any, not, not_from_false, refl, registered, sum_by-cons, true, undeclined, [], ℕ, ◌&&◌, ◌+◌, ◌<◌, ◌==◌, ◌∷◌, ◌≡◌}
 use Rattle.std.proofs.lemmas.List.Folds.{Any-from_list_any}
-use Rattle.std.proofs.lemmas.List.Sums.{sum_by-cons, AllPass-from_list_all}
-use Rattle.np_machine.specs.Request.{all_declined, undeclined}
-
--- ## options
 
 -- ## members
 

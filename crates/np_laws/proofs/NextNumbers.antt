@@ -1,7 +1,5 @@
 -- the next numbers of requests and nodes: none has them, and each is below them
-use Rattle.std.proofs.Common.{◌≡◌, ℕ, ◌+◌, ◌<◌, ◌≤◌, true, ap, arith}
-use Rattle.np_changes.specs.Prelude.{RequestId, same_request}
-use Rattle.np_machine.proofs.Ids.{request-equal}
+use Rattle.np_laws.proofs.Prelude.{RequestId, ap, arith, request-equal, same_request, true, ℕ, ◌+◌, ◌<◌, ◌≡◌, ◌≤◌}
 
 pub below-later : (n next later : ℕ) → n ≡ next → later ≡ next + 1 → n < later
 below-later n next later is after = omega arith

@@ -1,12 +1,6 @@
 -- what the nodes take together, by the pool, the label and the tenant of each
-use Rattle.std.proofs.Common.{◌≡◌, ◌⊎◌, ℕ, ◌==◌, Bool, true, false, if◌then◌else◌, List, Option, Some, None, inl, inr}
-use Rattle.np_changes.specs.Prelude.{Amount, Configuration, EndsNode, Frees, GivesUp, IsAtMost, LabelId, NodeEntry, NodeId, NodeRecord, NodesPremise, PoolId, Premises, Reports, SessionId, Starts, State, TenantId, by_maker, changed, freed, freed_from, grown, in_use, is_request, left, node_entry, node_in, node_left, node_queue, nodes_changed, nodes_left, put_node, put_node_queue}
-use Rattle.np_amount.proofs.Sums.{IsAtMost-refl, IsAtMost-trans}
-use Rattle.np_changes.specs.declared.changes.Maker.{Maker}
-use Rattle.np_changes.specs.declared.changes.Changes.{Changes}
-use Rattle.np_changes.specs.declared.changes.NodesChange.{NodesChange}
+use Rattle.np_laws.proofs.Prelude.{Amount, Bool, Changes, Configuration, EndsNode, Frees, GivesUp, IsAtMost, IsAtMost-refl, IsAtMost-trans, LabelId, List, Maker, NodeEntry, NodeId, NodeRecord, NodesChange, NodesPremise, None, Option, PoolId, Premises, Reports, SessionId, SessionsChange, Some, Starts, State, TenantId, arith, by_maker, changed, false, freed, freed_from, grown, if◌then◌else◌, in_use, is_request, left, nat_tests, node_entry, node_in, node_left, node_queue, nodes_changed, nodes_left, put_node, put_node_queue, true, ℕ, ◌==◌, ◌≡◌, ◌⊎◌}
 use Rattle.np_changes.specs.declared.changes.NodesChange.TheVariants as nodes
-use Rattle.np_changes.specs.declared.changes.SessionsChange.{SessionsChange}
 use Rattle.np_changes.specs.declared.changes.SessionsChange.TheVariants as sessions
 use Rattle.np_laws.proofs.Ids.{kept-is}
 use Rattle.np_laws.proofs.Sums.{sum_of, sum_of-remove_first, sum_of-map, sum_of-keep, sum_of-fold}
@@ -40,9 +34,8 @@ module _ (w : Measure) where
   queue-keeps (Some maker) change n rows = requeue-keeps n (change maker.session (node_queue n rows)) rows
 
   left-keeps : (change : SessionsChange) (rows : List NodeEntry) → IsAtMost (taken w (nodes_left change rows)) (taken w rows)
-  left-keeps sessions.Same rows = IsAtMost-refl (taken w rows)
-  left-keeps (sessions.Mute session) rows = IsAtMost-refl (taken w rows)
   left-keeps (sessions.End session) rows = sum_of-map (takes w) (node_left session) rows (λ e. IsAtMost-refl (takes w e))
+  left-keeps _ rows = IsAtMost-refl (taken w rows)
 
   -- another record that takes no more than the one found
   put-keeps : (n : NodeId) (k kept : NodeRecord) (rows : List NodeEntry) → node_in n rows ≡ Some k → IsAtMost (w kept.pool kept.label kept.tenant) (w k.pool k.label k.tenant)
@@ -55,11 +48,7 @@ module _ (w : Measure) where
     way-keeps : (c : Configuration) (s : State) (ch : Changes) (n : NodeId) (k kept : NodeRecord)
         → Starts s ch k kept ⊎ (Reports c s ch k kept ⊎ (EndsNode s ch n k kept ⊎ (GivesUp s ch k kept ⊎ Frees s ch k kept)))
         → IsAtMost (w kept.pool kept.label kept.tenant) (w k.pool k.label k.tenant)
-    way-keeps c s ch n k kept (inl way) = rw way.record_after (IsAtMost-refl (w k.pool k.label k.tenant))
-    way-keeps c s ch n k kept (inr (inl way)) = rw way.record_after (IsAtMost-refl (w k.pool k.label k.tenant))
-    way-keeps c s ch n k kept (inr (inr (inl way))) = rw way.record_after (IsAtMost-refl (w k.pool k.label k.tenant))
-    way-keeps c s ch n k kept (inr (inr (inr (inl way)))) = rw way.record_after (IsAtMost-refl (w k.pool k.label k.tenant))
-    way-keeps c s ch n k kept (inr (inr (inr (inr way)))) = rw way.record_after (least k.pool k.label k.tenant)
+    way-keeps c s ch n k kept x6 = grind (arith, nat_tests)
 
     freed-by : (e : NodeEntry) (b : Bool) → IsAtMost (takes w (if b then record e { kept = freed e.kept } else e)) (takes w e)
     freed-by e true = least e.kept.pool e.kept.label e.kept.tenant

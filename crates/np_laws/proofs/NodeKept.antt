@@ -1,12 +1,7 @@
 -- what a change of the nodes keeps for a request that continues to exist
-use Rattle.std.proofs.Common.{◌≡◌, ◌∙◌, sym, subst, ℕ, Bool, true, false, cond, List, [], ◌∷◌, ◌++◌, refl, ap, Option, Some, None}
-use Rattle.std.specs.Prelude.{◌==◌, nat_lt}
-use Rattle.np_changes.specs.Prelude.{NodeEntry, NodeId, NodeRecord, NodeState, RequestId, RequestRecord, Rises, SessionId, State, TenantId, all_freed, all_in_use, allocated, change_first, freed, is_building, is_deleting, is_in_use, is_ready, is_request, list_any, node_in, option_map, put_node, remove_node, request_in, same_request, standing}
-use Rattle.std.proofs.lemmas.Bool.{both_ways, false≢true}
-use Rattle.std.proofs.lemmas.Option.{none-some, same_Some}
+use Rattle.np_laws.proofs.Prelude.{Bool, List, NodeEntry, NodeId, NodeRecord, NodeState, None, Option, RequestId, Rises, SessionId, Some, TenantId, all_freed, all_in_use, allocated, ap, arith, both_ways, change_first, cond, false, false≢true, freed, is_building, is_deleting, is_ready, is_request, list_any, nat_lt, nat_tests, node_in, option_map, put_node, refl, remove_node, same_Some, same_request, subst, sym, true, [], ℕ, ◌++◌, ◌==◌, ◌∙◌, ◌∷◌, ◌≡◌}
 use Rattle.np_text.specs.declared.word.NodeState.TheVariants as node_state
 use Rattle.np_laws.proofs.Lookups.{same_node-is, node_in-put, node_in-remove, node_in-removed, node_in-freed, node_in-in_use, node_in-allocated, node_in-other}
-use Rattle.np_machine.proofs.Ids.{request-equal}
 
 -- ## states of nodes
 
@@ -17,9 +12,6 @@ ready-is _ ready = absurd (false≢true ready)
 pub ready-not_building : (state : NodeState) → is_ready state ≡ true → is_building state ≡ true → ⊥
 ready-not_building state ready building = both_ways (is_building state) (ap (λ (x : NodeState). is_building x) (ready-is state ready)) building
 
-pub ready-not_in_use : (state : NodeState) → is_ready state ≡ true → is_in_use state ≡ true → ⊥
-ready-not_in_use state ready used = both_ways (is_in_use state) (ap (λ (x : NodeState). is_in_use x) (ready-is state ready)) used
-
 pub ready-not_deleting : (state : NodeState) → is_ready state ≡ true → is_deleting state ≡ true → ⊥
 ready-not_deleting state ready deleting = both_ways (is_deleting state) (ap (λ (x : NodeState). is_deleting x) (ready-is state ready)) deleting
 
@@ -29,15 +21,7 @@ pub allocated-to_none : (r : RequestId) (o : Option RequestId) → o ≡ None �
 allocated-to_none r o none mine = both_ways (is_request r o) (ap (λ (x : Option RequestId). is_request r x) none) mine
 
 pub allocated-to_one : (r0 r : RequestId) (o : Option RequestId) → same_request r0 r ≡ false → is_request r0 o ≡ true → is_request r o ≡ true → ⊥
-allocated-to_one r0 r None other first second = false≢true first
-allocated-to_one r0 r (Some x) other first second =
-    both_ways (same_request r0 r) other (sym (ap (λ (y : RequestId). same_request y r) (request-equal x r0 first)) ∙ second)
-
-pub allocated-to_gone : (s : State) (r : RequestId) (request : RequestRecord) (o : Option RequestId) → request_in r s.requests ≡ Some request → standing s o ≡ None → is_request r o ≡ true → ⊥
-allocated-to_gone s r request None stands gone mine = false≢true mine
-allocated-to_gone s r request (Some x) stands gone mine =
-    let there : request_in x s.requests ≡ Some request = ap (λ (y : RequestId). request_in y s.requests) (request-equal x r mine) ∙ stands in
-    none-some x (sym gone ∙ ap (λ (found : Option RequestRecord). option_map (λ _. x) found) there)
+allocated-to_one r0 r x2 other first second = grind (arith, nat_tests)
 
 -- ## kept
 
@@ -73,10 +57,7 @@ pub record WasKept (r : RequestId) (before : Option NodeRecord) (node : NodeReco
   pub keeps : Keeps r old node
 
 pub kept-back : (r : RequestId) (before after : Option NodeRecord) (node : NodeRecord) → KeptAt r before after → after ≡ Some node → WasKept r before node
-kept-back r None None node kept is = absurd (none-some node is)
-kept-back r None (Some k) node kept is = absurd kept
-kept-back r (Some old) None node kept is = absurd (none-some node is)
-kept-back r (Some old) (Some k) node kept is = record { old = old; was = refl; keeps = subst (λ (x : NodeRecord). Keeps r old x) (same_Some k node is) kept }
+kept-back r x1 x2 node kept is = grind (arith, nat_tests)
 
 -- the node still exists afterwards
 pub record StaysKept (r : RequestId) (after : Option NodeRecord) (old : NodeRecord) : Type 0 where
@@ -85,10 +66,7 @@ pub record StaysKept (r : RequestId) (after : Option NodeRecord) (old : NodeReco
   pub keeps : Keeps r old node
 
 pub kept-on : (r : RequestId) (before after : Option NodeRecord) (old : NodeRecord) → KeptAt r before after → before ≡ Some old → is_ready old.state ≡ true → StaysKept r after old
-kept-on r None None old kept is ready = absurd (none-some old is)
-kept-on r None (Some node) old kept is ready = absurd kept
-kept-on r (Some k) None old kept is ready = absurd (kept (ap (λ (x : NodeRecord). is_ready x.state) (same_Some k old is) ∙ ready))
-kept-on r (Some k) (Some node) old kept is ready = record { node = node; stands = refl; keeps = subst (λ (x : NodeRecord). Keeps r x node) (same_Some k old is) kept }
+kept-on r x1 x2 old kept is ready = grind (arith, nat_tests)
 
 -- ## by each change
 

@@ -1,21 +1,9 @@
 -- the requests and the nodes stay in the order of their numbers, below the next ones
-use Rattle.std.proofs.Common.{◌≡◌, sym, ℕ, ◌+◌, ◌<◌, ◌≤◌, List, [], ◌∷◌, ◌++◌, refl, ap, arith, Option, Some, None, Bool, true, false, cond}
-use Rattle.std.specs.Prelude.{map, nat_lt, ◌==◌}
-use Rattle.np_changes.specs.Prelude.{AllByRecursion, Configuration, Locked, NodeEntry, NodeId, RequestEntry, RequestId, Rises, State, all_freed, all_in_use, allocated, change_first, changed, edited, freed_from, grown, in_use, insert_before, is_id_before, joined, left, node_left, node_queue, nodes_changed, nodes_left, remove_first, request_left, request_queue, requests_changed, requests_left, same_request}
-use Rattle.std.proofs.lemmas.Bool.Decides.{nat_tests}
-use Rattle.np_lists.proofs.Each.{all-weaker, all-push, all-remove_first, all-insert_before}
-use Rattle.np_lists.proofs.RisingLemmas.{all-keys, Rises-keys, map-keys}
-use Rattle.np_changes.specs.declared.changes.Maker.{Maker}
-use Rattle.np_changes.specs.declared.changes.Changes.{Changes}
-use Rattle.np_changes.specs.declared.changes.Growth.{Growth}
+use Rattle.np_laws.proofs.Prelude.{AllByRecursion, Bool, Changes, Configuration, Growth, IsNumbered, List, Locked, Maker, NodeEntry, NodeId, NodesChange, None, Option, RequestEntry, RequestId, RequestsChange, Rises, Rises-keys, SessionsChange, Some, State, all-insert_before, all-keys, all-push, all-remove_first, all-weaker, all_freed, all_in_use, allocated, ap, arith, change_first, changed, cond, edited, false, freed_from, grown, in_use, insert_before, is_id_before, joined, left, map, map-keys, nat_lt, nat_tests, node_left, node_queue, nodes_changed, nodes_left, refl, remove_first, request_left, request_queue, requests_changed, requests_left, same_request, sym, true, [], ℕ, ◌++◌, ◌+◌, ◌<◌, ◌==◌, ◌∷◌, ◌≡◌}
 use Rattle.np_changes.specs.declared.changes.Growth.TheVariants as grow
-use Rattle.np_changes.specs.declared.changes.RequestsChange.{RequestsChange}
 use Rattle.np_changes.specs.declared.changes.RequestsChange.TheVariants as requests
-use Rattle.np_changes.specs.declared.changes.NodesChange.{NodesChange}
 use Rattle.np_changes.specs.declared.changes.NodesChange.TheVariants as nodes
-use Rattle.np_changes.specs.declared.changes.SessionsChange.{SessionsChange}
 use Rattle.np_changes.specs.declared.changes.SessionsChange.TheVariants as sessions
-use Rattle.np_laws.specs.Parts.{IsNumbered}
 use Rattle.np_laws.proofs.Lookups.{freed-id}
 use Rattle.np_laws.proofs.Rising.{rises-remove_first, rises-insert_before, rises-push}
 
@@ -31,13 +19,6 @@ module _ {I K : Type 0} (before : I → I → Bool) (number : I → ℕ) where
   ordered-ids next rows later same old = record {
     rise = Rises-keys before (λ (e : Locked I K). e.id) rows later same old.rise;
     below = all-keys (λ (e : Locked I K). e.id) (λ (i : I). number i < next) rows later same old.below;
-  }
-
-  -- a higher bound
-  pub ordered-wider : (next more : ℕ) (rows : List (Locked I K)) → next ≤ more → IsOrdered next rows → IsOrdered more rows
-  ordered-wider next more rows up old = record {
-    rise = old.rise;
-    below = all-weaker (λ (e : Locked I K). number e.id < next) (λ (e : Locked I K). number e.id < more) (λ e low. omega arith) rows old.below;
   }
 
   pub ordered-removed : (next : ℕ) (p : Locked I K → Bool) (rows : List (Locked I K)) → IsOrdered next rows → IsOrdered next (remove_first p rows)
@@ -85,32 +66,23 @@ edited-rows : (next : ℕ) (p : RequestEntry → Bool) (f : RequestEntry → Req
 edited-rows next p f keeps rows old = ordered-ids is_id_before (λ (r : RequestId). r.seq) next rows (change_first p f rows) (ids-change_first p f keeps rows) old
 
 requests-grown : (c : Configuration) (maker : Option Maker) (growth : Growth) (s : State) → RequestsOrdered s.next_request s.requests → RequestsOrdered (grown c maker growth s).next_request (grown c maker growth s).requests
-requests-grown c maker grow.Nothing s old = old
-requests-grown c maker (grow.Session role) s old = old
 requests-grown c None (grow.Registration p) s old = old
 requests-grown c (Some maker) (grow.Registration p) s old = old
 requests-grown c maker (grow.Request priority asked) s old = ordered-inserted is_id_before (λ (r : RequestId). r.seq) through_ids past_id s.next_request _ s.requests refl old
-requests-grown c maker (grow.Node kept) s old = old
-requests-grown c None (grow.JoinRequest r) s old = old
 requests-grown c (Some maker) (grow.JoinRequest r) s old =
     edited-rows s.next_request (λ e. same_request e.id r) (λ e. record e { queue = joined maker.session (request_queue r s.requests) }) (λ e. refl) s.requests old
-requests-grown c maker (grow.JoinNode n) s old = old
-requests-grown c maker (grow.Allocate n r tenant) s old = old
-requests-grown c maker (grow.Handles j) s old = old
-requests-grown c maker (grow.Swept n x) s old = old
+requests-grown c maker _ s old = old
 
 requests-settled : (next : ℕ) (maker : Option Maker) (change : RequestsChange) (rows : List RequestEntry) → RequestsOrdered next rows → RequestsOrdered next (requests_changed maker change rows)
-requests-settled next maker requests.Same rows old = old
 requests-settled next maker (requests.Edit r edit) rows old = edited-rows next (λ e. same_request e.id r) (λ e. record e { kept = edited edit e.kept }) (λ e. refl) rows old
 requests-settled next maker (requests.Remove r) rows old = ordered-removed is_id_before (λ (r : RequestId). r.seq) next (λ e. same_request e.id r) rows old
-requests-settled next None (requests.Leave r) rows old = old
 requests-settled next (Some maker) (requests.Leave r) rows old =
     edited-rows next (λ e. same_request e.id r) (λ e. record e { queue = left maker.session (request_queue r rows) }) (λ e. refl) rows old
+requests-settled next maker _ rows old = old
 
 requests-after_end : (next : ℕ) (change : SessionsChange) (rows : List RequestEntry) → RequestsOrdered next rows → RequestsOrdered next (requests_left change rows)
-requests-after_end next sessions.Same rows old = old
-requests-after_end next (sessions.Mute session) rows old = old
 requests-after_end next (sessions.End session) rows old = ordered-ids is_id_before (λ (r : RequestId). r.seq) next rows (map (request_left session) rows) (map-keys (λ (e : RequestEntry). e.id) (request_left session) rows (λ e. refl)) old
+requests-after_end next _ rows old = old
 
 -- ## nodes
 
@@ -127,20 +99,13 @@ node-rows : (next : ℕ) (p : NodeEntry → Bool) (f : NodeEntry → NodeEntry) 
 node-rows next p f keeps rows old = ordered-ids is_node_before (λ (n : NodeId). n.0) next rows (change_first p f rows) (ids-change_first p f keeps rows) old
 
 nodes-grown : (c : Configuration) (maker : Option Maker) (growth : Growth) (s : State) → NodesOrdered s.next_node s.nodes → NodesOrdered (grown c maker growth s).next_node (grown c maker growth s).nodes
-nodes-grown c maker grow.Nothing s old = old
-nodes-grown c maker (grow.Session role) s old = old
 nodes-grown c None (grow.Registration p) s old = old
 nodes-grown c (Some maker) (grow.Registration p) s old = old
-nodes-grown c maker (grow.Request priority asked) s old = old
 nodes-grown c maker (grow.Node kept) s old = ordered-pushed is_node_before (λ (n : NodeId). n.0) up_node s.next_node _ s.nodes refl old
-nodes-grown c maker (grow.JoinRequest r) s old = old
-nodes-grown c None (grow.JoinNode n) s old = old
 nodes-grown c (Some maker) (grow.JoinNode n) s old =
     node-rows s.next_node (λ e. e.id.0 == n.0) (λ e. record e { queue = joined maker.session (node_queue n s.nodes) }) (λ e. refl) s.nodes old
-nodes-grown c None (grow.Allocate n r tenant) s old = old
 nodes-grown c (Some maker) (grow.Allocate n r tenant) s old = node-rows s.next_node (λ e. e.id.0 == n.0) (allocated r tenant maker.session) (λ e. refl) s.nodes old
-nodes-grown c maker (grow.Handles j) s old = old
-nodes-grown c maker (grow.Swept n x) s old = old
+nodes-grown c maker _ s old = old
 
 nodes-in_use : (next tick : ℕ) (numbers : List NodeId) (rows : List NodeEntry) → NodesOrdered next rows → NodesOrdered next (all_in_use tick numbers rows)
 nodes-in_use next tick [] rows old = old
@@ -148,19 +113,17 @@ nodes-in_use next tick (n ∷ numbers) rows old =
     nodes-in_use next tick numbers (change_first (λ e. e.id.0 == n.0) (in_use tick) rows) (node-rows next (λ e. e.id.0 == n.0) (in_use tick) (λ e. refl) rows old)
 
 nodes-settled : (next : ℕ) (maker : Option Maker) (tick : ℕ) (change : NodesChange) (rows : List NodeEntry) → NodesOrdered next rows → NodesOrdered next (nodes_changed maker tick change rows)
-nodes-settled next maker tick nodes.Same rows old = old
 nodes-settled next maker tick (nodes.Put n kept) rows old = node-rows next (λ e. e.id.0 == n.0) (λ e. record e { kept = kept }) (λ e. refl) rows old
 nodes-settled next maker tick (nodes.Remove n) rows old = ordered-removed is_node_before (λ (n : NodeId). n.0) next (λ e. e.id.0 == n.0) rows old
-nodes-settled next None tick (nodes.Leave n) rows old = old
 nodes-settled next (Some maker) tick (nodes.Leave n) rows old =
     node-rows next (λ e. e.id.0 == n.0) (λ e. record e { queue = left maker.session (node_queue n rows) }) (λ e. refl) rows old
 nodes-settled next maker tick (nodes.FreeAll r) rows old = ordered-ids is_node_before (λ (n : NodeId). n.0) next rows (all_freed r rows) (map-keys (λ (e : NodeEntry). e.id) (freed_from r) rows (freed-id r)) old
 nodes-settled next maker tick (nodes.TakeOver numbers) rows old = nodes-in_use next tick numbers rows old
+nodes-settled next maker tick _ rows old = old
 
 nodes-after_end : (next : ℕ) (change : SessionsChange) (rows : List NodeEntry) → NodesOrdered next rows → NodesOrdered next (nodes_left change rows)
-nodes-after_end next sessions.Same rows old = old
-nodes-after_end next (sessions.Mute session) rows old = old
 nodes-after_end next (sessions.End session) rows old = ordered-ids is_node_before (λ (n : NodeId). n.0) next rows (map (node_left session) rows) (map-keys (λ (e : NodeEntry). e.id) (node_left session) rows (λ e. refl)) old
+nodes-after_end next _ rows old = old
 
 -- ## all of it
 

@@ -1,25 +1,10 @@
 -- after an event a pinned request asks for what its pool offers, nobody has declined it, and no other pool works on it
-use Rattle.std.proofs.Common.{◌≡◌, ◌∙◌, sym, ℕ, List, refl, ap, arith, subst, Option, Some, None, Bool, true, false, cond, ◌⊎◌, inl, inr}
-use Rattle.std.specs.Prelude.{◌==◌, ◌-◌, not, if◌then◌else◌, is_some, slice_get}
-use Rattle.np_changes.specs.Prelude.{AllByRecursion, Configuration, Event, LabelId, Launcher, PoolId, RequestId, RequestRecord, RequestState, Role, SessionFacts, SessionId, State, amount_of, asked_to_keep, change_session, changed, count_of, edited, ended, fits, grown, is_failed, is_offered, is_pending, is_requested, is_session_of, is_short, limit_of, muted, never_fits, new_record, nothing, option_map, plus, request_holder, request_in, request_queue, sessions_changed}
-use Rattle.std.proofs.lemmas.Bool.{true≢false, and_parts, or_left, not-false, cond-false}
-use Rattle.std.proofs.lemmas.Option.{none-some, same_Some}
+use Rattle.np_laws.proofs.Prelude.{AllByRecursion, Asked, AsksForJob, AsksToKeep, Bool, Changes, Configuration, EditPremise, Event, Growth, GrowthPremise, IsHeard, IsNumbered, IsWorkedOn, Launcher, List, Maker, MakerPremise, None, Option, PoolId, Premises, RequestEdit, RequestId, RequestRecord, RequestState, Role, SessionFacts, SessionId, SessionsChange, Some, State, all-at, all-weaker, and_parts, ap, arith, change_session, changed, cond, cond-false, edited, ended, false, from-map_some, grown, if◌then◌else◌, inl, inr, is_failed, is_pending, is_requested, is_session_of, is_some, kept-change_at, muted, nat_tests, new_record, none-some, not-false, option_map, or_left, refl, request_holder, request_in, request_queue, same_Some, session-equal, sessions_changed, slice_get, subst, sym, true, true≢false, ℕ, ◌-◌, ◌==◌, ◌∙◌, ◌≡◌, ◌⊎◌}
 use Rattle.np_text.specs.declared.word.RequestState.TheVariants as request_state
-use Rattle.np_amount.proofs.Sums.{fits-less}
-use Rattle.np_lists.proofs.Each.{all-at, all-weaker}
-use Rattle.np_lists.proofs.ChangeLemmas.{kept-change_at}
 use Rattle.np_machine.specs.Order.{is_elsewhere, is_pool}
-use Rattle.np_changes.specs.Premises.{IsHeard, MakerPremise, IsWorkedOn, AsksForJob, AsksToKeep, GrowthPremise, EditPremise, Premises}
-use Rattle.np_changes.specs.declared.asked.Asked.{Asked}
-use Rattle.np_changes.specs.declared.changes.Maker.{Maker}
-use Rattle.np_changes.specs.declared.changes.Changes.{Changes}
-use Rattle.np_changes.specs.declared.changes.Growth.{Growth}
 use Rattle.np_changes.specs.declared.changes.Growth.TheVariants as grow
-use Rattle.np_changes.specs.declared.changes.RequestEdit.{RequestEdit}
 use Rattle.np_changes.specs.declared.changes.RequestEdit.TheVariants as edit
-use Rattle.np_changes.specs.declared.changes.SessionsChange.{SessionsChange}
 use Rattle.np_changes.specs.declared.changes.SessionsChange.TheVariants as sessions
-use Rattle.np_laws.specs.Parts.{IsNumbered}
 use Rattle.np_laws.proofs.Lookups.{request_queue-nowhere}
 use Rattle.np_laws.proofs.Sessions.{facts_in, facts-grown}
 use Rattle.np_laws.proofs.Ids.{same_pool}
@@ -27,8 +12,6 @@ use Rattle.np_laws.proofs.Tells.{IsLock, Tells}
 use Rattle.np_laws.proofs.Came.{CameBy, edit-premise, came}
 use Rattle.np_laws.proofs.Waiters.{queue-after}
 use Rattle.np_laws.proofs.Due.{IsOwn, IsPinned, PinnedStand}
-use Rattle.np_machine.proofs.Ids.{session-equal}
-use Rattle.np_lists.proofs.Plain.{from-map_some}
 
 -- ## sessions keep their roles
 
@@ -62,16 +45,12 @@ own-stays c s ch p session own =
 -- ## states of requests
 
 pub requested-open : (state : RequestState) → is_requested state ≡ true → is_failed state ≡ false
-requested-open request_state.Requested is = refl
-requested-open request_state.Pending is = refl
-requested-open request_state.Fulfilled is = refl
 requested-open request_state.Failed is = absurd cc
+requested-open _ is = refl
 
 pub pending-open : (state : RequestState) → is_pending state ≡ true → is_failed state ≡ false
-pending-open request_state.Requested is = refl
-pending-open request_state.Pending is = refl
-pending-open request_state.Fulfilled is = refl
 pending-open request_state.Failed is = absurd cc
+pending-open _ is = refl
 
 failed-too : (b : Bool) → b ≡ true → is_failed (if b then request_state.Failed else request_state.Requested) ≡ false → ⊥
 failed-too true is out = true≢false out
@@ -146,38 +125,14 @@ module _ (c : Configuration) (s : State) (ch : Changes) (premises : Premises c s
 
 -- ## a new request
 
--- a label for which the pool has room fits when the pool is empty
-fits-empty : (c : Configuration) (s : State) (p : PoolId) (l : LabelId) → is_short c s p l ≡ false → fits (plus (amount_of c p l) nothing) (limit_of c p) ≡ true
-fits-empty c s p l room =
-    fits-less (plus (amount_of c p l) nothing) (plus (count_of c s p) (amount_of c p l)) (limit_of c p) (record { instances = omega arith; cores = omega arith; ram = omega arith })
-    (not-false (fits (plus (count_of c s p) (amount_of c p l)) (limit_of c p)) room)
-
-fits-kept : (c : Configuration) (s : State) (p : PoolId) (l : LabelId) → is_short c s p l ≡ false → never_fits c p (new_record (asked_to_keep p l)) ≡ false
-fits-kept c s p l room = ap (λ (b : Bool). not b) (fits-empty c s p l room)
-
-kept-pinned : (c : Configuration) (s : State) (p : PoolId) (l : LabelId) → is_short c s p l ≡ false → is_offered c p l ≡ true → IsPinned c (new_record (asked_to_keep p l)) p
-kept-pinned c s p l room offered =
-    record { label = l; labels = refl; offered = offered; fits_alone = fits-kept c s p l room; undeclined = λ stands. refl; served = λ x by. absurd (none-some x by) }
-
 new-pinned : (c : Configuration) (s : State) (ch : Changes) (priority : ℕ) (asked : Asked) (p : PoolId) → AsksForJob c s ch priority asked ⊎ AsksToKeep c s ch priority asked → asked.pinned ≡ Some p → IsPinned c (new_record asked) p
-new-pinned c s ch priority asked p (inl asks) pinned =
-    absurd (none-some p (sym (ap (λ (a : Asked). a.pinned) asks.asks) ∙ pinned))
-new-pinned c s ch priority asked p (inr asks) pinned =
-    let same : asks.pool ≡ p = same_Some asks.pool p (sym (ap (λ (a : Asked). a.pinned) asks.asks) ∙ pinned) in
-    let kept : IsPinned c (new_record (asked_to_keep asks.pool asks.label)) asks.pool = kept-pinned c s asks.pool asks.label asks.room asks.offered in
-    subst (λ (x : PoolId). IsPinned c (new_record asked) x) same (subst (λ (a : Asked). IsPinned c (new_record a) asks.pool) (sym asks.asks) kept)
+new-pinned c s ch priority asked p x6 pinned = grind (arith, nat_tests)
 
 -- ## all of it
 
 -- the edit does not change what the request is pinned to
 same-pin : (how : RequestEdit) (q : RequestRecord) → (edited how q).pinned ≡ q.pinned
-same-pin (edit.Serve p) q = refl
-same-pin (edit.AddNode n) q = refl
-same-pin (edit.Decline p why failed) q = refl
-same-pin edit.Fulfil q = refl
-same-pin edit.GiveBack q = refl
-same-pin edit.Fail q = refl
-same-pin (edit.Revise relative) q = refl
+same-pin x0 q = grind (arith, nat_tests)
 
 module _ (c : Configuration) (s : State) (e : Event) (ch : Changes) (numbered : IsNumbered s) (premises : Premises c s ch) (tells : Tells c s e ch) (old : PinnedStand c s) where
   -- who joins the queue of a pinned request is no launcher of another pool

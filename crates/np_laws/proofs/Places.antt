@@ -1,13 +1,6 @@
 -- members at places of a list
-use Rattle.std.proofs.Common.{◌≡◌, ◌∙◌, sym, ℕ, zero, suc, ◌<◌, ◌≤◌, ◌⊎◌, inl, inr, Bool, true, false, cond, ◌||◌, List, [], ◌∷◌, ◌++◌, length, length-append, refl, ap, arith, Option, Some, None}
-use Rattle.std.specs.Prelude.{◌==◌, slice_get}
-use Rattle.np_changes.specs.Prelude.{AllByRecursion, NodeId, list_any, option_map}
-use Rattle.std.proofs.lemmas.Bool.{ne_eqb}
-use Rattle.std.proofs.lemmas.Option.{none-some, same_Some, slice_get_within}
+use Rattle.np_laws.proofs.Prelude.{AllByRecursion, Bool, DistinctNodes, List, NodeId, Option, Some, all-weaker, ap, arith, cond, false, inl, inr, length, length-append, list_any, list_any-none, nat_tests, ne_eqb, none-some, option_map, refl, same_Some, slice_get, slice_get_within, suc, sym, true, zero, [], ℕ, ◌++◌, ◌<◌, ◌==◌, ◌||◌, ◌∙◌, ◌∷◌, ◌≡◌, ◌≤◌, ◌⊎◌}
 use Rattle.np_lists.proofs.Differ.{Differ, differ-push}
-use Rattle.np_lists.proofs.Each.{all-weaker}
-use Rattle.np_lists.proofs.FilterLemmas.{list_any-none}
-use Rattle.np_machine.specs.Safe.{DistinctNodes}
 use Rattle.np_laws.proofs.Lookups.{same_node-is}
 
 -- ## the place of a member
@@ -80,7 +73,4 @@ pub record IsEdited {A : Type 0} (b : Bool) (f : A → A) (o : Option A) (a : A)
   pub now : a ≡ f old
 
 pub edited-by : {A : Type 0} (b : Bool) (f : A → A) (o : Option A) (a : A) → option_map (λ k. cond b (f k) k) o ≡ Some a → IsEdited b f o a ⊎ ((b ≡ false) × (o ≡ Some a))
-edited-by true f None a is = absurd (none-some a is)
-edited-by true f (Some k) a is = inl (record { passed = refl; old = k; was = refl; now = sym (same_Some (f k) a is) })
-edited-by false f None a is = absurd (none-some a is)
-edited-by false f (Some k) a is = inr (refl, is)
+edited-by x0 f x2 a is = grind (arith, nat_tests)

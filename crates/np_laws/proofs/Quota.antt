@@ -1,19 +1,9 @@
 -- no pool exceeds a limit
-use Rattle.std.proofs.Common.{◌≡◌, ◌⊎◌, ◌==◌, Bool, true, false, cond, List, [], ◌∷◌, ◌++◌, slice_get, Option, Some, None, refl, sym, ap, subst, subst₂, inl, inr}
-use Rattle.np_changes.specs.Prelude.{Amount, Configuration, IsAtMost, LabelId, Limit, NodeEntry, NodeId, NodeRecord, Pool, PoolId, RequestId, State, TenantId, allocated, amount_of, by_maker, change_first, changed, count_of, fits, grown, is_short, joined, limit_of, new_node, no_limit, nothing, option_map_or, plus, registers, start}
-use Rattle.std.proofs.lemmas.Bool.{not-false}
-use Rattle.np_amount.proofs.Sums.{IsAtMost-refl, fits-less}
-use Rattle.np_machine.specs.Safe.{WithinQuota}
-use Rattle.np_changes.specs.declared.changes.Maker.{Maker}
-use Rattle.np_changes.specs.declared.changes.Changes.{Changes}
-use Rattle.np_changes.specs.declared.changes.Growth.{Growth}
+use Rattle.np_laws.proofs.Prelude.{Amount, Bool, Changes, Configuration, GainsNew, Growth, GrowthPremise, Invariant, IsAtMost, IsAtMost-refl, LabelId, Limit, List, Maker, NodeEntry, NodeId, NodeRecord, None, Option, Pool, PoolId, Premises, RequestId, Some, State, TenantId, WithinQuota, allocated, amount_of, ap, arith, by_maker, change_first, changed, cond, count_of, false, fits, fits-less, grown, is_short, joined, limit_of, nat_tests, no_limit, not-false, nothing, option_map_or, plus, refl, registers, slice_get, start, subst, subst₂, sym, true, [], ◌++◌, ◌==◌, ◌∷◌, ◌≡◌}
 use Rattle.np_changes.specs.declared.changes.Growth.TheVariants as grow
-use Rattle.np_changes.specs.Premises.{IsTaken, IsMade, GainsNew, GrowthPremise, Premises}
-use Rattle.np_laws.specs.Parts.{Invariant}
 use Rattle.np_laws.proofs.Ids.{same_pool}
 use Rattle.np_laws.proofs.Sums.{at_most-same, plus-nothing, fits-nothing, sum_of-filter, sum_of-push, sum_of-keep}
 use Rattle.np_laws.proofs.NodeAmounts.{Measure, takes, taken, queue-keeps, settled-keeps}
-use Rattle.np_laws.proofs.After.{same-new}
 
 -- what a node takes of the pool
 abbrev at_pool : Configuration → PoolId → Measure
@@ -60,29 +50,17 @@ module _ (c : Configuration) (s : State) (ch : Changes) (p : PoolId) (pool : Poo
 
   -- the node that grows is one for which its pool has room
   has_room : (kept : NodeRecord) → ch.grows ≡ grow.Node kept → GainsNew c s ch kept → is_short c s kept.pool kept.label ≡ false
-  has_room kept is new = by new.gains.from where
-    by : IsTaken c s ch new.gains.pool new.request new.gains.request new.gains.label (record { 0 = s.next_node })
-        ⊎ IsMade c s ch new.gains.pool new.request new.gains.request new.gains.label (record { 0 = s.next_node })
-        → is_short c s kept.pool kept.label ≡ false
-    by (inl given) = absurd (let other = given.grows in cc)
-    by (inr made) =
-        subst (λ (k : NodeRecord). is_short c s k.pool k.label ≡ false)
-        (same-new ch.grows (new_node c s new.request new.gains.pool new.gains.request new.gains.label) kept made.grows is) made.room
+  has_room kept is new = grind (arith, nat_tests)
 
   grown-fits : (g : Growth) → ch.grows ≡ g → GrowthPremise c s ch g → Fits s.nodes → Fits (grown c ch.maker g s).nodes
-  grown-fits grow.Nothing is premise old = old
-  grown-fits (grow.Session role) is premise old = old
   grown-fits (grow.Registration q) is premise old = subst (λ (rows : List NodeEntry). Fits rows) (sym (registered-nodes ch.maker q s)) old
-  grown-fits (grow.Request priority asked) is premise old = old
   grown-fits (grow.Node kept) is premise old =
       more-fits (record { id = record { 0 = s.next_node }; kept = kept; queue = by_maker ch.maker (λ session queue. queue ++ session ∷ []) [] }) old (has_room kept is premise)
-  grown-fits (grow.JoinRequest r) is premise old = old
   grown-fits (grow.JoinNode n) is premise old =
       fits-less (taken (at_pool c p) (grown c ch.maker (grow.JoinNode n) s).nodes) (taken (at_pool c p) s.nodes) pool.limit (queue-keeps (at_pool c p) ch.maker joined n s.nodes) old
   grown-fits (grow.Allocate n r tenant) is premise old =
       fits-less (taken (at_pool c p) (grown c ch.maker (grow.Allocate n r tenant) s).nodes) (taken (at_pool c p) s.nodes) pool.limit (allocated-keeps c p ch.maker n r tenant s.nodes) old
-  grown-fits (grow.Handles j) is premise old = old
-  grown-fits (grow.Swept n x) is premise old = old
+  grown-fits _ is premise old = old
 
   changed-fits : Premises c s ch → Fits s.nodes → Fits (changed c ch s).nodes
   changed-fits premises old =

@@ -1,28 +1,14 @@
 -- a crash or an expiry changes no record, and what was made still exists or its end is in the
 -- journal
-use Rattle.std.proofs.Common.{◌≡◌, ◌∙◌, sym, ℕ, List, [], ◌∷◌, refl, ap, Option, Some, None, Bool, true, false, cond, inl, inr}
-use Rattle.std.specs.Prelude.{◌==◌, ◌⊎◌, is_ok, is_some, nat_lt}
-use Rattle.np_changes.specs.Prelude.{Configuration, EachTurn, Entry, Event, NodeEntry, NodeId, NodeRecord, RequestEntry, RequestId, RequestRecord, Rises, SessionFacts, SessionId, State, after_found, changed, crashed, edited, expired, grown, is_id_before, judge, left, next, node_in, node_left, node_queue, nodes_changed, plan, request_in, request_left, request_queue, requests_changed, same_request, session_of, turns_from, with_act}
+use Rattle.np_laws.proofs.Prelude.{Bool, Changes, Configuration, EachTurn, Entry, Event, Growth, Invariant, List, LosesNothing, Maker, NodeEntry, NodeId, NodeRecord, NodesChange, None, Option, RequestEntry, RequestId, RequestRecord, RequestsChange, Rises, SameRecords, SessionFacts, SessionId, Some, State, after_found, ap, changed, cond, crashed, edited, expired, false, grown, inl, inr, is_gone, is_id_before, is_loss, is_ok, is_request_end, is_some, judge, left, length-change_at, map-keys, map-some, nat_lt, next, node_in, node_left, node_queue, nodes_changed, plan, plan-next, refl, request-equal, request_in, request_left, request_queue, requests_changed, same_request, session_of, sym, true, turns_from, with_act, [], ℕ, ◌==◌, ◌∙◌, ◌∷◌, ◌≡◌, ◌⊎◌}
 use Rattle.np_event.specs.declared.event.Event.TheVariants as ev
-use Rattle.np_lists.proofs.ChangeLemmas.{length-change_at}
-use Rattle.np_lists.proofs.RisingLemmas.{map-keys}
-use Rattle.np_machine.specs.Kept.{is_loss, SameRecords, LosesNothing, is_request_end, is_gone}
-use Rattle.np_changes.specs.declared.changes.Maker.{Maker}
-use Rattle.np_changes.specs.declared.changes.Changes.{Changes}
-use Rattle.np_changes.specs.declared.changes.Growth.{Growth}
 use Rattle.np_changes.specs.declared.changes.Growth.TheVariants as grow
-use Rattle.np_changes.specs.declared.changes.RequestsChange.{RequestsChange}
 use Rattle.np_changes.specs.declared.changes.RequestsChange.TheVariants as requests
-use Rattle.np_changes.specs.declared.changes.NodesChange.{NodesChange}
 use Rattle.np_changes.specs.declared.changes.NodesChange.TheVariants as nodes
-use Rattle.np_changes.proofs.PlanLaws.{plan-next}
-use Rattle.np_laws.specs.Parts.{Invariant}
 use Rattle.np_laws.proofs.Lookups.{request_in-edit, request_in-queue, request_in-remove, request_in-removed, request_in-below, node_in-put, node_in-allocated, node_in-queue, node_in-freed, node_in-in_use, node_in-push, node_in-remove, node_in-removed, same_node-is}
 use Rattle.np_laws.proofs.Numbered.{grown-numbered}
 use Rattle.np_laws.proofs.After.{grown-node, found-grown, left-request, left-node}
 use Rattle.np_laws.proofs.Goes.{plan-goes}
-use Rattle.np_machine.proofs.Ids.{request-equal}
-use Rattle.np_lists.proofs.Plain.{map-some}
 
 -- ## a crash or an expiry
 
@@ -82,14 +68,13 @@ there {A} o a is = ap (λ (x : Option A). is_some x) is
 -- a change of requests keeps each that it does not remove
 request-stays : (maker : Option Maker) (rows : List RequestEntry) → Rises (λ a b. is_id_before a.id b.id) rows → (change : RequestsChange) (r : RequestId) → is_some (request_in r rows) ≡ true
     → (is_some (request_in r (requests_changed maker change rows)) ≡ true) ⊎ ((change ≡ requests.Remove r) × (request_in r (requests_changed maker change rows) ≡ None))
-request-stays maker rows rises requests.Same r is = inl is
 request-stays maker rows rises (requests.Edit x e) r is = inl (ap (λ (o : Option RequestRecord). is_some o) (request_in-edit x r (edited e) rows) ∙ map-some _ (request_in r rows) ∙ is)
 request-stays maker rows rises (requests.Remove x) r is = by (same_request x r) refl where
   by : (b : Bool) → same_request x r ≡ b → (is_some (request_in r (requests_changed maker (requests.Remove x) rows)) ≡ true) ⊎ ((requests.Remove x ≡ requests.Remove r) × (request_in r (requests_changed maker (requests.Remove x) rows) ≡ None))
   by true which = inr (ap (λ (y : RequestId). requests.Remove y) (request-equal x r which), request_in-removed x r rows rises which)
   by false which = inl (ap (λ (o : Option RequestRecord). is_some o) (request_in-remove x r rows which) ∙ is)
-request-stays None rows rises (requests.Leave x) r is = inl is
 request-stays (Some maker) rows rises (requests.Leave x) r is = inl (ap (λ (o : Option RequestRecord). is_some o) (request_in-queue x r (left maker.session (request_queue x rows)) rows) ∙ is)
+request-stays maker rows rises _ r is = inl is
 
 pub request-goes : (c : Configuration) (s : State) (e : Event) → Invariant c s → (r : RequestId) (q : RequestRecord) → request_in r s.requests ≡ Some q → RequestGoesOn c s e r
 request-goes c s e old r q is = by (is_ok (judge c s e)) refl where
@@ -116,7 +101,6 @@ node-grown : (c : Configuration) (s : State) (maker : Option Maker) (growth : Gr
 node-grown c s maker (grow.Registration p) n k is = there _ k (grown-node c maker (grow.Registration p) s n tt ∙ is)
 node-grown c s maker (grow.Node kept) n k is = there _ k (node_in-push _ n k s.nodes is)
 node-grown c s maker (grow.JoinNode m) n k is = there _ k (grown-node c maker (grow.JoinNode m) s n tt ∙ is)
-node-grown c s None (grow.Allocate m r tenant) n k is = there (node_in n s.nodes) k is
 node-grown c s (Some maker) (grow.Allocate m r tenant) n k is =
     ap (λ (o : Option NodeRecord). is_some o) (node_in-allocated m n r tenant maker.session s.nodes) ∙ map-some _ (node_in n s.nodes) ∙ there (node_in n s.nodes) k is
 node-grown c s maker _ n k is = there (node_in n s.nodes) k is
@@ -124,16 +108,15 @@ node-grown c s maker _ n k is = there (node_in n s.nodes) k is
 -- a change of nodes keeps each that it does not remove
 node-stays : (maker : Option Maker) (tick : ℕ) (rows : List NodeEntry) → Rises (λ a b. nat_lt a.id.0 b.id.0) rows → (change : NodesChange) (n : NodeId) → is_some (node_in n rows) ≡ true
     → (is_some (node_in n (nodes_changed maker tick change rows)) ≡ true) ⊎ ((change ≡ nodes.Remove n) × (node_in n (nodes_changed maker tick change rows) ≡ None))
-node-stays maker tick rows rises nodes.Same n is = inl is
 node-stays maker tick rows rises (nodes.Put m kept) n is = inl (ap (λ (o : Option NodeRecord). is_some o) (node_in-put m n kept rows) ∙ map-some _ (node_in n rows) ∙ is)
 node-stays maker tick rows rises (nodes.Remove m) n is = by (m.0 == n.0) refl where
   by : (b : Bool) → (m.0 == n.0) ≡ b → (is_some (node_in n (nodes_changed maker tick (nodes.Remove m) rows)) ≡ true) ⊎ ((nodes.Remove m ≡ nodes.Remove n) × (node_in n (nodes_changed maker tick (nodes.Remove m) rows) ≡ None))
   by true which = inr (ap (λ (y : NodeId). nodes.Remove y) (same_node-is m n which), node_in-removed m n rows rises which)
   by false which = inl (ap (λ (o : Option NodeRecord). is_some o) (node_in-remove m n rows which) ∙ is)
-node-stays None tick rows rises (nodes.Leave m) n is = inl is
 node-stays (Some maker) tick rows rises (nodes.Leave m) n is = inl (ap (λ (o : Option NodeRecord). is_some o) (node_in-queue m n (left maker.session (node_queue m rows)) rows) ∙ is)
 node-stays maker tick rows rises (nodes.FreeAll r) n is = inl (ap (λ (o : Option NodeRecord). is_some o) (node_in-freed r n rows) ∙ map-some _ (node_in n rows) ∙ is)
 node-stays maker tick rows rises (nodes.TakeOver numbers) n is = inl (ap (λ (o : Option NodeRecord). is_some o) (node_in-in_use tick numbers n rows) ∙ map-some _ (node_in n rows) ∙ is)
+node-stays maker tick rows rises _ n is = inl is
 
 pub node-goes : (c : Configuration) (s : State) (e : Event) → Invariant c s → (n : NodeId) (k : NodeRecord) → node_in n s.nodes ≡ Some k → NodeGoesOn c s e n
 node-goes c s e old n k is = by (is_ok (judge c s e)) refl where

@@ -1,17 +1,7 @@
 -- each registration is of a live launcher of its pool, at most one per pool
-use Rattle.std.proofs.Common.{◌≡◌, ◌∙◌, sym, List, [], ◌∷◌, refl, ap, arith, Option, Some, None, Bool, true, false, cond}
-use Rattle.std.specs.Prelude.{◌==◌, not, find, nat_lt}
-use Rattle.np_changes.specs.Prelude.{AllByRecursion, Configuration, GrowthPremise, IsHeard, Launcher, MakerPremise, PoolId, Premises, Registration, Rises, SessionId, SessionsPremise, State, changed, grown, is_session, option_map, registered, registrations_left}
-use Rattle.std.proofs.lemmas.Bool.Decides.{nat_tests}
-use Rattle.np_lists.proofs.Each.{all-weaker, all-filter_to, all-insert_before}
-use Rattle.np_lists.proofs.RisingLemmas.{Rises-filter}
-use Rattle.np_changes.specs.declared.changes.Maker.{Maker}
-use Rattle.np_changes.specs.declared.changes.Changes.{Changes}
-use Rattle.np_changes.specs.declared.changes.Growth.{Growth}
+use Rattle.np_laws.proofs.Prelude.{AllByRecursion, Bool, Changes, Configuration, Growth, GrowthPremise, IsLauncher, IsRegistered, Launcher, List, Maker, MakerPremise, None, Option, PoolId, Premises, Registration, Rises, Rises-filter, SessionId, SessionsChange, SessionsPremise, Some, State, all-filter_to, all-insert_before, all-weaker, arith, changed, cond, false, find, grown, is_session, nat_lt, nat_tests, not, option_map, refl, registered, registrations_left, sym, true, [], ◌==◌, ◌∙◌, ◌∷◌, ◌≡◌}
 use Rattle.np_changes.specs.declared.changes.Growth.TheVariants as grow
-use Rattle.np_changes.specs.declared.changes.SessionsChange.{SessionsChange}
 use Rattle.np_changes.specs.declared.changes.SessionsChange.TheVariants as sessions
-use Rattle.np_laws.specs.Parts.{IsLauncher, IsRegistered}
 use Rattle.np_laws.proofs.Rising.{rises-insert_before}
 use Rattle.np_laws.proofs.Sessions.{IsNotOver, facts-stay}
 
@@ -35,17 +25,9 @@ apart-all new (g ∷ rows) none = by (g.pool.0 == new.pool.0) refl (λ rest. apa
   by false is later rest = (λ out. grind (arith, nat_tests), later rest)
 
 launcher-heard : (s : State) (maker : Option Maker) (session : SessionId) (p : PoolId) → MakerPremise s maker → maker ≡ Some (record { session = session; role = Launcher p }) → IsLauncher s p session
-launcher-heard s None session p heard made = absurd cc
-launcher-heard s (Some maker) session p heard made =
-    let same : maker ≡ record { session = session; role = Launcher p } = cc in
-    by maker same heard
-  where
-    by : (m : Maker) → m ≡ record { session = session; role = Launcher p } → IsHeard s m → IsLauncher s p session
-    by m same heard = record { facts = heard.facts; begun = rw (sym (ap (λ (x : Maker). x.session) same)) heard.begun; live = heard.live; role = heard.role ∙ ap (λ (x : Maker). x.role) same }
+launcher-heard s x1 session p heard made = grind (arith, nat_tests)
 
 registrations-grown : (c : Configuration) (s : State) (ch : Changes) (maker : Option Maker) (growth : Growth) → ch.maker ≡ maker → MakerPremise s maker → GrowthPremise c s ch growth → AreRegistrations s s.registrations → AreRegistrations s (grown c maker growth s).registrations
-registrations-grown c s ch maker grow.Nothing is heard premise old = old
-registrations-grown c s ch maker (grow.Session role) is heard premise old = old
 registrations-grown c s ch None (grow.Registration p) is heard premise old = old
 registrations-grown c s ch (Some maker) (grow.Registration p) is heard premise old =
     let made : Some maker ≡ Some (record { session = premise.session; role = Launcher p }) = sym is ∙ premise.made_by in
@@ -55,13 +37,7 @@ registrations-grown c s ch (Some maker) (grow.Registration p) is heard premise o
       each = all-insert_before (λ (g : Registration). IsLauncher s g.pool g.session) (λ g. nat_lt p.0 g.pool.0) (record { pool = p; session = maker.session }) s.registrations new old.each;
       rise = rises-insert_before by_pool through_pools (record { pool = p; session = maker.session }) s.registrations (apart-all (record { pool = p; session = maker.session }) s.registrations premise.free) old.rise;
     }
-registrations-grown c s ch maker (grow.Request priority asked) is heard premise old = old
-registrations-grown c s ch maker (grow.Node kept) is heard premise old = old
-registrations-grown c s ch maker (grow.JoinRequest r) is heard premise old = old
-registrations-grown c s ch maker (grow.JoinNode n) is heard premise old = old
-registrations-grown c s ch maker (grow.Allocate n r tenant) is heard premise old = old
-registrations-grown c s ch maker (grow.Handles j) is heard premise old = old
-registrations-grown c s ch maker (grow.Swept n x) is heard premise old = old
+registrations-grown c s ch maker _ is heard premise old = old
 
 module _ (c : Configuration) (s : State) (ch : Changes) (premise : SessionsPremise s ch ch.sessions) where
   launcher-stays : (p : PoolId) (session : SessionId) → IsNotOver ch.sessions session → IsLauncher s p session → IsLauncher (changed c ch s) p session
@@ -76,13 +52,12 @@ module _ (c : Configuration) (s : State) (ch : Changes) (premise : SessionsPremi
   }
 
   registrations-after_end : (change : SessionsChange) → ch.sessions ≡ change → (rows : List Registration) → AreRegistrations s rows → AreRegistrations (changed c ch s) (registrations_left change rows)
-  registrations-after_end sessions.Same is rows old = all-stay (λ session. rw is tt) rows old
-  registrations-after_end (sessions.Mute quiet) is rows old = all-stay (λ session. rw is tt) rows old
   registrations-after_end (sessions.End over) is rows old = record {
     each = all-filter_to (λ (g : Registration). IsLauncher s g.pool g.session) (λ (g : Registration). IsLauncher (changed c ch s) g.pool g.session) (λ g. not (is_session g.session over)) rows
         (λ g keeps launcher. launcher-stays g.pool g.session (rw is (let other : is_session g.session over ≡ false = grind (arith, nat_tests) in other)) launcher) old.each;
     rise = Rises-filter by_pool (λ g. not (is_session g.session over)) rows old.rise;
   }
+  registrations-after_end _ is rows old = all-stay (λ session. rw is tt) rows old
 
 pub registered-still : (c : Configuration) (s : State) (ch : Changes) → IsRegistered s → Premises c s ch → IsRegistered (changed c ch s)
 registered-still c s ch old premises =

@@ -1,7 +1,5 @@
 -- the replies in a journal are those of the machine, and what an accepted event leads to
-use Rattle.std.proofs.Common.{◌≡◌, ◌∙◌, sym, List, ◌∷◌, refl, ap, true, Ok, Err}
-use Rattle.std.specs.Prelude.{is_ok}
-use Rattle.np_changes.specs.Prelude.{Answer, Configuration, Entry, Event, Reply, State, acting, effect, is_done, judge, next, replayed, reply_of, with_act}
+use Rattle.np_laws.proofs.Prelude.{Answer, Configuration, Entry, Err, Event, List, Ok, Reply, State, acting, ap, effect, is_done, is_ok, judge, next, refl, replayed, reply_of, sym, true, with_act, ◌∙◌, ◌∷◌, ◌≡◌}
 
 -- an accepted event leads to its effect
 pub accepted-state : (c : Configuration) (s : State) (e : Event) → is_ok (judge c s e) ≡ true → next c s e ≡ with_act (acting s e) (effect c s e)

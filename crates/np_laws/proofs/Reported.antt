@@ -1,25 +1,11 @@
 -- after one more turn, the reports on each node are as many as its record says, and all of failures
-use Rattle.std.proofs.Common.{◌≡◌, ◌∙◌, sym, ℕ, ◌+◌, ◌<◌, ◌≤◌, List, [], ◌∷◌, ◌++◌, refl, ap, arith, subst, Option, Some, None, Bool, true, false, cond, ◌⊎◌, inl, inr}
-use Rattle.std.specs.Prelude.{◌==◌, not, nat_lt}
-use Rattle.np_changes.specs.Prelude.{Configuration, Event, NodeEntry, NodeId, NodeRecord, NodeState, Outcome, RequestId, Rises, SessionId, State, TenantId, changed, freed, grown, is_building, is_failed_node, is_request, joined, launched, left, list_any, new_node, node_in, node_queue, nodes_changed, nodes_left, option_map, retries_of, tenant_of_request}
-use Rattle.std.proofs.lemmas.Bool.{false≢true, both_ways, and_from, and_left, and_parts, not-true}
-use Rattle.std.proofs.lemmas.Bool.Decides.{nat_tests}
-use Rattle.std.proofs.lemmas.Option.{none-some, same_Some}
+use Rattle.np_laws.proofs.Prelude.{Bool, Changes, Configuration, EachTurn, Event, GainsNew, Growth, GrowthPremise, IsAccepted, IsNumbered, List, Maker, NodeEntry, NodeId, NodeRecord, NodeState, NodesChange, None, Option, Outcome, Premises, ReportsFailure, RequestId, Rises, RunsWhileBuilding, SessionId, SessionsChange, Some, State, TenantId, Turn, and_from, and_left, and_parts, ap, arith, both_ways, changed, cond, false, false≢true, freed, grown, inl, inr, is_building, is_done, is_failed_node, is_report_on, is_request, joined, launched, left, list_any, nat_lt, nat_tests, new_node, node_in, node_queue, nodes_changed, nodes_left, none-some, not, not-true, option_map, refl, reports_on, retries_of, same_Some, subst, sym, true, [], ℕ, ◌++◌, ◌+◌, ◌<◌, ◌==◌, ◌∙◌, ◌∷◌, ◌≡◌, ◌≤◌}
 use Rattle.np_text.specs.declared.word.NodeState.TheVariants as node_state
 use Rattle.np_event.specs.declared.event.Event.TheVariants as ev
 use Rattle.np_event.specs.declared.event.Outcome.TheVariants as outcome
-use Rattle.np_machine.specs.Turns.{Turn, EachTurn, is_done, IsAccepted}
-use Rattle.np_machine.specs.Caused.{is_report_on, ReportsFailure, reports_on}
-use Rattle.np_changes.specs.Premises.{IsTaken, IsMade, GainsNew, GrowthPremise, Premises}
-use Rattle.np_changes.specs.declared.changes.Maker.{Maker}
-use Rattle.np_changes.specs.declared.changes.Changes.{Changes}
-use Rattle.np_changes.specs.declared.changes.Growth.{Growth}
 use Rattle.np_changes.specs.declared.changes.Growth.TheVariants as grow
-use Rattle.np_changes.specs.declared.changes.NodesChange.{NodesChange}
 use Rattle.np_changes.specs.declared.changes.NodesChange.TheVariants as nodes
-use Rattle.np_changes.specs.declared.changes.SessionsChange.{SessionsChange}
 use Rattle.np_changes.specs.declared.changes.SessionsChange.TheVariants as sessions
-use Rattle.np_laws.specs.Parts.{IsNumbered, RunsWhileBuilding}
 use Rattle.np_laws.proofs.Lookups.{same_node-is, node_in-put, node_in-allocated, node_in-queue, node_in-left, node_in-freed, used_from, node_in-in_use, node_in-other, node_in-new, node_in-remove, node_in-removed, node_in-later, node_in-below}
 use Rattle.np_laws.proofs.Numbered.{grown-numbered}
 use Rattle.np_laws.proofs.After.{next-more}
@@ -67,10 +53,7 @@ module _ (c : Configuration) (past : List Turn) (t : Turn) where
   -- a launch has failed: the node has failed if it was the last launch that is allowed
   failure-counted : (n : NodeId) (k : NodeRecord) → reports_on n (past ++ t ∷ []) ≡ k.attempts → EachTurn (ReportsFailure n) (past ++ t ∷ []) → is_building k.state ≡ true → (b : Bool) → (k.attempts == retries_of c k.pool) ≡ b
       → IsCounted c (past ++ t ∷ []) n (record k { in_flight = false; state = cond b node_state.Failed k.state })
-  failure-counted n k many each building true last =
-      let most : k.attempts ≡ retries_of c k.pool = grind (arith, nat_tests) in
-      (λ builds. absurd (false≢true builds), λ failed. (many ∙ most, each))
-  failure-counted n k many each building false more = (λ builds. (omega (arith, many), each), λ failed. absurd (building-not_failed k.state building failed))
+  failure-counted n k many each building x5 last = grind (arith, nat_tests)
 
   report-counted : (n : NodeId) (session : SessionId) (attempt tick : ℕ) (o : Outcome) (k : NodeRecord) → t.entry.event ≡ ev.Done session n attempt o → IsAccepted t → is_building k.state ≡ true → k.in_flight ≡ true → IsCounted c past n k
       → IsCounted c (past ++ t ∷ []) n (launched (retries_of c k.pool) tick o k)
@@ -129,28 +112,18 @@ module _ (c : Configuration) (past : List Turn) (s : State) (numbered : IsNumber
   node-counted kept n k maker fresh old is false other = old n k (sym (node_in-other _ n s.nodes other) ∙ is)
 
   counted-grown : (maker : Option Maker) (growth : Growth) → ((kept : NodeRecord) → growth ≡ grow.Node kept → IsCounted c past (record { 0 = s.next_node }) kept) → AllCounted c past s.nodes → AllCounted c past (grown c maker growth s).nodes
-  counted-grown maker grow.Nothing fresh old n k is = old n k is
-  counted-grown maker (grow.Session role) fresh old n k is = old n k is
   counted-grown None (grow.Registration p) fresh old n k is = old n k is
   counted-grown (Some maker) (grow.Registration p) fresh old n k is = old n k is
-  counted-grown maker (grow.Request priority asked) fresh old n k is = old n k is
   counted-grown maker (grow.Node kept) fresh old n k is = node-counted kept n k maker (fresh kept refl) old is (s.next_node == n.0) refl
-  counted-grown maker (grow.JoinRequest r) fresh old n k is = old n k is
-  counted-grown None (grow.JoinNode m) fresh old n k is = old n k is
   counted-grown (Some maker) (grow.JoinNode m) fresh old n k is = old n k (sym (node_in-queue m n (joined maker.session (node_queue m s.nodes)) s.nodes) ∙ is)
-  counted-grown None (grow.Allocate m r tenant) fresh old n k is = old n k is
   counted-grown (Some maker) (grow.Allocate m r tenant) fresh old n k is =
       mapped-counted c past n (λ (x : NodeRecord). cond (m.0 == n.0) (record x { allocated_to = Some r; tenant = tenant }) x) (node_in n s.nodes) k (sym (node_in-allocated m n r tenant maker.session s.nodes) ∙ is) (λ before stood.
       allocated-counted c past n r tenant before (m.0 == n.0) (old n before stood))
-  counted-grown maker (grow.Handles j) fresh old n k is = old n k is
-  counted-grown maker (grow.Swept m x) fresh old n k is = old n k is
+  counted-grown maker _ fresh old n k is = old n k is
 
 -- if another change is made, or another node's record is put
 put-other : (n m : NodeId) (kept other : NodeRecord) → (n.0 == m.0) ≡ false → nodes.Put n kept ≡ nodes.Put m other → ⊥
-put-other n m kept other apart is =
-    let same : n ≡ m = cc in
-    let self : (n.0 == m.0) ≡ true = subst (λ (x : NodeId). (n.0 == x.0) ≡ true) same (grind (arith, nat_tests)) in
-    both_ways (n.0 == m.0) apart self
+put-other n m kept other apart is = grind (arith, nat_tests)
 
 module _ (c : Configuration) (past : List Turn) (t : Turn) (change : NodesChange) (quiet : (n : NodeId) → ((kept : NodeRecord) → change ≡ nodes.Put n kept → ⊥) → reports n t ≡ false) where
   counted-settled : (maker : Option Maker) (tick : ℕ) (made : NodesChange) → change ≡ made → (rows : List NodeEntry) → Rises (λ a b. nat_lt a.id.0 b.id.0) rows → ((n : NodeId) (kept : NodeRecord) → made ≡ nodes.Put n kept → IsCounted c (past ++ t ∷ []) n kept)
@@ -180,27 +153,20 @@ module _ (c : Configuration) (past : List Turn) (t : Turn) (change : NodesChange
       (other-counted c past t n before (quiet n (λ kept puts. absurd (let both : nodes.TakeOver numbers ≡ nodes.Put n kept = sym at ∙ puts in cc))) (old n before stood)))
 
 counted-after_end : (c : Configuration) (turns : List Turn) (over : SessionsChange) (rows : List NodeEntry) → AllCounted c turns rows → AllCounted c turns (nodes_left over rows)
-counted-after_end c turns sessions.Same rows old n k is = old n k is
-counted-after_end c turns (sessions.Mute heard) rows old n k is = old n k is
 counted-after_end c turns (sessions.End over) rows old n k is = old n k (sym (node_in-left over n rows) ∙ is)
+counted-after_end c turns _ rows old n k is = old n k is
 
 -- ## all of it
 
 -- a node that grows is a request's new one
 new-is : (c : Configuration) (s : State) (ch : Changes) (kept : NodeRecord) → ch.grows ≡ grow.Node kept → (premise : GainsNew c s ch kept) → kept ≡ new_node c s premise.request premise.gains.pool premise.gains.request premise.gains.label
-new-is c s ch kept at premise = by premise.gains.from where
-  by : IsTaken c s ch premise.gains.pool premise.request premise.gains.request premise.gains.label (record { 0 = s.next_node }) ⊎ IsMade c s ch premise.gains.pool premise.request premise.gains.request premise.gains.label (record { 0 = s.next_node }) → kept ≡ new_node c s premise.request premise.gains.pool premise.gains.request premise.gains.label
-  by (inl taken) = absurd (let other : grow.Node kept ≡ grow.Allocate (record { 0 = s.next_node }) premise.request (tenant_of_request c premise.gains.request) = sym at ∙ taken.grows in cc)
-  by (inr made) = let both : grow.Node kept ≡ grow.Node (new_node c s premise.request premise.gains.pool premise.gains.request premise.gains.label) = sym at ∙ made.grows in cc
+new-is c s ch kept at premise = grind (arith, nat_tests)
 
 module _ (c : Configuration) (past : List Turn) (t : Turn) (ch : Changes) (numbered : IsNumbered t.before) (runs : RunsWhileBuilding t.before) (premises : Premises c t.before ch) (tells : Tells c t.before t.entry.event ch)
     (told : (n : NodeId) → is_report_on n t.entry.event ≡ true → IsTold t.before ch n) (accepted : IsAccepted t) (old : ReportsCounted c past t.before) where
   -- if the event does not report on the node
   quiet-on : (n : NodeId) → (IsTold t.before ch n → ⊥) → reports n t ≡ false
-  quiet-on n none = by (is_report_on n t.entry.event) refl where
-    by : (b : Bool) → is_report_on n t.entry.event ≡ b → reports n t ≡ false
-    by true is = absurd (none (told n is))
-    by false is = and_left (is_report_on n t.entry.event) (is_done t.entry.reply) is
+  quiet-on n none = grind (arith, nat_tests)
 
   fresh : (kept : NodeRecord) → ch.grows ≡ grow.Node kept → IsCounted c past (record { 0 = t.before.next_node }) kept
   fresh kept at =

@@ -1,48 +1,26 @@
 -- each request is as its state says, after the changes of an accepted event
-use Rattle.std.proofs.Common.{◌≡◌, ◌∙◌, sym, subst, ℕ, ◌<◌, ◌≤◌, lt_of_lt_of_le, ◌⊎◌, inl, inr, Bool, false, cond, List, [], ◌∷◌, ◌++◌, refl, ap, eqb-true, eq-eqb, Option, Some}
-use Rattle.std.specs.Prelude.{◌==◌}
-use Rattle.np_changes.specs.Prelude.{AllByRecursion, Configuration, LabelId, Launcher, NodeEntry, NodeId, NodeRecord, PoolId, Reason, RequestEntry, RequestId, RequestRecord, SessionId, State, TenantId, allocated, asked_for, asked_to_keep, by_maker, change_first, changed, edited, grown, is_pending, is_pool, list_any, new_node, new_record, next_id, node_in, nodes_changed, option_map, request_in, same_request, tenant_of_request, with_node}
-use Rattle.std.proofs.lemmas.Bool.{and_parts}
-use Rattle.std.proofs.lemmas.Option.{same_Some}
-use Rattle.np_changes.specs.declared.asked.Asked.{Asked}
-use Rattle.np_changes.specs.declared.changes.Maker.{Maker}
-use Rattle.np_changes.specs.declared.changes.Changes.{Changes}
-use Rattle.np_changes.specs.declared.changes.Growth.{Growth}
+use Rattle.np_laws.proofs.Prelude.{AllByRecursion, Asked, AsksForJob, AsksToKeep, Bool, Changes, Configuration, EditPremise, EmptiesRequest, Gains, GoesFulfilled, GoesWithdrawn, Growth, GrowthPremise, Invariant, IsAtRest, IsFor, IsMade, IsServed, IsTaken, LabelId, Launcher, List, Maker, MayDecline, MayFail, MayFulfil, MayGiveBack, MayRevise, MayServe, NodeEntry, NodeId, NodeRecord, NodesChange, NodesPremise, Option, PoolId, Premises, Reason, RequestEdit, RequestEntry, RequestId, RequestRecord, RequestsChange, RequestsPremise, RequestsStand, SessionId, Some, StandsIn, State, TakesOver, TenantId, above-apart, allocated, and_parts, ap, arith, by_maker, change_first, changed, cond, edited, eq-eqb, eqb-true, false, grown, inl, inr, is_pending, is_pool, list_any, lt_of_lt_of_le, nat_tests, new_node, new_record, next_id, node_in, nodes_changed, option_map, refl, request-itself, request_in, same_Some, same_request, subst, sym, tenant_of_request, with_node, [], ℕ, ◌++◌, ◌<◌, ◌==◌, ◌∙◌, ◌∷◌, ◌≡◌, ◌≤◌, ◌⊎◌}
 use Rattle.np_changes.specs.declared.changes.Growth.TheVariants as grow
-use Rattle.np_changes.specs.declared.changes.RequestEdit.{RequestEdit}
 use Rattle.np_changes.specs.declared.changes.RequestEdit.TheVariants as edit
-use Rattle.np_changes.specs.declared.changes.RequestsChange.{RequestsChange}
 use Rattle.np_changes.specs.declared.changes.RequestsChange.TheVariants as requests
-use Rattle.np_changes.specs.declared.changes.NodesChange.{NodesChange}
 use Rattle.np_changes.specs.declared.changes.NodesChange.TheVariants as nodes
-use Rattle.np_changes.specs.Premises.{IsTaken, IsMade, Gains, AsksForJob, AsksToKeep, GrowthPremise, MayServe, MayDecline, MayFulfil, MayGiveBack, MayFail, MayRevise, EditPremise, GoesFulfilled, TakesOver, GoesWithdrawn, RequestsPremise, EmptiesRequest, NodesPremise, Premises}
-use Rattle.np_laws.specs.Parts.{IsAtRest, IsFor, IsServed, StandsIn, RequestsStand, Invariant}
 use Rattle.np_laws.proofs.Lookups.{request_in-edit, request_in-insert, request_in-new, request_in-remove, request_in-removed, request_in-later, node_in-allocated, node_in-new, node_in-later, node_in-below}
 use Rattle.np_laws.proofs.NextNumbers.{below-later, at-least, same-seq}
 use Rattle.np_laws.proofs.After.{NoRequest, NoNode, IsCalm, grown-request, grown-node, next-more, calm-request, leave-node, requests-after, nodes-after, next-after}
 use Rattle.np_laws.proofs.NodeKept.{KeptAt, kept-same, kept-looks, kept-put, kept-remove, kept-freed, kept-taken, kept-allocated, kept-push}
 use Rattle.np_laws.proofs.Places.{next-unlisted}
 use Rattle.np_laws.proofs.Puts.{way-keeps}
-use Rattle.np_laws.proofs.Filled.{pool-same, filled-owns}
+use Rattle.np_laws.proofs.Filled.{filled-owns}
 use Rattle.np_laws.proofs.StandsOn.{rest-if, served-if, owns-if, requested-stands, pending-stands, either-stands, empty-served, served-unlisted, owned-node, KeptFor, owns-kept, same-stand, edit-stand, remove-stand, insert-stand, served-more}
-use Rattle.np_machine.proofs.Ids.{request-itself}
-use Rattle.np_lists.proofs.Plain.{above-apart}
 
 -- ## premises
 
 -- a new request is at rest
 asked-stands : (c : Configuration) (s t : State) (ch : Changes) (priority : ℕ) (asked : Asked) (r : RequestId) → AsksForJob c s ch priority asked ⊎ AsksToKeep c s ch priority asked → StandsIn t r (new_record asked) (new_record asked).state
-asked-stands c s t ch priority asked r (inl asks) =
-    let rest : IsAtRest (new_record (asked_for asks.number asks.job)) = record { no_pool = refl; no_nodes = refl } in
-    subst (λ (a : Asked). StandsIn t r (new_record a) (new_record a).state) (sym asks.asks) rest
-asked-stands c s t ch priority asked r (inr asks) =
-    let rest : IsAtRest (new_record (asked_to_keep asks.pool asks.label)) = record { no_pool = refl; no_nodes = refl } in
-    subst (λ (a : Asked). StandsIn t r (new_record a) (new_record a).state) (sym asks.asks) rest
+asked-stands c s t ch priority asked r x7 = grind (arith, nat_tests)
 
 empties-restless : (r : RequestId) (change : RequestsChange) → EmptiesRequest r change → IsCalm change → ⊥
-empties-restless r change (inl is) calm = subst (λ (x : RequestsChange). IsCalm x) is calm
-empties-restless r change (inr (inl is)) calm = subst (λ (x : RequestsChange). IsCalm x) is calm
-empties-restless r change (inr (inr declines)) calm = subst (λ (x : RequestsChange). IsCalm x) declines.3 calm
+empties-restless r change x2 calm = grind (arith, nat_tests)
 
 -- the entry of a new node
 abbrev new_entry : Option Maker → State → NodeRecord → NodeEntry
@@ -139,14 +117,11 @@ module _ (c : Configuration) (s : State) (ch : Changes) (inv : Invariant c s) wh
   -- ## one more node
 
   gaining-served : (r : RequestId) (n : NodeId) (gains : Gains c s ch r n) → IsServed s r gains.request
-  gaining-served r n gains =
-      served-if s r gains.request gains.request.state ((and_parts (is_pending gains.request.state) (is_pool gains.pool gains.request.pool) gains.pending).0) (stood r gains.request gains.worked_on.stands)
+  gaining-served r n gains = grind (arith, nat_tests)
 
   -- of the pool that serves the request
   gaining-pool : (r : RequestId) (n : NodeId) (gains : Gains c s ch r n) → gains.pool.0 ≡ (gaining-served r n gains).pool.0
-  gaining-pool r n gains =
-      let served = gaining-served r n gains in
-      pool-same gains.pool served.pool gains.request.pool ((and_parts (is_pending gains.request.state) (is_pool gains.pool gains.request.pool) gains.pending).1) served.served_by
+  gaining-pool r n gains = grind (arith, nat_tests)
 
   gain-stand : (r : RequestId) (n : NodeId) (gains : Gains c s ch r n) (g : Growth) → NoRequest g → ch.grows ≡ g → ((x : RequestId) → KeptFor s (changed c ch s) x)
       → list_any (λ m. m.0 == n.0) gains.request.nodes ≡ false → n.0 < (changed c ch s).next_node
@@ -282,10 +257,9 @@ module _ (c : Configuration) (s : State) (ch : Changes) (inv : Invariant c s) wh
   -- ## all of it
 
   changes-stand : (change : RequestsChange) → ch.requests ≡ change → RequestsPremise c s ch change → NodesPremise c s ch ch.nodes → GrowthPremise c s ch ch.grows → RequestsStand (changed c ch s)
-  changes-stand requests.Same to premise by_nodes growth = nodes-stand (subst (λ (x : RequestsChange). IsCalm x) (sym to) tt) ch.nodes refl by_nodes growth
   changes-stand (requests.Edit r e) to premise by_nodes growth = edits-stand r e to premise
   changes-stand (requests.Remove r) to premise by_nodes growth = removes-stand r to premise
-  changes-stand (requests.Leave r) to premise by_nodes growth = nodes-stand (subst (λ (x : RequestsChange). IsCalm x) (sym to) tt) ch.nodes refl by_nodes growth
+  changes-stand _ to premise by_nodes growth = nodes-stand (subst (λ (x : RequestsChange). IsCalm x) (sym to) tt) ch.nodes refl by_nodes growth
 
 pub requests-stand : (c : Configuration) (s : State) (ch : Changes) → Invariant c s → Premises c s ch → RequestsStand (changed c ch s)
 requests-stand c s ch inv pre = changes-stand c s ch inv ch.requests refl pre.requests pre.nodes pre.grows

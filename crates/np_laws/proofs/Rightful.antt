@@ -1,29 +1,9 @@
 -- each change of a node is its holder's
-use Rattle.std.proofs.Common.{◌≡◌, ◌∙◌, sym, ℕ, ◌<◌, List, [], ◌∷◌, length, refl, ap, arith, subst, Option, Some, None, Bool, true, false, cond, inl, inr}
-use Rattle.std.specs.Prelude.{◌==◌, ◌&&◌, ◌||◌, ◌⊎◌, is_ok, is_some, map}
-use Rattle.np_changes.specs.Prelude.{Configuration, EachTurn, Entry, Event, LabelId, Launcher, NodeEntry, NodeId, NodeRecord, PoolId, RequestId, RequestRecord, Runs, SessionId, State, TenantId, Turn, after, freed, grown, holder, is_filled, is_pending, is_pending_by, is_pool, is_ready, is_request, is_session_of, joined, judge, left, list_any, next, node_entry, node_holder, node_in, node_queue, nodes_changed, nodes_left, option_map, option_map_or, plan, request_in, start, turns_from, unended, unfilled, unheld}
-use Rattle.std.proofs.lemmas.Bool.Decides.{nat_tests}
-use Rattle.std.proofs.lemmas.Option.{slice_get_within}
-use Rattle.std.proofs.lemmas.Bool.{and_parts}
-use Rattle.np_event.specs.declared.event.Event.TheVariants as ev
-use Rattle.np_machine.specs.Kept.{is_request_end}
-use Rattle.np_machine.specs.Fenced.{ByHolder, given_back_by, TakenBack, IsRightful, IsFenced, Fenced}
-use Rattle.np_machine.proofs.Runs.{Runs-prefix}
-use Rattle.np_changes.specs.Premises.{IsHeldNode, IsTaken, IsMade, Gains, GoesFulfilled, TakesOver, GoesWithdrawn, EmptiesRequest, GrowthPremise, RequestsPremise, NodesPremise, SessionsPremise, Premises}
-use Rattle.np_changes.specs.declared.changes.Maker.{Maker}
-use Rattle.np_changes.specs.declared.changes.Changes.{Changes}
-use Rattle.np_changes.specs.declared.changes.Growth.{Growth}
+use Rattle.np_laws.proofs.Prelude.{AfterEveryStep, Bool, ByHolder, Changes, Configuration, EachTurn, EmptiesRequest, Entry, Event, Fenced, Gains, GoesFulfilled, GoesWithdrawn, Growth, GrowthPremise, Invariant, IsFenced, IsHeldNode, IsMade, IsRightful, IsServed, IsTaken, LabelId, Launcher, List, Maker, NodeEntry, NodeId, NodeRecord, NodesChange, NodesPremise, None, Option, PoolId, Premises, RequestId, RequestRecord, RequestsChange, RequestsPremise, Runs, Runs-prefix, SessionId, SessionsChange, Some, StandsIn, State, TakenBack, TakesOver, TenantId, Turn, after, and_parts, ap, arith, cond, false, freed, given_back_by, grown, holder, inl, inr, is_filled, is_ok, is_pending, is_pending_by, is_pool, is_request, is_request_end, is_session_of, is_some, joined, judge, left, length, list_any, map, member-there, nat_tests, next, node_entry, node_holder, node_in, node_queue, nodes_changed, nodes_left, option_map, plan, plan-next, premises, refl, request-equal, request_in, slice_get_within, start, subst, sym, true, turns_from, unended, unfilled, unheld, [], ℕ, ◌<◌, ◌==◌, ◌||◌, ◌∙◌, ◌∷◌, ◌≡◌, ◌⊎◌}
 use Rattle.np_changes.specs.declared.changes.Growth.TheVariants as grow
 use Rattle.np_changes.specs.declared.changes.RequestEdit.TheVariants as edit
-use Rattle.np_changes.specs.declared.changes.RequestsChange.{RequestsChange}
-use Rattle.np_changes.specs.declared.changes.NodesChange.{NodesChange}
 use Rattle.np_changes.specs.declared.changes.NodesChange.TheVariants as nodes
-use Rattle.np_changes.specs.declared.changes.SessionsChange.{SessionsChange}
 use Rattle.np_changes.specs.declared.changes.SessionsChange.TheVariants as sessions
-use Rattle.np_changes.proofs.PlanLaws.{plan-next}
-use Rattle.np_changes.proofs.PremisesOf.{premises}
-use Rattle.np_laws.specs.Parts.{StandsIn, IsServed, Invariant}
-use Rattle.np_laws.specs.Steps.{AfterEveryStep}
 use Rattle.np_laws.proofs.Lookups.{same_node-is, node_in-put, node_in-allocated, node_in-queue, node_in-freed, used_from, node_in-in_use, node_in-push, node_in-remove, node_queue-allocated}
 use Rattle.np_laws.proofs.Places.{node-place}
 use Rattle.np_laws.proofs.Filled.{filled-at}
@@ -33,16 +13,11 @@ use Rattle.np_laws.proofs.Runs.{invariant-next}
 use Rattle.np_laws.proofs.Start.{invariant-start}
 use Rattle.np_laws.proofs.After.{left-node}
 use Rattle.np_laws.proofs.Goes.{Goes, plan-maker, plan-goes}
-use Rattle.np_machine.proofs.Ids.{request-equal}
-use Rattle.np_lists.proofs.Plain.{member-there}
 
 -- ## who holds a node of a complete request
 
 filled-held : (p : PoolId) (session : SessionId) (r : RequestId) (l : LabelId) (n : NodeId) (rows : List NodeEntry) → is_filled p session r l (node_entry n rows) ≡ true → is_session_of session (node_holder n rows) ≡ true
-filled-held p session r l n rows is = by (node_entry n rows) is where
-  by : (o : Option NodeEntry) → is_filled p session r l o ≡ true → is_session_of session (holder (option_map_or (λ (e : NodeEntry). e.queue) o [])) ≡ true
-  by None filled = absurd cc
-  by (Some e) filled = (and_parts (is_ready e.kept.state && is_request r e.kept.allocated_to && (e.kept.pool.0 == p.0) && (e.kept.label.0 == l.0)) (is_session_of session (holder e.queue)) filled).1
+filled-held p session r l n rows is = grind (arith, nat_tests)
 
 complete-held : (s : State) (p : PoolId) (session : SessionId) (r : RequestId) (request : RequestRecord) (n : NodeId) → StandsIn s r request request.state → is_pending_by p request ≡ true → unfilled p session r s.nodes request.labels request.nodes ≡ 0
     → list_any (λ m. m.0 == n.0) request.nodes ≡ true → is_session_of session (node_holder n s.nodes) ≡ true
@@ -68,10 +43,7 @@ held-of s session n numbers listed none = one-held s session n numbers (marks-of
 
 -- an event that ends a request gives none back
 ends-not_back : (e : Event) (r x : RequestId) (o : Option RequestRecord) → is_request_end r o e ≡ true → given_back_by e ≡ Some x → ⊥
-ends-not_back (ev.Take session j) r x o ends gives = absurd cc
-ends-not_back (ev.Withdraw session j) r x o ends gives = absurd cc
-ends-not_back (ev.Fulfil session y) r x o ends gives = absurd cc
-ends-not_back _ r x o ends gives = absurd cc
+ends-not_back x0 r x o ends gives = grind (arith, nat_tests)
 
 holder-alone : (session : SessionId) (queue : List SessionId) → holder queue ≡ None → is_session_of session (holder (joined session queue)) ≡ true
 holder-alone session [] none = grind (arith, nat_tests)
@@ -113,15 +85,11 @@ module _ (c : Configuration) (s : State) (entry : Entry) (old : Invariant c s) (
   -- ### a node that is taken ready
 
   after_end-queue : (change : SessionsChange) → ((over : SessionId) → change ≡ sessions.End over → ⊥) → (rows : List NodeEntry) → node_queue n (nodes_left change rows) ≡ node_queue n rows
-  after_end-queue sessions.Same none rows = refl
-  after_end-queue (sessions.Mute quiet) none rows = refl
   after_end-queue (sessions.End over) none rows = absurd (none over refl)
+  after_end-queue _ none rows = refl
 
   none-ends : (r : RequestId) (tenant : Option TenantId) → ch.grows ≡ grow.Allocate n r tenant → (over : SessionId) → ch.sessions ≡ sessions.End over → ⊥
-  none-ends r tenant grows over is =
-      let premise : SessionsPremise s ch (sessions.End over) = subst (λ (change : SessionsChange). SessionsPremise s ch change) is given.sessions in
-      let both : grow.Allocate n r tenant ≡ grow.Nothing = sym grows ∙ premise.same_size in
-      absurd cc
+  none-ends r tenant grows over is = grind (arith, nat_tests)
 
   taken-held : (r : RequestId) (gains : Gains c s ch r n) → ch.nodes ≡ nodes.Same → IsTaken c s ch gains.pool r gains.request gains.label n → ByHolder t n
   taken-held r gains same taken =
@@ -148,16 +116,10 @@ module _ (c : Configuration) (s : State) (entry : Entry) (old : Invariant c s) (
 
   -- as it was after the growth, or taken ready now
   after-growth : (maker : Option Maker) (growth : Growth) → ch.maker ≡ maker → ch.grows ≡ growth → GrowthPremise c s ch growth → (node_in n (grown c maker growth s).nodes ≡ Some node) ⊎ ByHolder t n
-  after-growth maker grow.Nothing by at premise = inl stands
-  after-growth maker (grow.Session role) by at premise = inl stands
   after-growth None (grow.Registration p) by at premise = inl stands
   after-growth (Some maker) (grow.Registration p) by at premise = inl stands
-  after-growth maker (grow.Request priority asked) by at premise = inl stands
   after-growth maker (grow.Node kept) by at premise = inl (node_in-push _ n node s.nodes stands)
-  after-growth maker (grow.JoinRequest r) by at premise = inl stands
-  after-growth None (grow.JoinNode m) by at premise = inl stands
   after-growth (Some maker) (grow.JoinNode m) by at premise = inl (node_in-queue m n (joined maker.session (node_queue m s.nodes)) s.nodes ∙ stands)
-  after-growth None (grow.Allocate m r tenant) by at premise = inl stands
   after-growth (Some maker) (grow.Allocate m r tenant) by at premise = which (m.0 == n.0) refl where
     which : (b : Bool) → (m.0 == n.0) ≡ b → (node_in n (grown c (Some maker) (grow.Allocate m r tenant) s).nodes ≡ Some node) ⊎ ByHolder t n
     which false other =
@@ -168,8 +130,7 @@ module _ (c : Configuration) (s : State) (entry : Entry) (old : Invariant c s) (
         from : IsTaken c s ch gains.pool r gains.request gains.label n ⊎ IsMade c s ch gains.pool r gains.request gains.label n → ByHolder t n
         from (inl taken) = taken-held r gains (gain-nodes r m premise) taken
         from (inr made) = absurd (let both : grow.Allocate m r tenant ≡ grow.Node _ = sym at ∙ made.grows in cc)
-  after-growth maker (grow.Handles j) by at premise = inl stands
-  after-growth maker (grow.Swept m x) by at premise = inl stands
+  after-growth maker _ by at premise = inl stands
 
   -- ### what happens to nodes
 
@@ -196,7 +157,6 @@ module _ (c : Configuration) (s : State) (entry : Entry) (old : Invariant c s) (
     by (inr (inr gone)) = absurd (let both : nodes.FreeAll x ≡ nodes.Same = sym frees ∙ gone.withdraws.same_nodes in cc)
 
   after-nodes : (maker : Option Maker) (tick : ℕ) (rows : List NodeEntry) → node_in n rows ≡ Some node → (change : NodesChange) → ch.nodes ≡ change → NodesPremise c s ch change → given_back_by e ≡ None → (node_in n (nodes_changed maker tick change rows) ≡ Some node) ⊎ ByHolder t n
-  after-nodes maker tick rows there nodes.Same at premise none = inl there
   after-nodes maker tick rows there (nodes.Put m kept) at premise none = which (m.0 == n.0) refl where
     which : (b : Bool) → (m.0 == n.0) ≡ b → (node_in n (nodes_changed maker tick (nodes.Put m kept) rows) ≡ Some node) ⊎ ByHolder t n
     which true same = inr (held-node m premise.node (same_node-is m n same) premise.held)
@@ -205,7 +165,6 @@ module _ (c : Configuration) (s : State) (entry : Entry) (old : Invariant c s) (
     which : (b : Bool) → (m.0 == n.0) ≡ b → (node_in n (nodes_changed maker tick (nodes.Remove m) rows) ≡ Some node) ⊎ ByHolder t n
     which true same = inr (held-node m premise.node (same_node-is m n same) premise.held)
     which false other = inl (node_in-remove m n rows other ∙ there)
-  after-nodes None tick rows there (nodes.Leave m) at premise none = inl there
   after-nodes (Some maker) tick rows there (nodes.Leave m) at premise none = inl (node_in-queue m n (left maker.session (node_queue m rows)) rows ∙ there)
   after-nodes maker tick rows there (nodes.FreeAll x) at premise none = which (is_request x node.allocated_to) refl where
     which : (b : Bool) → is_request x node.allocated_to ≡ b → (node_in n (nodes_changed maker tick (nodes.FreeAll x) rows) ≡ Some node) ⊎ ByHolder t n
@@ -218,6 +177,7 @@ module _ (c : Configuration) (s : State) (entry : Entry) (old : Invariant c s) (
         let mine : list_any (λ m. m.0 == n.0) takes.request.nodes ≡ true = subst (λ (ns : List NodeId). list_any (λ m. m.0 == n.0) ns ≡ true) premise.2.1 listed in
         inr (by-before takes.by takes.made_by (held-of s takes.by.session n takes.request.nodes mine takes.held))
     which false other = inl (node_in-in_use tick numbers n rows ∙ ap (λ (o : Option NodeRecord). option_map (λ k. cond (list_any (λ m. m.0 == n.0) numbers) (used_from tick k) k) o) there ∙ ap (λ (b : Bool). Some (cond b (used_from tick node) node)) other)
+  after-nodes maker tick rows there _ at premise none = inl there
 
   -- ### what a decline or a reset gives back
 

@@ -1,7 +1,5 @@
 -- a list in order, with one member less or more
-use Rattle.std.proofs.Common.{◌≡◌, List, [], ◌∷◌, ◌++◌, refl, Bool, true, false, cond}
-use Rattle.np_changes.specs.Prelude.{AllByRecursion, Rises, insert_before, remove_first}
-use Rattle.np_lists.proofs.Each.{all-weaker, all-push, all-remove_first, all-insert_before}
+use Rattle.np_laws.proofs.Prelude.{AllByRecursion, Bool, List, Rises, all-insert_before, all-push, all-remove_first, all-weaker, cond, false, insert_before, refl, remove_first, true, [], ◌++◌, ◌∷◌, ◌≡◌}
 
 module _ {X : Type 0} (before : X → X → Bool) where
   pub rises-remove_first : (p : X → Bool) (xs : List X) → Rises before xs → Rises before (remove_first p xs)

@@ -1,16 +1,5 @@
 -- the parts hold of every state that a run leads to, and every run is safe
-use Rattle.std.proofs.Common.{◌≡◌, ◌∙◌, sym, ap, List, [], ◌∷◌, refl, subst, Bool, true, false}
-use Rattle.std.specs.Prelude.{is_ok, is_some}
-use Rattle.np_changes.specs.Prelude.{Configuration, Entry, Event, NodeId, Premises, RequestId, RequestState, Runs, SessionId, State, after, changed, is_fulfilled, is_session_of, judge, next, node_holder, plan, request_holder, request_in, start, state_after}
-use Rattle.np_text.specs.declared.word.RequestState.TheVariants as request_state
-use Rattle.np_machine.specs.LiveHolder.{IsLiveHolder, IsLiveRequestHolder}
-use Rattle.np_machine.specs.Safe.{OwnsItsLabels, FulfilledOwn, Safe}
-use Rattle.np_machine.proofs.Runs.{Runs-prefix}
-use Rattle.np_changes.specs.declared.changes.Changes.{Changes}
-use Rattle.np_changes.proofs.PlanLaws.{plan-next}
-use Rattle.np_changes.proofs.PremisesOf.{premises}
-use Rattle.np_laws.specs.Parts.{StandsIn, RequestsStand, Invariant}
-use Rattle.np_laws.specs.Steps.{AfterEveryStep}
+use Rattle.np_laws.proofs.Prelude.{AfterEveryStep, Bool, Changes, Configuration, Entry, Event, FulfilledOwn, Invariant, IsLiveHolder, IsLiveRequestHolder, List, NodeId, Premises, RequestId, RequestsStand, Runs, Runs-prefix, Safe, SessionId, State, after, ap, arith, changed, false, is_ok, is_session_of, is_some, judge, nat_tests, next, node_holder, plan, plan-next, premises, refl, request_holder, request_in, start, state_after, subst, sym, true, [], ◌∙◌, ◌∷◌, ◌≡◌}
 use Rattle.np_laws.proofs.Numbered.{numbered}
 use Rattle.np_laws.proofs.LiveQueues.{queued}
 use Rattle.np_laws.proofs.Registered.{registered-still}
@@ -70,12 +59,7 @@ request-holder c journal s session r runs live =
 -- ## safe
 
 owned-labels : (s : State) → RequestsStand s → FulfilledOwn s
-owned-labels s stand r request is fulfilled = by request.state fulfilled (stand r request is) where
-  by : (state : RequestState) → is_fulfilled state ≡ true → StandsIn s r request state → OwnsItsLabels s r request
-  by request_state.Requested fulfils stands = absurd cc
-  by request_state.Pending fulfils stands = absurd cc
-  by request_state.Fulfilled fulfils stands = stands
-  by request_state.Failed fulfils stands = absurd cc
+owned-labels s stand r request is fulfilled = grind (arith, nat_tests)
 
 pub safe-Runs : (c : Configuration) (journal : List Entry) (s : State) → Runs c journal s → Safe c journal
 safe-Runs c journal s runs =

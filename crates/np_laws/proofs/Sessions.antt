@@ -1,16 +1,7 @@
 -- which sessions stay live
-use Rattle.std.proofs.Common.{◌≡◌, ◌≢◌, ◌∙◌, sym, ℕ, zero, suc, List, [], ◌∷◌, ◌++◌, refl, ap, arith, subst, Option, Some, None, Bool, true, false, cond}
-use Rattle.std.specs.Prelude.{◌==◌, ◌-◌, slice_get}
-use Rattle.np_changes.specs.Prelude.{Configuration, SessionFacts, SessionId, SessionsPremise, State, change_session, changed, ended, grown, is_session, muted, option_map, session_of, sessions_changed}
-use Rattle.std.proofs.lemmas.Bool.Decides.{nat_tests}
-use Rattle.np_lists.proofs.ChangeLemmas.{slice_get-change_at, slice_get-change_at_other}
-use Rattle.np_changes.specs.declared.changes.Maker.{Maker}
-use Rattle.np_changes.specs.declared.changes.Changes.{Changes}
-use Rattle.np_changes.specs.declared.changes.Growth.{Growth}
+use Rattle.np_laws.proofs.Prelude.{Bool, Changes, Configuration, Growth, IsLive, List, Maker, None, Option, SessionFacts, SessionId, SessionsChange, SessionsPremise, Some, State, ap, arith, change_session, changed, cond, ended, false, grown, is_session, muted, nat_tests, option_map, refl, session_of, sessions_changed, slice_get, slice_get-change_at, slice_get-change_at_other, subst, suc, sym, true, zero, [], ℕ, ◌++◌, ◌-◌, ◌==◌, ◌∙◌, ◌∷◌, ◌≡◌, ◌≢◌}
 use Rattle.np_changes.specs.declared.changes.Growth.TheVariants as grow
-use Rattle.np_changes.specs.declared.changes.SessionsChange.{SessionsChange}
 use Rattle.np_changes.specs.declared.changes.SessionsChange.TheVariants as sessions
-use Rattle.np_laws.specs.Parts.{IsLive}
 
 -- the session is found with these facts among the sessions
 abbrev pub facts_in : SessionId → List SessionFacts → Option SessionFacts
@@ -36,17 +27,10 @@ facts-push session rows new facts is = by (session.0 == 0) is where
 
 -- whatever grows
 pub facts-grown : (c : Configuration) (maker : Option Maker) (growth : Growth) (s : State) (session : SessionId) (facts : SessionFacts) → facts_in session s.sessions ≡ Some facts → facts_in session (grown c maker growth s).sessions ≡ Some facts
-facts-grown c maker grow.Nothing s session facts is = is
 facts-grown c maker (grow.Session role) s session facts is = facts-push session s.sessions _ facts is
 facts-grown c None (grow.Registration p) s session facts is = is
 facts-grown c (Some maker) (grow.Registration p) s session facts is = is
-facts-grown c maker (grow.Request priority asked) s session facts is = is
-facts-grown c maker (grow.Node kept) s session facts is = is
-facts-grown c maker (grow.JoinRequest r) s session facts is = is
-facts-grown c maker (grow.JoinNode n) s session facts is = is
-facts-grown c maker (grow.Allocate n r tenant) s session facts is = is
-facts-grown c maker (grow.Handles j) s session facts is = is
-facts-grown c maker (grow.Swept n x) s session facts is = is
+facts-grown c maker _ s session facts is = is
 
 -- a session whose facts change, except its role and whether it is live
 kept-session : (changed_one : SessionId) (f : SessionFacts → SessionFacts) → ((x : SessionFacts) → (f x).role ≡ x.role) → ((x : SessionFacts) → (f x).live ≡ x.live)

@@ -1,18 +1,9 @@
 -- a request that was as its state says is so after a change, if the nodes are kept for it
-use Rattle.std.proofs.Common.{◌≡◌, ◌∙◌, sym, subst, ℕ, ◌<◌, ◌≤◌, ◌⊎◌, inl, inr, Bool, true, false, cond, List, [], refl, ap, lt_of_lt_of_le, arith, length, Some, None}
-use Rattle.std.specs.Prelude.{◌==◌, slice_get}
-use Rattle.np_changes.specs.Prelude.{AllByRecursion, LabelId, NodeEntry, NodeId, NodeRecord, PoolId, RequestId, RequestRecord, RequestState, State, is_fulfilled, is_pending, is_ready, is_request, is_requested, list_any, next_label, node_in, option_map, request_in, same_request, with_node}
-use Rattle.std.proofs.lemmas.Bool.{false≢true, false_from_ne_true}
-use Rattle.std.proofs.lemmas.Option.{none-some, same_Some, slice_get_within}
+use Rattle.np_laws.proofs.Prelude.{AllByRecursion, Bool, IsAtRest, IsFor, IsGiven, IsServed, LabelId, NodeEntry, NodeId, NodeRecord, None, OwnsItsLabels, PoolId, RequestId, RequestRecord, RequestState, RequestsStand, Some, StandsIn, State, all-at, all-push, ap, arith, cond, false, false_from_ne_true, false≢true, inl, inr, is_fulfilled, is_pending, is_ready, is_request, is_requested, length, list_any, lt_of_lt_of_le, member-there, nat_tests, next_label, node_in, none-some, option_map, refl, request-equal, request_in, same_Some, same_request, slice_get, slice_get_within, subst, sym, true, with_node, [], ℕ, ◌<◌, ◌==◌, ◌∙◌, ◌≡◌, ◌≤◌, ◌⊎◌}
 use Rattle.np_text.specs.declared.word.RequestState.TheVariants as request_state
-use Rattle.np_lists.proofs.Each.{all-at, all-push}
-use Rattle.np_machine.specs.Safe.{DistinctNodes, IsGiven, OwnsItsLabels}
-use Rattle.np_laws.specs.Parts.{IsAtRest, IsFor, IsServed, StandsIn, RequestsStand}
 use Rattle.np_laws.proofs.Lookups.{node_in-below}
 use Rattle.np_laws.proofs.NodeKept.{allocated-to_none, Keeps, KeptAt, kept-back, kept-on}
 use Rattle.np_laws.proofs.Places.{IsEdited, edited-by, node-place, push-places, push-within, distinct-push, all-below}
-use Rattle.np_machine.proofs.Ids.{request-equal}
-use Rattle.np_lists.proofs.Plain.{member-there}
 
 -- ## by the request's state
 
@@ -43,14 +34,7 @@ either-stands s r q false rest = rest
 
 -- a pool has begun to serve it
 pub empty-served : (s : State) (r : RequestId) (q : RequestRecord) (pool : PoolId) → q.pool ≡ Some pool → q.nodes ≡ [] → IsServed s r q
-empty-served s r q pool by none = record {
-  pool = pool;
-  served_by = by;
-  few = subst (λ (numbers : List NodeId). length numbers ≤ length q.labels) (sym none) (omega arith);
-  distinct = subst (λ (numbers : List NodeId). DistinctNodes numbers) (sym none) tt;
-  below = subst (λ (numbers : List NodeId). AllByRecursion (λ n. n.0 < s.next_node) numbers) (sym none) tt;
-  each = λ at n l node is_at of_label stands. absurd (none-some n (ap (λ (numbers : List NodeId). slice_get numbers at) (sym none) ∙ is_at));
-}
+empty-served s r q pool by none = grind (arith, nat_tests)
 
 -- ## the nodes of a request
 
@@ -131,10 +115,9 @@ module _ (s t : State) (below : AllByRecursion (λ (e : NodeEntry). e.id.0 < s.n
   }
 
   stands-kept : (r : RequestId) (q : RequestRecord) (state : RequestState) → KeptFor s t r → StandsIn s r q state → StandsIn t r q state
-  stands-kept r q request_state.Requested kept stands = stands
   stands-kept r q request_state.Pending kept stands = served-kept r q kept stands
   stands-kept r q request_state.Fulfilled kept stands = owns-kept r q kept stands
-  stands-kept r q request_state.Failed kept stands = stands
+  stands-kept r q _ kept stands = stands
 
   stand-step : RequestsStand s → ((r : RequestId) (q : RequestRecord) → request_in r t.requests ≡ Some q → Follows s t r q) → RequestsStand t
   stand-step stand follows = λ r q is. by r q (follows r q is) where

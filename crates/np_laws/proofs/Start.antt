@@ -1,8 +1,5 @@
 -- the parts hold of the first state
-use Rattle.std.proofs.Common.{◌≡◌, sym, ℕ, zero, suc, List, [], ◌∷◌, refl, subst, Some}
-use Rattle.std.specs.Prelude.{map, slice_get}
-use Rattle.np_changes.specs.Prelude.{Configuration, Job, JobRecord, new_job, start}
-use Rattle.np_laws.specs.Parts.{JobIn, Invariant}
+use Rattle.np_laws.proofs.Prelude.{Configuration, Invariant, Job, JobIn, JobRecord, List, Some, map, new_job, refl, slice_get, start, subst, suc, sym, zero, [], ℕ, ◌∷◌, ◌≡◌}
 use Rattle.np_laws.proofs.Quota.{within-quota_first}
 use Rattle.np_laws.proofs.Handles.{within-max_first}
 use Rattle.np_laws.proofs.TenantQuota.{within-tenant_quota_first}

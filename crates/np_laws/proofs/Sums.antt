@@ -1,12 +1,7 @@
 -- sums of amounts over a list that changes
-use Rattle.std.proofs.Common.{◌≡◌, ℕ, zero, suc, Bool, true, false, ◌&&◌, cond, List, [], ◌∷◌, ◌++◌, map, filter, drop, fold, Option, Some, None, refl, sym, ap, ◌∙◌, arith}
-use Rattle.std.specs.Prelude.{find, slice_get}
-use Rattle.std.proofs.lemmas.Bool.Decides.{nat_tests}
+use Rattle.np_laws.proofs.Prelude.{Amount, Bool, IsAtMost-part, IsAtMost-plus, IsAtMost-refl, IsAtMost-trans, Limit, List, None, Option, Some, ap, arith, change_first, change_first-absent, cond, drop, false, filter, find, fold, insert_before, map, nat_tests, nothing-plus, plus-comm, refl, remove_first, same_amount, slice_get, suc, sym, total_push, true, zero, [], ℕ, ◌++◌, ◌∙◌, ◌∷◌, ◌≡◌}
 use Rattle.std.proofs.lemmas.List.{map-append}
-use Rattle.np_changes.specs.Prelude.{Amount, Limit, change_first, insert_before, remove_first}
-use Rattle.np_amount.specs.Amounts.{nothing, plus, is_within, fits, total, IsAtMost}
-use Rattle.np_amount.proofs.Sums.{same_amount, plus-comm, nothing-plus, IsAtMost-refl, IsAtMost-trans, IsAtMost-part, IsAtMost-plus, total_push}
-use Rattle.np_lists.proofs.ChangeLemmas.{change_first-absent}
+use Rattle.np_amount.specs.Amounts.{nothing, plus, fits, total, IsAtMost}
 
 -- ## amounts
 
@@ -47,17 +42,8 @@ second-rises a b c more rise = record { instances = omega arith; cores = omega a
 
 -- ## limits
 
-all_three : (p q r : Bool) → p ≡ true → q ≡ true → r ≡ true → (p && q && r) ≡ true
-all_three p q r one two three = rw (one, two, three) refl
-
-is_within-nothing : (o : Option ℕ) → is_within o 0 ≡ true
-is_within-nothing None = refl
-is_within-nothing (Some most) = grind (arith, nat_tests)
-
 pub fits-nothing : (limit : Limit) → fits nothing limit ≡ true
-fits-nothing limit =
-    all_three (is_within limit.instances 0) (is_within limit.cores 0) (is_within limit.ram 0)
-    (is_within-nothing limit.instances) (is_within-nothing limit.cores) (is_within-nothing limit.ram)
+fits-nothing limit = grind (arith, nat_tests)
 
 -- ## the members that count
 

@@ -1,24 +1,13 @@
 -- no tenant exceeds a limit
-use Rattle.std.proofs.Common.{◌≡◌, ◌⊎◌, ℕ, ◌==◌, ◌&&◌, not, Bool, true, false, cond, List, [], ◌∷◌, ◌++◌, slice_get, is_some, is_none, option_and_then, Option, Some, None, refl, sym, ap, ◌∙◌, subst, subst₂, inl, inr}
-use Rattle.np_changes.specs.Prelude.{Amount, IsAtMost, Job, JobId, LabelId, Limit, NodeEntry, NodeId, NodeRecord, PoolId, RequestEntry, RequestId, RequestRecord, State, Tenant, TenantId, allocated, amount_of, amount_of_all, by_maker, change_first, changed, first_unoffered, fits, grown, is_pending, joined, left, never_fits, new_node, new_record, next_id, no_limit, node_entry, node_in, nothing, option_map, option_map_or, plus, requests_changed, start}
+use Rattle.np_laws.proofs.Prelude.{Amount, Asked, AsksForJob, AsksToKeep, Bool, Changes, Gains, Growth, GrowthPremise, Invariant, IsAtMost, IsAtMost-part, IsAtMost-plus, IsAtMost-refl, IsAtMost-trans, IsMade, IsTaken, LabelId, Limit, List, Maker, MayServe, NodeEntry, NodeId, NodeRecord, None, Option, PoolId, Premises, RequestEntry, RequestId, RequestRecord, RequestsChange, RequestsPremise, Some, State, Tenant, TenantId, WithinTenantQuota, allocated, amount_of, amount_of_all, ap, arith, by_maker, change_first, changed, cond, false, first_unoffered, fits, fits-less, grown, inl, inr, is_none, is_pending, is_some, joined, left, nat_tests, never_fits, new_node, new_record, next_id, no_limit, node_entry, node_in, nothing, option_map_or, plus, refl, requests_changed, start, subst, subst₂, sym, true, [], ℕ, ◌++◌, ◌==◌, ◌∙◌, ◌∷◌, ◌≡◌, ◌⊎◌}
 use Rattle.std.proofs.Math.Path.{ap₂}
-use Rattle.std.proofs.lemmas.Bool.{not-false, not_from_false, and_from}
-use Rattle.np_amount.proofs.Sums.{IsAtMost-refl, IsAtMost-trans, IsAtMost-part, IsAtMost-plus, fits-less}
 use Rattle.np_config.specs.Configuration.{Configuration, tenant_of}
-use Rattle.np_machine.specs.Tenants.{is_tenant, tenant_of_request, amount_of_node, rest_of_request, is_pending_of, limit_of_tenant, count_of_tenant, tenant_never_fits, is_short_of}
-use Rattle.np_machine.specs.First.{may_fit, short_tenant, blocking}
-use Rattle.np_machine.specs.Safe.{WithinTenantQuota}
-use Rattle.np_changes.specs.declared.asked.Asked.{Asked}
-use Rattle.np_changes.specs.declared.changes.Maker.{Maker}
-use Rattle.np_changes.specs.declared.changes.Changes.{Changes}
-use Rattle.np_changes.specs.declared.changes.Growth.{Growth}
+use Rattle.np_machine.specs.Tenants.{is_tenant, tenant_of_request, amount_of_node, rest_of_request, is_pending_of, limit_of_tenant, count_of_tenant, tenant_never_fits}
+use Rattle.np_machine.specs.First.{blocking}
 use Rattle.np_changes.specs.declared.changes.Growth.TheVariants as grow
 use Rattle.np_changes.specs.declared.changes.RequestEdit.TheVariants as edit
-use Rattle.np_changes.specs.declared.changes.RequestsChange.{RequestsChange}
 use Rattle.np_changes.specs.declared.changes.RequestsChange.TheVariants as requests
-use Rattle.np_changes.specs.Premises.{AsksForJob, AsksToKeep, IsTaken, IsMade, Gains, GrowthPremise, MayServe, RequestsPremise, Premises}
-use Rattle.np_laws.specs.Parts.{Invariant}
-use Rattle.np_laws.proofs.Ids.{same_pool, same_label, same_tenant, kept-is}
+use Rattle.np_laws.proofs.Ids.{same_pool, same_label, kept-is}
 use Rattle.np_laws.proofs.Sums.{at_most-same, part-at_most, plus-nothing, nothing-at_most, traded, second-rises, fits-nothing, sum_of-filter, sum_of-push, sum_of-rise}
 use Rattle.np_laws.proofs.NodeAmounts.{Measure, IsLeastFree, takes, taken, settled-keeps}
 use Rattle.np_laws.proofs.NodeAmounts
@@ -45,51 +34,15 @@ limit-is c t tenant row = ap (λ (o : Option Tenant). option_map_or (λ (x : Ten
 
 -- ## room for all labels of a request
 
-cond-none : {A : Type 0} (b : Bool) (o : Option A) → b ≡ true → cond b o None ≡ None → o ≡ None
-cond-none true o holds none = none
-cond-none false o holds none = absurd cc
-
-cond-some_none : {A : Type 0} (b : Bool) (a : A) → cond b (Some a) None ≡ None → b ≡ false
-cond-some_none true a none = absurd cc
-cond-some_none false a none = refl
-
--- a request with no job has no tenant
-no_job : (o : Option JobId) (c : Configuration) → is_some o ≡ false → option_map (λ (job : Job). job.tenant) (option_and_then (λ (j : JobId). slice_get c.jobs j.0) o) ≡ None
-no_job None c none = refl
-no_job (Some j) c none = absurd cc
-
 module _ (c : Configuration) (s : State) (p : PoolId) (request : RequestRecord) (t : TenantId) where
   -- the tenant's count and all labels together fit
   abbrev HasRoom : Type 0
   HasRoom = fits (plus (count_of_tenant c s t) (amount_of_all c p request.labels)) (limit_of_tenant c t) ≡ true
 
-  short-by : (o : Option TenantId) → is_tenant t o ≡ true → option_and_then (short_tenant c s p request) o ≡ None → HasRoom
-  short-by None own none = absurd cc
-  short-by (Some other) own none =
-      let same : other ≡ t = same_tenant other t own in
-      let long : is_short_of c s p request other ≡ false = cond-some_none (is_short_of c s p request other) other none in
-      not-false (fits (plus (count_of_tenant c s t) (amount_of_all c p request.labels)) (limit_of_tenant c t)) (subst (λ (z : TenantId). is_short_of c s p request z ≡ false) same long)
-
-  pinned-by : (o : Option PoolId) → request.pinned ≡ o → is_some request.job ≡ is_none request.pinned → may_fit c p request ≡ true → blocking c s p request ≡ None → is_tenant t (tenant_of_request c request) ≡ true → HasRoom
-  pinned-by None free whose fit unblocked own =
-      short-by (tenant_of_request c request) own
-      (cond-none (is_none request.pinned && may_fit c p request) (option_and_then (short_tenant c s p request) (tenant_of_request c request))
-      (and_from (is_none request.pinned) (may_fit c p request) (ap (λ (o : Option PoolId). is_none o) free) fit) unblocked)
-  pinned-by (Some q) pinned whose fit unblocked own =
-      let jobless : is_some request.job ≡ false = whose ∙ ap (λ (o : Option PoolId). is_none o) pinned in
-      let nobody : tenant_of_request c request ≡ None = no_job request.job c jobless in
-      let other : is_tenant t (tenant_of_request c request) ≡ false = ap (is_tenant t) nobody in
-      absurd (cc)
-
   -- a pool may serve the request: there is room for all its labels
   served-room : is_some request.job ≡ is_none request.pinned → first_unoffered c p request ≡ None → never_fits c p request ≡ false → tenant_never_fits c p request ≡ false → blocking c s p request ≡ None
       → is_tenant t (tenant_of_request c request) ≡ true → HasRoom
-  served-room whose offered fits_pool fits_tenant unblocked own =
-      let first : is_none (first_unoffered c p request) ≡ true = ap (λ (o : Option LabelId). is_none o) offered in
-      let fit : may_fit c p request ≡ true =
-      and_from (is_none (first_unoffered c p request) && not (never_fits c p request)) (not (tenant_never_fits c p request))
-      (and_from (is_none (first_unoffered c p request)) (not (never_fits c p request)) first (not_from_false (never_fits c p request) fits_pool)) (not_from_false (tenant_never_fits c p request) fits_tenant) in
-      pinned-by request.pinned refl whose fit unblocked own
+  served-room whose offered fits_pool fits_tenant unblocked own = grind (arith, nat_tests)
 
 -- ## what grows
 
@@ -114,8 +67,6 @@ module _ (c : Configuration) (s : State) (ch : Changes) (t : TenantId) where
   registration-keeps (Some maker) q = IsAtMost-refl (used c t s.nodes s.requests)
 
   growth-keeps : (g : Growth) → GrowthPremise c s ch g → AGain ⊎ IsAtMost (used_after g) (used c t s.nodes s.requests)
-  growth-keeps grow.Nothing premise = inr (IsAtMost-refl (used c t s.nodes s.requests))
-  growth-keeps (grow.Session role) premise = inr (IsAtMost-refl (used c t s.nodes s.requests))
   growth-keeps (grow.Registration q) premise = inr (registration-keeps ch.maker q)
   growth-keeps (grow.Request priority asked) premise =
       inr (IsAtMost-plus (taken (of_tenant c t) s.nodes) (taken (of_tenant c t) s.nodes) (waited c t (grown c ch.maker (grow.Request priority asked) s).requests) (waited c t s.requests)
@@ -129,8 +80,7 @@ module _ (c : Configuration) (s : State) (ch : Changes) (t : TenantId) where
       inr (IsAtMost-plus (taken (of_tenant c t) (grown c ch.maker (grow.JoinNode n) s).nodes) (taken (of_tenant c t) s.nodes) (waited c t s.requests) (waited c t s.requests)
       (NodeAmounts.queue-keeps (of_tenant c t) ch.maker joined n s.nodes) (IsAtMost-refl (waited c t s.requests)))
   growth-keeps (grow.Allocate n r tenant) premise = inl (record { request = r; node = n; gains = premise })
-  growth-keeps (grow.Handles j) premise = inr (IsAtMost-refl (used c t s.nodes s.requests))
-  growth-keeps (grow.Swept n x) premise = inr (IsAtMost-refl (used c t s.nodes s.requests))
+  growth-keeps _ premise = inr (IsAtMost-refl (used c t s.nodes s.requests))
 
 -- ## a request gets a node
 
@@ -206,13 +156,7 @@ module _ (c : Configuration) (s : State) (ch : Changes) (t : TenantId) where
     -- after a growth that takes no more, requests that wait for no more
     lower-fits : (rows : List RequestEntry) → IsAtMost (used c t (grown c ch.maker ch.grows s).nodes (grown c ch.maker ch.grows s).requests) (used c t s.nodes s.requests)
         → IsAtMost (waited c t rows) (waited c t (grown c ch.maker ch.grows s).requests) → fits (used c t (grown c ch.maker ch.grows s).nodes rows) limit ≡ true
-    lower-fits rows less lower =
-        fits-less (used c t (grown c ch.maker ch.grows s).nodes rows) (used c t s.nodes s.requests) limit
-        (IsAtMost-trans (used c t (grown c ch.maker ch.grows s).nodes rows) (used c t (grown c ch.maker ch.grows s).nodes (grown c ch.maker ch.grows s).requests) (used c t s.nodes s.requests)
-        (IsAtMost-plus (taken (of_tenant c t) (grown c ch.maker ch.grows s).nodes) (taken (of_tenant c t) (grown c ch.maker ch.grows s).nodes) (waited c t rows) (waited c t (grown c ch.maker ch.grows s).requests)
-        (IsAtMost-refl (taken (of_tenant c t) (grown c ch.maker ch.grows s).nodes)) lower)
-        less)
-        old
+    lower-fits rows less lower = grind (arith, nat_tests)
 
     gain-fits : (r : RequestId) (n : NodeId) → Gains c s ch r n → fits (used_then (requests.Edit r (edit.AddNode n)) ch.grows) limit ≡ true
     gain-fits r n gains = fits-less (used_then (requests.Edit r (edit.AddNode n)) ch.grows) (used c t s.nodes s.requests) limit (gain-keeps r n gains) old

@@ -1,8 +1,6 @@
 -- the way through a plan: what holds if nothing changes, and for each thing that is found, holds
 -- for the plan
-use Rattle.std.proofs.Common.{◌≡◌, refl, Option, Some, None, Result, Ok, Err}
-use Rattle.np_changes.specs.Prelude.{Refusal, Role, SessionId, made_by, same, with_found, with_given}
-use Rattle.np_changes.specs.declared.changes.Changes.{Changes}
+use Rattle.np_laws.proofs.Prelude.{Changes, Err, None, Ok, Option, Refusal, Result, Role, SessionId, Some, made_by, refl, same, with_found, with_given, ◌≡◌}
 
 module _ (P : Changes → Type 0) (nothing : P same) where
   pub plan-found : {A : Type 0} (o : Option A) (f : A → Changes) → ((a : A) → o ≡ Some a → P (f a)) → P (with_found o f)

@@ -1,9 +1,5 @@
 -- lists of turns, with one turn more
-use Rattle.std.proofs.Common.{◌≡◌, ℕ, ◌+◌, List, [], ◌∷◌, ◌++◌, arith, Bool, true, false, cond, ◌&&◌, inl, inr}
-use Rattle.std.proofs.lemmas.Bool.{false≢true, cond-true, cond-false}
-use Rattle.std.proofs.lemmas.List.Sums.{sum_by-cons, sum_by_push}
-use Rattle.np_changes.specs.Prelude.{EachTurn, NodeId, SomeTurn, Turn, is_done}
-use Rattle.np_machine.specs.Caused.{is_report_on, ReportsFailure, reports_on}
+use Rattle.np_laws.proofs.Prelude.{Bool, EachTurn, List, NodeId, ReportsFailure, SomeTurn, Turn, arith, cond, cond-false, cond-true, false, inl, inr, is_done, is_report_on, nat_tests, reports_on, sum_by-cons, sum_by_push, true, [], ℕ, ◌&&◌, ◌++◌, ◌+◌, ◌∷◌, ◌≡◌}
 
 pub some-before : (P : Turn → Type 0) (ts : List Turn) (t : Turn) → SomeTurn P ts → SomeTurn P (ts ++ t ∷ [])
 some-before P [] t some = absurd some
@@ -34,9 +30,7 @@ pub reports-more : (n : NodeId) (ts : List Turn) (t : Turn) → reports n t ≡ 
 reports-more n ts t is = omega (arith, reports-push n ts t, cond-true {A = ℕ} (reports n t) 1 0 is)
 
 no-report : (a b : Bool) (rest all : ℕ) → all ≡ cond (a && b) 1 0 + rest → all ≡ 0 → a ≡ true → b ≡ true → ⊥
-no-report true true rest all both none is accepted = omega (arith, both, none)
-no-report true false rest all both none is accepted = false≢true accepted
-no-report false b rest all both none is accepted = false≢true is
+no-report x0 b rest all both none is accepted = grind (arith, nat_tests)
 
 -- if there is no report, every report said that the launch failed
 pub none-failed : (n : NodeId) (ts : List Turn) → reports_on n ts ≡ 0 → EachTurn (ReportsFailure n) ts

@@ -1,21 +1,12 @@
 -- who waits at a request after an event: those who did before, and the maker if it joins
-use Rattle.std.proofs.Common.{◌≡◌, ◌∙◌, sym, ℕ, ◌<◌, List, [], refl, ap, subst, Option, Some, None, Bool, true, false, cond}
-use Rattle.np_changes.specs.Prelude.{AllByRecursion, Configuration, RequestEntry, RequestId, RequestRecord, Rises, SessionId, State, changed, edited, grown, is_id_before, joined, left, new_record, next_id, put_request_queue, request_in, request_queue, requests_changed, requests_left, same_request}
-use Rattle.np_changes.specs.declared.asked.Asked.{Asked}
-use Rattle.np_changes.specs.declared.changes.Maker.{Maker}
-use Rattle.np_changes.specs.declared.changes.Changes.{Changes}
-use Rattle.np_changes.specs.declared.changes.Growth.{Growth}
+use Rattle.np_laws.proofs.Prelude.{AllByRecursion, Asked, Bool, Changes, Configuration, Growth, IsNumbered, List, Maker, None, Option, RequestEntry, RequestId, RequestRecord, RequestsChange, Rises, SessionId, SessionsChange, Some, State, ap, changed, cond, edited, false, grown, is_id_before, joined, left, new_record, next_id, put_request_queue, refl, request-equal, request_in, request_queue, requests_changed, requests_left, same_request, subst, sym, true, [], ℕ, ◌<◌, ◌∙◌, ◌≡◌}
 use Rattle.np_changes.specs.declared.changes.Growth.TheVariants as grow
-use Rattle.np_changes.specs.declared.changes.RequestsChange.{RequestsChange}
 use Rattle.np_changes.specs.declared.changes.RequestsChange.TheVariants as requests
-use Rattle.np_changes.specs.declared.changes.SessionsChange.{SessionsChange}
 use Rattle.np_changes.specs.declared.changes.SessionsChange.TheVariants as sessions
-use Rattle.np_laws.specs.Parts.{IsNumbered}
 use Rattle.np_laws.proofs.Lookups.{request_in-queue, request_in-later, request_queue-edit, request_queue-queue, request_queue-nowhere, request_queue-left, request_queue-insert, request_queue-new, request_queue-remove, request_queue-removed}
 use Rattle.np_laws.proofs.Numbered.{grown-numbered}
 use Rattle.np_laws.proofs.NextNumbers.{same-seq}
 use Rattle.np_laws.proofs.LiveQueues.{all-joined, all-left}
-use Rattle.np_machine.proofs.Ids.{request-equal}
 
 module _ (P : SessionId → Type 0) where
   -- the members of the queue that is found, if they meet the condition
@@ -46,36 +37,27 @@ module _ (P : SessionId → Type 0) where
 
   queue-grown : (c : Configuration) (s : State) (maker : Option Maker) (growth : Growth) (r : RequestId) → AllByRecursion (λ e. e.id.seq < s.next_request) s.requests → AllByRecursion P (request_queue r s.requests)
       → ((m : Maker) → maker ≡ Some m → growth ≡ grow.JoinRequest r → P m.session) → AllByRecursion P (request_queue r (grown c maker growth s).requests)
-  queue-grown c s maker grow.Nothing r below all joins = all
-  queue-grown c s maker (grow.Session role) r below all joins = all
   queue-grown c s None (grow.Registration p) r below all joins = all
   queue-grown c s (Some maker) (grow.Registration p) r below all joins = all
   queue-grown c s maker (grow.Request priority asked) r below all joins = queue-asked c s maker priority asked r below all (same_request (next_id priority s) r) refl
-  queue-grown c s maker (grow.Node kept) r below all joins = all
-  queue-grown c s None (grow.JoinRequest x) r below all joins = all
   queue-grown c s (Some maker) (grow.JoinRequest x) r below all joins =
       queue-put x r (joined maker.session (request_queue x s.requests)) s.requests all (λ same.
       all-joined P maker.session (request_queue x s.requests) (queue-of x r s.requests same all) (joins maker refl (ap (λ (y : RequestId). grow.JoinRequest y) same)))
-  queue-grown c s maker (grow.JoinNode n) r below all joins = all
-  queue-grown c s maker (grow.Allocate n x tenant) r below all joins = all
-  queue-grown c s maker (grow.Handles j) r below all joins = all
-  queue-grown c s maker (grow.Swept n x) r below all joins = all
+  queue-grown c s maker _ r below all joins = all
 
   queue-settled : (maker : Option Maker) (change : RequestsChange) (rows : List RequestEntry) (r : RequestId) → Rises (λ a b. is_id_before a.id b.id) rows → AllByRecursion P (request_queue r rows) → AllByRecursion P (request_queue r (requests_changed maker change rows))
-  queue-settled maker requests.Same rows r rises all = all
   queue-settled maker (requests.Edit x how) rows r rises all = same-queue (request_queue r rows) _ (request_queue-edit x r (edited how) rows) all
   queue-settled maker (requests.Remove x) rows r rises all = by (same_request x r) refl where
     by : (b : Bool) → same_request x r ≡ b → AllByRecursion P (request_queue r (requests_changed maker (requests.Remove x) rows))
     by true same = same-queue [] _ (request_queue-removed x r rows rises same) tt
     by false other = same-queue (request_queue r rows) _ (request_queue-remove x r rows other) all
-  queue-settled None (requests.Leave x) rows r rises all = all
   queue-settled (Some maker) (requests.Leave x) rows r rises all =
       queue-put x r (left maker.session (request_queue x rows)) rows all (λ same. all-left P maker.session (request_queue x rows) (queue-of x r rows same all))
+  queue-settled maker _ rows r rises all = all
 
   queue-after_end : (change : SessionsChange) (rows : List RequestEntry) (r : RequestId) → AllByRecursion P (request_queue r rows) → AllByRecursion P (request_queue r (requests_left change rows))
-  queue-after_end sessions.Same rows r all = all
-  queue-after_end (sessions.Mute heard) rows r all = all
   queue-after_end (sessions.End over) rows r all = same-queue (left over (request_queue r rows)) _ (request_queue-left over r rows) (all-left P over (request_queue r rows) all)
+  queue-after_end _ rows r all = all
 
   pub queue-after : (c : Configuration) (s : State) (ch : Changes) → IsNumbered s → (r : RequestId) → AllByRecursion P (request_queue r s.requests) → ((m : Maker) → ch.maker ≡ Some m → ch.grows ≡ grow.JoinRequest r → P m.session) → AllByRecursion P (request_queue r (changed c ch s).requests)
   queue-after c s ch numbered r all joins =

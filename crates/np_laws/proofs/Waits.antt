@@ -1,13 +1,7 @@
 -- what the pending requests of a tenant wait for, after a change
-use Rattle.std.proofs.Common.{◌≡◌, ℕ, suc, ◌&&◌, Bool, true, false, cond, List, [], ◌∷◌, ◌++◌, length, length-append, drop, slice_get, Option, Some, None, refl, sym, ap, ◌∙◌, subst, arith}
-use Rattle.np_changes.specs.Prelude.{Amount, Configuration, IsAtMost, LabelId, NodeId, PoolId, Reason, RequestEntry, RequestId, RequestRecord, SessionId, TenantId, amount_of, amount_of_all, by_maker, change_first, edited, insert_request, is_id_before, is_pending, is_pending_by, is_pool, is_tenant, next_label, nothing, option_map_or, plus, put_request_queue, remove_request, request_entry, request_in, request_left, request_queue, requests_left, same_request, tenant_of_request, with_node}
-use Rattle.std.proofs.lemmas.Bool.{and_parts}
-use Rattle.np_amount.proofs.Sums.{plus-comm, nothing-plus, IsAtMost-refl, IsAtMost-trans}
-use Rattle.np_changes.specs.declared.changes.Maker.{Maker}
+use Rattle.np_laws.proofs.Prelude.{Amount, Bool, Configuration, IsAtMost, IsAtMost-refl, IsAtMost-trans, LabelId, List, Maker, NodeId, None, Option, PoolId, Reason, RequestEdit, RequestEntry, RequestId, RequestRecord, SessionId, SessionsChange, Some, TenantId, amount_of, amount_of_all, and_parts, ap, arith, by_maker, change_first, cond, drop, edited, false, insert_request, is_id_before, is_pending, is_pending_by, is_pool, is_tenant, length, length-append, next_label, nothing, nothing-plus, option_map_or, plus, plus-comm, put_request_queue, refl, remove_request, request_entry, request_in, request_left, request_queue, requests_left, same_request, slice_get, subst, suc, sym, tenant_of_request, true, with_node, [], ℕ, ◌&&◌, ◌++◌, ◌∙◌, ◌∷◌, ◌≡◌}
 use Rattle.np_changes.specs.declared.changes.RequestEdit.TheVariants as edit
-use Rattle.np_changes.specs.declared.changes.SessionsChange.{SessionsChange}
 use Rattle.np_changes.specs.declared.changes.SessionsChange.TheVariants as sessions
-use Rattle.np_changes.specs.declared.changes.RequestEdit.{RequestEdit}
 use Rattle.np_laws.proofs.Ids.{same_pool, row-of, kept-is}
 use Rattle.np_laws.proofs.Sums.{at_most-same, nothing-at_most, part-at_most, plus-nothing, sum_of, sum_of-insert_before, sum_of-remove_first, sum_of-drop, sum_of-next, sum_of-map, sum_of-rise, sum_of-keep, sum_of-fall}
 
@@ -99,9 +93,8 @@ module _ (c : Configuration) (t : TenantId) where
       sum_of-keep (waits_in c t) (λ (e : RequestEntry). same_request e.id r) (λ e. record e { queue = change maker.session (request_queue r rows) }) rows (λ e _. IsAtMost-refl (waits_in c t e))
 
   pub left-keeps : (change : SessionsChange) (rows : List RequestEntry) → IsAtMost (waited c t (requests_left change rows)) (waited c t rows)
-  left-keeps sessions.Same rows = IsAtMost-refl (waited c t rows)
-  left-keeps (sessions.Mute session) rows = IsAtMost-refl (waited c t rows)
   left-keeps (sessions.End session) rows = sum_of-map (waits_in c t) (request_left session) rows (λ e. IsAtMost-refl (waits_in c t e))
+  left-keeps _ rows = IsAtMost-refl (waited c t rows)
 
   pub remove-keeps : (r : RequestId) (rows : List RequestEntry) → IsAtMost (waited c t (remove_request r rows)) (waited c t rows)
   remove-keeps r rows = sum_of-remove_first (waits_in c t) (λ (e : RequestEntry). same_request e.id r) rows

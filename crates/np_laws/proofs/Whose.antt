@@ -1,16 +1,7 @@
 -- each request has a job or is pinned, after the changes of an accepted event
-use Rattle.std.proofs.Common.{◌≡◌, ◌∙◌, sym, subst, ℕ, ◌<◌, ◌≤◌, ◌⊎◌, inl, inr, Bool, true, false, is_some, is_none, List, [], refl, Some, None}
-use Rattle.np_changes.specs.Prelude.{AllByRecursion, AsksForJob, AsksToKeep, Configuration, GoesFulfilled, GoesWithdrawn, GrowthPremise, Premises, RequestEntry, RequestId, RequestRecord, RequestsPremise, Rises, State, TakesOver, change_first, changed, edited, grown, insert_request, is_id_before, new_record, next_id, remove_request, request_in, requests_changed, same_request}
-use Rattle.std.proofs.lemmas.Option.{none-some, same_Some}
-use Rattle.np_changes.specs.declared.asked.Asked.{Asked}
-use Rattle.np_changes.specs.declared.changes.Changes.{Changes}
-use Rattle.np_changes.specs.declared.changes.Growth.{Growth}
+use Rattle.np_laws.proofs.Prelude.{AllByRecursion, Asked, AsksForJob, AsksToKeep, Bool, Changes, Configuration, GoesFulfilled, GoesWithdrawn, Growth, GrowthPremise, Invariant, JobsOrPinned, List, None, Premises, RequestEdit, RequestEntry, RequestId, RequestRecord, RequestsChange, RequestsPremise, Rises, Some, State, TakesOver, arith, change_first, changed, edited, false, grown, inl, inr, insert_request, is_id_before, is_none, is_some, nat_tests, new_record, next_id, none-some, refl, remove_request, request_in, requests_changed, same_Some, same_request, subst, sym, true, [], ℕ, ◌<◌, ◌∙◌, ◌≡◌, ◌≤◌, ◌⊎◌}
 use Rattle.np_changes.specs.declared.changes.Growth.TheVariants as grow
-use Rattle.np_changes.specs.declared.changes.RequestEdit.{RequestEdit}
-use Rattle.np_changes.specs.declared.changes.RequestEdit.TheVariants as edit
-use Rattle.np_changes.specs.declared.changes.RequestsChange.{RequestsChange}
 use Rattle.np_changes.specs.declared.changes.RequestsChange.TheVariants as requests
-use Rattle.np_laws.specs.Parts.{JobsOrPinned, Invariant}
 use Rattle.np_laws.proofs.Lookups.{request_in-edit, request_in-insert, request_in-new, request_in-remove, request_in-removed, request_in-later}
 use Rattle.np_laws.proofs.NextNumbers.{same-seq}
 use Rattle.np_laws.proofs.Places.{IsEdited, edited-by}
@@ -29,13 +20,7 @@ whose-looks : (rows later : List RequestEntry) → ((r : RequestId) → request_
 whose-looks rows later looks whose = λ r q is. whose r q (sym (looks r) ∙ is)
 
 edited-whose : (e : RequestEdit) (q : RequestRecord) → IsWhose q → IsWhose (edited e q)
-edited-whose (edit.Serve p) q whose = whose
-edited-whose (edit.AddNode n) q whose = whose
-edited-whose (edit.Decline p why failed) q whose = whose
-edited-whose edit.Fulfil q whose = whose
-edited-whose edit.GiveBack q whose = whose
-edited-whose edit.Fail q whose = whose
-edited-whose (edit.Revise relative) q whose = whose
+edited-whose x0 q whose = grind (arith, nat_tests)
 
 whose-edit : (r0 : RequestId) (e : RequestEdit) (rows : List RequestEntry) → WhoseIn rows → WhoseIn (change_first (λ x. same_request x.id r0) (λ x. record x { kept = edited e x.kept }) rows)
 whose-edit r0 e rows whose = λ r q is. by r q (edited-by (same_request r0 r) (edited e) (request_in r rows) q (sym (request_in-edit r0 r (edited e) rows) ∙ is)) where
@@ -70,9 +55,7 @@ module _ (c : Configuration) (s : State) (ch : Changes) (inv : Invariant c s) wh
   grown-whose g premise = whose-looks s.requests (grown c ch.maker g s).requests (λ r. grown-request c ch.maker g s r tt) inv.owned.whose
 
   remove-size : (r : RequestId) → GoesFulfilled s ch r ⊎ (TakesOver c s ch r ⊎ GoesWithdrawn s ch r) → ch.grows ≡ grow.Nothing
-  remove-size r (inl goes) = goes.fulfils.same_size
-  remove-size r (inr (inl takes)) = takes.same_size
-  remove-size r (inr (inr goes)) = goes.withdraws.same_size
+  remove-size r x1 = grind (arith, nat_tests)
 
   changed-whose : (change : RequestsChange) → RequestsPremise c s ch change → GrowthPremise c s ch ch.grows → WhoseIn (requests_changed ch.maker change (grown c ch.maker ch.grows s).requests)
   changed-whose requests.Same premise growth = grown-whose ch.grows growth
