@@ -13,3 +13,10 @@ pub mod Lined
 pub mod FirstFound
 pub mod BeginLemmas
 pub mod AcquireLemmas
+pub mod Untouched
+pub mod Longer
+pub mod Queues
+pub mod Listed
+pub mod GivenNoted
+pub mod GivenRebuilt
+pub mod Outside

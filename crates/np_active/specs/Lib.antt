@@ -3,3 +3,7 @@ pub mod Active
 pub mod Begin
 pub mod Placed
 pub mod Prepared
+pub mod Given
+pub mod Listed
+pub mod GivenPrepared
+pub mod Within

@@ -1,9 +1,11 @@
-//! The jobs of each requester by what is next for them, the sessions that speak for each role, the
-//! live sessions that are mute, and the live sessions of each requester. A job was given its nodes
-//! if it has asked for them and its request is fulfilled. A job to take was given its nodes and
-//! need not wait for handles: it has one, or no semaphores. A job to finish uses its nodes, or has
-//! asked for them and its request failed. Which jobs have a handle of a semaphore, the rows of the
-//! state say.
+//! What requesters and sessions act on, in groups: the jobs of each requester by what is next for
+//! them, the sessions that speak for each role, the live sessions that are mute, the live sessions of
+//! each requester, and the nodes that were given to each requester.
+//!
+//! A job was given its nodes if it has asked for them and its request is fulfilled. A job to take was
+//! given its nodes and need not wait for handles: it has one, or no semaphores. A job to finish uses
+//! its nodes, or has asked for them and its request failed. Which jobs have a handle of a semaphore,
+//! the rows of the state say.
 //!
 //! A new job waits for its semaphores unless it asks for its nodes first, has no semaphores or has
 //! its handles already. A job that was given its nodes waits for them unless it is one to take. The
@@ -29,14 +31,33 @@
 //! | `current_session` | the sessions that speak for the role | 3 |
 //! | `first_mute` | the live sessions that are mute | 1 |
 //! | `has_live_session` | the live sessions of the requester, mute or not | 1 |
+//!
+//! A node is given to a requester when it is allocated to a fulfilled request whose job, one of the
+//! requester's, has asked for it. `specs/Given` says which groups such a node is in: that of its
+//! requester, and one for each session in its queue. With these groups the first given node in
+//! whose queue a session is not, and the nodes in whose queues it is and that were not given to its
+//! requester, are found by rank, without a walk over the nodes.
+//!
+//! `Given` keeps the groups as each event changes the state: `prepare` lists the nodes that the
+//! event's changes touch, with the groups that they are in, and takes the memory; once the state
+//! has changed, `note` puts them where they are now. A node is touched too when the state of its
+//! request or the record of that request's job changes.
 #![tactic(auto)]
 
 mod active;
 mod begin;
+mod given;
+mod group;
 mod jobs;
 mod lines;
+mod members;
 mod past;
+mod past_given;
+mod prepare;
+mod readers;
 mod sessions;
 
 pub use active::Active;
+pub use given::Given;
 pub use past::Past;
+pub use prepare::Prepared;

@@ -4,14 +4,14 @@ use Rattle.std.proofs.lemmas.Bool.{eqb-false}
 use Rattle.np_changes.specs.Prelude.{Configuration, Entry, Launcher, PoolId}
 use Rattle.np_text.specs.declared.id.Role.TheVariants as role
 use Rattle.np_text.specs.declared.memory.NoMemory.{NoMemory}
-use Rattle.np_driven.specs.Prelude.{Answered, Sight, answers_also, recorded}
+use Rattle.np_worker.specs.Prelude.{Answered, Sight, answers_also, recorded}
 use Rattle.np_desk.specs.Series.{Asked, Heard, TookAtOnce, Walk, Walked}
 use Rattle.np_desk.specs.Turned.{AnsweredAtOnce}
 use Rattle.np_desk.proofs.HistoryLemmas.{starts_same}
-use Rattle.np_driven.specs.declared.ask.Ask.{Ask}
-use Rattle.np_driven.specs.declared.ask.Ask.TheVariants as asks
-use Rattle.np_driven.specs.declared.ask.Turn.{Turn}
-use Rattle.np_driven.specs.declared.ask.Turn.TheVariants as plain
+use Rattle.np_worker.specs.declared.ask.Ask.{Ask}
+use Rattle.np_worker.specs.declared.ask.Ask.TheVariants as asks
+use Rattle.np_worker.specs.declared.ask.Turn.{Turn}
+use Rattle.np_worker.specs.declared.ask.Turn.TheVariants as plain
 use Rattle.np_board.specs.Batch.{HearsWithTicket, asks_with_ticket, launcher_ask, next_ask, turn_ask}
 use Rattle.np_board.specs.PlanAnswers.{plan_answers, plan_recorded}
 use Rattle.np_board.specs.Planner.{TookWithTicket, launchers_before}

@@ -11,10 +11,10 @@ use Rattle.np_watch.specs.Watching.{is_fired}
 use Rattle.np_watch.specs.declared.watch.Watch.{Watch}
 use Rattle.np_event.specs.declared.reply.Reply.TheVariants as reply
 use Rattle.np_rules.specs.Ran.{Ran, answer_of, applied, has_room}
-use Rattle.np_driven.specs.Prelude.{IsReplied, IsUseful, WasUseful, entries_of, is_legal, is_planned}
+use Rattle.np_worker.specs.Prelude.{IsReplied, IsUseful, WasUseful, entries_of, is_legal, is_planned}
 use Rattle.np_planned.specs.declared.spot.Spot.{Spot}
-use Rattle.np_driven.proofs.LegalLemmas.{legal-next}
-use Rattle.np_driven.proofs.Recorded.{turn-replied}
+use Rattle.np_worker.proofs.LegalLemmas.{legal-next}
+use Rattle.np_worker.proofs.Recorded.{turn-replied}
 use Rattle.np_board.specs.Outstanding.{AreOfSpots, FreshAreAccepted, IsOutstanding, IsPlanning, Outstanding, Planning, plan_of, ran_of, with_plan}
 use Rattle.np_board.specs.PlanAnswers.{plan_answers, plan_recorded}
 use Rattle.np_board.specs.PlanTaken.{HasNoNews, IsAsBefore, IsCommitted, IsNews, IsPlanTaken, TakenNews}

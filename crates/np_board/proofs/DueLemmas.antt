@@ -7,7 +7,7 @@ use Rattle.np_useful.specs.Sessions.{is_current, has_current}
 use Rattle.np_roles.proofs.Places.{StandsIn}
 use Rattle.np_roles.proofs.Queues.{holder-queued, queued-node}
 use Rattle.np_roles.proofs.Currents.{one-current, current-has}
-use Rattle.np_driven.specs.Answers.{IsDue}
+use Rattle.np_worker.specs.Answers.{IsDue}
 use Rattle.np_board.specs.Due.{is_due}
 use Rattle.np_lists.proofs.Plain.{equal-itself, equal-numbers}
 use Rattle.np_laws.proofs.Pinned.{holder-waits}

@@ -14,10 +14,10 @@ use Rattle.np_watch.specs.Fresh.{AreFreshPaths}
 use Rattle.np_watch.specs.Watching.{is_fired}
 use Rattle.np_watch.specs.declared.watch.Watch.{Watch}
 use Rattle.np_keeper.specs.Keeper.{Holds}
-use Rattle.np_driven.specs.Prelude.{IsUseful, entries_of, recorded}
+use Rattle.np_worker.specs.Prelude.{IsUseful, entries_of, recorded}
 use Rattle.np_rules.specs.Ran.{Ran}
-use Rattle.np_driven.specs.declared.ask.Ask.{Ask}
-use Rattle.np_driven.specs.declared.ask.Turn.{Turn}
+use Rattle.np_worker.specs.declared.ask.Ask.{Ask}
+use Rattle.np_worker.specs.declared.ask.Turn.{Turn}
 use Rattle.np_planned.specs.Commits.{FreshCommits}
 use Rattle.np_planned.specs.Paths.{SpotsHaveParents, SpotsHavePaths}
 use Rattle.np_planned.specs.Spots.{path_at, paths_at, spots_of}

@@ -2,13 +2,13 @@
 use Rattle.std.proofs.Common.{◌≡◌, ◌∙◌, inl, inr, ℕ, List, [], ◌∷◌, ◌++◌, length, Option, Some, None, Result, Ok, Err, ap}
 use Rattle.np_changes.specs.Prelude.{Configuration, Entry, Event, NoMemory, Role}
 use Rattle.np_text.specs.declared.id.Role.TheVariants as role
-use Rattle.np_driven.specs.Prelude.{Answered, Records, Sight, Turned, Unturned, WasUseful, recorded}
+use Rattle.np_worker.specs.Prelude.{Answered, Records, Sight, Turned, Unturned, WasUseful, recorded}
 use Rattle.np_desk.proofs.HistoryLemmas.{starts_on}
-use Rattle.np_driven.specs.declared.ask.Ask.{Ask}
-use Rattle.np_driven.specs.declared.ask.Ask.TheVariants as asks
-use Rattle.np_driven.specs.declared.ask.Turn.{Turn}
-use Rattle.np_driven.specs.declared.ask.Turn.TheVariants as turn
-use Rattle.np_driven.specs.Answers.{Also, answers, answers_also}
+use Rattle.np_worker.specs.declared.ask.Ask.{Ask}
+use Rattle.np_worker.specs.declared.ask.Ask.TheVariants as asks
+use Rattle.np_worker.specs.declared.ask.Turn.{Turn}
+use Rattle.np_worker.specs.declared.ask.Turn.TheVariants as turn
+use Rattle.np_worker.specs.Answers.{Also, answers, answers_also}
 use Rattle.np_board.specs.Planner.{launchers_before}
 
 -- ## turns after others

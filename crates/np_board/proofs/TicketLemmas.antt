@@ -2,11 +2,11 @@
 use Rattle.std.specs.Prelude.{IfOk}
 use Rattle.std.proofs.Common.{◌≡◌, ◌∙◌, ◌⊎◌, ⊎_elim, inl, inr, ◌≢◌, ℕ, ◌+◌, List, [], ◌∷◌, ◌++◌, length, Option, Some, None, Result, Ok, Err, refl, sym, ap, subst, arith, length-append}
 use Rattle.np_changes.specs.Prelude.{Configuration, Entry, NoMemory}
-use Rattle.np_driven.specs.Prelude.{Answered, DeskView, Sight, Unturned, WasUseful, answers_also, recorded}
+use Rattle.np_worker.specs.Prelude.{Answered, DeskView, Sight, Unturned, WasUseful, answers_also, recorded}
 use Rattle.np_desk.specs.Series.{Asked, Heard, Took, Walked}
 use Rattle.np_desk.proofs.SeriesLemmas.{Went, heard-append, took-part, took-whole, unturned-same, unturned_on, walk-append}
-use Rattle.np_driven.specs.declared.ask.Ask.{Ask}
-use Rattle.np_driven.specs.declared.ask.Turn.{Turn}
+use Rattle.np_worker.specs.declared.ask.Ask.{Ask}
+use Rattle.np_worker.specs.declared.ask.Turn.{Turn}
 use Rattle.np_board.specs.Batch.{asks_once, hears_once, unless_heard}
 use Rattle.np_board.specs.Planner.{HasEnded, TookWithTicket, TookWithTickets, launchers_before}
 use Rattle.np_board.specs.declared.once.Once.{Once}

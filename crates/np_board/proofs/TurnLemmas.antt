@@ -4,16 +4,16 @@ use Rattle.std.proofs.lemmas.Bool.Decides.{nat_tests}
 use Rattle.np_changes.specs.Prelude.{Configuration, Entry, Event, Janitor, NoMemory, NodeId, PoolId, Reply, Role, Runs, SessionId, State, after, is_swept, judge, reply_of}
 use Rattle.np_event.specs.declared.event.Event.TheVariants as ev
 use Rattle.np_rules.specs.Ran.{Ran, answer_of, applied, has_room}
-use Rattle.np_driven.specs.Prelude.{IsUseful, entries_of, is_legal, recorded}
+use Rattle.np_worker.specs.Prelude.{IsUseful, entries_of, is_legal, recorded}
 use Rattle.np_useful.specs.Sessions.{is_current}
-use Rattle.np_driven.specs.declared.ask.Ask.{Ask}
-use Rattle.np_driven.specs.declared.ask.Ask.TheVariants as asks
-use Rattle.np_driven.specs.declared.ask.Turn.{Turn}
-use Rattle.np_driven.specs.declared.ask.Turn.TheVariants as turn
-use Rattle.np_driven.specs.Answers.{IsKept, IsNotKept, answers, answers_act, answers_do, answers_due, answers_sweep}
+use Rattle.np_worker.specs.declared.ask.Ask.{Ask}
+use Rattle.np_worker.specs.declared.ask.Ask.TheVariants as asks
+use Rattle.np_worker.specs.declared.ask.Turn.{Turn}
+use Rattle.np_worker.specs.declared.ask.Turn.TheVariants as turn
+use Rattle.np_worker.specs.Answers.{IsKept, IsNotKept, answers, answers_act, answers_do, answers_due, answers_sweep}
 use Rattle.np_board.specs.Taken.{IsTaken}
-use Rattle.np_driven.proofs.LegalLemmas.{legal-next}
-use Rattle.np_driven.proofs.Recorded.{turn-replied}
+use Rattle.np_worker.proofs.LegalLemmas.{legal-next}
+use Rattle.np_worker.proofs.Recorded.{turn-replied}
 
 -- ## a turn that records nothing
 

@@ -2,10 +2,10 @@
 use Rattle.std.specs.Prelude.{◌≡◌, ℕ, ◌-◌, ◌==◌, Option, Some, None, if◌then◌else◌}
 use Rattle.np_changes.specs.Prelude.{PoolId}
 use Rattle.np_text.specs.declared.id.Role.TheVariants as role
-use Rattle.np_driven.specs.declared.ask.Ask.{Ask}
-use Rattle.np_driven.specs.declared.ask.Ask.TheVariants as asks
-use Rattle.np_driven.specs.declared.ask.Turn.{Turn}
-use Rattle.np_driven.specs.declared.ask.Turn.TheVariants as plain
+use Rattle.np_worker.specs.declared.ask.Ask.{Ask}
+use Rattle.np_worker.specs.declared.ask.Ask.TheVariants as asks
+use Rattle.np_worker.specs.declared.ask.Turn.{Turn}
+use Rattle.np_worker.specs.declared.ask.Turn.TheVariants as plain
 use Rattle.np_board.specs.declared.batch.Batch.{Batch}
 use Rattle.np_board.specs.declared.batch.Stage.{Stage}
 use Rattle.np_board.specs.declared.batch.Stage.TheVariants as stage

@@ -4,7 +4,7 @@ use Rattle.np_changes.specs.Prelude.{AllByRecursion, Configuration, Entry, Launc
 use Rattle.np_layout.specs.Prelude.{IsLater, IsStored, TreeState}
 use Rattle.np_watch.specs.Fresh.{AreFreshPaths}
 use Rattle.np_watch.specs.declared.watch.Watch.{Watch}
-use Rattle.np_driven.specs.Prelude.{IsUseful, is_planned}
+use Rattle.np_worker.specs.Prelude.{IsUseful, is_planned}
 use Rattle.np_planned.specs.Spots.{paths_at, spots_of}
 use Rattle.np_rules.specs.Ran.{Ran}
 use Rattle.np_rules.specs.Running.{Running}

@@ -1,8 +1,8 @@
 -- which answers an ask may have at a board at which launchers plan, after a journal
 use Rattle.std.specs.Prelude.{List, Option, Some, None}
 use Rattle.np_changes.specs.Prelude.{Configuration, Entry, Launcher, PoolId}
-use Rattle.np_driven.specs.Prelude.{IsFull, IsReplied, WasUseful, answers, recorded}
-use Rattle.np_driven.specs.declared.ask.Ask.{Ask}
+use Rattle.np_worker.specs.Prelude.{IsFull, IsReplied, WasUseful, answers, recorded}
+use Rattle.np_worker.specs.declared.ask.Ask.{Ask}
 use Rattle.np_board.specs.declared.planned.plan.PlanAsk.{PlanAsk}
 use Rattle.np_board.specs.declared.planned.plan.PlanAsk.TheVariants as ask
 use Rattle.np_board.specs.declared.planned.plan.PlanTurn.{PlanTurn}
@@ -51,7 +51,7 @@ plan_answers c journal (ask.Peek p) t = answers_peek t
 plan_answers c journal (ask.News p) t = answers_news t
 plan_answers c journal (ask.Commit p) t = answers_commit c journal p t
 
--- what a plain turn recorded, as np_driven says, or the entry of a commit
+-- what a plain turn recorded, as np_worker says, or the entry of a commit
 abbrev pub plan_recorded : PlanAsk → PlanTurn → Option Entry
 plan_recorded (ask.Plain plain) (turn.Plain t) = recorded plain t
 plan_recorded (ask.Commit p) (turn.Did e) = Some e

@@ -6,11 +6,11 @@ use Rattle.np_watch.specs.Fresh.{AreFreshPaths}
 use Rattle.np_watch.specs.Watching.{is_fired}
 use Rattle.np_watch.specs.declared.watch.Watch.{Watch}
 use Rattle.np_event.specs.declared.reply.Reply.TheVariants as reply
-use Rattle.np_driven.specs.Prelude.{IsFull, IsReplied, IsUseful, WasUseful, is_planned}
+use Rattle.np_worker.specs.Prelude.{IsFull, IsReplied, IsUseful, WasUseful, is_planned}
 use Rattle.np_planned.specs.Stale.{IsFirstStale}
 use Rattle.np_planned.specs.declared.spot.Spot.{Spot}
-use Rattle.np_driven.specs.declared.ask.Ask.{Ask}
-use Rattle.np_driven.specs.declared.ask.Turn.{Turn}
+use Rattle.np_worker.specs.declared.ask.Ask.{Ask}
+use Rattle.np_worker.specs.declared.ask.Turn.{Turn}
 use Rattle.np_board.specs.Outstanding.{IsNewPlan, Outstanding, Planning, plan_of, ran_of, with_plan}
 use Rattle.np_board.specs.Taken.{IsTaken}
 use Rattle.np_board.specs.declared.planned.plan.Plan.{Plan}

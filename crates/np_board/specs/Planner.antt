@@ -2,10 +2,10 @@
 use Rattle.std.specs.Prelude.{◌≡◌, ◌⊎◌, ℕ, ◌+◌, List, length, Option, None}
 use Rattle.np_changes.specs.Prelude.{Configuration, Entry}
 use Rattle.np_text.specs.declared.id.Role.TheVariants as role
-use Rattle.np_driven.specs.Prelude.{Sight, Unturned, WasUseful, recorded}
-use Rattle.np_driven.specs.Answers.{Also, answers_also}
-use Rattle.np_driven.specs.declared.ask.Ask.{Ask}
-use Rattle.np_driven.specs.declared.ask.Turn.{Turn}
+use Rattle.np_worker.specs.Prelude.{Sight, Unturned, WasUseful, recorded}
+use Rattle.np_worker.specs.Answers.{Also, answers_also}
+use Rattle.np_worker.specs.declared.ask.Ask.{Ask}
+use Rattle.np_worker.specs.declared.ask.Turn.{Turn}
 use Rattle.np_desk.specs.Series.{Asked, Heard, Walked}
 
 -- of a launcher, what was useful before and is accepted now (own)

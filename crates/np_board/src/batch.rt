@@ -5,8 +5,8 @@ ghost use Rattle.np_board.specs.Batch.{HearsWithTicket, after, after_commit, aft
 
 use crate::planned::{PlanAsk, PlanTurn};
 use np_desk::Series;
-use np_driven::{Ask, Turn};
 use np_text::{PoolId, Role};
+use np_worker::{Ask, Turn};
 
 /// How far the launcher is with the ticket.
 #[derive(Clone, Copy)]

@@ -8,18 +8,18 @@ ghost use Rattle.np_rules.specs.Ran.{answer_of, applied};
 ghost use Rattle.np_rules.specs.Running.{ran_of};
 ghost use Rattle.np_useful.specs.Settled.{IsSettled};
 ghost use Rattle.np_board.specs.Taken.{IsTaken};
-ghost use Rattle.np_driven.specs.declared.ask.Ask.TheVariants as asks;
+ghost use Rattle.np_worker.specs.declared.ask.Ask.TheVariants as asks;
 
 mod object;
 
 use crate::turns::{act, has_settled, take_turn};
 use np_config::Config;
-use np_driven::{Ask, Turn};
 use np_event::{Entry, Event, Reply};
 use np_keeper::TreeStore;
 use np_rules::Machine;
 use np_text::{NoMemory, Role};
 use np_tree::Tree;
+use np_worker::{Ask, Turn};
 use std::alloc::Global;
 use std::marker::Model;
 

@@ -1,10 +1,10 @@
 //! The board: the machine's state with its journal, at which parties take turns.
 //!
-//! A turn answers an ask after the journal so far: np_driven says which answers an ask may have,
+//! A turn answers an ask after the journal so far: np_worker says which answers an ask may have,
 //! and `specs/Taken` what a turn leaves. `Board` is a machine (np_rules) whose store is a coordination
 //! tree (np_keeper). It lends the machine to readers and the tree to whoever would read the state
 //! back, and has `SeqObject` for threads that share it at a desk (np_desk). There the journal is the
-//! history, and np_driven's test of a legal journal says that its replies are the machine's.
+//! history, and np_worker's test of a legal journal says that its replies are the machine's.
 //! `machine_of_tree` reads a machine back from a tree: it goes on from there with an empty journal.
 //!
 //! `PlannedBoard` is such a board at which launchers may also plan: they choose on the tree as it

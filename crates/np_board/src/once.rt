@@ -3,7 +3,7 @@
 ghost use Rattle.np_board.specs.Batch.{asks_once, hears_once};
 
 use np_desk::Series;
-use np_driven::{Ask, Turn};
+use np_worker::{Ask, Turn};
 
 /// One ask, and its answer once it has been heard.
 #[derive(Clone, Copy)]

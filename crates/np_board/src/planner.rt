@@ -1,7 +1,7 @@
 //! Turns at the desk of a board at which launchers plan.
 
 ghost use Rattle.std.specs.Prelude.{◌≡◌, IfOk, Some};
-ghost use Rattle.np_driven.specs.Prelude.{IsOf, Turned, WasUseful, answers_also, recorded, sight_of};
+ghost use Rattle.np_worker.specs.Prelude.{IsOf, Turned, WasUseful, answers_also, recorded, sight_of};
 ghost use Rattle.np_desk.specs.Series.{Took};
 ghost use Rattle.np_board.specs.Planner.{HasEnded, TookWithTicket, TookWithTickets, launchers_before};
 
@@ -10,9 +10,9 @@ use crate::once::Once;
 use crate::planned::PlannedBoard;
 use np_config::Config;
 use np_desk::{Desk, Pass, Series, Turns};
-use np_driven::{Ask, Turn};
 use np_event::Entry;
 use np_text::NoMemory;
+use np_worker::{Ask, Turn};
 use std::sync::Wait;
 
 /// A pass beside the desk of a board at which launchers plan. A turn may wait for the turns of others.

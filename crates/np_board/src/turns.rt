@@ -1,21 +1,21 @@
 //! The turns, taken at a machine that began before the first event.
 
 ghost use Rattle.std.specs.Prelude.{◌≡◌, ◌↔◌, true, IfOk, OnErr};
-ghost use Rattle.np_driven.specs.Answers.{answers_due};
-ghost use Rattle.np_driven.specs.declared.ask.Ask.TheVariants as asks;
+ghost use Rattle.np_worker.specs.Answers.{answers_due};
+ghost use Rattle.np_worker.specs.declared.ask.Ask.TheVariants as asks;
 ghost use Rattle.np_board.specs.Taken.{IsTaken};
 ghost use Rattle.np_rules.specs.Running.{ran_of};
 ghost use Rattle.np_useful.specs.Settled.{IsSettled};
 ghost use Rattle.np_tree.specs.Dates.{IsLater};
 
 use crate::due::{due_node, is_wanted, node, was_swept};
-use np_driven::{Ask, Turn};
 use np_event::{Entry, Event};
 use np_jobs::{choose, is_settled};
 use np_keeper::TreeStore;
 use np_roles::current_session;
 use np_rules::Machine;
 use np_text::{JOURNAL_ENTRIES, NoMemory, NodeId, PoolId, Role};
+use np_worker::{Ask, Turn};
 
 /// Whether no role has a useful event.
 pub(crate) fn has_settled(machine: &Machine<TreeStore>) -> bool

@@ -4,7 +4,7 @@ use Rattle.np_changes.specs.Prelude.{AllByRecursion, Amount, Configuration, Entr
 use Rattle.np_text.specs.declared.word.NodeState.TheVariants as node_state
 use Rattle.np_text.specs.declared.word.Phase.TheVariants as phase
 use Rattle.np_text.specs.declared.word.Reason.TheVariants as reason
-use Rattle.np_useful.specs.Examples.{after_first}
+use Rattle.np_worked.specs.Examples.{after_first}
 use Rattle.np_worked.specs.Site.{job, janitor, label, launcher, node, pool, request, requester, semaphore, session, tenant}
 use Rattle.np_causes.specs.Fact.{IsTrueOf}
 use Rattle.np_causes.specs.declared.fact.Fact.{Fact}

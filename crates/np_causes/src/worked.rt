@@ -4,7 +4,7 @@
 ghost use Rattle.np_text.specs.declared.word.NodeState.TheVariants as node_state;
 ghost use Rattle.np_text.specs.declared.word.Reason.TheVariants as reason;
 ghost use Rattle.np_config.specs.declared.row.FaultKind.TheVariants as kind;
-ghost use Rattle.np_useful.specs.Examples.{after_first, struck, struck_site, two_jobs, window_site};
+ghost use Rattle.np_worked.specs.Examples.{after_first, struck, struck_site, two_jobs, window_site};
 ghost use Rattle.np_worked.specs.CrashedRequester as crashed_requester;
 ghost use Rattle.np_worked.specs.ExpiryDuringALaunch as expiry_during_a_launch;
 ghost use Rattle.np_worked.specs.FailDeclined as fail_declined;

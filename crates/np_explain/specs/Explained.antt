@@ -1,8 +1,8 @@
 -- the explanation of a state, and its status
 use Rattle.std.specs.Prelude.{◌≡◌, ◌*◌, ◌||◌, ℕ, Bool, true, false, List, [], ◌∷◌, ◌++◌, codes, if◌then◌else◌, not, take, min}
 use Rattle.np_changes.specs.Prelude.{Configuration, Entry, JobRecord, State, flat_map, is_over, list_any}
-use Rattle.np_chains.specs.Chains.{ExplainsAll, facts_of}
-use Rattle.np_chains.specs.declared.chain.Link.{Link}
+use Rattle.np_explain_lines.specs.Chains.{ExplainsAll, facts_of}
+use Rattle.np_explain_lines.specs.declared.chain.Link.{Link}
 use Rattle.np_explain_lines.specs.Line.{line_of}
 use Rattle.np_tally.specs.Summary.{summary_of}
 use Rattle.np_explain.specs.Failed.{failure_lines, is_failed}

@@ -2,7 +2,7 @@
 use Rattle.std.specs.Prelude.{◌≡◌, ℕ, List, ◌++◌, codes, decimal}
 use Rattle.np_changes.specs.Prelude.{Configuration, Entry, Runs, State}
 use Rattle.np_report.specs.Printed.{IsPrinted}
-use Rattle.np_audit.specs.Audit.{IsNoText}
+use Rattle.np_report.specs.Audit.{IsNoText}
 
 -- the bytes are the Text of this journal over the configuration, and it leads to the state
 pub record IsTextOf (c : Configuration) (journal : List Entry) (s : State) (bytes : List ℕ) : Type 0 where

@@ -4,17 +4,9 @@ ghost use Rattle.std.specs.Prelude.{◌≤◌, length, IfOk};
 
 use np_event::Event;
 use np_event_lines::read_entry;
-use np_text::{JOURNAL_ENTRIES, NoMemory, line_at};
+use np_report::split_line;
+use np_text::{JOURNAL_ENTRIES, NoMemory};
 use std::alloc::Global;
-
-/// The first line, without its newline, and what comes after it.
-pub(crate) fn split_line(text: &[u8]) -> (&[u8], &[u8]) {
-    let Some((_, end)) = line_at(text, 0) else {
-        return (text, text);
-    };
-    let (line, rest) = text.split_at(end);
-    (line, rest.split_at(rest.len().min(1)).1)
-}
 
 /// The line with this number, from 1, or nothing if there is none.
 pub(crate) fn numbered_line(text: &[u8], number: u32) -> Option<&[u8]> {

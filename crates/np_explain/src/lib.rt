@@ -1,7 +1,7 @@
 //! Why the jobs of a Text wait, for people.
 //!
 //! A Text is played again (`run`) and compared (`text`), so that what is printed is of a run of the
-//! machine. Then the chains of np_chains are printed, a line for each fact (`waits`), why the
+//! machine. Then the chains of np_explain_lines are printed, a line for each fact (`waits`), why the
 //! requests of other jobs failed (`fails`), and what the run took (np_tally); or the tables of the
 //! state after some entries (np_listing). A configuration alone is checked by np_check.
 //!

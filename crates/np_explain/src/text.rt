@@ -6,12 +6,11 @@ ghost use Rattle.np_event_lines.specs.Line.{HasEventLine};
 ghost use Rattle.np_explain.specs.Text.{IsFaultOf, IsTextOf};
 
 use crate::fault::{fault_text, shown_fault, shown_lines};
-use np_audit::{Finding, audit};
 use np_event::Entry;
 use np_event_lines::event_has_line;
 use np_json::ConfigFault;
 use np_look::Look;
-use np_report::text;
+use np_report::{Finding, audit, text};
 use np_rules::Plain;
 use np_text::NoMemory;
 use std::alloc::Global;

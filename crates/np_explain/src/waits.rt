@@ -3,9 +3,8 @@
 ghost use Rattle.std.specs.Prelude.{◌≡◌, ◌++◌, OnOk};
 ghost use Rattle.np_explain.specs.Explained.{indent, link_line, link_lines, mark};
 
-use np_chains::Link;
 use np_config::Config;
-use np_explain_lines::{put, put_line};
+use np_explain_lines::{Link, put, put_line};
 use np_text::NoMemory;
 
 /// The most spaces before a line.

@@ -1,21 +1,34 @@
-//! The line of a fact, for people: each id with the configuration's own name beside it.
+//! Facts in their order, and the line of each, for people: why jobs wait, each thing told once.
 //!
-//! `specs/Words` says how a thing is called, and `specs/Line` which line each fact has. A function
-//! that appends a text promises that it is the definition's.
+//! A line has each id with the configuration's own name beside it. `specs/Words` says how a thing
+//! is called, and `specs/Line` which line each fact has. A function that appends a text promises that
+//! it is the definition's.
+//!
+//! `causes` of np_causes explains one job. `chains` explains all that wait, in one list: it begins
+//! with a job, goes on with what the fact about it names, and what the facts about these name, and
+//! so down to the cause, before it comes to the next job. What was told before is not told again
+//! with all that it leads to: its fact comes once more, marked.
+//!
+//! `specs/Chains` says what such a list has to be.
 #![tactic(auto)]
 
 mod amount;
+mod chain;
 mod job;
 mod line;
 mod node;
 mod pool;
 mod request;
 mod subject;
+mod told;
+mod walk;
 mod words;
 
 pub use amount::put_amount;
+pub use chain::{Link, Next};
 pub use line::put_line;
 pub use request::put_reason_words;
+pub use walk::chains;
 pub use words::{
     put, put_job, put_label, put_node, put_pool, put_request, put_requester, put_role,
     put_semaphore, put_session, put_tenant,

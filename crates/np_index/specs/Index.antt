@@ -6,7 +6,7 @@ use Rattle.np_classes.specs.Classes.{AreClasses, ClassesOf}
 use Rattle.np_counts.specs.Awaited.{AreAwaited}
 use Rattle.np_open.specs.Open.{AreOpen, OpenOf}
 use Rattle.np_active.specs.Active.{ActiveOf, AreActive}
-use Rattle.np_given.specs.Given.{AreGiven, GivenOf}
+use Rattle.np_active.specs.Given.{AreGiven, GivenOf}
 
 -- the parts of an index, with what the pending requests of each tenant still wait for (own)
 pub record IndexParts : Type 0 where

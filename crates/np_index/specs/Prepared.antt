@@ -15,8 +15,8 @@ use Rattle.np_open.specs.Prepared.{IsPrepared as AreMovedOf, HasRoom as HasRoomF
 use Rattle.np_open.specs.declared.moves.Past.{Past}
 use Rattle.np_active.specs.Active.{AreActive}
 use Rattle.np_active.specs.Prepared.{IsPast as IsActivePast, PastOf as ActivePast, HasRoom as HasRoomForActive}
-use Rattle.np_given.specs.Given.{AreGiven}
-use Rattle.np_given.specs.Prepared.{PreparedOf as GivenPrepared, IsPrepared as AreGivenPrepared, HasRoom as HasRoomForGiven}
+use Rattle.np_active.specs.Given.{AreGiven}
+use Rattle.np_active.specs.GivenPrepared.{PreparedOf as GivenPrepared, IsPrepared as AreGivenPrepared, HasRoom as HasRoomForGiven}
 use Rattle.np_index.specs.Index.{IndexParts}
 
 -- what was found of each part (own)

@@ -24,7 +24,7 @@ pub struct Prepared {
     before: Option<Rest>,
     moved: Moved,
     placed: np_active::Past,
-    given: np_given::Prepared,
+    given: np_active::Prepared,
     lookups: np_lookups::Prepared,
 }
 

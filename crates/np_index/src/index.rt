@@ -7,12 +7,11 @@ ghost use Rattle.np_look.specs.Given.{node_to_leave, node_to_lock};
 ghost use Rattle.np_look.specs.Readers.{current_of, first_declined_by_all, first_due, first_mute, first_unheld_pending, free_ready_of, has_request_under_way, pending_requests, queued_nodes, queued_requests, unfinished_of};
 ghost use Rattle.np_index.specs.Index.{IsIndexOf};
 
-use np_active::Active;
+use np_active::{Active, Given};
 use np_amount::Amount;
 use np_changes::Asked;
 use np_classes::Classes;
 use np_counts::Awaited;
-use np_given::Given;
 use np_look::{Rows, UnheldKind};
 use np_lookups::Lookups;
 use np_open::Open;

@@ -4,7 +4,7 @@
 //! (np_classes), what the pending requests of each tenant still wait for (np_counts), the requested
 //! requests in lines of those that are alike, each in the order in which launchers take them up
 //! (np_open), groups of jobs by what is next for them and of sessions (np_active), and the nodes that
-//! were given to each requester (np_given); `specs/Index` says when it is the index of a state. It
+//! were given to each requester (np_active); `specs/Index` says when it is the index of a state. It
 //! answers readers from these, and with what np_counts makes of the groups and the amounts.
 //!
 //! An event's changes are made in three steps: what may take memory before the state changes

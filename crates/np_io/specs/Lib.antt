@@ -4,3 +4,8 @@ pub mod Ends
 pub mod Facts
 pub mod Memory
 pub mod Streams
+pub mod Disk
+pub mod DiskPlans
+pub mod DiskCalls
+pub mod MemDisk
+pub mod Files

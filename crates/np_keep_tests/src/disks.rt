@@ -1,6 +1,6 @@
 //! A disk in memory that stops at each of its calls, and its images.
 
-use np_disk::{Disk, DiskFailed, MemDisk, read_full, write_through};
+use np_io::{Disk, DiskFailed, MemDisk, read_full, write_through};
 use std::alloc::Global;
 
 // The first call of `writes_twice` that fails, what reads give then, and what picks 0 and 1 leave.

@@ -1,7 +1,7 @@
 //! The words of the command line.
 
+use np_replay::{Command, command_of};
 use np_text::{NoMemory, read_number};
-use np_words::{Command, command_of};
 use std::alloc::Global;
 
 // Words, and the word and the argument of their command, both empty if they are none.

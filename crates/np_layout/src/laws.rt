@@ -3,30 +3,13 @@
 ghost use Rattle.np_layout.specs.Creates.{GrownNodesLayOut, GrownRequestsLayOut, HandlesLayOut, NodeWaitsLayOut, RegistrationsLayOut, RequestWaitsLayOut, SessionsLayOut, SweptPairsLayOut};
 ghost use Rattle.np_layout.specs.Deletes.{HandlesGoLayOut, NodeWaitsGoLayOut, NodesGoLayOut, RequestWaitsGoLayOut, RequestsGoLayOut, SessionEndsLayOut};
 ghost use Rattle.np_layout.specs.Laws.{FirstCallsAreAccepted, FirstTreesLayOut};
-ghost use Rattle.np_layout.specs.Layout.{LaysOut};
 ghost use Rattle.np_layout.specs.Sets.{JobChangesLayOut, JobsLayOut, MutesLayOut, NodesLayOut, RequestsLayOut, RolesLayOut, TicksLayOut};
-ghost use Rattle.np_layout.specs.Worked.{another_holder, another_tick, lock_of_no_request, node_below_a_pair, queued_tree, worked, worked_tree};
 
 /// The first tree of each sound site lays out the state before the first event, and the one call
 /// that makes it is accepted.
 pub fn first_trees_lay_out_the_start()
     ensures accepted { FirstCallsAreAccepted }
     ensures lays { FirstTreesLayOut }
-{}
-
-/// A worked tree lays out its state, in which ids and names are in different orders.
-pub fn a_worked_tree_lays_out_its_state()
-    ensures { LaysOut worked worked_tree }
-{}
-
-/// A tree does not lay the worked state out if its tick is another, if another session holds a
-/// lock, if an ended session is live, or if it has a node too many.
-pub fn other_trees_do_not()
-    ensures tick { LaysOut worked another_tick → ⊥ }
-    ensures holder { LaysOut worked another_holder → ⊥ }
-    ensures ended { LaysOut worked queued_tree → ⊥ }
-    ensures lock { LaysOut worked lock_of_no_request → ⊥ }
-    ensures below { LaysOut worked node_below_a_pair → ⊥ }
 {}
 
 /// A set of the tick lays out the state with that tick.

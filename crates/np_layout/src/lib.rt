@@ -34,14 +34,13 @@ mod place_laws;
 
 pub use decode::a_tree_has_one_state;
 pub use laws::{
-    a_worked_tree_lays_out_its_state, begun_sessions_lay_out, creates_of_handles_lay_out,
-    creates_of_registrations_lay_out, creates_of_swept_pairs_lay_out, deletes_of_handles_lay_out,
-    deletes_of_node_waits_lay_out, deletes_of_nodes_lay_out, deletes_of_request_waits_lay_out,
-    deletes_of_requests_lay_out, ends_of_sessions_lay_out, first_trees_lay_out_the_start,
-    grown_nodes_lay_out, grown_requests_lay_out, other_trees_do_not, sets_of_jobs_lay_out,
-    sets_of_nodes_lay_out, sets_of_requests_lay_out, sets_of_roles_lay_out,
-    sets_of_sessions_lay_out, sets_of_the_tick_lay_out, waits_at_nodes_lay_out,
-    waits_at_requests_lay_out,
+    begun_sessions_lay_out, creates_of_handles_lay_out, creates_of_registrations_lay_out,
+    creates_of_swept_pairs_lay_out, deletes_of_handles_lay_out, deletes_of_node_waits_lay_out,
+    deletes_of_nodes_lay_out, deletes_of_request_waits_lay_out, deletes_of_requests_lay_out,
+    ends_of_sessions_lay_out, first_trees_lay_out_the_start, grown_nodes_lay_out,
+    grown_requests_lay_out, sets_of_jobs_lay_out, sets_of_nodes_lay_out, sets_of_requests_lay_out,
+    sets_of_roles_lay_out, sets_of_sessions_lay_out, sets_of_the_tick_lay_out,
+    waits_at_nodes_lay_out, waits_at_requests_lay_out,
 };
 pub use path_text::{PathText, to_path};
 pub use place::Place;

@@ -5,8 +5,8 @@ use Rattle.std.specs.List.{AllByRecursion}
 use Rattle.np_text.specs.declared.limit.TheConstants.{JOURNAL_ENTRIES}
 use Rattle.np_event.specs.declared.event.Event.{Event}
 use Rattle.np_event_lines.specs.Line.{HasEventLine}
-use Rattle.np_disk.specs.Disk.{DiskFacts, LeavesOnly, Only, TornWrite, AfterTornWrite}
-use Rattle.np_disk.proofs.Moments.{LeavesOnly-weaker}
+use Rattle.np_io.specs.Disk.{DiskFacts, LeavesOnly, Only, TornWrite, AfterTornWrite}
+use Rattle.np_io.proofs.Moments.{LeavesOnly-weaker}
 use Rattle.np_log.specs.Batch.{batch_text}
 use Rattle.np_log.specs.Log.{content_of, content_with}
 use Rattle.np_log.specs.Place.{IsSettledIn, Place, SaysAllOrNone}

@@ -4,7 +4,7 @@ use Rattle.std.proofs.lemmas.Bool.{cases_eq}
 use Rattle.std.proofs.lemmas.List.{drop_at, drop_more, take_at}
 use Rattle.np_text.specs.declared.limit.TheConstants.{JOURNAL_ENTRIES}
 use Rattle.np_event.specs.declared.event.Event.{Event}
-use Rattle.np_disk.specs.Disk.{Only, TornWrite, AfterTornWrite, put_at}
+use Rattle.np_io.specs.Disk.{Only, TornWrite, AfterTornWrite, put_at}
 use Rattle.np_log.specs.Batch.{batch_of}
 use Rattle.np_log.specs.Log.{Walk, add_events, after_batch, after_record, content_of, content_with, go_on, map_ok, record_text, walk_of}
 use Rattle.np_log.specs.Place.{IsSettledIn, Place, SaysAllOrNone}

@@ -3,8 +3,8 @@ use Rattle.std.proofs.Common.{◌≡◌, ◌⊎◌, inl, inr, ⊎_elim, ℕ, ◌
 use Rattle.std.specs.Option.{option_map}
 use Rattle.std.proofs.lemmas.Bool.{cases_eq}
 use Rattle.std.proofs.lemmas.List.{append-nil, drop_all}
-use Rattle.np_disk.specs.Disk.{DiskFacts, IsDisk, LeavesOnly, Only, Stays, TornWrite, put_at}
-use Rattle.np_disk.proofs.Moments.{LeavesOnly-stays, LeavesOnly-then}
+use Rattle.np_io.specs.Disk.{DiskFacts, IsDisk, LeavesOnly, Only, Stays, TornWrite, put_at}
+use Rattle.np_io.proofs.Moments.{LeavesOnly-stays, LeavesOnly-then}
 use Rattle.np_log.specs.Log.{after_config, content_of, map_ok, walk_of}
 use Rattle.np_log.specs.Place.{IsSettledIn, SaysNewLog}
 use Rattle.np_log.specs.Writing.{TornFirst, behind_gate, behind_open_gate, record_and_gate}

@@ -1,6 +1,6 @@
 -- A log that was loaded.
 use Rattle.std.proofs.Common.{◌≡◌, ℕ, List, length, Option, Some, None, IfSome, Ok, refl, sym, ◌∙◌, ap}
-use Rattle.np_disk.specs.Disk.{DiskFacts, Only, Settles, Stays}
+use Rattle.np_io.specs.Disk.{DiskFacts, Only, Settles, Stays}
 use Rattle.np_log.specs.Log.{Walk, walk_of}
 use Rattle.np_log.specs.Place.{IsSettled, IsSettledIn}
 

@@ -3,8 +3,8 @@ use Rattle.std.proofs.Common.{◌≡◌, inl, inr, ℕ, ◌+◌, ◌≤◌, List
 use Rattle.std.specs.Option.{option_map}
 use Rattle.std.proofs.Math.Seq.{take-add}
 use Rattle.np_event.specs.declared.event.Event.{Event}
-use Rattle.np_disk.specs.Disk.{DiskFacts, LeavesOnly}
-use Rattle.np_disk.proofs.Moments.{LeavesOnly-then}
+use Rattle.np_io.specs.Disk.{DiskFacts, LeavesOnly}
+use Rattle.np_io.proofs.Moments.{LeavesOnly-then}
 use Rattle.np_log.specs.Log.{Content, content_of, content_with}
 use Rattle.np_log.specs.Place.{SaysAllOrNone, SaysFirst}
 

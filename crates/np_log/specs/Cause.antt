@@ -2,7 +2,7 @@
 use Rattle.std.specs.Prelude.{◌≡◌, ◌≤◌, ◌<◌, ℕ, ◌+◌, List, length, take, IfSome, Err}
 use Rattle.std.specs.Option.{option_map}
 use Rattle.np_io.specs.Counts.{Rose}
-use Rattle.np_disk.specs.Disk.{DiskFacts, Stays}
+use Rattle.np_io.specs.Disk.{DiskFacts, Stays}
 use Rattle.np_event.specs.declared.event.Event.{Event}
 use Rattle.np_log.specs.declared.fault.AppendFault.{AppendFault}
 use Rattle.np_log.specs.declared.fault.AppendFault.TheVariants as append

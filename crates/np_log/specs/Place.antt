@@ -1,6 +1,6 @@
 -- Where a log is on a disk, and what a crash may leave of it.
 use Rattle.std.specs.Prelude.{◌≡◌, ◌≤◌, ◌⊎◌, ℕ, List, [], length, take, IfSome, Result, Ok, Err}
-use Rattle.np_disk.specs.Disk.{DiskFacts, Only}
+use Rattle.np_io.specs.Disk.{DiskFacts, Only}
 use Rattle.np_event.specs.declared.event.Event.{Event}
 use Rattle.np_log.specs.Log.{Content, Walk, content_of, content_with, walk_of}
 

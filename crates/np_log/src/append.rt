@@ -3,7 +3,7 @@
 ghost use Rattle.std.specs.Prelude.{◌≡◌, ◌≤◌, ◌+◌, length, IfOk, IfErr, IfSome, OnOk};
 ghost use Rattle.std.specs.List.{AllByRecursion};
 ghost use Rattle.std.specs.Option.{option_map};
-ghost use Rattle.np_disk.specs.Disk.{LeavesOnly};
+ghost use Rattle.np_io.specs.Disk.{LeavesOnly};
 ghost use Rattle.np_event_lines.specs.Line.{HasEventLine};
 ghost use Rattle.np_log.specs.Cause.{AppendCause};
 ghost use Rattle.np_log.specs.Log.{content_of, content_with};
@@ -13,8 +13,8 @@ use crate::bytes::batch_record;
 use crate::fault::AppendFault;
 use crate::gate::write_behind;
 use crate::log::{Log, log_behind};
-use np_disk::Disk;
 use np_event::Event;
+use np_io::Disk;
 use std::alloc::Global;
 
 impl Log {

@@ -3,7 +3,7 @@
 ghost use Rattle.std.specs.Prelude.{◌≡◌, ◌≤◌, ◌+◌, length, IfOk, IfErr, IfSome, OnOk};
 ghost use Rattle.std.specs.List.{AllByRecursion};
 ghost use Rattle.std.specs.Option.{option_map};
-ghost use Rattle.np_disk.specs.Disk.{LeavesOnly};
+ghost use Rattle.np_io.specs.Disk.{LeavesOnly};
 ghost use Rattle.np_event_lines.specs.Line.{HasEventLine};
 ghost use Rattle.np_log.specs.Cause.{AppendAllCause};
 ghost use Rattle.np_log.specs.Log.{content_of, content_with};
@@ -11,8 +11,8 @@ ghost use Rattle.np_log.specs.Place.{IsSettled, SaysFirst};
 
 use crate::fault::AppendFault;
 use crate::log::Log;
-use np_disk::Disk;
 use np_event::Event;
+use np_io::Disk;
 use std::alloc::Global;
 
 impl Log {

@@ -2,7 +2,7 @@
 
 ghost use Rattle.std.specs.Prelude.{◌≡◌, ◌≤◌, ◌<◌, ◌^◌, [], length, Ok, IfOk, IfErr, IfSome, OnOk};
 ghost use Rattle.std.specs.Option.{option_map};
-ghost use Rattle.np_disk.specs.Disk.{LeavesOnly};
+ghost use Rattle.np_io.specs.Disk.{LeavesOnly};
 ghost use Rattle.np_log.specs.Cause.{CreateCause};
 ghost use Rattle.np_log.specs.Log.{content_of};
 ghost use Rattle.np_log.specs.Place.{IsSettled, SaysNewLog};
@@ -11,7 +11,7 @@ use crate::bytes::record_and_gate;
 use crate::fault::CreateFault;
 use crate::gate::write_first;
 use crate::log::Log;
-use np_disk::Disk;
+use np_io::Disk;
 use std::alloc::Global;
 
 impl Log {

@@ -1,7 +1,7 @@
 //! Why a call of the log gave up.
 
 use crate::log::Log;
-use np_disk::DiskFailed;
+use np_io::DiskFailed;
 use np_text::NoMemory;
 use std::alloc::{AllocError, AllocFailed};
 

@@ -3,10 +3,10 @@
 ghost use Rattle.std.specs.Prelude.{◌≡◌, ◌≤◌, ◌+◌, [], ◌∷◌, length, IfSome, OnOk, OnErr};
 ghost use Rattle.std.specs.Option.{option_map};
 ghost use Rattle.np_io.specs.Counts.{Rose};
-ghost use Rattle.np_disk.specs.Disk.{LeavesOnly, Only};
+ghost use Rattle.np_io.specs.Disk.{LeavesOnly, Only};
 ghost use Rattle.np_log.specs.Writing.{TornBehindOrAt, TornFirst, behind_open_gate};
 
-use np_disk::{Disk, DiskFailed, write_through};
+use np_io::{Disk, DiskFailed, write_through};
 
 /// Writes these bytes behind the gate at this place, and then opens the gate. It makes four calls
 /// of the disk: two writes, each with a sync after it.

@@ -2,7 +2,7 @@
 
 ghost use Rattle.std.specs.Prelude.{◌≡◌, ◌≤◌, Ok, length, IfOk, IfErr, IfSome, OnOk};
 ghost use Rattle.std.specs.List.{AllByRecursion};
-ghost use Rattle.np_disk.specs.Disk.{LeavesOnly, Only, Stays};
+ghost use Rattle.np_io.specs.Disk.{LeavesOnly, Only, Stays};
 ghost use Rattle.np_event_lines.specs.Line.{HasEventLine};
 ghost use Rattle.np_log.specs.Cause.{LoadCause, ReadCause};
 ghost use Rattle.np_log.specs.Log.{content_of};
@@ -11,8 +11,8 @@ ghost use Rattle.np_log.specs.Place.{IsSettled};
 use crate::fault::LoadFault;
 use crate::log::Log;
 use crate::walk::{LogWalk, walk_of};
-use np_disk::{Disk, read_full};
 use np_event::Event;
+use np_io::{Disk, read_full};
 use std::alloc::Global;
 
 /// A log that was loaded, and what it says.

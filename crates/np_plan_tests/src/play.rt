@@ -1,7 +1,7 @@
 //! Playing a case.
 
 ghost use Rattle.std.specs.Prelude.{◌≡◌};
-ghost use Rattle.np_driven.specs.Prelude.{IsOf};
+ghost use Rattle.np_worker.specs.Prelude.{IsOf};
 
 use crate::cases::{COMMITS, KINDS, NODES, POOLS, REQUESTS, SESSIONS};
 use crate::lines::config_of;
@@ -9,11 +9,11 @@ use crate::script::{Script, Step, is_journal_of, is_recorded, is_told, step_at};
 use crate::sites::SITES;
 use np_board::{PlanAsk, PlannedBoard, Planner};
 use np_desk::{Desk, SetUpFailed};
-use np_driven::Ask;
 use np_event::Event;
 use np_event_lines::read_entry;
 use np_look::{Look, Rows};
 use np_text::{JobId, PoolId, RequesterId, Role};
+use np_worker::Ask;
 use std::alloc::Global;
 use std::sync::Wait;
 

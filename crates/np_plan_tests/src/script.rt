@@ -2,10 +2,10 @@
 
 use crate::lines::{is_event_line, is_line};
 use np_board::{Plan, PlanAsk, PlanTurn};
-use np_driven::Turn;
 use np_event::Entry;
 use np_planned::Spot;
 use np_text::{Ending, PoolId};
+use np_worker::Turn;
 use std::alloc::Global;
 
 /// A site, what happens at its board, and what is left then.

@@ -2,9 +2,9 @@
 use Rattle.std.proofs.Common.{◌≡◌, refl}
 use Rattle.np_changes.specs.Prelude.{Configuration, Entry}
 use Rattle.np_event.specs.declared.event.Event.TheVariants as ev
-use Rattle.np_driven.specs.Prelude.{Answered, Sight, answers, recorded}
-use Rattle.np_driven.specs.declared.ask.Ask.TheVariants as ask
-use Rattle.np_driven.specs.declared.ask.Turn.{Turn}
+use Rattle.np_worker.specs.Prelude.{Answered, Sight, answers, recorded}
+use Rattle.np_worker.specs.declared.ask.Ask.TheVariants as ask
+use Rattle.np_worker.specs.declared.ask.Turn.{Turn}
 use Rattle.np_board.specs.declared.planned.plan.PlanAsk.TheVariants as plan_ask
 use Rattle.np_board.specs.declared.planned.plan.PlanTurn.{PlanTurn}
 use Rattle.np_board.specs.declared.planned.plan.PlanTurn.TheVariants as plan_turn

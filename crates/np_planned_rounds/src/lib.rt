@@ -3,7 +3,7 @@
 //! `run_planned` plays a site to its end as `run_rounds` does. The rounds are written again for this
 //! board, since no trait's method may be handed a desk, and passes go to other threads only where the
 //! board's type is known. Workers, passes and all that is proved of rounds are np_rounds' and
-//! np_driven's.
+//! np_worker's.
 #![tactic(auto)]
 
 mod crossing;

@@ -1,9 +1,9 @@
 //! A site at whose board launchers plan, played to its end.
 
 ghost use Rattle.std.specs.Prelude.{◌≡◌, ◌<◌, [], length, map, All, IfOk, Some, true, false};
-ghost use Rattle.np_driven.specs.Prelude.{IsFull, IsOf, IsSettled, IsWhole, driving, is_legal};
-ghost use Rattle.np_driven.specs.Planned.{PlannedBy};
-ghost use Rattle.np_driven.specs.Players.{WasAnswered};
+ghost use Rattle.np_worker.specs.Prelude.{IsFull, IsOf, IsSettled, IsWhole, driving, is_legal};
+ghost use Rattle.np_worker.specs.Planned.{PlannedBy};
+ghost use Rattle.np_worker.specs.Players.{WasAnswered};
 ghost use Rattle.np_rounds.specs.Crews.{players_of};
 ghost use Rattle.np_rounds.specs.Plays.{CrewPlays, Pairwise};
 ghost use Rattle.np_rounds.specs.Laps.{HasLaps, IsPlayedRound, IsTick, WasPlayed};
@@ -15,11 +15,10 @@ use np_board::{PlanAsk, PlanTurn, PlannedBoard, Planner};
 use np_cloud::{Driver, Gate};
 use np_config::Config;
 use np_desk::{Desk, Pass};
-use np_driven::{Ask, Turn};
 use np_event::Event;
 use np_rounds::{Crew, CrewEnd, Together, drivers_of, hand_out, sends, take_back, workers_of};
 use np_text::NoMemory;
-use np_worker::Worker;
+use np_worker::{Ask, Turn, Worker};
 use std::alloc::Global;
 use std::sync::Wait;
 use std::thread::{self, Threads};

@@ -6,11 +6,11 @@ use crate::index::{answers_as_a_walk_does, answers_as_its_tree_does};
 use crate::lines::{config_of, have_equal_lines};
 use crate::restored::goes_on_from;
 use np_board::Board;
-use np_driven::Turn;
 use np_event::{Done, Entry, Event, Reply};
 use np_look::{Look, Rows};
 use np_rules::{Plain, new_plain};
 use np_text::{Ending, JobId, PoolId, RequesterId, Role};
+use np_worker::Turn;
 use std::alloc::Global;
 
 /// Who may act in these sites, in the order of a round.

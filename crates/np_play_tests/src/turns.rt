@@ -5,9 +5,9 @@ use crate::lines::is_line;
 use crate::sites::new_board;
 use np_board::Board;
 use np_desk::SeqObject;
-use np_driven::{Ask, Turn};
 use np_event_lines::read_entry;
 use np_text::{NodeId, PoolId, RequesterId, Role};
+use np_worker::{Ask, Turn};
 use std::alloc::Global;
 
 // One pool, one label, one job.

@@ -2,15 +2,15 @@
 use Rattle.std.proofs.Common.{◌≡◌, ◌≤◌, ℕ, ◌+◌, ◌-◌, List, ◌++◌, length, Option, Some, None, Ok, subst, arith, length-append, inl, inr}
 use Rattle.std.specs.Prelude.{IfSome}
 use Rattle.np_changes.specs.Prelude.{AllByRecursion, Event, lines_of}
-use Rattle.np_disk.specs.Disk.{DiskFacts, LeavesOnly}
-use Rattle.np_disk.proofs.Moments.{LeavesOnly-then}
+use Rattle.np_io.specs.Disk.{DiskFacts, LeavesOnly}
+use Rattle.np_io.proofs.Moments.{LeavesOnly-then}
 use Rattle.np_event_lines.specs.Line.{HasEventLine}
 use Rattle.np_event_lines.proofs.EventLemmas.{event_in-spelled}
 use Rattle.np_log.specs.Place.{Place}
 use Rattle.np_log.proofs.BatchLemmas.{lines-append}
-use Rattle.np_lines.specs.Script.{IsPlayable, event_said, most_lines}
-use Rattle.np_lines.specs.declared.script.Script.{Script}
-use Rattle.np_lines.proofs.LinesRead.{lines_read-all, lines_read-few}
+use Rattle.np_report.specs.Script.{IsPlayable, event_said, most_lines}
+use Rattle.np_report.specs.declared.script.Script.{Script}
+use Rattle.np_report.proofs.LinesRead.{lines_read-all, lines_read-few}
 use Rattle.np_replay.specs.Logged.{IsPartOfLog, more_of}
 use Rattle.np_replay.specs.Resume.{IsGoingOn, IsReadLogOf}
 use Rattle.np_replay.specs.Resuming.{IsReady}

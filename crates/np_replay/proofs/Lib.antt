@@ -3,3 +3,5 @@ pub mod Statuses
 pub mod KeepStatuses
 pub mod GoingOn
 pub mod ResumeStatuses
+mod WalkLemmas
+mod ReadingLemmas

@@ -3,10 +3,10 @@ use Rattle.std.proofs.Common.{◌≡◌, ◌<◌, ℕ, List, Option, Some, None,
 use Rattle.std.specs.Prelude.{◌⊎◌, IfSome}
 use Rattle.np_io.specs.Counts.{Rose}
 use Rattle.np_io.specs.Facts.{SourceFacts, SinkFacts, IsWritten}
-use Rattle.np_disk.specs.Disk.{DiskFacts}
+use Rattle.np_io.specs.Disk.{DiskFacts}
 use Rattle.np_changes.specs.Prelude.{Configuration, Event}
 use Rattle.np_event_lines.specs.declared.fault.LineFault.{LineFault}
-use Rattle.np_lines.specs.declared.lines.LinesFault.{LinesFault}
+use Rattle.np_report.specs.declared.lines.LinesFault.{LinesFault}
 use Rattle.np_replay.specs.declared.ending.Ending.{Ending}
 use Rattle.np_replay.specs.declared.ending.Ending.TheVariants as ending
 use Rattle.np_replay.specs.Input.{IsInput, Stops}

@@ -2,9 +2,9 @@
 use Rattle.std.proofs.Common.{◌≡◌, ◌<◌, ℕ, List, Bool, false, if◌then◌else◌, refl, sym, ap, ◌∙◌, subst, arith, inl, inr}
 use Rattle.std.specs.Prelude.{◌⊎◌}
 use Rattle.np_io.specs.Facts.{SourceFacts, SinkFacts, IsWritten}
-use Rattle.np_lines.specs.declared.script.ScriptFault.{ScriptFault}
-use Rattle.np_lines.specs.declared.script.ScriptFault.TheVariants as script
-use Rattle.np_lines.specs.Script.{script_of}
+use Rattle.np_report.specs.declared.script.ScriptFault.{ScriptFault}
+use Rattle.np_report.specs.declared.script.ScriptFault.TheVariants as script
+use Rattle.np_report.specs.Script.{script_of}
 use Rattle.np_replay.specs.declared.ending.Ending.{Ending}
 use Rattle.np_replay.specs.Input.{IsInput}
 use Rattle.np_replay.specs.Lines.{script_status}

@@ -6,7 +6,7 @@ use Rattle.np_log.specs.declared.fault.CreateFault.{CreateFault}
 use Rattle.np_log.specs.declared.fault.CreateFault.TheVariants as create
 use Rattle.np_log.specs.declared.fault.LoadFault.{LoadFault}
 use Rattle.np_log.specs.declared.fault.LoadFault.TheVariants as load
-use Rattle.np_lines.specs.declared.script.ScriptFault.{ScriptFault}
+use Rattle.np_report.specs.declared.script.ScriptFault.{ScriptFault}
 use Rattle.np_replay.specs.declared.ending.Ending.{Ending}
 use Rattle.np_replay.specs.declared.ending.Ending.TheVariants as ending
 use Rattle.np_replay.specs.Lines.{script_line, script_status}

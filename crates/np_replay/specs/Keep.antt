@@ -2,11 +2,11 @@
 use Rattle.std.specs.Prelude.{◌≡◌, ◌⊎◌, ◌<◌, ℕ, List, [], Bool, true, false, IfSome, Result, Ok, Err, length, nat_lt}
 use Rattle.np_io.specs.Counts.{Rose}
 use Rattle.np_io.specs.Facts.{SourceFacts, SinkFacts, IsWritten}
-use Rattle.np_disk.specs.Disk.{DiskFacts, LeavesOnly}
+use Rattle.np_io.specs.Disk.{DiskFacts, LeavesOnly}
 use Rattle.np_log.specs.Log.{content_of}
-use Rattle.np_lines.specs.declared.script.Script.{Script}
-use Rattle.np_lines.specs.declared.script.ScriptFault.{ScriptFault}
-use Rattle.np_lines.specs.Script.{script_of}
+use Rattle.np_report.specs.declared.script.Script.{Script}
+use Rattle.np_report.specs.declared.script.ScriptFault.{ScriptFault}
+use Rattle.np_report.specs.Script.{script_of}
 use Rattle.np_replay.specs.declared.ending.Ending.{Ending}
 use Rattle.np_replay.specs.declared.ending.Ending.TheVariants as ending
 use Rattle.np_replay.specs.Input.{IsInput, Stops, most}

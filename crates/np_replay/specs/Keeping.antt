@@ -2,11 +2,11 @@
 use Rattle.std.specs.Prelude.{◌≡◌, ◌⊎◌, ℕ, List, [], Result, Err}
 use Rattle.np_io.specs.Counts.{Rose}
 use Rattle.np_io.specs.Facts.{SourceFacts}
-use Rattle.np_disk.specs.Disk.{DiskFacts}
+use Rattle.np_io.specs.Disk.{DiskFacts}
 use Rattle.np_log.specs.Log.{content_of}
-use Rattle.np_lines.specs.declared.script.Script.{Script}
-use Rattle.np_lines.specs.declared.script.ScriptFault.{ScriptFault}
-use Rattle.np_lines.specs.Script.{script_of}
+use Rattle.np_report.specs.declared.script.Script.{Script}
+use Rattle.np_report.specs.declared.script.ScriptFault.{ScriptFault}
+use Rattle.np_report.specs.Script.{script_of}
 use Rattle.np_report.specs.Played.{played}
 use Rattle.np_report.specs.Printed.{IsPrinted}
 use Rattle.np_replay.specs.declared.ending.Ending.{Ending}

@@ -9,3 +9,6 @@ pub mod Keep
 pub mod Keeping
 pub mod Resume
 pub mod Resuming
+pub mod FileName
+pub mod Command
+pub mod Application

@@ -6,10 +6,10 @@ use Rattle.np_json.specs.declared.fault.ConfigKind.TheVariants as kind
 use Rattle.np_json.specs.declared.fault.ConfigFault.{ConfigFault}
 use Rattle.np_event_lines.specs.declared.fault.LineFault.{LineFault}
 use Rattle.np_event_lines.specs.declared.fault.LineFault.TheVariants as fault
-use Rattle.np_lines.specs.declared.lines.LinesFault.{LinesFault}
-use Rattle.np_lines.specs.declared.lines.LinesFault.TheVariants as lines
-use Rattle.np_lines.specs.declared.script.ScriptFault.{ScriptFault}
-use Rattle.np_lines.specs.declared.script.ScriptFault.TheVariants as script
+use Rattle.np_report.specs.declared.lines.LinesFault.{LinesFault}
+use Rattle.np_report.specs.declared.lines.LinesFault.TheVariants as lines
+use Rattle.np_report.specs.declared.script.ScriptFault.{ScriptFault}
+use Rattle.np_report.specs.declared.script.ScriptFault.TheVariants as script
 use Rattle.np_static.specs.declared.fault.HostsFault.{HostsFault}
 use Rattle.np_static.specs.declared.fault.HostsFault.TheVariants as hosts
 use Rattle.np_static.specs.declared.fault.HostedFault.{HostedFault}

@@ -4,11 +4,11 @@ use Rattle.np_changes.specs.Prelude.{Configuration, Event, line, lines_of}
 use Rattle.np_event_lines.specs.declared.fault.LineFault.{LineFault}
 use Rattle.np_config_read.specs.Walk.{reads}
 use Rattle.np_config_text.specs.Canonical.{canonical}
-use Rattle.np_disk.specs.Disk.{DiskFacts, Only}
+use Rattle.np_io.specs.Disk.{DiskFacts, Only}
 use Rattle.np_log.specs.Log.{Content, content_of}
-use Rattle.np_lines.specs.declared.lines.LinesFault.{LinesFault}
-use Rattle.np_lines.specs.Lines.{lines_read}
-use Rattle.np_lines.specs.Script.{event_said, most_lines}
+use Rattle.np_report.specs.declared.lines.LinesFault.{LinesFault}
+use Rattle.np_report.specs.Lines.{lines_read}
+use Rattle.np_report.specs.Script.{event_said, most_lines}
 
 -- ## what a log says
 

@@ -2,9 +2,9 @@
 use Rattle.std.specs.Prelude.{◌≡◌, ◌⊎◌, ℕ, List, IfSome, Result, Ok, Err, length, nat_lt, if◌then◌else◌}
 use Rattle.np_io.specs.Counts.{Rose}
 use Rattle.np_io.specs.Facts.{SourceFacts, SinkFacts, IsWritten}
-use Rattle.np_lines.specs.declared.script.Script.{Script}
-use Rattle.np_lines.specs.declared.script.ScriptFault.{ScriptFault}
-use Rattle.np_lines.specs.Script.{script_of}
+use Rattle.np_report.specs.declared.script.Script.{Script}
+use Rattle.np_report.specs.declared.script.ScriptFault.{ScriptFault}
+use Rattle.np_report.specs.Script.{script_of}
 use Rattle.np_report.specs.Played.{played}
 use Rattle.np_report.specs.Printed.{IsPrinted}
 use Rattle.np_replay.specs.declared.ending.Ending.{Ending}

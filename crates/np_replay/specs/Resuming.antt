@@ -1,15 +1,15 @@
 -- going on with a log: what `Resume` says of it, before it is known where the lines came from
 use Rattle.std.specs.Prelude.{◌≡◌, ℕ, List, ◌++◌, length, IfSome, Option, Some, None, Ok, Err}
 use Rattle.np_io.specs.Counts.{Rose}
-use Rattle.np_disk.specs.Disk.{DiskFacts}
+use Rattle.np_io.specs.Disk.{DiskFacts}
 use Rattle.np_changes.specs.Prelude.{Configuration, Event}
 use Rattle.np_event_lines.specs.declared.fault.LineFault.{LineFault}
 use Rattle.np_config_read.specs.Walk.{reads}
 use Rattle.np_config_text.specs.Canonical.{canonical}
 use Rattle.np_log.specs.Place.{IsSettled, Place}
-use Rattle.np_lines.specs.declared.lines.LinesFault.{LinesFault}
-use Rattle.np_lines.specs.declared.script.Script.{Script}
-use Rattle.np_lines.specs.Script.{IsPlayable}
+use Rattle.np_report.specs.declared.lines.LinesFault.{LinesFault}
+use Rattle.np_report.specs.declared.script.Script.{Script}
+use Rattle.np_report.specs.Script.{IsPlayable}
 use Rattle.np_report.specs.Played.{played}
 use Rattle.np_report.specs.Printed.{IsPrinted}
 use Rattle.np_replay.specs.declared.ending.Ending.{Ending}

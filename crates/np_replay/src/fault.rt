@@ -5,7 +5,7 @@ ghost use Rattle.np_replay.specs.Faults.{IsSaidOf, TellsFault};
 ghost use Rattle.np_replay.specs.Logged.{damaged_line};
 
 use crate::Ending;
-use np_disk::DiskFailed;
+use np_io::DiskFailed;
 use np_log::{AppendFault, CreateFault, LoadFault};
 use np_text::{NoMemory, put_number};
 use std::alloc::{AllocError, Global};

@@ -3,10 +3,10 @@
 ghost use Rattle.std.specs.Prelude.{◌≡◌, ◌≤◌, [], Ok, IfOk, IfErr, IfSome, OnOk};
 ghost use Rattle.std.specs.Option.{option_map};
 ghost use Rattle.np_config_text.specs.Canonical.{canonical};
-ghost use Rattle.np_disk.specs.Disk.{LeavesOnly};
+ghost use Rattle.np_io.specs.Disk.{LeavesOnly};
 ghost use Rattle.np_log.specs.Log.{content_of};
 ghost use Rattle.np_log.specs.Place.{IsSettled, SaysNewLog};
-ghost use Rattle.np_lines.specs.Script.{IsPlayable};
+ghost use Rattle.np_report.specs.Script.{IsPlayable};
 ghost use Rattle.np_replay.specs.Keep.{EndsKeep, Keeps, KeepsWhole, WasEmpty};
 ghost use Rattle.np_replay.specs.Keeping.{EndsKeeping, IsBegunBy, WhyNotWritten};
 ghost use Rattle.np_replay.specs.Logged.{HoldsLog};
@@ -16,11 +16,9 @@ use crate::script::{ending_of_script_fault, script_come};
 use crate::{Ending, tell};
 use np_config::Config;
 use np_config_text::config_text;
-use np_disk::Disk;
-use np_io::{Sink, Source};
-use np_lines::Script;
+use np_io::{Disk, Sink, Source};
 use np_log::Log;
-use np_report::text_of_script;
+use np_report::{Script, text_of_script};
 use np_text::NoMemory;
 use std::alloc::Global;
 

@@ -5,7 +5,7 @@ ghost use Rattle.np_replay.specs.Lines.{kind_text, config_line, fault_text, numb
 
 use np_event_lines::LineFault;
 use np_json::{ConfigFault, ConfigKind};
-use np_lines::{LinesFault, ScriptFault};
+use np_report::{LinesFault, ScriptFault};
 use np_text::{NoMemory, put_number};
 use std::alloc::Global;
 

@@ -5,8 +5,7 @@ ghost use Rattle.np_replay.specs.Replay.{EndsReplay, Replays};
 
 use crate::{Ending, input, line_of_script, status_of_script, tell};
 use np_io::{Sink, Source};
-use np_lines::read_script;
-use np_report::text_of_script;
+use np_report::{read_script, text_of_script};
 use std::alloc::Global;
 
 /// How a replay of what the source has left ends.

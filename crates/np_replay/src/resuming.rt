@@ -2,7 +2,7 @@
 
 ghost use Rattle.std.specs.Prelude.{◌≡◌, ◌≤◌, ◌+◌, ◌++◌, length, IfOk, IfErr, IfSome, Ok};
 ghost use Rattle.std.specs.List.{AllByRecursion};
-ghost use Rattle.np_disk.specs.Disk.{LeavesOnly};
+ghost use Rattle.np_io.specs.Disk.{LeavesOnly};
 ghost use Rattle.np_event_lines.specs.Line.{HasEventLine};
 ghost use Rattle.np_replay.specs.Logged.{HoldsLog, IsPartOfLog, more_of};
 ghost use Rattle.np_replay.specs.Resume.{EndsResume, IsGoingOn, Resumes, ResumesWhole};
@@ -13,13 +13,11 @@ use crate::{Ending, input, line_of_lines, tell};
 use np_config::Config;
 use np_config_read::{ConfigRead, read_config};
 use np_config_text::config_text;
-use np_disk::Disk;
 use np_event_lines::LineFault;
-use np_io::{Sink, Source};
-use np_lines::{EventList, LinesFault, Script, read_lines};
+use np_io::{Disk, Sink, Source};
 use np_lists::Items;
 use np_log::{Loaded, Log};
-use np_report::text_of_script;
+use np_report::{EventList, LinesFault, Script, read_lines, text_of_script};
 use np_text::{JOURNAL_ENTRIES, NoMemory};
 use std::alloc::Global;
 

@@ -2,13 +2,13 @@
 
 ghost use Rattle.std.specs.Prelude.{IfOk, IfErr};
 ghost use Rattle.np_replay.specs.Input.{Stops};
-ghost use Rattle.np_lines.specs.Script.{IsPlayable};
+ghost use Rattle.np_report.specs.Script.{IsPlayable};
 ghost use Rattle.np_replay.specs.Faults.{TellsScript};
 ghost use Rattle.np_replay.specs.Keeping.{HasCome};
 
 use crate::{Ending, input, line_of_script, status_of_script};
 use np_io::Source;
-use np_lines::{Script, ScriptFault, read_script};
+use np_report::{Script, ScriptFault, read_script};
 use np_text::NoMemory;
 use std::alloc::Global;
 

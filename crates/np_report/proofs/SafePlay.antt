@@ -6,11 +6,11 @@ use Rattle.np_laws.proofs.Runs.{safe-every_step}
 use Rattle.np_laws.proofs.Journals.{caused-every_step}
 use Rattle.np_laws.proofs.Made.{kept-every_step}
 use Rattle.np_laws.proofs.Rightful.{fenced-every_step}
-use Rattle.np_lines.specs.declared.script.Script.{Script}
+use Rattle.np_report.specs.declared.script.Script.{Script}
 use Rattle.np_rules.specs.Ran.{Ran}
 use Rattle.np_report.specs.Played.{played_from, played, ran}
 use Rattle.np_report.specs.Printed.{HoldsThroughout, IsPrinted}
-use Rattle.np_lines.specs.Script.{IsPlayable}
+use Rattle.np_report.specs.Script.{IsPlayable}
 use Rattle.np_report.specs.Text.{text_of}
 use Rattle.np_report.proofs.Playing.{length-played_from, lines-played_from}
 

@@ -3,10 +3,10 @@
 ghost use Rattle.std.specs.Prelude.{◌≡◌, List};
 ghost use Rattle.np_changes.specs.Prelude.{AllByRecursion, Configuration, Entry, IsSound, Runs, State};
 ghost use Rattle.np_event_lines.specs.Line.{HasEntryLine};
-ghost use Rattle.np_lines.specs.declared.script.Script.{Script};
+ghost use Rattle.np_report.specs.declared.script.Script.{Script};
 ghost use Rattle.np_report.specs.Played.{played};
 ghost use Rattle.np_report.specs.Printed.{IsPrinted};
-ghost use Rattle.np_lines.specs.Script.{IsPlayable};
+ghost use Rattle.np_report.specs.Script.{IsPlayable};
 ghost use Rattle.np_report.specs.Text.{text_of};
 
 /// A Text determines its run: two sound configurations, as each `Config` is, and two runs whose

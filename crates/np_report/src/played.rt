@@ -6,11 +6,11 @@ ghost use Rattle.np_event_lines.specs.Line.{HasEventLine};
 ghost use Rattle.np_rules.specs.Running.{ran_of};
 ghost use Rattle.np_report.specs.Played.{played, ran};
 ghost use Rattle.np_report.specs.Printed.{IsPrinted};
-ghost use Rattle.np_lines.specs.Script.{IsPlayable};
+ghost use Rattle.np_report.specs.Script.{IsPlayable};
 
+use crate::Script;
 use crate::print::text;
 use np_event::Event;
-use np_lines::Script;
 use np_look::{Look, Store};
 use np_rules::{Machine, new_plain};
 use np_text::NoMemory;

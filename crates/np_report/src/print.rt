@@ -3,7 +3,7 @@
 ghost use Rattle.std.specs.Prelude.{◌≡◌, ◌+◌, ◌≤◌, ◌++◌, ◌∷◌, [], drop, length, OnOk, IfOk};
 ghost use Rattle.np_changes.specs.Prelude.{AllByRecursion, IsSound, Runs, fates, line};
 ghost use Rattle.np_event_lines.specs.Line.{HasEventLine, entry_line};
-ghost use Rattle.np_lines.specs.Told.{IsToldEntry};
+ghost use Rattle.np_report.specs.Told.{IsToldEntry};
 ghost use Rattle.np_report.specs.Printed.{IsPrinted};
 ghost use Rattle.np_report.specs.Text.{text_of, job_text, entry_lines, fate_lines};
 

@@ -2,7 +2,7 @@
 use Rattle.std.proofs.Common.{◌≡◌, ℕ, suc, ◌+◌, List, [], ◌∷◌, length, refl, ap, ◌∙◌, subst, arith, Bool, true, false}
 use Rattle.std.specs.Prelude.{Result, Ok, Err, IfOk, MatchBool}
 use Rattle.np_changes.specs.Prelude.{Configuration, Entry, NoMemory}
-use Rattle.np_driven.specs.Prelude.{DeskView, DriverFacts, IsFull, Leads, PassView, Phase, ended, first_phase, sight_of}
+use Rattle.np_worker.specs.Prelude.{DeskView, DriverFacts, IsFull, Leads, PassView, Phase, ended, first_phase, sight_of}
 use Rattle.np_worker.specs.declared.worker.RoundEnd.{RoundEnd}
 use Rattle.np_worker.specs.Round.{EndsAs, Rests, work_of, driving_of}
 use Rattle.np_rounds.specs.declared.crew.Crew.{Crew}

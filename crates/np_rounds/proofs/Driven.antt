@@ -3,13 +3,13 @@ use Rattle.std.proofs.Common.{◌≡◌, ◌<◌, ℕ, List, [], ◌∷◌, ◌+
 use Rattle.std.specs.Prelude.{All, Some, map}
 use Rattle.std.proofs.lemmas.List.Elements.{All-map, All-same}
 use Rattle.np_changes.specs.Prelude.{Configuration, Entry, Runs, after}
-use Rattle.np_driven.specs.Prelude.{DriverFacts, Driving, driving}
-use Rattle.np_driven.specs.Planned.{DrivenAs}
-use Rattle.np_driven.specs.Players.{Player, drivings_of, AreNumbered, WasAnswered, HaveDrivenAs}
-use Rattle.np_driven.specs.Round.{IsRound}
-use Rattle.np_driven.proofs.Rounds.{round-driven, round-no-tick, numbered-after}
-use Rattle.np_driven.proofs.Leaves.{round-have-driven}
-use Rattle.np_driven.proofs.Journals.{tick-have-driven, start-have-driven}
+use Rattle.np_worker.specs.Prelude.{DriverFacts, Driving, driving}
+use Rattle.np_worker.specs.Planned.{DrivenAs}
+use Rattle.np_worker.specs.Players.{Player, drivings_of, AreNumbered, WasAnswered, HaveDrivenAs}
+use Rattle.np_worker.specs.Played.{IsRound}
+use Rattle.np_worker.proofs.Plays.{round-driven, round-no-tick, numbered-after}
+use Rattle.np_worker.proofs.Leaves.{round-have-driven}
+use Rattle.np_worker.proofs.Journals.{tick-have-driven, start-have-driven}
 use Rattle.np_rounds.specs.Crews.{Plan}
 use Rattle.np_rounds.specs.Played.{IsDriven, Ticks}
 

@@ -3,15 +3,15 @@ use Rattle.std.proofs.Common.{◌≡◌, ◌⊎◌, inl, inr, ⊎_elim, ℕ, zer
 use Rattle.std.specs.Prelude.{Option, Some, None}
 use Rattle.np_changes.specs.Prelude.{Configuration, Entry, Outcome, PoolId, Role}
 use Rattle.np_text.specs.declared.id.Role.TheVariants as role
-use Rattle.np_driven.specs.Prelude.{Answered, IsFull, Move, Sight, StartsWith, Walk, asked, launched, recorded, removed}
+use Rattle.np_worker.specs.Prelude.{Answered, IsFull, Move, Sight, StartsWith, Walk, asked, launched, recorded, removed}
 use Rattle.np_desk.proofs.HistoryLemmas.{starts_more, starts_on}
-use Rattle.np_driven.specs.declared.ask.Ask.{Ask}
-use Rattle.np_driven.specs.declared.ask.Ask.TheVariants as ask
-use Rattle.np_driven.specs.declared.ask.Turn.{Turn}
-use Rattle.np_driven.specs.declared.ask.Turn.TheVariants as turn
-use Rattle.np_driven.specs.Planned.{answers_of}
-use Rattle.np_driven.specs.declared.start.Start.{Start}
-use Rattle.np_driven.specs.Phase.{Work, of_pool, of_requester, of_reaper, Phase, acts, owes_launch, owes_report, looks, owes_due, sweeps, owes_swept, rests, ended, Leads, first_phase, acting, after_role, after_start, after_entry, after_turn, after_launch, after_removal, start_of, is_unwanted}
+use Rattle.np_worker.specs.declared.ask.Ask.{Ask}
+use Rattle.np_worker.specs.declared.ask.Ask.TheVariants as ask
+use Rattle.np_worker.specs.declared.ask.Turn.{Turn}
+use Rattle.np_worker.specs.declared.ask.Turn.TheVariants as turn
+use Rattle.np_worker.specs.Planned.{answers_of}
+use Rattle.np_worker.specs.declared.start.Start.{Start}
+use Rattle.np_worker.specs.Phase.{Work, of_pool, of_requester, of_reaper, Phase, acts, owes_launch, owes_report, looks, owes_due, sweeps, owes_swept, rests, ended, Leads, first_phase, acting, after_role, after_start, after_entry, after_turn, after_launch, after_removal, start_of, is_unwanted}
 
 -- the round goes on
 abbrev pub GoesOn : Phase → Type 0

@@ -3,12 +3,12 @@ use Rattle.std.proofs.Common.{◌≡◌, ◌∙◌, ◌<◌, ℕ, List, [], ◌�
 use Rattle.std.specs.Prelude.{All, Some, map}
 use Rattle.std.proofs.lemmas.List.Elements.{All-nil, All-cons, All-append, All-map, All-same, All-weaker}
 use Rattle.np_changes.specs.Prelude.{Configuration, Entry, Runs, after}
-use Rattle.np_driven.specs.Prelude.{DriverFacts, Driving, Soundness, driving}
-use Rattle.np_driven.specs.Players.{Player, driving_in, drivings_of, AreNumbered, HaveDriven}
-use Rattle.np_driven.specs.Round.{IsRound}
-use Rattle.np_driven.specs.Carried.{AreCarried, BeginsEmpty, BeginsNew, FailOnlyFull}
-use Rattle.np_driven.specs.Hosting.{BeginAfter, Earlier, HaveHosted, HaveSoundness, IsHosted}
-use Rattle.np_driven.proofs.Hosted.{are-carried, begin-counted, begin-hosted, begin-new, counted, fail-only-full, round-hosted, stop-hosted, tick-hosted}
+use Rattle.np_worker.specs.Prelude.{DriverFacts, Driving, Soundness, driving}
+use Rattle.np_worker.specs.Players.{Player, driving_in, drivings_of, AreNumbered, HaveDriven}
+use Rattle.np_worker.specs.Played.{IsRound}
+use Rattle.np_worker.specs.Carried.{AreCarried, BeginsEmpty, BeginsNew, FailOnlyFull}
+use Rattle.np_worker.specs.Hosting.{BeginAfter, Earlier, HaveHosted, HaveSoundness, IsHosted}
+use Rattle.np_worker.proofs.Hosted.{are-carried, begin-counted, begin-hosted, begin-new, counted, fail-only-full, round-hosted, stop-hosted, tick-hosted}
 use Rattle.np_worker.specs.declared.worker.Worker.{Worker}
 use Rattle.np_worker.specs.declared.worker.Worker.TheVariants as worker
 use Rattle.np_rounds.specs.Crews.{Plan, player_of, players_of}

@@ -6,16 +6,16 @@ use Rattle.std.proofs.lemmas.List.Elements.{All-head, All-tail}
 use Rattle.np_changes.specs.Prelude.{Configuration, Entry, Runs, State, after, list_any}
 use Rattle.np_event.specs.declared.event.Event.TheVariants as ev
 use Rattle.np_desk.proofs.HistoryLemmas.{starts_on, starts_same}
-use Rattle.np_driven.specs.Prelude.{Driving, StartsWith, answers}
-use Rattle.np_driven.specs.declared.ask.Ask.TheVariants as ask
-use Rattle.np_driven.specs.declared.ask.Turn.{Turn}
-use Rattle.np_driven.specs.declared.ask.Turn.TheVariants as turn
-use Rattle.np_driven.specs.Hosting.{Earlier, HaveHosted, HaveSoundness, IsHosted}
-use Rattle.np_driven.specs.Players.{AreNumbered, HaveDrivenAs, Player, drivings_of}
-use Rattle.np_driven.specs.Round.{IsRound, PlayerEnd}
-use Rattle.np_driven.specs.Trace.{StandAt}
-use Rattle.np_driven.proofs.Hosted.{round-hosted}
-use Rattle.np_driven.proofs.LegalLemmas.{Runs-legal, legal-Runs, legal-beginning}
+use Rattle.np_worker.specs.Prelude.{Driving, StartsWith, answers}
+use Rattle.np_worker.specs.declared.ask.Ask.TheVariants as ask
+use Rattle.np_worker.specs.declared.ask.Turn.{Turn}
+use Rattle.np_worker.specs.declared.ask.Turn.TheVariants as turn
+use Rattle.np_worker.specs.Hosting.{Earlier, HaveHosted, HaveSoundness, IsHosted}
+use Rattle.np_worker.specs.Players.{AreNumbered, HaveDrivenAs, Player, drivings_of}
+use Rattle.np_worker.specs.Played.{IsRound, PlayerEnd}
+use Rattle.np_worker.specs.Trace.{StandAt}
+use Rattle.np_worker.proofs.Hosted.{round-hosted}
+use Rattle.np_worker.proofs.LegalLemmas.{Runs-legal, legal-Runs, legal-beginning}
 use Rattle.np_rounds.specs.Laps.{EachAtBoard, EntriesStand, HasLaps, IsLap, IsPlayedRound, IsTick, Lap, Laps, LapsStand, TicksAfter, WasPlayed, is_full_lap, is_full_tick, with_tick, with_turn}
 use Rattle.np_rounds.specs.Played.{IsDriven, Ticks, is_full, terms_in}
 use Rattle.np_rounds.proofs.Driven.{driven_round, driven_tick}

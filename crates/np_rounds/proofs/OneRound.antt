@@ -3,14 +3,14 @@ use Rattle.std.proofs.Common.{◌≡◌, ◌⊎◌, inl, inr, ⊎_elim, ℕ, suc
 use Rattle.std.specs.Prelude.{All, map, Option, IfOk, IfSome, MatchBool, Ok, Result}
 use Rattle.std.proofs.lemmas.List.Elements.{All-nil, All-cons, All-head, All-tail}
 use Rattle.np_changes.specs.Prelude.{Configuration, Entry, NoMemory}
-use Rattle.np_driven.specs.Prelude.{DeskView, DriverFacts, Driving, IsOf, Move, OwesRemoval, PassView, Phase, Sight, Walk, Work, acts, ended, looks, of_pool, of_reaper, of_requester, owes_due, owes_launch, owes_report, owes_swept, rests, sight_of, sweeps}
+use Rattle.np_worker.specs.Prelude.{DeskView, DriverFacts, Driving, IsOf, Move, OwesRemoval, PassView, Phase, Sight, Walk, Work, acts, ended, looks, of_pool, of_reaper, of_requester, owes_due, owes_launch, owes_report, owes_swept, rests, sight_of, sweeps}
 use Rattle.np_desk.specs.History.{StartsWith, added, AreRising}
 use Rattle.np_desk.specs.Share.{times}
 use Rattle.np_desk.specs.declared.view.Origin.{Origin}
 use Rattle.np_desk.proofs.HistoryLemmas.{starts_on}
-use Rattle.np_driven.specs.Planned.{answers_of}
-use Rattle.np_driven.specs.Players.{Player}
-use Rattle.np_driven.specs.Round.{PlayerEnd, PlaysFrom, EachPlaysFrom, IsMade, IsCutOff, IsRound}
+use Rattle.np_worker.specs.Planned.{answers_of}
+use Rattle.np_worker.specs.Players.{Player}
+use Rattle.np_worker.specs.Played.{PlayerEnd, PlaysFrom, EachPlaysFrom, IsMade, IsCutOff, IsRound}
 use Rattle.np_worker.specs.declared.worker.RoundEnd.{RoundEnd}
 use Rattle.np_worker.specs.declared.worker.Worker.{Worker}
 use Rattle.np_worker.specs.Board.{IsRoundAtBoard}

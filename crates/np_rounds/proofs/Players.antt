@@ -1,10 +1,10 @@
 -- Workers as players, in lists that grow and shrink at their end.
 use Rattle.std.proofs.Common.{◌≡◌, ℕ, suc, List, [], ◌∷◌, ◌++◌, length, length-append, refl, sym, ap, ◌∙◌, subst, arith, append_assoc}
 use Rattle.std.specs.Prelude.{map, Bool, Option, Some, None}
-use Rattle.np_driven.specs.Prelude.{DriverFacts, Drives, Driving, Drove, Move, driving}
+use Rattle.np_worker.specs.Prelude.{DriverFacts, Drives, Driving, Drove, Move, driving}
 use Rattle.np_changes.specs.Prelude.{Configuration, Entry, PoolId, RequesterId}
-use Rattle.np_driven.specs.Players.{Player, driving_in, drivings_of, AreNumbered}
-use Rattle.np_driven.specs.Round.{PlayerEnd, EachPlaysFrom, IsRound}
+use Rattle.np_worker.specs.Players.{Player, driving_in, drivings_of, AreNumbered}
+use Rattle.np_worker.specs.Played.{PlayerEnd, EachPlaysFrom, IsRound}
 use Rattle.np_worker.specs.Round.{driving_of}
 use Rattle.np_worker.specs.declared.worker.Worker.{Worker}
 use Rattle.np_worker.specs.declared.worker.Worker.TheVariants as worker

@@ -1,9 +1,9 @@
 -- A worker's round, where launchers may also commit what they chose before.
 use Rattle.std.specs.Prelude.{List, Bool, Option}
 use Rattle.np_changes.specs.Prelude.{Configuration, Entry}
-use Rattle.np_driven.specs.Prelude.{Driving, Move, Phase, Sight, answers}
-use Rattle.np_driven.specs.Planned.{answers_of}
-use Rattle.np_driven.proofs.Choices.{allowed-walk}
+use Rattle.np_worker.specs.Prelude.{Driving, Move, Phase, Sight, answers}
+use Rattle.np_worker.specs.Planned.{answers_of}
+use Rattle.np_worker.proofs.Choices.{allowed-walk}
 use Rattle.np_worker.specs.Part.{Part}
 
 -- the board's answers are allowed in any case

@@ -4,10 +4,10 @@ use Rattle.std.specs.Prelude.{Result, Ok, Err, IfOk, ◌||◌, nat_lt}
 use Rattle.std.proofs.lemmas.Bool.Decides.{nat_tests}
 use Rattle.std.proofs.lemmas.List.Elements.{All-nil, All-cons, All-weaker}
 use Rattle.np_changes.specs.Prelude.{Configuration, Entry, NoMemory}
-use Rattle.np_driven.specs.Prelude.{DeskView, DriverFacts, IsFull, PassView}
+use Rattle.np_worker.specs.Prelude.{DeskView, DriverFacts, IsFull, PassView}
 use Rattle.np_desk.specs.History.{StartsWith, merged}
 use Rattle.np_desk.proofs.HistoryLemmas.{starts_same, starts_on}
-use Rattle.np_driven.specs.Players.{Player}
+use Rattle.np_worker.specs.Players.{Player}
 use Rattle.np_worker.specs.declared.worker.Worker.{Worker}
 use Rattle.np_worker.specs.declared.worker.RoundEnd.{RoundEnd}
 use Rattle.np_rounds.specs.declared.crew.CrewEnd.{CrewEnd}

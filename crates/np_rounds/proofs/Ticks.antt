@@ -2,10 +2,10 @@
 use Rattle.std.proofs.Common.{◌≡◌, false, inr, List, [], ◌∷◌, ◌++◌, length, length-append, refl, sym, ap, subst, ◌∙◌, arith}
 use Rattle.np_changes.specs.Prelude.{Configuration, Entry}
 use Rattle.np_event.specs.declared.event.Event.TheVariants as ev
-use Rattle.np_driven.specs.Prelude.{Answered, DeskView, PassView, Sight, answers, recorded, sight_of}
-use Rattle.np_driven.specs.declared.ask.Ask.TheVariants as ask
-use Rattle.np_driven.specs.declared.ask.Turn.{Turn}
-use Rattle.np_driven.specs.declared.ask.Turn.TheVariants as turn
+use Rattle.np_worker.specs.Prelude.{Answered, DeskView, PassView, Sight, answers, recorded, sight_of}
+use Rattle.np_worker.specs.declared.ask.Ask.TheVariants as ask
+use Rattle.np_worker.specs.declared.ask.Turn.{Turn}
+use Rattle.np_worker.specs.declared.ask.Turn.TheVariants as turn
 use Rattle.np_rounds.specs.Laps.{IsTick}
 use Rattle.np_rounds.specs.Played.{is_full, Stops}
 use Rattle.np_rounds.proofs.Fulls.{full_turn}

@@ -1,9 +1,9 @@
 -- crews that come back after a round
 use Rattle.std.specs.Prelude.{◌≡◌, ◌<◌, ◌||◌, ℕ, suc, length, List, [], ◌∷◌, ◌++◌, All, Bool, true, false, Result, Ok, Err, IfOk}
 use Rattle.np_changes.specs.Prelude.{Configuration, Entry, NoMemory}
-use Rattle.np_driven.specs.Prelude.{DeskView, DriverFacts, IsFull, IsOf, PassView, second_half}
+use Rattle.np_worker.specs.Prelude.{DeskView, DriverFacts, IsFull, IsOf, PassView, second_half}
 use Rattle.np_desk.specs.History.{StartsWith, merged}
-use Rattle.np_driven.specs.Players.{Player}
+use Rattle.np_worker.specs.Players.{Player}
 use Rattle.np_worker.specs.declared.worker.RoundEnd.{RoundEnd}
 use Rattle.np_worker.specs.declared.worker.Worker.{Worker}
 use Rattle.np_rounds.specs.declared.crew.CrewEnd.{CrewEnd}

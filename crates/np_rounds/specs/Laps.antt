@@ -2,15 +2,15 @@
 use Rattle.std.specs.Prelude.{◌≡◌, ◌⊎◌, ◌<◌, ◌||◌, length, List, [], ◌∷◌, ◌++◌, Bool, true, false, Option, Some, None, Ok}
 use Rattle.np_changes.specs.Prelude.{Configuration, Entry, list_any}
 use Rattle.np_event.specs.declared.event.Event.TheVariants as ev
-use Rattle.np_driven.specs.Prelude.{Driving, answers}
-use Rattle.np_driven.specs.declared.ask.Ask.TheVariants as ask
-use Rattle.np_driven.specs.declared.ask.Turn.{Turn}
-use Rattle.np_driven.specs.declared.ask.Turn.TheVariants as turn
-use Rattle.np_driven.specs.Hosting.{HaveSoundness}
-use Rattle.np_driven.specs.Move.{entries_of}
-use Rattle.np_driven.specs.Players.{AreNumbered, Player, drivings_of}
-use Rattle.np_driven.specs.Round.{IsRound, PlayerEnd}
-use Rattle.np_driven.specs.Trace.{StandAt, WasFull}
+use Rattle.np_worker.specs.Prelude.{Driving, answers}
+use Rattle.np_worker.specs.declared.ask.Ask.TheVariants as ask
+use Rattle.np_worker.specs.declared.ask.Turn.{Turn}
+use Rattle.np_worker.specs.declared.ask.Turn.TheVariants as turn
+use Rattle.np_worker.specs.Hosting.{HaveSoundness}
+use Rattle.np_worker.specs.Move.{entries_of}
+use Rattle.np_worker.specs.Players.{AreNumbered, Player, drivings_of}
+use Rattle.np_worker.specs.Played.{IsRound, PlayerEnd}
+use Rattle.np_worker.specs.Trace.{StandAt, WasFull}
 use Rattle.np_worker.specs.declared.worker.RoundEnd.{RoundEnd}
 use Rattle.np_worker.specs.Board.{IsRoundAtBoard}
 use Rattle.np_rounds.specs.Played.{is_full}

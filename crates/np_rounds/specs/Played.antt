@@ -2,12 +2,12 @@
 use Rattle.std.specs.Prelude.{◌≡◌, ◌⊎◌, ◌||◌, nat_lt, List, [], ◌∷◌, ◌++◌, map, Bool, true, false, Result, Ok, Err}
 use Rattle.np_changes.specs.Prelude.{Configuration, Entry, NoMemory}
 use Rattle.np_event.specs.declared.event.Event.TheVariants as ev
-use Rattle.np_driven.specs.Planned.{DrivenAs}
-use Rattle.np_driven.specs.Players.{Player, drivings_of, AreNumbered, WasAnswered, HaveDrivenAs}
+use Rattle.np_worker.specs.Planned.{DrivenAs}
+use Rattle.np_worker.specs.Players.{Player, drivings_of, AreNumbered, WasAnswered, HaveDrivenAs}
 use Rattle.np_worker.specs.declared.worker.RoundEnd.{RoundEnd}
-use Rattle.np_driven.specs.declared.ask.Turn.{Turn}
-use Rattle.np_driven.specs.declared.ask.Turn.TheVariants as turn
-use Rattle.np_driven.specs.Answers.{IsFull}
+use Rattle.np_worker.specs.declared.ask.Turn.{Turn}
+use Rattle.np_worker.specs.declared.ask.Turn.TheVariants as turn
+use Rattle.np_worker.specs.Answers.{IsFull}
 use Rattle.np_rounds.specs.declared.round.Together.{Together}
 use Rattle.np_rounds.specs.Crews.{Terms, terms_of}
 

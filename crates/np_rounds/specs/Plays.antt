@@ -1,8 +1,8 @@
 -- what a crew did in a round
 use Rattle.std.specs.Prelude.{◌≡◌, ◌+◌, length, ℕ, Bool, List, [], ◌∷◌, IfOk, Result}
 use Rattle.np_changes.specs.Prelude.{Configuration, Entry, NoMemory}
-use Rattle.np_driven.specs.Prelude.{DeskView, DriverFacts, IsOf, first_phase, sight_of}
-use Rattle.np_driven.specs.Planned.{answers_of}
+use Rattle.np_worker.specs.Prelude.{DeskView, DriverFacts, IsOf, first_phase, sight_of}
+use Rattle.np_worker.specs.Planned.{answers_of}
 use Rattle.np_worker.specs.declared.worker.RoundEnd.{RoundEnd}
 use Rattle.np_worker.specs.declared.worker.Worker.{Worker}
 use Rattle.np_worker.specs.Part.{Part}

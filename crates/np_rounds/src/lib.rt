@@ -7,13 +7,13 @@
 //!
 //! The one pass of a desk is split, a part for each worker, and joined again in the reverse order:
 //! so it is whole after each round, and knows every entry. A round of all crews is then a round of
-//! np_driven's players, and the journal is one that the workers and their drivers drove. Read
+//! np_worker's players, and the journal is one that the workers and their drivers drove. Read
 //! `specs/Crews` for who has which pass, `specs/Plays` for what a worker's round is, `specs/Backs`
 //! for crews that come back, and `specs/Played` for what rounds leave.
 //!
 //! A site is played in laps (`specs/Laps`): a round of all workers, in which each does what
 //! np_worker's `specs/Board` says, and then a tick if the round made an entry. What the laps leave
-//! of the journal and of the drivers follows from this by np_driven's laws (`proofs/Laps`).
+//! of the journal and of the drivers follows from this by np_worker's laws (`proofs/Laps`).
 //!
 //! Crews, how passes are handed out and taken back, and what may cross threads serve rounds at other
 //! boards too (np_planned_rounds).

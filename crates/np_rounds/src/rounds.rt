@@ -1,9 +1,9 @@
 //! A site, played to its end.
 
 ghost use Rattle.std.specs.Prelude.{◌≡◌, [], length, map, All, IfOk, Some, true, false};
-ghost use Rattle.np_driven.specs.Prelude.{DrivenBy, IsOf, IsSettled, IsWhole, driving};
-ghost use Rattle.np_driven.specs.Players.{WasAnswered};
-ghost use Rattle.np_driven.specs.Carried.{AreCarried, BeginsEmpty, BeginsNew, FailOnlyFull};
+ghost use Rattle.np_worker.specs.Prelude.{DrivenBy, IsOf, IsSettled, IsWhole, driving};
+ghost use Rattle.np_worker.specs.Players.{WasAnswered};
+ghost use Rattle.np_worker.specs.Carried.{AreCarried, BeginsEmpty, BeginsNew, FailOnlyFull};
 ghost use Rattle.np_rounds.specs.Crews.{players_of};
 ghost use Rattle.np_rounds.specs.Laps.{HasLaps, IsTick, WasPlayed};
 ghost use Rattle.np_rounds.specs.Played.{EndsWithTick, IsRested, Stops, is_full};
@@ -14,10 +14,9 @@ use np_board::Board;
 use np_cloud::{Driver, Gate};
 use np_config::Config;
 use np_desk::{Desk, Pass};
-use np_driven::{Ask, Turn};
 use np_event::Event;
 use np_text::NoMemory;
-use np_worker::Worker;
+use np_worker::{Ask, Turn, Worker};
 use std::alloc::Global;
 use std::sync::Wait;
 use std::thread::Threads;

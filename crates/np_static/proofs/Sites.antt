@@ -7,7 +7,7 @@ use Rattle.np_static.specs.declared.fault.HostsRead.{HostsRead}
 use Rattle.np_static.specs.declared.fault.HostsRead.TheVariants as read
 use Rattle.np_static.specs.declared.line.HostLine.{HostLine}
 use Rattle.std.proofs.lemmas.List.{map-append}
-use Rattle.np_lines.proofs.LinesRead.{lines_read-few}
+use Rattle.np_report.proofs.LinesRead.{lines_read-few}
 use Rattle.np_static.specs.declared.site.SiteDriver.{SiteDriver}
 use Rattle.np_static.specs.Read.{Tells, host_said, hosts_read, hosts_in, is_of, site_with, with_site, sites_from}
 use Rattle.np_static.specs.Site.{Site, site_of}

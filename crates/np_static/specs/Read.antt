@@ -3,9 +3,9 @@ use Rattle.std.specs.Prelude.{◌≡◌, ◌==◌, ℕ, suc, nat_le, Bool, false
 use Rattle.np_machine.specs.Prelude.{Configuration, Pool, PoolId, lines_of}
 use Rattle.np_event_lines.specs.Words.{words_of}
 use Rattle.np_event_lines.specs.declared.fault.LineFault.{LineFault}
-use Rattle.np_lines.specs.Lines.{lines_read}
-use Rattle.np_lines.specs.declared.lines.LinesFault.{LinesFault}
-use Rattle.np_lines.specs.declared.lines.LinesFault.TheVariants as lines
+use Rattle.np_report.specs.Lines.{lines_read}
+use Rattle.np_report.specs.declared.lines.LinesFault.{LinesFault}
+use Rattle.np_report.specs.declared.lines.LinesFault.TheVariants as lines
 use Rattle.np_cloud.specs.Sim.{simulation_of}
 use Rattle.np_static.specs.declared.fault.HostsFault.{HostsFault}
 use Rattle.np_static.specs.declared.fault.HostsFault.TheVariants as fault

@@ -7,7 +7,7 @@ use crate::fault::{HostedFault, HostsRead};
 use crate::read::read_hosts;
 use crate::site::SiteDriver;
 use np_config::Config;
-use np_lines::read_config;
+use np_report::read_config;
 use np_text::{NoMemory, split_sections};
 use std::alloc::Global;
 

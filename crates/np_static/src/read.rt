@@ -12,8 +12,8 @@ use crate::site::SiteDriver;
 use np_cloud::SimDriver;
 use np_config::Config;
 use np_event_lines::LineFault;
-use np_lines::LinesFault;
 use np_lists::Items;
+use np_report::LinesFault;
 use np_text::{NoMemory, PoolId, line_at};
 use std::alloc::Global;
 

@@ -8,13 +8,13 @@ use Rattle.np_event.specs.declared.event.Event.TheVariants as ev
 use Rattle.np_event.specs.declared.event.Outcome.TheVariants as outcome
 use Rattle.np_event_lines.specs.Line.{HasEventLine}
 use Rattle.np_useful.specs.Useful.{IsUseful, row_holds}
-use Rattle.np_lines.specs.Told.{has_digits}
-use Rattle.np_lines.proofs.Ids.{IdHasDigits, HasIds, request-digits, HasIds-start, HasIds-next}
+use Rattle.np_report.specs.Told.{has_digits}
+use Rattle.np_report.proofs.Ids.{IdHasDigits, HasIds, request-digits, HasIds-start, HasIds-next}
 use Rattle.np_useful.specs.Driven.{Says, IsDrivenTurn, DrivenFrom, DrivenBy}
 use Rattle.np_useful.specs.Planned.{WasOfUse, is_planned}
-use Rattle.np_driven.specs.Planned.{IsPlannedTurn, PlannedBy}
+use Rattle.np_worker.specs.Planned.{IsPlannedTurn, PlannedBy}
 use Rattle.np_top.specs.Typed.{IsTyped}
-use Rattle.np_lines.proofs.Chains.{text-of}
+use Rattle.np_report.proofs.Chains.{text-of}
 
 -- ## an accepted event names requests that exist
 

@@ -7,14 +7,14 @@ use Rattle.std.proofs.lemmas.List.Elements.{All-nil, All-cons, All-head, All-tai
 use Rattle.std.proofs.lemmas.Option.{slice_get-map}
 use Rattle.np_io.specs.Facts.{SourceFacts}
 use Rattle.np_event.specs.declared.event.Outcome.TheVariants as outcome
-use Rattle.np_driven.specs.Prelude.{DistinctNumbers, DrivenBy, Driving, Launch, Tag, driving}
+use Rattle.np_worker.specs.Prelude.{DistinctNumbers, DrivenBy, Driving, Launch, Tag, driving}
 use Rattle.np_cloud.specs.Inventory.{Told, told_nothing}
 use Rattle.np_cloud.specs.Sim.{Simulation, simulated_outcome}
-use Rattle.np_driven.specs.Players.{WasAnswered, launch_of}
-use Rattle.np_driven.proofs.Places.{driven-more}
-use Rattle.np_driven.specs.Carried.{AreCarried, BeginsNew, FailOnlyFull, NeverRepeats}
-use Rattle.np_driven.specs.Nodes.{servers_up}
-use Rattle.np_driven.specs.Reports.{AreAloneSound, FailAfter, number_in, numbers_in, reports_of}
+use Rattle.np_worker.specs.Players.{WasAnswered, launch_of}
+use Rattle.np_worker.proofs.Places.{driven-more}
+use Rattle.np_worker.specs.Carried.{AreCarried, BeginsNew, FailOnlyFull, NeverRepeats}
+use Rattle.np_worker.specs.Nodes.{servers_up}
+use Rattle.np_worker.specs.Reports.{AreAloneSound, FailAfter, number_in, numbers_in, reports_of}
 use Rattle.np_static.specs.declared.driver.HostDriver.{HostDriver}
 use Rattle.np_static.specs.declared.site.SiteDriver.{SiteDriver}
 use Rattle.np_static.specs.declared.site.SiteDriver.TheVariants as driver

@@ -3,14 +3,14 @@ use Rattle.std.proofs.Common.{◌≡◌, ◌∙◌, refl, sym, ap, subst, true, 
 use Rattle.std.specs.Prelude.{All, Option, Some, is_some}
 use Rattle.std.proofs.lemmas.List.Elements.{All-nil, All-cons, All-append, All-map, All-weaker}
 use Rattle.np_changes.specs.Prelude.{Configuration, Entry, Outcome, Runs, State, after, fates}
-use Rattle.np_driven.specs.Prelude.{Driven, DrivenBy, DriverFacts, Driving, IsSettled, Tag, driving}
+use Rattle.np_worker.specs.Prelude.{Driven, DrivenBy, DriverFacts, Driving, IsSettled, Tag, driving}
 use Rattle.np_cloud.specs.Sim.{Simulation, simulation_of, simulation_facts, simulation_plan}
 use Rattle.np_cloud.specs.Clouds.{ArePlanned, simulations}
 use Rattle.np_cloud.proofs.CloudLemmas.{simulations-planned}
-use Rattle.np_driven.specs.Carried.{BeginsEmpty, BeginsNew}
-use Rattle.np_driven.specs.Players.{WasAnswered}
-use Rattle.np_driven.specs.Planned.{PlannedBy, PlannedDriven}
-use Rattle.np_driven.proofs.Plans.{planned-driven, planned-planned}
+use Rattle.np_worker.specs.Carried.{BeginsEmpty, BeginsNew}
+use Rattle.np_worker.specs.Players.{WasAnswered}
+use Rattle.np_worker.specs.Planned.{PlannedBy, PlannedDriven}
+use Rattle.np_worker.proofs.Plans.{planned-driven, planned-planned}
 use Rattle.np_report.specs.Printed.{IsPrinted}
 use Rattle.np_rules.specs.Ran.{Ran}
 use Rattle.np_rounds.specs.Laps.{WasPlayed}

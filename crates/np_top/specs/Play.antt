@@ -3,7 +3,7 @@ use Rattle.std.specs.Prelude.{◌≡◌, ℕ, Bool, true, false, All, List, [], 
 use Rattle.np_changes.specs.Prelude.{Configuration, Entry, Fate, after, fates, list_any}
 use Rattle.np_machine.specs.Fates as fate
 use Rattle.np_useful.specs.Settled.{IsSettled}
-use Rattle.np_driven.specs.Drive.{Driving}
+use Rattle.np_worker.specs.Drive.{Driving}
 use Rattle.np_report.specs.Printed.{IsPrinted}
 use Rattle.np_rounds.specs.Laps.{WasPlayed}
 use Rattle.np_rounds.specs.Played.{EndsWithTick}

@@ -6,7 +6,7 @@ use Rattle.np_json.specs.declared.fault.ConfigFault.{ConfigFault}
 use Rattle.np_changes.specs.Prelude.{Configuration, Entry, Fate, after, fates}
 use Rattle.np_config_read.specs.Walk.{reads}
 use Rattle.np_useful.specs.Driven.{Driven}
-use Rattle.np_driven.specs.Planned.{PlannedDriven}
+use Rattle.np_worker.specs.Planned.{PlannedDriven}
 use Rattle.np_replay.specs.declared.ending.Ending.{Ending}
 use Rattle.np_replay.specs.declared.ending.Ending.TheVariants as ending
 use Rattle.np_replay.specs.Input.{IsInput, Stops, most}

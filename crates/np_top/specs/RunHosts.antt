@@ -3,8 +3,8 @@ use Rattle.std.specs.Prelude.{◌≡◌, ℕ, false, List, [], ◌∷◌, ◌++�
 use Rattle.np_changes.specs.Prelude.{Configuration, Entry, Outcome, PoolId, after, outcome_of}
 use Rattle.np_event.specs.declared.event.Event.TheVariants as ev
 use Rattle.np_useful.specs.Driven.{Says, DrivenBy}
-use Rattle.np_driven.specs.Nodes.{servers_up}
-use Rattle.np_driven.specs.Reports.{AreAloneSound, FailAfter, reports_of}
+use Rattle.np_worker.specs.Nodes.{servers_up}
+use Rattle.np_worker.specs.Reports.{AreAloneSound, FailAfter, reports_of}
 use Rattle.np_static.specs.Hosting.{Hosting}
 use Rattle.np_static.specs.Loads.{is_sound}
 use Rattle.np_static.specs.Site.{Site, simulated, hosted}

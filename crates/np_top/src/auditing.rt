@@ -3,9 +3,9 @@
 ghost use Rattle.std.specs.Prelude.{◌≡◌, IfOk, IfErr};
 ghost use Rattle.np_top.specs.Audit.{Audits, EndsAudit, no_line, yes_line};
 
-use np_audit::Finding;
 use np_io::{Sink, Source};
 use np_replay::{Ending, input, tell};
+use np_report::Finding;
 use np_text::{NoMemory, put_number};
 use std::alloc::Global;
 
@@ -33,7 +33,7 @@ fn audit_input<S: Source>(alloc: Global, source: &mut S) -> Result<Ending, Endin
     ensures err { IfErr result (EndsAudit (S.facts source.old) (S.facts source.new)) }
 {
     let bytes = input(alloc, source)?;
-    match np_audit::audit(alloc, bytes.as_slice())? {
+    match np_report::audit(alloc, bytes.as_slice())? {
         Finding::Yes => {
             let text = text_of_yes(alloc)?;
             Ok(Ending::Prints { text, status: 0 })
@@ -58,7 +58,7 @@ fn ending_of<S: Source>(alloc: Global, source: &mut S) -> Ending
 /// Reads the source to its end, and prints `yes` to out if the bytes are the Text of a run, or
 /// names on err the first line that shows that they are not. It returns the status: 0 for a Text, 8
 /// for other bytes, 5 for a failed source or an input that is too long, 6 for a failed sink, 7 if
-/// memory ran out. The time is that of reading, and by `np_audit::audit` that of playing the
+/// memory ran out. The time is that of reading, and by `np_report::audit` that of playing the
 /// events.
 pub fn audit<S: Source, K: Sink, E: Sink>(
     alloc: Global,

@@ -1,6 +1,6 @@
 //! The top call: all that the program does, over any source, sinks and disk.
 //!
-//! np_words says which words are a command. Each command is a public function with a record of
+//! np_replay says which words are a command. Each command is a public function with a record of
 //! clauses in a file of its own, as `specs/Audit`: it works out an `Ending`, and `tell` of np_replay
 //! writes that to the sinks. The commands that play a site share the record of `specs/Run`, and say
 //! in what they differ. The commands over scripts are in np_replay. `poolsim` reads the words

@@ -1,11 +1,11 @@
 //! Playing a site by threads to its end.
 
 ghost use Rattle.std.specs.Prelude.{◌≡◌, length, map, false, true, All, IfOk};
-ghost use Rattle.np_driven.specs.Prelude.{AllByRecursion, Driven, DrivenBy, driving};
+ghost use Rattle.np_worker.specs.Prelude.{AllByRecursion, Driven, DrivenBy, driving};
 ghost use Rattle.np_event_lines.specs.Line.{HasEventLine};
-ghost use Rattle.np_driven.specs.Planned.{PlannedDriven};
-ghost use Rattle.np_driven.specs.Players.{WasAnswered};
-ghost use Rattle.np_driven.specs.Carried.{AreCarried, BeginsNew, FailOnlyFull};
+ghost use Rattle.np_worker.specs.Planned.{PlannedDriven};
+ghost use Rattle.np_worker.specs.Players.{WasAnswered};
+ghost use Rattle.np_worker.specs.Carried.{AreCarried, BeginsNew, FailOnlyFull};
 ghost use Rattle.np_static.specs.Hosted.{HasHostLines, hosted_view};
 ghost use Rattle.np_top.specs.Play.{HasEnded};
 ghost use Rattle.np_top.specs.RunHosts.{IsDrivenWithHosts};

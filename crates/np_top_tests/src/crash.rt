@@ -1,8 +1,7 @@
 //! A keep that stops at each of its calls of the disk, and what a crash leaves then.
 
 use np_cloud::OpenGate;
-use np_disk::MemDisk;
-use np_io::{MemSink, MemSource};
+use np_io::{MemDisk, MemSink, MemSource};
 use np_top::poolsim;
 use std::alloc::{AllocError, Global};
 use std::sync::Wait;

@@ -3,8 +3,7 @@
 use crate::case::Case;
 use crate::fates;
 use crate::meeting::Meeting;
-use np_disk::MemDisk;
-use np_io::{MemSink, MemSource, Source, StdSource};
+use np_io::{MemDisk, MemSink, MemSource, Source, StdSource};
 use np_top::poolsim;
 use std::alloc::{AllocError, Global};
 use std::io::Read;

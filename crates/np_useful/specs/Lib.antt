@@ -10,11 +10,3 @@ pub mod Useful
 pub mod Settled
 pub mod Driven
 pub mod Planned
-pub mod Examples
-pub mod Parts
-pub mod Losses
-pub mod Ends
-pub mod Changes
-pub mod Journals
-pub mod Handles
-pub mod Clouds

@@ -1,1 +1,2 @@
 mod CausedLemmas
+mod Cases

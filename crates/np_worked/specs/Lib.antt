@@ -41,3 +41,12 @@ pub mod TenantOfANode
 pub mod TenantCountsByPool
 pub mod TwoHandles
 pub mod MadeUp
+pub mod Examples
+pub mod Parts
+pub mod Losses
+pub mod Ends
+pub mod Changes
+pub mod Journals
+pub mod Handles
+pub mod Clouds
+pub mod WorkedTree

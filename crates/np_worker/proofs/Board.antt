@@ -4,24 +4,24 @@ use Rattle.std.specs.Prelude.{All, IfOk, IfSome, MatchBool, Option, Some, None, 
 use Rattle.std.proofs.lemmas.Bool.{false≢true}
 use Rattle.np_changes.specs.Prelude.{Configuration, Entry, Event, Janitor, Launcher, NoMemory, PoolId, Reaper, Requester, Role, after}
 use Rattle.np_desk.proofs.HistoryLemmas.{starts_on, starts_same}
-use Rattle.np_driven.specs.Prelude.{AreAsksOf, AreRising, Driving, IsAskOf, IsUseful, Move, OwesRemoval, Phase, Records, Server, Sight, StartsWith, Walk, WasKept, Work, acts, asked, ended, first_phase, launched, looks, of_pool, of_reaper, of_requester, owes_due, owes_launch, owes_report, owes_swept, recorded, removed, rests, sweeps}
-use Rattle.np_driven.specs.declared.ask.Ask.{Ask}
-use Rattle.np_driven.specs.declared.ask.Ask.TheVariants as ask
-use Rattle.np_driven.specs.declared.ask.Turn.{Turn}
-use Rattle.np_driven.specs.declared.ask.Turn.TheVariants as turn
-use Rattle.np_driven.specs.Move.{entries_of}
-use Rattle.np_driven.specs.Trace.{IsPastJanitor, IsPastLauncher, StandAt, TookAll, WasIdle, is_idle}
-use Rattle.np_driven.specs.Planned.{answers_of}
-use Rattle.np_driven.specs.Players.{Player, WasAnswered}
-use Rattle.np_driven.specs.Round.{PlayerEnd, PlaysFrom}
-use Rattle.np_driven.specs.Servers.{HasServers}
-use Rattle.np_driven.proofs.Gained.{turn_seen, walk_gains, walk_seen}
-use Rattle.np_driven.proofs.Leaving.{kept-stay, left-with_cause, own-node, own-pair}
-use Rattle.np_driven.proofs.OfRoles.{entry-of_worker}
-use Rattle.np_driven.proofs.RoundEnds.{ends_full, is_at_end}
-use Rattle.np_driven.proofs.Steps.{goes_on}
-use Rattle.np_driven.proofs.SweepLemmas.{sweep-removes}
-use Rattle.np_driven.proofs.Unwanted.{unwanted-gone}
+use Rattle.np_worker.specs.Prelude.{AreAsksOf, AreRising, Driving, IsAskOf, IsUseful, Move, OwesRemoval, Phase, Records, Server, Sight, StartsWith, Walk, WasKept, Work, acts, asked, ended, first_phase, launched, looks, of_pool, of_reaper, of_requester, owes_due, owes_launch, owes_report, owes_swept, recorded, removed, rests, sweeps}
+use Rattle.np_worker.specs.declared.ask.Ask.{Ask}
+use Rattle.np_worker.specs.declared.ask.Ask.TheVariants as ask
+use Rattle.np_worker.specs.declared.ask.Turn.{Turn}
+use Rattle.np_worker.specs.declared.ask.Turn.TheVariants as turn
+use Rattle.np_worker.specs.Move.{entries_of}
+use Rattle.np_worker.specs.Trace.{IsPastJanitor, IsPastLauncher, StandAt, TookAll, WasIdle, is_idle}
+use Rattle.np_worker.specs.Planned.{answers_of}
+use Rattle.np_worker.specs.Players.{Player, WasAnswered}
+use Rattle.np_worker.specs.Played.{PlayerEnd, PlaysFrom}
+use Rattle.np_worker.specs.Servers.{HasServers}
+use Rattle.np_worker.proofs.Gained.{turn_seen, walk_gains, walk_seen}
+use Rattle.np_worker.proofs.Leaving.{kept-stay, left-with_cause, own-node, own-pair}
+use Rattle.np_worker.proofs.OfRoles.{entry-of_worker}
+use Rattle.np_worker.proofs.RoundEnds.{ends_full, is_at_end}
+use Rattle.np_worker.proofs.Steps.{goes_on}
+use Rattle.np_worker.proofs.SweepLemmas.{sweep-removes}
+use Rattle.np_worker.proofs.Unwanted.{unwanted-gone}
 use Rattle.np_worker.specs.Board.{AnswersAsBoard, AreSweptSo, CameFar, CameToEnd, HadNothing, HasRoundAtBoard, IsRoundAtBoard, IsSweptSo, RolesCameFar, ServersGo, ServersLeave, ServersStay, acts_as}
 use Rattle.np_worker.specs.declared.worker.RoundEnd.{RoundEnd}
 use Rattle.np_worker.specs.Moves.{RolesTook}

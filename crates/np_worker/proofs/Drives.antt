@@ -5,15 +5,15 @@ use Rattle.std.proofs.lemmas.Bool.{or_left, or_right}
 use Rattle.np_changes.specs.Prelude.{Outcome, option_map}
 use Rattle.np_io.specs.Counts.{Rose}
 use Rattle.np_event.specs.declared.event.Outcome.TheVariants as outcome
-use Rattle.np_driven.specs.Prelude.{DriverFacts, Launch, Move, Server, Tag, asked, launched, launches_of, removed}
+use Rattle.np_worker.specs.Prelude.{DriverFacts, Launch, Move, Server, Tag, asked, launched, launches_of, removed}
 use Rattle.np_cloud.specs.declared.driver.LaunchFault.TheVariants as fault
 use Rattle.np_cloud.specs.Calls.{Answers, IsAsPlanned, with_launched, without_number, KeepsCounts}
 use Rattle.np_cloud.specs.Sound.{numbers_of, is_number, Soundness, IsFull}
-use Rattle.np_driven.specs.declared.ask.Ask.{Ask}
-use Rattle.np_driven.specs.declared.ask.Turn.{Turn}
-use Rattle.np_driven.specs.Drive.{Driving, servers_after, IsOfServer, SweepsServers, FollowsPlan, IsSoundAlone, AreSoundAlone, FailsFull, FailFull, Drives, Drove}
+use Rattle.np_worker.specs.declared.ask.Ask.{Ask}
+use Rattle.np_worker.specs.declared.ask.Turn.{Turn}
+use Rattle.np_worker.specs.Drive.{Driving, servers_after, IsOfServer, SweepsServers, FollowsPlan, IsSoundAlone, AreSoundAlone, FailsFull, FailFull, Drives, Drove}
 use Rattle.np_worker.specs.Part.{IsOfDriver, RemovalFailed}
-use Rattle.np_driven.proofs.Traces.{launches-append, servers-append, sweeps-append, plan-append, alone-append, full-append}
+use Rattle.np_worker.proofs.Traces.{launches-append, servers-append, sweeps-append, plan-append, alone-append, full-append}
 
 map_twice : {A : Type 0} (f g h : A → A) → ((x : A) → g (f x) ≡ h x) → (o : Option A) → option_map g (option_map f o) ≡ option_map h o
 map_twice f g h e None = refl

@@ -2,9 +2,9 @@
 use Rattle.std.proofs.Common.{◌≡◌, ◌<◌, List, refl, ◌∙◌, subst}
 use Rattle.std.specs.Prelude.{Option, Ok}
 use Rattle.np_changes.specs.Prelude.{Entry, PoolId}
-use Rattle.np_driven.specs.Prelude.{Driving, Drove, Move, Phase, Sight, Work, of_pool, sweeps}
-use Rattle.np_driven.specs.declared.ask.Ask.{Ask}
-use Rattle.np_driven.specs.declared.ask.Turn.{Turn}
+use Rattle.np_worker.specs.Prelude.{Driving, Drove, Move, Phase, Sight, Work, of_pool, sweeps}
+use Rattle.np_worker.specs.declared.ask.Ask.{Ask}
+use Rattle.np_worker.specs.declared.ask.Turn.{Turn}
 use Rattle.np_worker.specs.Part.{Part, Comes}
 use Rattle.np_worker.specs.Stage.{IsOfWork, WentOn, phase_of, steps_left}
 use Rattle.np_worker.specs.declared.next.Next.{Next}

@@ -1,18 +1,18 @@
 -- The moves of a round are orderly.
 use Rattle.std.proofs.Common.{◌≡◌, ◌∙◌, ap, subst, List, ◌++◌}
 use Rattle.std.specs.Prelude.{Option, map}
-use Rattle.np_driven.specs.Prelude.{Driving, Launch, Leads, Move, OwesRemoval, Phase, Sight, Tag, Work, first_phase, launches_of, of_pool, of_reaper, of_requester}
+use Rattle.np_worker.specs.Prelude.{Driving, Launch, Leads, Move, OwesRemoval, Phase, Sight, Tag, Work, first_phase, launches_of, of_pool, of_reaper, of_requester}
 use Rattle.np_event.specs.declared.entry.Entry.{Entry}
-use Rattle.np_driven.specs.declared.ask.Ask.{Ask}
-use Rattle.np_driven.specs.declared.ask.Turn.{Turn}
-use Rattle.np_driven.specs.Trace.{starts_of, tags_launched, owed_tags}
-use Rattle.np_driven.proofs.RoundEnds.{is_at_end, ends_where_full}
-use Rattle.np_driven.proofs.Gained.{walk_gains}
-use Rattle.np_driven.proofs.Order.{in_order}
-use Rattle.np_driven.proofs.Removals.{are_named}
-use Rattle.np_driven.proofs.Launching.{starts_launched, tags_of_launches, are_reported}
-use Rattle.np_driven.proofs.Taken.{launcher_took, janitor_took, requester_took, reaper_took}
-use Rattle.np_driven.proofs.Works.{asks_of}
+use Rattle.np_worker.specs.declared.ask.Ask.{Ask}
+use Rattle.np_worker.specs.declared.ask.Turn.{Turn}
+use Rattle.np_worker.specs.Trace.{starts_of, tags_launched, owed_tags}
+use Rattle.np_worker.proofs.RoundEnds.{is_at_end, ends_where_full}
+use Rattle.np_worker.proofs.Gained.{walk_gains}
+use Rattle.np_worker.proofs.Order.{in_order}
+use Rattle.np_worker.proofs.Removals.{are_named}
+use Rattle.np_worker.proofs.Launching.{starts_launched, tags_of_launches, are_reported}
+use Rattle.np_worker.proofs.Taken.{launcher_took, janitor_took, requester_took, reaper_took}
+use Rattle.np_worker.proofs.Works.{asks_of}
 use Rattle.np_worker.specs.Moves.{RolesTook, AreOrderly, HasMoves}
 use Rattle.np_worker.specs.Part.{Part}
 

@@ -2,12 +2,12 @@
 use Rattle.std.proofs.Common.{◌≡◌, ℕ, ◌+◌, List, [], ◌∷◌, ◌++◌, length, sym, refl, ap, arith, subst, length-append, inr, cond}
 use Rattle.std.specs.Prelude.{Option, Some, None, Result, Ok, Err, IfSome}
 use Rattle.np_changes.specs.Prelude.{Entry, NoMemory, Outcome, PoolId}
-use Rattle.np_driven.specs.Prelude.{Answered, Driving, Drove, IsOfServer, Move, Records, Server, Sight, Tag, Turned, Unturned, WasKept, asked, launched, recorded, removed}
+use Rattle.np_worker.specs.Prelude.{Answered, Driving, Drove, IsOfServer, Move, Records, Server, Sight, Tag, Turned, Unturned, WasKept, asked, launched, recorded, removed}
 use Rattle.np_desk.proofs.HistoryLemmas.{starts_same}
-use Rattle.np_driven.specs.declared.ask.Ask.{Ask}
-use Rattle.np_driven.specs.declared.ask.Turn.{Turn}
-use Rattle.np_driven.specs.declared.ask.Turn.TheVariants as turn
-use Rattle.np_driven.specs.Phase.{Phase, MayAsk, MayLaunch, MayRemove, Leads, after_turn, after_launch, after_removal, after_sweep, sweeps, owes_swept, rests, is_unwanted, OwesRemoval, Work}
+use Rattle.np_worker.specs.declared.ask.Ask.{Ask}
+use Rattle.np_worker.specs.declared.ask.Turn.{Turn}
+use Rattle.np_worker.specs.declared.ask.Turn.TheVariants as turn
+use Rattle.np_worker.specs.Phase.{Phase, MayAsk, MayLaunch, MayRemove, Leads, after_turn, after_launch, after_removal, after_sweep, sweeps, owes_swept, rests, is_unwanted, OwesRemoval, Work}
 use Rattle.np_worker.specs.declared.next.Next.{Next}
 use Rattle.np_worker.specs.declared.next.Next.TheVariants as next
 use Rattle.np_worker.specs.Part.{Part, Comes, Goes, Counts, entry_count, IsOfDriver, RemovalEnds, SweepsOne, SweepsAll, IsDealtWith, is_full}
@@ -15,8 +15,8 @@ use Rattle.np_worker.specs.Round.{EndsAs, Rests}
 use Rattle.np_worker.proofs.Sweeps.{are_kept_after}
 use Rattle.std.specs.Prelude.{Contains, false}
 use Rattle.std.proofs.lemmas.List.Elements.{Contains-push}
-use Rattle.np_driven.specs.declared.ask.Ask.TheVariants as ask
-use Rattle.np_driven.proofs.Traces.{leads-append, walk-append}
+use Rattle.np_worker.specs.declared.ask.Ask.TheVariants as ask
+use Rattle.np_worker.proofs.Traces.{leads-append, walk-append}
 use Rattle.np_worker.proofs.Drives.{drove-append, drove_none, drove_ask, failed_before}
 
 pub unturned_same : (v : Sight Entry) → Unturned v v

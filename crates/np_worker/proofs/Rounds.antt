@@ -3,9 +3,9 @@ use Rattle.std.proofs.Common.{◌≡◌, List, sym, subst}
 use Rattle.std.specs.Prelude.{ℕ, Bool, Option, None, Result}
 use Rattle.np_changes.specs.Prelude.{Entry, NoMemory, Outcome, RequesterId}
 use Rattle.np_text.specs.declared.id.Role.TheVariants as role
-use Rattle.np_driven.specs.Prelude.{DriverFacts, Sight, Tag, acting, first_phase, of_reaper, of_requester}
-use Rattle.np_driven.specs.declared.ask.Ask.{Ask}
-use Rattle.np_driven.specs.declared.ask.Turn.{Turn}
+use Rattle.np_worker.specs.Prelude.{DriverFacts, Sight, Tag, acting, first_phase, of_reaper, of_requester}
+use Rattle.np_worker.specs.declared.ask.Ask.{Ask}
+use Rattle.np_worker.specs.declared.ask.Turn.{Turn}
 use Rattle.np_worker.specs.declared.worker.RoundEnd.{RoundEnd}
 use Rattle.np_worker.specs.declared.worker.Worker.{Worker}
 use Rattle.np_worker.specs.declared.worker.Worker.TheVariants as worker

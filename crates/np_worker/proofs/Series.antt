@@ -2,10 +2,10 @@
 use Rattle.std.proofs.Common.{◌≡◌, ◌+◌, ◌<◌, ◌≤◌, ◌^◌, List, [], ◌∷◌, length, sym, refl, ap, arith, subst, ⊎_elim, inl, inr}
 use Rattle.std.specs.Prelude.{Option, None, Result, Ok, Err, MatchResult}
 use Rattle.np_changes.specs.Prelude.{Entry, NoMemory}
-use Rattle.np_driven.specs.Prelude.{Driving, Sight, Unturned, Work, recorded}
+use Rattle.np_worker.specs.Prelude.{Driving, Sight, Unturned, Work, recorded}
 use Rattle.np_desk.specs.Series.{Asked, Walked, Heard, Took, IsOver}
-use Rattle.np_driven.specs.declared.ask.Ask.{Ask}
-use Rattle.np_driven.specs.declared.ask.Turn.{Turn}
+use Rattle.np_worker.specs.declared.ask.Ask.{Ask}
+use Rattle.np_worker.specs.declared.ask.Turn.{Turn}
 use Rattle.np_worker.specs.Part.{Part, Counts}
 use Rattle.np_worker.specs.Stage.{IsOfWork, Hears, WentFar, ask_of, asks, phase_of, steps_left}
 use Rattle.np_worker.specs.declared.playing.Playing.{Playing}

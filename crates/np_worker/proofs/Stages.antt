@@ -4,13 +4,13 @@ use Rattle.std.specs.Prelude.{Option, Some, None}
 use Rattle.std.proofs.lemmas.Option.{none-some, same_Some}
 use Rattle.np_changes.specs.Prelude.{Entry, PoolId, Role}
 use Rattle.np_text.specs.declared.id.Role.TheVariants as role
-use Rattle.np_driven.specs.Prelude.{IsOfServer, Server}
-use Rattle.np_driven.specs.declared.ask.Ask.{Ask}
-use Rattle.np_driven.specs.declared.ask.Ask.TheVariants as ask
-use Rattle.np_driven.specs.declared.ask.Turn.{Turn}
-use Rattle.np_driven.specs.declared.ask.Turn.TheVariants as turn
-use Rattle.np_driven.specs.declared.start.Start.{Start}
-use Rattle.np_driven.specs.Phase.{Work, of_pool, Phase, MayAsk, acts, acting, looks, sweeps, rests, ended, owes_launch, owes_report, owes_due, owes_swept, after_act, after_entry, after_look, after_report, after_role, after_start, after_turn, report_of, start_of}
+use Rattle.np_worker.specs.Prelude.{IsOfServer, Server}
+use Rattle.np_worker.specs.declared.ask.Ask.{Ask}
+use Rattle.np_worker.specs.declared.ask.Ask.TheVariants as ask
+use Rattle.np_worker.specs.declared.ask.Turn.{Turn}
+use Rattle.np_worker.specs.declared.ask.Turn.TheVariants as turn
+use Rattle.np_worker.specs.declared.start.Start.{Start}
+use Rattle.np_worker.specs.Phase.{Work, of_pool, Phase, MayAsk, acts, acting, looks, sweeps, rests, ended, owes_launch, owes_report, owes_due, owes_swept, after_act, after_entry, after_look, after_report, after_role, after_start, after_turn, report_of, start_of}
 use Rattle.np_worker.specs.Stage.{IsLone, IsOfWork, IsPlayed, WentFar, ask_of, phase_of, player, steps_act, steps_acting, steps_left}
 use Rattle.np_worker.specs.declared.stage.Stage.{Stage}
 use Rattle.np_worker.specs.declared.stage.Stage.TheVariants as stage

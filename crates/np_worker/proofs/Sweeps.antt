@@ -3,8 +3,8 @@ use Rattle.std.proofs.Common.{◌≡◌, ℕ, zero, suc, ◌≤◌, inl, inr, Li
 use Rattle.std.specs.Prelude.{Option, Some, None, IfSome, All, filter, not, ◌==◌, slice_get}
 use Rattle.np_changes.specs.Prelude.{AllByRecursion, PoolId, option_map}
 use Rattle.std.proofs.lemmas.List.Elements.{All-from_recursion, Contains-append_left, Contains-append_right}
-use Rattle.np_driven.specs.Prelude.{Driving, Move, Server, WasKept, asked, without_number}
-use Rattle.np_driven.specs.declared.ask.Ask.TheVariants as ask
+use Rattle.np_worker.specs.Prelude.{Driving, Move, Server, WasKept, asked, without_number}
+use Rattle.np_worker.specs.declared.ask.Ask.TheVariants as ask
 use Rattle.np_worker.specs.Part.{AreKept, IsDealtWith}
 use Rattle.np_lists.proofs.Plain.{by_bool}
 

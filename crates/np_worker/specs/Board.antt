@@ -1,20 +1,20 @@
 -- a worker's round at a board: where its entries stand, of which role they are, how far its roles came, and what became of its servers
 use Rattle.std.specs.Prelude.{◌≡◌, ◌⊎◌, ◌++◌, ℕ, length, List, [], ◌∷◌, Bool, true, false, Contains, All, IfOk, Option, Result}
 use Rattle.np_changes.specs.Prelude.{Configuration, Entry, Event, Janitor, Launcher, NoMemory, PoolId, Reaper, Requester, Role, after}
-use Rattle.np_driven.specs.Prelude.{AreRising, Driving, IsUseful, Move, Phase, Server, Sight, StartsWith, Work, asked, launched, of_pool, of_reaper, of_requester, removed}
+use Rattle.np_worker.specs.Prelude.{AreRising, Driving, IsUseful, Move, Phase, Server, Sight, StartsWith, Work, asked, launched, of_pool, of_reaper, of_requester, removed}
 use Rattle.np_event.specs.declared.reply.Reply.TheVariants as reply
 use Rattle.np_event.specs.declared.reply.Done.TheVariants as done
-use Rattle.np_driven.specs.declared.ask.Ask.{Ask}
-use Rattle.np_driven.specs.declared.ask.Ask.TheVariants as ask
-use Rattle.np_driven.specs.declared.ask.Turn.{Turn}
-use Rattle.np_driven.specs.declared.ask.Turn.TheVariants as turn
-use Rattle.np_driven.specs.Move.{entries_of}
-use Rattle.np_driven.specs.Trace.{StandAt, WasFull, did_count, is_launcher_act, is_janitor_act, is_lone_act}
-use Rattle.np_driven.specs.Makers.{IsOfWorker}
-use Rattle.np_driven.specs.Planned.{DrivenAs, answers_of}
-use Rattle.np_driven.specs.Players.{Player, WasAnswered}
-use Rattle.np_driven.specs.Round.{PlayerEnd, PlaysFrom}
-use Rattle.np_driven.specs.Servers.{HasServers, IsOfRound, IsOnlyNodeOfItsNumber, IsOnlyOfItsNumber, IsSweptAfter, KeepsJanitor, LeftWithCause, StaysKept, WasDue, WasUnwanted}
+use Rattle.np_worker.specs.declared.ask.Ask.{Ask}
+use Rattle.np_worker.specs.declared.ask.Ask.TheVariants as ask
+use Rattle.np_worker.specs.declared.ask.Turn.{Turn}
+use Rattle.np_worker.specs.declared.ask.Turn.TheVariants as turn
+use Rattle.np_worker.specs.Move.{entries_of}
+use Rattle.np_worker.specs.Trace.{StandAt, WasFull, did_count, is_launcher_act, is_janitor_act, is_lone_act}
+use Rattle.np_worker.specs.Makers.{IsOfWorker}
+use Rattle.np_worker.specs.Planned.{DrivenAs, answers_of}
+use Rattle.np_worker.specs.Players.{Player, WasAnswered}
+use Rattle.np_worker.specs.Played.{PlayerEnd, PlaysFrom}
+use Rattle.np_worker.specs.Servers.{HasServers, IsOfRound, IsOnlyNodeOfItsNumber, IsOnlyOfItsNumber, IsSweptAfter, KeepsJanitor, LeftWithCause, StaysKept, WasDue, WasUnwanted}
 use Rattle.np_worker.specs.declared.worker.RoundEnd.{RoundEnd}
 use Rattle.np_worker.specs.Moves.{AreOrderly}
 use Rattle.np_worker.specs.Part.{RemovalFailed}

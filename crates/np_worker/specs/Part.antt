@@ -2,13 +2,13 @@
 use Rattle.std.specs.Prelude.{◌≡◌, ◌⊎◌, ℕ, ◌+◌, length, List, [], ◌∷◌, All, Bool, true, false, Option, Some, None, IfSome, Result, Ok, Err}
 use Rattle.np_changes.specs.Prelude.{Entry, NoMemory, PoolId, option_map}
 use Rattle.np_io.specs.Counts.{Rose}
-use Rattle.np_driven.specs.Prelude.{Drives, Driving, Drove, IsOfServer, Leads, Move, OwesRemoval, Phase, Server, Sight, Walk, WasKept, after_turn, asked, removed, without_number}
-use Rattle.np_driven.specs.declared.ask.Ask.{Ask}
-use Rattle.np_driven.specs.declared.ask.Turn.{Turn}
-use Rattle.np_driven.specs.declared.ask.Turn.TheVariants as turn
+use Rattle.np_worker.specs.Prelude.{Drives, Driving, Drove, IsOfServer, Leads, Move, OwesRemoval, Phase, Server, Sight, Walk, WasKept, after_turn, asked, removed, without_number}
+use Rattle.np_worker.specs.declared.ask.Ask.{Ask}
+use Rattle.np_worker.specs.declared.ask.Turn.{Turn}
+use Rattle.np_worker.specs.declared.ask.Turn.TheVariants as turn
 use Rattle.np_worker.specs.declared.next.Next.{Next}
 use Rattle.np_worker.specs.declared.next.Next.TheVariants as next
-use Rattle.np_driven.specs.Phase as phase
+use Rattle.np_worker.specs.Phase as phase
 
 -- how many entries a turn made (own)
 abbrev pub entry_count : Turn → ℕ

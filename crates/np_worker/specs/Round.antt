@@ -1,7 +1,7 @@
 -- what a round came to
 use Rattle.std.specs.Prelude.{◌≡◌, ◌⊎◌, ℕ, Bool, List, MatchBool, Option, Some, None, Result, Ok, Err}
 use Rattle.np_changes.specs.Prelude.{NoMemory, Outcome}
-use Rattle.np_driven.specs.Prelude.{DriverFacts, Driving, Move, OwesRemoval, Phase, Tag, Work, driving, ended, of_pool, of_reaper, of_requester, rests, sweeps}
+use Rattle.np_worker.specs.Prelude.{DriverFacts, Driving, Move, OwesRemoval, Phase, Tag, Work, driving, ended, of_pool, of_reaper, of_requester, rests, sweeps}
 use Rattle.np_worker.specs.declared.worker.RoundEnd.{RoundEnd}
 use Rattle.np_worker.specs.declared.worker.Worker.{Worker}
 use Rattle.np_worker.specs.declared.worker.Worker.TheVariants as worker

@@ -2,10 +2,10 @@
 use Rattle.std.specs.Prelude.{◌≡◌, ◌⊎◌, ℕ, ◌+◌, ◌*◌, ◌<◌, ◌≤◌, ◌^◌, List, Option, Some, None, Result, Ok, Err}
 use Rattle.np_changes.specs.Prelude.{NoMemory, Role}
 use Rattle.np_text.specs.declared.id.Role.TheVariants as role
-use Rattle.np_driven.specs.declared.ask.Ask.{Ask}
-use Rattle.np_driven.specs.declared.ask.Ask.TheVariants as ask
-use Rattle.np_driven.specs.declared.ask.Turn.{Turn}
-use Rattle.np_driven.specs.Prelude.{Move, Phase, Work, acts, after_turn, ended, looks, of_pool, of_reaper, of_requester, owes_due, owes_launch, owes_report, owes_swept, report_of, rests, sweeps}
+use Rattle.np_worker.specs.declared.ask.Ask.{Ask}
+use Rattle.np_worker.specs.declared.ask.Ask.TheVariants as ask
+use Rattle.np_worker.specs.declared.ask.Turn.{Turn}
+use Rattle.np_worker.specs.Prelude.{Move, Phase, Work, acts, after_turn, ended, looks, of_pool, of_reaper, of_requester, owes_due, owes_launch, owes_report, owes_swept, report_of, rests, sweeps}
 use Rattle.np_worker.specs.Part.{entry_count}
 use Rattle.np_worker.specs.declared.next.Next.{Next}
 use Rattle.np_worker.specs.declared.next.Next.TheVariants as next

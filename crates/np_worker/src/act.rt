@@ -2,15 +2,15 @@
 
 ghost use Rattle.std.specs.Prelude.{◌≡◌, ◌+◌, IfOk, Option};
 ghost use Rattle.np_event.specs.declared.entry.Entry.{Entry};
-ghost use Rattle.np_driven.specs.Prelude.{Driving, MayAsk, Phase, Work, acting, recorded, rests};
+ghost use Rattle.np_worker.specs.Prelude.{Driving, MayAsk, Phase, Work, acting, recorded, rests};
 ghost use Rattle.np_worker.specs.Part.{Counts, entry_count, Part, Came, Goes, IsOfDriver};
 ghost use Rattle.np_worker.specs.Stage.{IsLone, IsOfWork, Reaches, WentFar, phase_of, player};
 
 use crate::next::Next;
 use crate::playing::Playing;
 use crate::stage::{Stage, acting};
+use crate::{Ask, Turn};
 use np_desk::Turns;
-use np_driven::{Ask, Turn};
 use np_event::Entry;
 use np_text::{NoMemory, Role};
 

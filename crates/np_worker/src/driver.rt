@@ -1,7 +1,7 @@
 //! What a round does with its driver.
 
 ghost use Rattle.std.specs.Prelude.{◌≡◌, [], ◌∷◌, MatchResult};
-ghost use Rattle.np_driven.specs.Prelude.{Drives, driving, launched};
+ghost use Rattle.np_worker.specs.Prelude.{Drives, driving, launched};
 ghost use Rattle.np_worker.specs.Part.{RemovalEnds};
 
 use crate::next::Next;

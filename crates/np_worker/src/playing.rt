@@ -3,8 +3,8 @@
 ghost use Rattle.np_worker.specs.Stage.{asks, Hears};
 
 use crate::stage::{Stage, after_turn, ask_of};
+use crate::{Ask, Turn};
 use np_desk::Series;
-use np_driven::{Ask, Turn};
 
 /// The series of turns from a stage on, until a launch or a removal comes, or the roles have taken
 /// their turns. It counts the entries of the round.

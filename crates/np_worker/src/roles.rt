@@ -2,7 +2,7 @@
 
 ghost use Rattle.std.specs.Prelude.{◌≡◌, IfOk, Some};
 ghost use Rattle.np_text.specs.declared.id.Role.TheVariants.{Launcher};
-ghost use Rattle.np_driven.specs.Prelude.{Work, acting, driving, recorded, sweeps};
+ghost use Rattle.np_worker.specs.Prelude.{Work, acting, driving, recorded, sweeps};
 ghost use Rattle.np_worker.specs.Part.{Counts, Part, Comes};
 ghost use Rattle.np_worker.specs.Stage.{IsOfWork, WentOn, phase_of};
 
@@ -10,9 +10,9 @@ use crate::act::{ACTS, take_turns};
 use crate::driver::{launch_server, remove_server};
 use crate::next::Next;
 use crate::stage::{Stage, acting};
+use crate::{Ask, Turn};
 use np_cloud::{Driver, Gate};
 use np_desk::Turns;
-use np_driven::{Ask, Turn};
 use np_event::Entry;
 use np_text::{NoMemory, PoolId, Role};
 

@@ -1,12 +1,12 @@
 //! The stages of a round.
 
 ghost use Rattle.std.specs.Prelude.{◌≡◌, Some};
-ghost use Rattle.np_driven.specs.declared.ask.Ask.{Ask};
-ghost use Rattle.np_driven.specs.Phase.{acting, after_act, after_entry, after_look, after_report, after_role, after_turn, start_of};
+ghost use Rattle.np_worker.specs.declared.ask.Ask.{Ask};
+ghost use Rattle.np_worker.specs.Phase.{acting, after_act, after_entry, after_look, after_report, after_role, after_turn, start_of};
 ghost use Rattle.np_worker.specs.Stage.{phase_of, ask_of};
 
+use crate::{Ask, Start, Turn};
 use np_cloud::Tag;
-use np_driven::{Ask, Start, Turn};
 use np_event::{Done, Entry, Event, Outcome, Reply};
 use np_text::{PoolId, Role};
 

@@ -1,15 +1,15 @@
 //! The sweep of a driver's servers.
 
 ghost use Rattle.std.specs.Prelude.{◌≡◌, ◌≤◌, length, Contains, IfOk, IfSome, Some};
-ghost use Rattle.np_driven.specs.Prelude.{driving, is_unwanted, recorded, sweeps};
+ghost use Rattle.np_worker.specs.Prelude.{driving, is_unwanted, recorded, sweeps};
 ghost use Rattle.np_worker.specs.Part.{Counts, Part, SweepsOne, SweepsAll};
 
 use crate::act::take_turn;
 use crate::driver::remove_server;
 use crate::next::Next;
+use crate::{Ask, Turn};
 use np_cloud::{Driver, Server};
 use np_desk::Turns;
-use np_driven::{Ask, Turn};
 use np_event::{Done, Entry, Reply};
 use np_text::{NoMemory, PoolId};
 

@@ -3,7 +3,7 @@
 ghost use Rattle.std.specs.Prelude.{◌≡◌, ℕ, ◌+◌, length, Bool, IfOk, Some};
 ghost use Rattle.np_changes.specs.Prelude.{Configuration};
 ghost use Rattle.np_text.specs.declared.id.Role.TheVariants.{Launcher};
-ghost use Rattle.np_driven.specs.Prelude.{acting, driving, first_phase, recorded};
+ghost use Rattle.np_worker.specs.Prelude.{acting, driving, first_phase, recorded};
 ghost use Rattle.np_worker.specs.Board.{AnswersAsBoard, HasRoundAtBoard};
 ghost use Rattle.np_worker.specs.Part.{Counts, Part, SweepsAll, is_full};
 ghost use Rattle.np_worker.specs.Moves.{HasMoves};
@@ -13,9 +13,9 @@ use crate::act::act_often;
 use crate::next::Next;
 use crate::roles::play_roles;
 use crate::sweep::sweep;
+use crate::{Ask, Turn};
 use np_cloud::{Driver, Gate};
 use np_desk::Turns;
-use np_driven::{Ask, Turn};
 use np_event::Entry;
 use np_text::{NoMemory, PoolId, RequesterId, Role};
 

@@ -2,8 +2,7 @@
 #![tactic(auto)]
 
 use np_cloud::OpenGate;
-use np_disk::FileDisk;
-use np_io::{StdSink, StdSource};
+use np_io::{FileDisk, StdSink, StdSource};
 use np_replay::{Ending, tell};
 use np_top::poolsim;
 use std::io::ErrorKind;

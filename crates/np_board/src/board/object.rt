@@ -3,14 +3,14 @@
 use crate::board::Board;
 use np_config::Config;
 use np_desk::SeqObject;
-use np_driven::{Ask, Turn};
 use np_event::Entry;
 use np_text::NoMemory;
+use np_worker::{Ask, Turn};
 
 impl SeqObject for Board {
-    ghost use Rattle.np_driven.specs.Answers.{answers};
-    ghost use Rattle.np_driven.specs.Asks.{recorded};
-    ghost use Rattle.np_driven.specs.Legal.{is_legal};
+    ghost use Rattle.np_worker.specs.Answers.{answers};
+    ghost use Rattle.np_worker.specs.Asks.{recorded};
+    ghost use Rattle.np_worker.specs.Legal.{is_legal};
 
     type Ask = Ask;
 

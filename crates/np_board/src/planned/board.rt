@@ -18,13 +18,13 @@ use crate::planned::plan::{PlanAsk, PlanTurn};
 use crate::planned::plans::Plans;
 use crate::turns::{has_settled, take_turn};
 use np_config::Config;
-use np_driven::Ask;
 use np_event::{Entry, Event};
 use np_keeper::TreeStore;
 use np_planned::{Spot, fresh_spots_commit, spots_have_paths};
 use np_rules::Machine;
 use np_text::{JOURNAL_ENTRIES, NoMemory, PoolId};
 use np_tree::Tree;
+use np_worker::Ask;
 use std::alloc::Global;
 use std::marker::Model;
 

@@ -2,7 +2,7 @@
 
 ghost use Rattle.std.specs.Prelude.{◌≡◌, ◌≤◌, true, IfOk, MatchOption, length};
 ghost use Rattle.np_text.specs.declared.id.Role.TheVariants.{Launcher};
-ghost use Rattle.np_driven.specs.Prelude.{IsUseful, is_planned};
+ghost use Rattle.np_worker.specs.Prelude.{IsUseful, is_planned};
 ghost use Rattle.np_board.specs.Outstanding.{IsNewPlan, watches_of};
 
 use crate::planned::plan::{Plan, Watched};

@@ -1,12 +1,12 @@
 //! Plans, and what may be asked of a board at which launchers plan.
 
-use np_driven::{Ask, Turn};
 use np_event::{Entry, Event};
 use np_lists::Items;
 use np_path::Path;
 use np_planned::{Spot, SpotRow};
 use np_text::PoolId;
 use np_watch::Watches;
+use np_worker::{Ask, Turn};
 use std::marker::Model;
 
 /// An event that the pool's launcher chose and has not committed.

@@ -3,7 +3,7 @@ use Rattle.std.proofs.Common.{sym, inl, inr}
 use Rattle.std.proofs.lemmas.Result.{IfOk-weaker}
 use Rattle.np_text.specs.declared.id.Role.TheVariants.{Janitor}
 use Rattle.np_roles.proofs.Currents.{current-has}
-use Rattle.np_driven.specs.Answers.{IsNotKept}
+use Rattle.np_worker.specs.Answers.{IsNotKept}
 use Rattle.np_rules.proofs.First.{Runs-first}
 use Rattle.np_board.proofs.TurnLemmas.{kept-taken, swept-taken, sweep-taken}
 use Rattle.np_tree.proofs.LaterLemmas.{later-than-itself}

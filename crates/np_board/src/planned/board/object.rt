@@ -8,7 +8,7 @@ use np_event::Entry;
 use np_text::NoMemory;
 
 impl SeqObject for PlannedBoard {
-    ghost use Rattle.np_driven.specs.Legal.{is_legal};
+    ghost use Rattle.np_worker.specs.Legal.{is_legal};
     ghost use Rattle.np_board.specs.PlanAnswers.{plan_answers, plan_recorded};
 
     type Ask = PlanAsk;

@@ -1,4 +1,4 @@
-use Rattle.np_driven.proofs.LegalLemmas.{Runs-legal}
+use Rattle.np_worker.proofs.LegalLemmas.{Runs-legal}
 use Rattle.np_plan_tests.proofs.play.goes.Goals as goal
 
 pub set_up-requires : goal.set_up-requires

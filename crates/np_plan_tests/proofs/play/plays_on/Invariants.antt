@@ -1,5 +1,5 @@
 use Rattle.std.proofs.Common.{◌≡◌}
-use Rattle.np_driven.specs.Prelude.{IsOf}
+use Rattle.np_worker.specs.Prelude.{IsOf}
 use Rattle.np_plan_tests.proofs.play.plays_on.Given as goal
 
 abbrev pub invariant-loop-at : goal.invariant-loop-at

@@ -1,5 +1,5 @@
 use Rattle.std.proofs.Common.{true, false}
-use Rattle.np_driven.specs.Prelude.{IsOf, IsWhole}
+use Rattle.np_worker.specs.Prelude.{IsOf, IsWhole}
 use Rattle.np_rounds.specs.Crews.{players_of}
 use Rattle.np_rounds.specs.Laps.{HasLaps}
 use Rattle.np_rounds.specs.Played.{IsRested}

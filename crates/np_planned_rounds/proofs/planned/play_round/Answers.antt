@@ -1,6 +1,6 @@
 use Rattle.std.proofs.Common.{◌≡◌, ◌<◌, ℕ, true, [], ◌∷◌, length, ap, ◌∙◌, sym, subst}
 use Rattle.np_changes.specs.Prelude.{Configuration, Entry}
-use Rattle.np_driven.specs.Prelude.{PassView, is_legal}
+use Rattle.np_worker.specs.Prelude.{PassView, is_legal}
 use Rattle.np_rounds.specs.Crews.{zeros}
 use Rattle.np_rounds.specs.Plays.{CrewPlays}
 use Rattle.np_rounds.proofs.Backs.{are_back}

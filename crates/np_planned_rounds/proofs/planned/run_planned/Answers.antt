@@ -1,6 +1,6 @@
 use Rattle.std.proofs.Common.{[], ◌∙◌, refl, inl, true, List, map, ap, subst}
 use Rattle.np_changes.specs.Prelude.{Configuration, Entry}
-use Rattle.np_driven.specs.Prelude.{driving}
+use Rattle.np_worker.specs.Prelude.{driving}
 use Rattle.np_rounds.specs.Crews.{Terms, terms_of, players_of}
 use Rattle.np_rounds.specs.Laps.{HasLaps}
 use Rattle.np_rounds.proofs.Driven.{driven_start, driven_end}

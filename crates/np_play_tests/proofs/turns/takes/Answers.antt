@@ -1,4 +1,4 @@
-use Rattle.np_driven.proofs.LegalLemmas.{Runs-legal}
+use Rattle.np_worker.proofs.LegalLemmas.{Runs-legal}
 use Rattle.np_play_tests.proofs.turns.takes.Goals as goal
 
 pub turn-requires : goal.turn-requires

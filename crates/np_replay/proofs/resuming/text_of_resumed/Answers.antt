@@ -1,6 +1,6 @@
 use Rattle.std.proofs.Common.{subst, sym}
-use Rattle.np_lines.specs.Script.{IsPlayable}
-use Rattle.np_lines.specs.declared.script.Script.{Script}
+use Rattle.np_report.specs.Script.{IsPlayable}
+use Rattle.np_report.specs.declared.script.Script.{Script}
 use Rattle.np_replay.proofs.GoingOn.{appended-leaves, more-few, more-lines, more-playable}
 use Rattle.np_replay.proofs.resuming.text_of_resumed.Goals as goal
 

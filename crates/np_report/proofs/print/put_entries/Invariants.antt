@@ -1,6 +1,6 @@
 use Rattle.std.proofs.Common.{◌≡◌, ◌++◌, drop}
 use Rattle.std.specs.List.{AllByRecursion}
-use Rattle.np_lines.specs.Told.{IsToldEntry}
+use Rattle.np_report.specs.Told.{IsToldEntry}
 use Rattle.np_report.specs.Text.{entry_lines}
 use Rattle.np_report.proofs.print.put_entries.Given as goal
 

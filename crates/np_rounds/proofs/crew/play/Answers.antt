@@ -1,5 +1,5 @@
 use Rattle.std.proofs.Common.{false, rules}
-use Rattle.np_driven.specs.Prelude.{first_phase, sight_of}
+use Rattle.np_worker.specs.Prelude.{first_phase, sight_of}
 use Rattle.np_worker.specs.Round.{EndsAs, work_of, driving_of}
 use Rattle.np_rounds.proofs.Seats.{allowed_part}
 use Rattle.np_rounds.proofs.crew.play.Goals as goal

@@ -1,6 +1,6 @@
 use Rattle.std.proofs.Common.{false, List, ap, subst, sym}
 use Rattle.np_changes.specs.Prelude.{Configuration, Entry}
-use Rattle.np_driven.proofs.LegalLemmas.{Runs-legal}
+use Rattle.np_worker.proofs.LegalLemmas.{Runs-legal}
 use Rattle.np_rounds.specs.Crews.{players_of}
 use Rattle.np_rounds.specs.Laps.{HasLaps}
 use Rattle.np_rounds.specs.Played.{Stops}

@@ -1,8 +1,8 @@
 use Rattle.std.proofs.Common.{[], ◌∙◌, refl, inl, false, map, ap, subst}
 use Rattle.np_rules.specs.Ran.{Ran}
-use Rattle.np_driven.specs.Drive.{driving}
-use Rattle.np_driven.specs.Hosting.{Earlier}
-use Rattle.np_driven.proofs.Hosted.{counted}
+use Rattle.np_worker.specs.Drive.{driving}
+use Rattle.np_worker.specs.Hosting.{Earlier}
+use Rattle.np_worker.proofs.Hosted.{counted}
 use Rattle.np_rounds.specs.Crews.{Terms, terms_of, players_of}
 use Rattle.np_rounds.specs.Laps.{HasLaps}
 use Rattle.np_rounds.proofs.Driven.{driven_start, driven_end}

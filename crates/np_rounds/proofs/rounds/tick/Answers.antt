@@ -1,7 +1,7 @@
 use Rattle.std.proofs.Common.{◌∙◌, false, subst, sym}
 use Rattle.np_event.specs.declared.event.Event.TheVariants as ev
 use Rattle.np_desk.specs.Pass.{sight_of}
-use Rattle.np_driven.specs.declared.ask.Ask.TheVariants as ask
+use Rattle.np_worker.specs.declared.ask.Ask.TheVariants as ask
 use Rattle.np_rounds.specs.Laps.{IsTick}
 use Rattle.np_rounds.specs.Played.{Stops}
 use Rattle.np_rounds.proofs.Fulls.{grows_turn}

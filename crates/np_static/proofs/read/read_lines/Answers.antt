@@ -2,8 +2,8 @@ use Rattle.std.proofs.Common.{◌≡◌, ◌≤◌, ◌+◌, ◌-◌, ◌++◌, 
 use Rattle.std.proofs.lemmas.List.{drop_min}
 use Rattle.np_text.specs.Lines.{lines_of, line_in}
 use Rattle.np_text.proofs.LineLemmas.{lines_of-walk}
-use Rattle.np_lines.specs.Lines.{lines_read}
-use Rattle.np_lines.proofs.LinesRead.{read_before, lines_read-said, lines_read-fault, lines_read-many}
+use Rattle.np_report.specs.Lines.{lines_read}
+use Rattle.np_report.proofs.LinesRead.{read_before, lines_read-said, lines_read-fault, lines_read-many}
 use Rattle.np_static.specs.Read.{host_said}
 use Rattle.np_static.proofs.read.read_lines.Goals as goal
 

@@ -1,7 +1,7 @@
 use Rattle.std.proofs.Common.{◌≡◌, ◌≤◌, ◌-◌, length, drop}
 use Rattle.np_text.specs.Lines.{lines_of}
-use Rattle.np_lines.specs.Lines.{lines_read}
-use Rattle.np_lines.proofs.LinesRead.{read_before}
+use Rattle.np_report.specs.Lines.{lines_read}
+use Rattle.np_report.proofs.LinesRead.{read_before}
 use Rattle.np_static.specs.Read.{host_said}
 use Rattle.np_static.proofs.read.read_lines.Given as goal
 

@@ -1,7 +1,7 @@
 use Rattle.std.proofs.Common.{false, map, subst}
 use Rattle.np_changes.specs.Prelude.{AllByRecursion, Entry}
-use Rattle.np_driven.specs.Drive.{driving}
-use Rattle.np_driven.specs.Players.{WasAnswered}
+use Rattle.np_worker.specs.Drive.{driving}
+use Rattle.np_worker.specs.Players.{WasAnswered}
 use Rattle.np_top.specs.Typed.{IsTyped}
 use Rattle.np_top.proofs.DrivenLines.{driven_lines}
 use Rattle.np_top.proofs.Sites.{ended_so, new_empty, new_servers, played_by}

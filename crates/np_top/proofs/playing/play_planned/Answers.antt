@@ -2,7 +2,7 @@ use Rattle.std.proofs.Common.{true, map, subst}
 use Rattle.np_changes.specs.Prelude.{AllByRecursion, Entry}
 use Rattle.np_cloud.specs.Sim.{simulation_facts, simulation_plan}
 use Rattle.np_cloud.specs.Sound.{every_list}
-use Rattle.np_driven.specs.Planned.{PlannedDriven}
+use Rattle.np_worker.specs.Planned.{PlannedDriven}
 use Rattle.np_top.specs.Typed.{IsTyped}
 use Rattle.np_top.proofs.DrivenLines.{planned_lines}
 use Rattle.np_useful.specs.Driven.{as_planned}

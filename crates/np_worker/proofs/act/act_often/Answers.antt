@@ -1,6 +1,6 @@
 use Rattle.std.proofs.Common.{◌≡◌, ◌∙◌, refl, sym, ap, subst}
 use Rattle.std.proofs.lemmas.Result.{err_from_is_err_and}
-use Rattle.np_driven.specs.Phase.{Phase, acting, rests}
+use Rattle.np_worker.specs.Phase.{Phase, acting, rests}
 use Rattle.np_worker.specs.Part.{Goes}
 use Rattle.np_worker.specs.Stage.{IsOfWork, WentFar, phase_of, player}
 use Rattle.np_worker.proofs.Onward.{same_from}

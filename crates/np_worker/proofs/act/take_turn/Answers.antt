@@ -1,7 +1,7 @@
 use Rattle.std.proofs.Common.{refl, [], ◌∷◌}
 use Rattle.std.specs.Prelude.{Ok}
 use Rattle.std.proofs.lemmas.Result.{err_from_is_err_and}
-use Rattle.np_driven.specs.Prelude.{after_turn, asked}
+use Rattle.np_worker.specs.Prelude.{after_turn, asked}
 use Rattle.np_worker.specs.Part.{Came}
 use Rattle.np_worker.proofs.Parts.{one_turn, no_turn, with_recorded, counts_turn, at_err}
 use Rattle.np_worker.proofs.act.take_turn.Goals as goal

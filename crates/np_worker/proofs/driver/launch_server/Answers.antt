@@ -1,4 +1,4 @@
-use Rattle.np_driven.specs.Drive.{driving}
+use Rattle.np_worker.specs.Drive.{driving}
 use Rattle.np_worker.proofs.Drives.{drives_launch, drives_failed, same_driving}
 use Rattle.np_worker.proofs.driver.launch_server.Goals as goal
 

@@ -1,4 +1,4 @@
-use Rattle.np_driven.specs.Drive.{driving}
+use Rattle.np_worker.specs.Drive.{driving}
 use Rattle.np_worker.proofs.Drives.{drives_removed, drives_kept}
 use Rattle.np_worker.proofs.driver.remove_server.Goals as goal
 

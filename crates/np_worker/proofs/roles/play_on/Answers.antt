@@ -2,7 +2,7 @@ use Rattle.std.proofs.Common.{◌≡◌, ◌∙◌, ◌++◌, refl, ap}
 use Rattle.std.specs.Prelude.{Some, Ok}
 use Rattle.std.proofs.lemmas.Result.{err_from_is_err_and}
 use Rattle.np_text.specs.declared.id.Role.TheVariants as role
-use Rattle.np_driven.specs.Prelude.{acts, driving, owes_due, owes_launch, owes_report}
+use Rattle.np_worker.specs.Prelude.{acts, driving, owes_due, owes_launch, owes_report}
 use Rattle.np_worker.specs.Part.{Comes, Part}
 use Rattle.np_worker.specs.Stage.{phase_of}
 use Rattle.np_worker.proofs.Drives.{drove_same}

@@ -2,7 +2,7 @@ use Rattle.std.proofs.Common.{◌∙◌, ◌++◌, refl, sym, ap, subst, arith}
 use Rattle.std.specs.Prelude.{Some}
 use Rattle.std.proofs.lemmas.Result.{err_from_is_err_and}
 use Rattle.np_text.specs.declared.id.Role.TheVariants as role
-use Rattle.np_driven.specs.Prelude.{acting, driving, of_pool, sweeps}
+use Rattle.np_worker.specs.Prelude.{acting, driving, of_pool, sweeps}
 use Rattle.np_worker.specs.Part.{Comes}
 use Rattle.np_worker.specs.Stage.{IsOfWork, phase_of, steps_left}
 use Rattle.np_worker.specs.declared.next.Next.TheVariants as next

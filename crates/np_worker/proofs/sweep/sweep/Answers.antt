@@ -2,7 +2,7 @@ use Rattle.std.proofs.Common.{refl, ◌∙◌, ◌≡◌, [], ◌<◌, ◌-◌, 
 use Rattle.std.specs.Prelude.{Some}
 use Rattle.std.proofs.lemmas.Result.{err_from_is_err_and}
 use Rattle.np_worker.specs.declared.next.Next.TheVariants as next
-use Rattle.np_driven.specs.Prelude.{driving, sweeps}
+use Rattle.np_worker.specs.Prelude.{driving, sweeps}
 use Rattle.np_worker.specs.Part.{SweepsAll}
 use Rattle.np_worker.proofs.Sweeps.{KeptFrom, kept_start, kept_end, kept_none, kept_one}
 use Rattle.np_worker.proofs.Parts.{no_turn, unturned_same, follow, of_part, same_fixed, sweeps_one_all, sweeps_one_at, counts_on, at_err}

@@ -1,7 +1,7 @@
 use Rattle.std.specs.Prelude.{Some}
 use Rattle.std.proofs.lemmas.Result.{err_from_is_err_and}
 use Rattle.np_worker.specs.declared.next.Next.TheVariants as next
-use Rattle.np_driven.specs.Prelude.{driving, sweeps}
+use Rattle.np_worker.specs.Prelude.{driving, sweeps}
 use Rattle.np_worker.specs.Part.{SweepsAll}
 use Rattle.np_worker.proofs.Parts.{follow, of_part, same_fixed, comes_at, comes_to, sweeps_before, at_err}
 use Rattle.np_worker.proofs.worker.play_pool.Goals as goal

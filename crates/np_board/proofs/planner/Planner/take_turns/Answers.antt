@@ -1,4 +1,4 @@
-use Rattle.np_driven.specs.Prelude.{sight_of}
+use Rattle.np_worker.specs.Prelude.{sight_of}
 use Rattle.np_board.proofs.TicketLemmas.{any-tickets}
 use Rattle.np_board.proofs.planner.Planner.take_turns.Goals as goal
 

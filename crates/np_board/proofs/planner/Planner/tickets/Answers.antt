@@ -1,5 +1,5 @@
 use Rattle.std.proofs.Common.{◌∙◌, refl, sym}
-use Rattle.np_driven.specs.Prelude.{sight_of}
+use Rattle.np_worker.specs.Prelude.{sight_of}
 use Rattle.np_board.proofs.TicketLemmas.{next-ticket, no-ticket}
 use Rattle.np_board.proofs.planner.Planner.tickets.Goals as goal
 

@@ -1,5 +1,5 @@
 use Rattle.std.proofs.Common.{◌≡◌}
-use Rattle.np_driven.specs.Prelude.{IsOf, sight_of}
+use Rattle.np_worker.specs.Prelude.{IsOf, sight_of}
 use Rattle.np_board.specs.Planner.{TookWithTickets}
 use Rattle.np_board.proofs.planner.Planner.tickets.Given as goal
 

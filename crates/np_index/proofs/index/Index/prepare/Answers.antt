@@ -2,7 +2,7 @@ use Rattle.std.proofs.Common.{◌∙◌, ap, subst, sym}
 use Rattle.np_counts.specs.Awaited.{first_rest}
 use Rattle.np_open.specs.Prepared.{AreListed}
 use Rattle.np_classes.proofs.Noted.{classes-same}
-use Rattle.np_given.specs.Given.{AreGivenGroups}
+use Rattle.np_active.specs.Given.{AreGivenGroups}
 use Rattle.np_index.specs.Index.{IsIndexOf}
 use Rattle.np_index.proofs.Kept.{active-same, open-same, placed-same}
 use Rattle.np_index.proofs.index.Index.prepare.Goals as goal

@@ -1,6 +1,6 @@
 use Rattle.std.proofs.Common.{◌≡◌, ◌+◌, length, ℕ, List, sym, ◌∙◌, ap, subst, arith}
 use Rattle.std.specs.Option.{option_map}
-use Rattle.np_disk.specs.Disk.{LeavesOnly}
+use Rattle.np_io.specs.Disk.{LeavesOnly}
 use Rattle.np_log.specs.Batch.{batch_text}
 use Rattle.np_log.specs.Place.{IsSettled, Place}
 use Rattle.np_log.specs.Writing.{TornBehindOrAt, behind_open_gate, record_and_gate}

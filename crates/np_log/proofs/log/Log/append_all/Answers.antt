@@ -1,7 +1,7 @@
 use Rattle.std.proofs.Common.{◌≡◌, ◌≤◌, ◌+◌, List, length, take, IfSome, ◌∙◌, ap, subst, arith, length-drop}
 use Rattle.std.specs.Option.{option_map}
 use Rattle.np_event.specs.declared.event.Event.{Event}
-use Rattle.np_disk.specs.Disk.{LeavesOnly}
+use Rattle.np_io.specs.Disk.{LeavesOnly}
 use Rattle.np_log.specs.Log.{content_of, content_with}
 use Rattle.np_log.specs.Place.{SaysAllOrNone}
 use Rattle.np_log.proofs.PartLemmas.{content_more, run_more}

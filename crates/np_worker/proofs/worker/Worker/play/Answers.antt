@@ -2,7 +2,7 @@ use Rattle.std.proofs.Common.{sym, subst}
 use Rattle.std.specs.Prelude.{None, Ok}
 use Rattle.std.proofs.lemmas.Result.{err_from_is_err_and}
 use Rattle.np_worker.specs.declared.worker.RoundEnd.{RoundEnd}
-use Rattle.np_driven.specs.Phase.{of_requester, of_reaper}
+use Rattle.np_worker.specs.Phase.{of_requester, of_reaper}
 use Rattle.np_worker.specs.Round.{EndsAs}
 use Rattle.np_worker.proofs.Parts.{of_part, at_err, ends_alone}
 use Rattle.np_worker.proofs.Rounds.{requester_round, reaper_round}

@@ -1,0 +1,15 @@
+use Rattle.std.proofs.Common.{◌≡◌, ◌≤◌, ◌-◌, ◌*◌, suc, drop, length}
+use Rattle.std.specs.Prelude.{vec_capacity}
+use Rattle.np_look.specs.Keys.{is_node_before, same_node}
+use Rattle.np_table.specs.Moves.{with_all_moved}
+use Rattle.np_active.specs.Within.{groups_within}
+use Rattle.np_active.proofs.members.move_nodes.Given as goal
+
+abbrev pub invariant-loop-past : goal.invariant-loop-past
+invariant-loop-past g l = record {
+  members :
+      with_all_moved is_node_before same_node (groups_within (g.R.Rows.site l.rows) (g.R.Rows.state l.rows) l.most) (drop l.past-index l.moved) l.groups.members
+      ≡ with_all_moved is_node_before same_node (groups_within (g.R.Rows.site l.rows) (g.R.Rows.state l.rows) l.most) l.moved l.initial.groups.members;
+  room : (length l.moved - l.past-index) * suc l.most ≤ l.groups.room;
+  list : suc l.most ≤ vec_capacity l.list;
+}

@@ -1,3 +1,0 @@
-pub mod Entries
-pub mod Agreement
-pub mod Audit

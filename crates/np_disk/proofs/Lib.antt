@@ -1,5 +1,0 @@
-pub mod Moments
-pub mod ReadLemmas
-pub mod TornLemmas
-pub mod CallLemmas
-pub mod FileLemmas

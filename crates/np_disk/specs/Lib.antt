@@ -1,5 +1,0 @@
-pub mod Disk
-pub mod Plans
-pub mod Calls
-pub mod Memory
-pub mod Files

@@ -1,5 +1,0 @@
-use Rattle.np_driven.proofs.Hosted.{begin-hosted}
-use Rattle.np_driven.proofs.law.hosted.drivers_begin_to_host.Goals as goal
-
-pub returns : goal.returns
-returns g = begin-hosted

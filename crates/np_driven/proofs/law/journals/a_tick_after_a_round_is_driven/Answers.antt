@@ -1,5 +1,0 @@
-use Rattle.np_driven.proofs.Journals.{tick-have-driven}
-use Rattle.np_driven.proofs.law.journals.a_tick_after_a_round_is_driven.Goals as goal
-
-pub returns : goal.returns
-returns g = λ plans c journal d e players. tick-have-driven c plans journal players d e

@@ -1,5 +1,0 @@
-use Rattle.np_driven.proofs.Leaving.{kept-stay}
-use Rattle.np_driven.proofs.law.servers.servers_stay_where_they_are_kept.Goals as goal
-
-pub returns : goal.returns
-returns g = kept-stay

@@ -1,6 +1,0 @@
-use Rattle.np_driven.specs.Players.{WasAnswered}
-use Rattle.np_driven.proofs.Unwanted.{unwanted-gone}
-use Rattle.np_driven.proofs.law.servers.unwanted_servers_go_in_a_whole_round.Goals as goal
-
-pub returns : goal.returns
-returns g = λ plans c drivings. unwanted-gone c plans (WasAnswered drivings)

@@ -1,5 +1,0 @@
-use Rattle.np_driven.proofs.LegalLemmas.{legal-Runs}
-use Rattle.np_driven.proofs.legal.a_legal_journal_runs.Goals as goal
-
-pub returns : goal.returns
-returns c = legal-Runs

@@ -1,5 +1,0 @@
-use Rattle.np_driven.proofs.Removed.{stays_or_goes}
-use Rattle.np_driven.proofs.moves.servers_leave_by_removals.Goals as goal
-
-pub returns : goal.returns
-returns c = stays_or_goes

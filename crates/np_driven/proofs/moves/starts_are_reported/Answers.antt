@@ -1,5 +1,0 @@
-use Rattle.np_driven.proofs.Launching.{are_reported}
-use Rattle.np_driven.proofs.moves.starts_are_reported.Goals as goal
-
-pub returns : goal.returns
-returns c = are_reported

@@ -1,0 +1,123 @@
+-- what is to be told, while it grows and shrinks
+use Rattle.std.proofs.Common.{◌≡◌, ◌<◌, ◌≤◌, ◌+◌, ◌-◌, ℕ, suc, zero, List, [], ◌∷◌, ◌++◌, length, Option, Some, None, refl, sym, ap, ◌∙◌, inl, inr, Bool, true, false, subst, arith}
+use Rattle.std.specs.Prelude.{slice_get, nat_lt, not, ◌⊎◌}
+use Rattle.std.proofs.lemmas.Bool.Decides.{nat_tests}
+use Rattle.std.proofs.lemmas.Option.{slice_get_within}
+use Rattle.np_changes.specs.Prelude.{Configuration, JobId, JobRecord, State, is_over, option_map_or}
+use Rattle.np_lists.proofs.Plain.{past-end}
+use Rattle.np_causes.specs.Explains.{waits}
+use Rattle.np_causes.specs.Names.{named_by}
+use Rattle.np_causes.specs.declared.fact.Fact.{Fact}
+use Rattle.np_causes.specs.declared.fact.Thing.{Thing}
+use Rattle.np_causes.specs.declared.fact.Thing.TheVariants as thing
+use Rattle.np_explain_lines.specs.Chains.{IsPending, IsWaiting, Names}
+use Rattle.np_explain_lines.specs.declared.chain.Next.{Next}
+
+-- ## a list with one item more
+
+pub stays : {X : Type 0} (xs : List X) (x : X) (k : ℕ) (y : X) → slice_get xs k ≡ Some y → slice_get (xs ++ x ∷ []) k ≡ Some y
+stays [] x k y is = absurd cc
+stays (z ∷ xs) x zero y is = is
+stays (z ∷ xs) x (suc k) y is = stays xs x k y is
+
+pub last : {X : Type 0} (xs : List X) (x : X) → slice_get (xs ++ x ∷ []) (length xs) ≡ Some x
+last [] x = refl
+last (y ∷ xs) x = last xs x
+
+-- it is one of the others, or the last
+pub split : {X : Type 0} (xs : List X) (x : X) (k : ℕ) (y : X) → slice_get (xs ++ x ∷ []) k ≡ Some y → (slice_get xs k ≡ Some y) ⊎ ((x ≡ y) × (k ≡ length xs))
+split [] x zero y is = inr (cc, refl)
+split [] x (suc k) y is = absurd cc
+split (z ∷ xs) x zero y is = inl is
+split (z ∷ xs) x (suc k) y is = by (split xs x k y is)
+  where
+    by : (slice_get xs k ≡ Some y) ⊎ ((x ≡ y) × (k ≡ length xs)) → (slice_get xs k ≡ Some y) ⊎ ((x ≡ y) × (suc k ≡ suc (length xs)))
+    by (inl there) = inl there
+    by (inr here) = inr (here.0, ap suc here.1)
+
+-- ## what is to be told
+
+pub none_pending : (pending : List Next) (it : Thing) → length pending ≡ 0 → IsPending pending it → ⊥
+none_pending [] it none has = let stands : slice_get [] has.at ≡ Some has.next = has.stands in cc
+none_pending (n ∷ pending) it none has = absurd (let some : length (n ∷ pending) ≡ 0 = none in omega arith)
+
+pub push_stays : (pending : List Next) (n : Next) (it : Thing) → IsPending pending it → IsPending (pending ++ n ∷ []) it
+push_stays pending n it has = record { at = has.at; next = has.next; stands = stays pending n has.at has.next has.stands; about = has.about }
+
+pub push_pending : (pending : List Next) (n : Next) (it : Thing) → n.thing ≡ it → IsPending (pending ++ n ∷ []) it
+push_pending pending n it is = record { at = length pending; next = n; stands = last pending n; about = is }
+
+pub pushed_alone : (pending : List Next) (n : Next) (it : Thing) → IsPending (pending ++ n ∷ []) it → IsPending pending it ⊎ (n.thing ≡ it)
+pushed_alone pending n it has = by (split pending n has.at has.next has.stands)
+  where
+    by : (slice_get pending has.at ≡ Some has.next) ⊎ ((n ≡ has.next) × (has.at ≡ length pending)) → IsPending pending it ⊎ (n.thing ≡ it)
+    by (inl there) = inl (record { at = has.at; next = has.next; stands = there; about = has.about })
+    by (inr here) = inr (ap (λ (m : Next). m.thing) here.0 ∙ has.about)
+
+-- ## jobs, from the last on
+
+job_within : (s : State) (j : JobId) (o : Option JobRecord) → slice_get s.jobs j.0 ≡ o → option_map_or (λ kept. not (is_over kept.phase)) o false ≡ true → j.0 < length s.jobs
+job_within s j None there is = absurd cc
+job_within s j (Some kept) there is = slice_get_within s.jobs j.0 kept there
+
+-- a job that waits is one of them
+pub waiting_within : (s : State) (j : JobId) → waits s j ≡ true → j.0 < length s.jobs
+waiting_within s j is = job_within s j (slice_get s.jobs j.0) refl is
+
+same_job : (j : JobId) (n : ℕ) → j.0 ≡ n → j ≡ record { 0 = n }
+same_job j n is = ap (λ (k : ℕ). record { 0 = k }) is
+
+pub jobs_more : (s : State) (left : ℕ) (before later : List Next) → 0 < left → ((it : Thing) → IsPending before it → IsPending later it)
+    → (waits s (record { 0 = left - 1 }) ≡ true → IsPending later (thing.Job (record { 0 = left - 1 })))
+    → ((j : JobId) → waits s j ≡ true → left ≤ j.0 → IsPending before (thing.Job j))
+    → (j : JobId) → waits s j ≡ true → left - 1 ≤ j.0 → IsPending later (thing.Job j)
+jobs_more s left before later some stay told all j is past = by (nat_lt j.0 left) refl
+  where
+    by : (b : Bool) → nat_lt j.0 left ≡ b → IsPending later (thing.Job j)
+    by false more = stay (thing.Job j) (all j is (grind (arith, nat_tests)))
+    by true less =
+        let number : j.0 ≡ left - 1 = grind (arith, nat_tests) in
+        let same : j ≡ record { 0 = left - 1 } = same_job j (left - 1) number in
+        subst (λ (k : JobId). IsPending later (thing.Job k)) (sym same) (told (subst (λ (k : JobId). waits s k ≡ true) same is))
+
+pub alone_more : (s : State) (before : List Next) (it : Thing) → ((t : Thing) → IsPending before t → IsWaiting s t) → IsPending before it ⊎ IsWaiting s it → IsWaiting s it
+alone_more s before it all (inl old) = all it old
+alone_more s before it all (inr new) = new
+
+-- ## places, from the last on
+
+pub places_more : (named : List (Option Thing)) (left : ℕ) (before later : List Next) → 0 < left → ((it : Thing) → IsPending before it → IsPending later it)
+    → ((it : Thing) → slice_get named (left - 1) ≡ Some (Some it) → IsPending later it)
+    → ((place : ℕ) (it : Thing) → left ≤ place → slice_get named place ≡ Some (Some it) → IsPending before it)
+    → (place : ℕ) (it : Thing) → left - 1 ≤ place → slice_get named place ≡ Some (Some it) → IsPending later it
+places_more named left before later some stay told all place it past names = by (nat_lt place left) refl
+  where
+    by : (b : Bool) → nat_lt place left ≡ b → IsPending later it
+    by false more = stay it (all place it (grind (arith, nat_tests)) names)
+    by true less =
+        let same : place ≡ left - 1 = grind (arith, nat_tests) in
+        told it (subst (λ (k : ℕ). slice_get named k ≡ Some (Some it)) same names)
+
+pub named_more : (c : Configuration) (s : State) (f : Fact) (first before : List Next) (it : Thing) (place : ℕ)
+    → ((t : Thing) → IsPending before t → IsPending first t ⊎ Names c s f t)
+    → IsPending before it ⊎ (slice_get (named_by c s f) place ≡ Some (Some it)) → IsPending first it ⊎ Names c s f it
+named_more c s f first before it place all (inl old) = all it old
+named_more c s f first before it place all (inr new) = inr (place, new)
+
+pub no_place_past : (c : Configuration) (s : State) (f : Fact) (end place : ℕ) (it : Thing) → slice_get (named_by c s f) end ≡ None → end ≤ place
+    → slice_get (named_by c s f) place ≡ Some (Some it) → ⊥
+no_place_past c s f end place it none past names =
+    let within : place < length (named_by c s f) = slice_get_within (named_by c s f) place (Some it) names in
+    let ends : length (named_by c s f) ≤ end = past-end (named_by c s f) end none in
+    absurd (omega arith)
+
+-- ## one thing more
+
+pub waiting_alone : (s : State) (j : JobId) (pending : List Next) (it : Thing) (n : Next) → n.thing ≡ thing.Job j → waits s j ≡ true
+    → IsPending pending it ⊎ (n.thing ≡ it) → IsPending pending it ⊎ IsWaiting s it
+waiting_alone s j pending it n is waits (inl old) = inl old
+waiting_alone s j pending it n is waits (inr same) = inr (j, sym same ∙ is, waits)
+
+pub named_alone : (pending : List Next) (it : Thing) (n : Next) → IsPending pending it ⊎ (n.thing ≡ it) → IsPending pending it ⊎ (Some (Some n.thing) ≡ Some (Some it))
+named_alone pending it n (inl old) = inl old
+named_alone pending it n (inr same) = inr (ap (λ (t : Thing). Some (Some t)) same)

@@ -1,0 +1,12 @@
+use Rattle.std.proofs.Common.{◌∙◌, ap, sym}
+use Rattle.std.proofs.lemmas.Option.{slice_get-map}
+use Rattle.np_changes.specs.Prelude.{option_map}
+use Rattle.np_causes.specs.declared.fact.Fact.{Fact}
+use Rattle.np_explain_lines.specs.declared.chain.Link.{Link}
+use Rattle.np_explain_lines.proofs.told.fact_at.Goals as goal
+
+pub returns-then-is_same : goal.returns-then-is_same
+returns-then-is_same c = (
+  sym c.about.ensures ∙ c.is_same.ensures c.if-is_same.true,
+  (c.args.at, slice_get-map (λ (l : Link). l.fact) c.args.links.now c.args.at ∙ ap (option_map (λ (l : Link). l.fact)) (sym c.in_ok-link.ensures)),
+)

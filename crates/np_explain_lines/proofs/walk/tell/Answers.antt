@@ -1,0 +1,17 @@
+use Rattle.std.proofs.Common.{sym}
+use Rattle.np_explain_lines.specs.Chains.{facts_of}
+use Rattle.np_explain_lines.proofs.Way.{again, told_now}
+use Rattle.np_explain_lines.proofs.walk.tell.Goals as goal
+
+pub returns-in-Some : goal.returns-in-Some
+returns-in-Some g c =
+    let found = rw c.as_slice.ensures.value at c.in-Some.ensures.1 in
+    rw c.in_ok-push_link.ensures
+    (again (g.L.Look.site c.args.look.now) (g.L.Look.state c.args.look.now) (facts_of c.args.links.now.items) c.args.pending.now.items c.args.next c.in-Some.fact found.0 found.1
+    c.in-Some.ensures.0 c.requires.way)
+
+pub returns : goal.returns
+returns g c =
+    rw c.in_ok-push_link-2.ensures
+    (told_now (g.L.Look.site c.args.look.now) (g.L.Look.state c.args.look.now) (facts_of c.args.links.now.items) c.args.pending.now.items c.push_named.new.pending.items c.args.next
+    c.fact_of-fact.result c.fact_of-fact.ensures c.in_ok-push_named.ensures.stay c.in_ok-push_named.ensures.all c.in_ok-push_named.ensures.alone c.requires.way)

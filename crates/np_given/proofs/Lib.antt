@@ -1,7 +1,0 @@
-pub mod Untouched
-pub mod Longer
-pub mod Queues
-pub mod Listed
-pub mod Noted
-pub mod Rebuilt
-pub mod Outside

@@ -1,9 +1,0 @@
-use Rattle.std.proofs.Common.{◌≤◌, ◌-◌, length}
-use Rattle.np_machine.specs.Tables.{node_queue}
-use Rattle.np_given.proofs.past.queue_length.Given as goal
-
-abbrev pub invariant-loop-count : goal.invariant-loop-count
-invariant-loop-count g l = l.count ≤ length (node_queue l.node (g.R.Rows.state l.rows).nodes)
-
-abbrev pub decreases-loop-count : goal.decreases-loop-count
-decreases-loop-count g l = length (node_queue l.node (g.R.Rows.state l.rows).nodes) - l.count

@@ -1,8 +1,0 @@
-use Rattle.std.proofs.Common.{◌≡◌, ◌++◌, drop, map}
-use Rattle.np_given.specs.Prepared.{placed_node}
-use Rattle.np_given.proofs.prepare.past_nodes.Given as goal
-
-abbrev pub invariant-loop-node : goal.invariant-loop-node
-invariant-loop-node g l =
-    l.list.items ++ map (placed_node (g.R.Rows.site l.rows) (g.R.Rows.state l.rows)) (drop l.node-index l.nodes)
-    ≡ map (placed_node (g.R.Rows.site l.rows) (g.R.Rows.state l.rows)) l.nodes

@@ -1,8 +1,0 @@
-use Rattle.std.proofs.Common.{◌∙◌, sym}
-use Rattle.np_lines.proofs.Playable.{playable-parts}
-use Rattle.np_lines.proofs.script.read_script.Goals as goal
-
-pub returns-in-Ok-3-clause-playable : goal.returns-in-Ok-3-clause-playable
-returns-in-Ok-3-clause-playable c =
-    playable-parts c.in-Some.before.now c.in-Some.after.now c.in-Ok-2.config c.in-Ok-3.events
-    (sym c.in_ok-config.ensures ∙ c.in-Ok-2.is) (sym c.in_ok-events.ensures ∙ c.in-Ok-3.is)

@@ -1,3 +1,0 @@
-pub mod FileName
-pub mod Command
-pub mod Application

@@ -1,0 +1,8 @@
+use Rattle.np_worker.proofs.OfRoles.{entry-of_worker, entry-of_player}
+use Rattle.np_worker.proofs.law.makers.each_entry_is_of_its_makers_role.Goals as goal
+
+pub returns-clause-worker : goal.returns-clause-worker
+returns-clause-worker g = λ plans. entry-of_worker {plans = plans}
+
+pub returns-clause-round : goal.returns-clause-round
+returns-clause-round g = λ plans. entry-of_player {plans = plans}

@@ -1,0 +1,5 @@
+use Rattle.np_worker.proofs.Removals.{are_named}
+use Rattle.np_worker.proofs.moves.removals_are_named.Goals as goal
+
+pub returns : goal.returns
+returns c = are_named

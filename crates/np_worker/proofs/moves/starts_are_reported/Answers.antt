@@ -1,0 +1,5 @@
+use Rattle.np_worker.proofs.Launching.{are_reported}
+use Rattle.np_worker.proofs.moves.starts_are_reported.Goals as goal
+
+pub returns : goal.returns
+returns c = are_reported

@@ -1,0 +1,184 @@
+-- what a worker may do next
+--
+-- A pool's worker plays the launcher first. After each accepted start it owes its launch and then
+-- the report of it, before anything else. Then it plays the janitor: before each turn it looks for a
+-- due node, and owes the removal of that node's server, if it has one. Last it asks about servers,
+-- and owes the removal of each that nobody wants.
+use Rattle.std.specs.Prelude.{◌≡◌, ℕ, zero, suc, List, [], ◌∷◌, Bool, true, false, cond, Option, Some, None}
+use Rattle.np_changes.specs.Prelude.{Entry, Event, NodeId, Outcome, PoolId, Reply, RequesterId, Role}
+use Rattle.np_text.specs.declared.id.Role.TheVariants as role
+use Rattle.np_event.specs.declared.event.Event.TheVariants as event
+use Rattle.np_event.specs.declared.reply.Reply.TheVariants as reply
+use Rattle.np_event.specs.declared.reply.Done.TheVariants as done
+use Rattle.np_cloud.specs.declared.driver.Tag.{Tag}
+use Rattle.np_worker.specs.declared.ask.Ask.{Ask}
+use Rattle.np_worker.specs.declared.ask.Ask.TheVariants as ask
+use Rattle.np_worker.specs.declared.ask.Turn.{Turn}
+use Rattle.np_worker.specs.declared.ask.Turn.TheVariants as turn
+use Rattle.np_worker.specs.declared.start.Start.{Start}
+use Rattle.np_worker.specs.Move.{Move, asked, launched, removed}
+
+-- ## what answers mean
+
+-- whose worker it is: a pool's plays its launcher and its janitor (own)
+pub data Work : Type 0 where
+  of_pool : PoolId → Work
+  of_requester : RequesterId → Work
+  of_reaper : Work
+
+-- the start that an entry accepted, if it is one (own)
+abbrev pub start_in : PoolId → Event → Reply → Option Start
+start_in pool (event.Start s n) (reply.Done (done.Started k m)) = Some record {
+  session = s;
+  tag = record { pool = pool; node = n; attempt = k; start = m };
+}
+start_in _ _ _ = None
+
+abbrev pub start_of : PoolId → Entry → Option Start
+start_of pool e = start_in pool e.event e.reply
+
+-- the report of a launch (own)
+abbrev pub report_of : Start → Outcome → Event
+report_of s o = event.Done s.session s.tag.node s.tag.attempt o
+
+-- nobody wants the server any more (own)
+abbrev pub is_remove : Reply → Bool
+is_remove (reply.Done done.Remove) = true
+is_remove _ = false
+
+-- the answer to a sweep is that nobody wants the server, now or before (own)
+abbrev pub is_unwanted : Turn → Bool
+is_unwanted (turn.Did e) = is_remove e.reply
+is_unwanted turn.Swept = true
+is_unwanted _ = false
+
+-- ## phases
+
+pub data Phase : Type 0 where
+  -- the role takes a turn, and may take this many more
+  acts : Role → ℕ → Phase
+  -- an accepted start has no launch yet; then the launcher may take this many turns
+  owes_launch : PoolId → ℕ → Start → Phase
+  -- a launch was answered, and not reported yet
+  owes_report : PoolId → ℕ → Start → Outcome → Phase
+  -- the janitor looks for a due node, takes a turn, and may take this many more
+  looks : PoolId → ℕ → Phase
+  -- a node with this server is due
+  owes_due : PoolId → ℕ → ℕ → Phase
+  -- the servers are asked about
+  sweeps : PoolId → Phase
+  -- nobody wants this server
+  owes_swept : PoolId → ℕ → Phase
+  -- the worker of a requester or of the reaper has taken its turns
+  rests : Phase
+  -- a turn found no room in the journal
+  ended : Phase
+
+-- what follows when a role has nothing to do, or has taken its 16 turns (own)
+abbrev pub after_role : Role → Phase
+after_role (role.Launcher pool) = looks pool 15
+after_role (role.Janitor pool) = sweeps pool
+after_role (role.Requester q) = rests
+after_role role.Reaper = rests
+
+-- a role that may take this many turns (own)
+abbrev pub acting : Role → ℕ → Phase
+acting r zero = after_role r
+acting (role.Launcher pool) (suc n) = acts (role.Launcher pool) n
+acting (role.Janitor pool) (suc n) = looks pool n
+acting (role.Requester q) (suc n) = acts (role.Requester q) n
+acting role.Reaper (suc n) = acts role.Reaper n
+
+-- the phase in which a round begins (own)
+abbrev pub first_phase : Work → Phase
+first_phase (of_pool pool) = acting (role.Launcher pool) 16
+first_phase (of_requester q) = acting (role.Requester q) 16
+first_phase of_reaper = acting role.Reaper 16
+
+-- ## what may come, and what it leads to
+
+-- what is asked in a phase (own)
+abbrev pub MayAsk : Phase → Ask → Type 0
+MayAsk (acts r n) a = a ≡ ask.Act r
+MayAsk (owes_report pool n s o) a = a ≡ ask.Do (report_of s o)
+MayAsk (looks pool n) a = a ≡ ask.Due pool
+MayAsk (sweeps pool) a = (n : NodeId) × (x : ℕ) × (a ≡ ask.Sweep pool n x)
+MayAsk _ a = ⊥
+
+-- which launch comes in a phase (own)
+abbrev pub MayLaunch : Phase → Tag → Type 0
+MayLaunch (owes_launch pool n s) tag = tag ≡ s.tag
+MayLaunch _ tag = ⊥
+
+-- which removal comes in a phase (own)
+abbrev pub MayRemove : Phase → ℕ → Type 0
+MayRemove (owes_due pool n x) y = y ≡ x
+MayRemove (owes_swept pool x) y = y ≡ x
+MayRemove _ y = ⊥
+
+-- a launcher's start is launched; after another entry the role goes on (own)
+abbrev pub after_start : PoolId → ℕ → Option Start → Phase
+after_start pool n None = acting (role.Launcher pool) n
+after_start pool n (Some s) = owes_launch pool n s
+
+abbrev pub after_entry : Role → ℕ → Entry → Phase
+after_entry (role.Launcher pool) n e = after_start pool n (start_of pool e)
+after_entry (role.Janitor pool) n e = acting (role.Janitor pool) n
+after_entry (role.Requester q) n e = acting (role.Requester q) n
+after_entry role.Reaper n e = acting role.Reaper n
+
+-- an entry was made, or the role has nothing to do (own)
+abbrev pub after_act : Role → ℕ → Turn → Phase
+after_act r n (turn.Did e) = after_entry r n e
+after_act r n turn.Full = ended
+after_act r n _ = after_role r
+
+abbrev pub after_report : PoolId → ℕ → Turn → Phase
+after_report pool n turn.Full = ended
+after_report pool n _ = acting (role.Launcher pool) n
+
+-- the server of a due node is removed before the janitor's turn (own)
+abbrev pub after_look : PoolId → ℕ → Turn → Phase
+after_look pool n (turn.DueNode node (Some x)) = owes_due pool n x
+after_look pool n turn.Full = ended
+after_look pool n _ = acts (role.Janitor pool) n
+
+abbrev pub after_sweep : PoolId → ℕ → Turn → Phase
+after_sweep pool x turn.Full = ended
+after_sweep pool x t = cond (is_unwanted t) (owes_swept pool x) (sweeps pool)
+
+abbrev pub server_in : Ask → ℕ
+server_in (ask.Sweep pool n x) = x
+server_in _ = 0
+
+-- the phase after a turn (own)
+abbrev pub after_turn : Phase → Ask → Turn → Phase
+after_turn (acts r n) a t = after_act r n t
+after_turn (owes_report pool n s o) a t = after_report pool n t
+after_turn (looks pool n) a t = after_look pool n t
+after_turn (sweeps pool) a t = after_sweep pool (server_in a) t
+after_turn phase a t = phase
+
+-- the phase after a launch (own)
+abbrev pub after_launch : Phase → Outcome → Phase
+after_launch (owes_launch pool n s) o = owes_report pool n s o
+after_launch phase o = phase
+
+-- the phase after a removal (own)
+abbrev pub after_removal : Phase → Phase
+after_removal (owes_due pool n x) = acts (role.Janitor pool) n
+after_removal (owes_swept pool x) = sweeps pool
+after_removal phase = phase
+
+-- the moves may come one after another, and lead from one phase to the other (own)
+abbrev pub Leads : Phase → List Move → Phase → Type 0
+Leads p [] q = p ≡ q
+Leads p (asked a t ∷ moves) q = MayAsk p a × Leads (after_turn p a t) moves q
+Leads p (launched tag o ∷ moves) q = MayLaunch p tag × Leads (after_launch p o) moves q
+Leads p (removed x ∷ moves) q = MayRemove p x × Leads (after_removal p) moves q
+
+-- a server has to be removed (own)
+abbrev pub OwesRemoval : Phase → Type 0
+OwesRemoval (owes_due pool n x) = Unit {0}
+OwesRemoval (owes_swept pool x) = Unit {0}
+OwesRemoval _ = ⊥
