@@ -47,6 +47,7 @@
 mod active;
 mod begin;
 mod given;
+mod given_readers;
 mod group;
 mod jobs;
 mod lines;
@@ -54,7 +55,6 @@ mod members;
 mod past;
 mod past_given;
 mod prepare;
-mod readers;
 mod sessions;
 
 pub use active::Active;

@@ -17,14 +17,14 @@ use Rattle.np_worker.specs.Phase.{start_in, start_of, report_of}
 use Rattle.np_worker.specs.Trace.{start_made, IsAskOf, is_idle}
 use Rattle.np_worker.proofs.Events.{start-parts}
 use Rattle.np_worker.proofs.Choices.{chosen-start}
-use Rattle.np_worker.proofs.Roles.{useful-done, useful-start_role, current-role}
+use Rattle.np_worker.proofs.RoleLemmas.{useful-done, useful-start_role, current-role}
 use Rattle.np_worker.specs.Reports.{reported, number_in, numbers_in, reports_of, AreAloneSound, FailAfter}
 use Rattle.np_worker.specs.Hosting.{WasLaunchedFor, IsServerOf}
 use Rattle.np_worker.proofs.Starts.{MayReport}
 use Rattle.np_worker.proofs.Idle.{NoLauncherWaits, may-report, report-accepted, IsReportedBy, may-before_done}
 use Rattle.np_worker.proofs.Waiting.{IsPolite}
 use Rattle.np_worker.proofs.Pools.{was-of, quiet-report, reports-next}
-use Rattle.np_worker.proofs.Stage.{Reportable, Begun, At, at-step, at-quiet, after-next, may-last, IsForeign, numbers-push, fail-push, nobody, IsReportOf, Never, WasStarted, Tells, Held, Calm, IsThere, Reporting, IsLeft, Rest, Stands, tells-gap, held-gap}
+use Rattle.np_worker.proofs.StageLemmas.{Reportable, Begun, At, at-step, at-quiet, after-next, may-last, IsForeign, numbers-push, fail-push, nobody, IsReportOf, Never, WasStarted, Tells, Held, Calm, IsThere, Reporting, IsLeft, Rest, Stands, tells-gap, held-gap}
 use Rattle.np_machine.proofs.Steps.{next-keeps}
 use Rattle.np_worker.specs.declared.ask.Ask.{Ask}
 use Rattle.np_worker.specs.declared.ask.Turn.{Turn}

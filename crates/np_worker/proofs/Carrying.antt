@@ -30,7 +30,7 @@ use Rattle.np_worker.proofs.Leaving.{AreBelow, below-turn, filtered-member}
 use Rattle.np_worker.specs.Phase.{of_pool, Phase, acts, owes_launch, owes_report, looks, owes_due, sweeps, owes_swept, ended, after_turn, after_launch, after_removal, MayAsk, MayLaunch, MayRemove, Leads}
 use Rattle.np_worker.proofs.Gained.{turn_seen, walk_seen}
 use Rattle.np_worker.proofs.Steps.{of_turn}
-use Rattle.np_worker.proofs.Stage.{IsForeign, AreForeign, IsReportOf, IsLate, Never, WasStarted, Held, Calm, IsThere, Reporting, IsGoing, IsLeft, Tells, Rest, Stands, Leaves, stands-gap, tells-gap, leaves-of, leaves-later}
+use Rattle.np_worker.proofs.StageLemmas.{IsForeign, AreForeign, IsReportOf, IsLate, Never, WasStarted, Held, Calm, IsThere, Reporting, IsGoing, IsLeft, Tells, Rest, Stands, Leaves, stands-gap, tells-gap, leaves-of, leaves-later}
 use Rattle.np_worker.proofs.Acts.{Sees, IsReady, Turned, turns-stand}
 
 -- ## lists of servers

@@ -15,7 +15,7 @@ use Rattle.np_worker.specs.declared.ask.Turn.TheVariants as turn
 use Rattle.np_worker.specs.Makers.{IsOfRole}
 use Rattle.np_worker.specs.Planned.{answers_of, IsChosen, IsTurnAs}
 use Rattle.np_worker.proofs.Places.{turn_after, some-from, turns-append}
-use Rattle.np_worker.proofs.Roles.{same_role-is, current-role, role-stays, start-of_pool, useful-done, useful-tickless}
+use Rattle.np_worker.proofs.RoleLemmas.{same_role-is, current-role, role-stays, start-of_pool, useful-done, useful-tickless}
 
 -- ## a useful event is of its role
 

@@ -13,7 +13,7 @@ use Rattle.np_worker.proofs.Made.{Cause, IsActed, IsReported}
 use Rattle.np_worker.proofs.Histories.{split-outer, split-within, length-split, same-split}
 use Rattle.np_worker.proofs.Places.{turn_after, some-place}
 use Rattle.np_worker.proofs.Starts.{once, report-later}
-use Rattle.np_worker.proofs.Roles.{role-stays}
+use Rattle.np_worker.proofs.RoleLemmas.{role-stays}
 use Rattle.np_worker.proofs.Events.{start-parts, act-work}
 use Rattle.std.proofs.lemmas.List.Elements.{All-contains}
 use Rattle.np_worker.specs.Players.{Player, HaveDrivenAs, AreNumbered}

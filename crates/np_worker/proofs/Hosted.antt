@@ -30,7 +30,7 @@ use Rattle.np_worker.specs.Carried.{BeginsEmpty, BeginsNew, NeverRepeats, AreCar
 use Rattle.np_worker.specs.Hosting.{Carries, Hosts, Earlier, HaveSoundness, BeginAfter, HaveHosted, IsHosted}
 use Rattle.np_worker.proofs.Idle.{may-report, report-accepted}
 use Rattle.np_worker.proofs.Numbers.{outcomes, IsKnown, found-rows, up-sound, numbers-append}
-use Rattle.np_worker.proofs.Stage.{IsForeign, AreForeign, nobody, Never, Tells, Calm, Leaves, Stands, tells-gap, held-gap, leaves-later}
+use Rattle.np_worker.proofs.StageLemmas.{IsForeign, AreForeign, nobody, Never, Tells, Calm, Leaves, Stands, tells-gap, held-gap, leaves-later}
 use Rattle.np_worker.proofs.Carrying.{Surroundings, Left, part-foreign, walk-stands, walk-early}
 use Rattle.np_worker.proofs.Others.{is-foreign}
 use Rattle.np_worker.proofs.Waiting.{waits-after, polite-at}

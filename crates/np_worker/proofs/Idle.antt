@@ -20,7 +20,7 @@ use Rattle.np_laws.specs.Parts.{IsLive, IsQueue, Invariant}
 use Rattle.np_laws.proofs.Firsts.{is_first, one-named}
 use Rattle.np_laws.proofs.Lookups.{same_node-is, node_in-queue, node_queue-queue, node_queue-nowhere, node_in-put, node_queue-put}
 use Rattle.np_laws.proofs.Sessions.{facts_in, facts-grown}
-use Rattle.np_worker.proofs.Roles.{same_launcher}
+use Rattle.np_worker.proofs.RoleLemmas.{same_launcher}
 use Rattle.np_worker.proofs.Starts.{MayReport, reporting, IsStarting, start-leads, starting}
 use Rattle.np_worker.proofs.Back.{Had, IsLess, behind, Back, is_plain, back-next}
 use Rattle.np_machine.proofs.Ids.{session-equal}

@@ -12,7 +12,7 @@ pub mod Journals
 pub mod Made
 pub mod Servers
 pub mod Starts
-pub mod Roles
+pub mod RoleLemmas
 pub mod Places
 pub mod Choices
 pub mod Ends
@@ -30,7 +30,7 @@ pub mod Idle
 pub mod Waiting
 pub mod Pools
 pub mod Numbers
-pub mod Stage
+pub mod StageLemmas
 pub mod Acts
 pub mod Carrying
 pub mod Others

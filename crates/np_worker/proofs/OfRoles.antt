@@ -13,7 +13,7 @@ use Rattle.np_worker.proofs.Ends.{end-plays}
 use Rattle.np_worker.proofs.Events.{start-parts}
 use Rattle.np_worker.proofs.Made.{Cause}
 use Rattle.np_worker.proofs.Servers.{each_caused}
-use Rattle.np_worker.proofs.Roles.{current-role, role-stays}
+use Rattle.np_worker.proofs.RoleLemmas.{current-role, role-stays}
 
 -- an event of a maker of the role is of the role
 made-of_role : (role : Role) (s : State) (session : SessionId) (e : Event) → maker_of e ≡ Some session → role_of session s ≡ Some role → IsOfRole role s e

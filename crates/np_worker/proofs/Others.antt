@@ -17,7 +17,7 @@ use Rattle.np_worker.proofs.Choices.{chosen-accepted, chosen-done, chosen-start}
 use Rattle.np_worker.specs.Reports.{was_node_of, reported}
 use Rattle.np_worker.proofs.Idle.{may-report}
 use Rattle.np_worker.proofs.Pools.{never-of, quiet-report}
-use Rattle.np_worker.proofs.Stage.{IsForeign}
+use Rattle.np_worker.proofs.StageLemmas.{IsForeign}
 use Rattle.np_worker.proofs.Waiting.{waits-after, polite-at}
 
 module _ (c : Configuration) (history later : List Entry) (players now : List Player) (is_cut : Bool) (round : IsRound false c history later players now is_cut) (have : HaveDriven c history players) (driven : DrivenBy (WasAnswered (drivings_of now)) c later) where

@@ -11,7 +11,7 @@ use Rattle.np_useful.specs.Driven.{Says, DrivenFrom, DrivenBy, IsDrivenTurn, IsO
 use Rattle.np_useful.specs.Launcher.{is_by_registrant}
 use Rattle.np_useful.specs.Useful.{IsUseful}
 use Rattle.np_worker.proofs.Places.{turn_of, driven-at}
-use Rattle.np_worker.proofs.Roles.{role-over, current-role}
+use Rattle.np_worker.proofs.RoleLemmas.{role-over, current-role}
 use Rattle.np_worker.proofs.Back.{behind, Back, back-next}
 use Rattle.np_worker.proofs.Idle.{IsNoLauncher, NoLauncherWaits, waits-locked, queue-put}
 
