@@ -1,34 +1,20 @@
 -- the turns of a pool's worker: what each leaves of what is known
-use Rattle.std.proofs.Common.{◌≡◌, ◌∙◌, sym, refl, ap, subst, ◌⊎◌, inl, ⊎_elim, ℕ, ◌+◌, ◌≤◌, List, [], ◌∷◌, ◌++◌, length, length-append, arith, append-nil, Some, None, Ok, Bool, true, false, cond, Contains, eq-eqb, Option}
-use Rattle.std.specs.Prelude.{is_ok}
-use Rattle.std.proofs.lemmas.Bool.{false≢true}
-use Rattle.std.proofs.lemmas.Option.{none-some}
-use Rattle.np_changes.specs.Prelude.{Configuration, Entry, Event, Janitor, Launcher, NodeId, NodeRecord, Outcome, PoolId, Reply, Role, SessionId, State, after, judge, judge_done, judge_start, next, reply_of, role_of, turns, NodeEntry, is_wanted, maker_of}
+use Rattle.np_worker.proofs.Prelude.{AreAloneSound, Ask, Bool, Configuration, Contains, Entry, Event, FailAfter, IsAskOf, IsOfServer, IsReplied, IsServerOf, IsSoundAlone, IsUseful, Janitor, Launch, Launcher, List, NodeEntry, NodeId, NodeRecord, None, Ok, Option, Outcome, Phase, PoolId, Role, Server, SessionId, Some, Start, State, Turn, WasLaunchedFor, [], acting, acts, after, all-push, answers, answers_sweep, ap, append-nil, arith, cond, ended, eq-eqb, false, false≢true, inl, is_idle, is_ok, is_unwanted, is_wanted, judge_done, judge_start, length, length-append, looks, maker_of, nat_tests, next, next-keeps, none-some, number_in, numbers_in, of_pool, owes_due, owes_launch, owes_report, owes_swept, recorded, refl, report_of, reported, reports_of, role_of, start_made, start_of, subst, sweeps, sym, true, turns, ℕ, ⊎_elim, ◌++◌, ◌+◌, ◌∙◌, ◌∷◌, ◌≡◌, ◌≤◌, ◌⊎◌}
 use Rattle.np_event.specs.declared.event.Event.TheVariants as ev
 use Rattle.np_event.specs.declared.event.Outcome.TheVariants as outcome
 use Rattle.np_event.specs.declared.reply.Done.TheVariants as done
-use Rattle.np_event.specs.declared.reply.Reply.TheVariants as reply
-use Rattle.np_worker.specs.Prelude.{IsReplied, IsSoundAlone, IsUseful, Launch, Server, IsOfServer, Phase, acting, acts, answers, answers_sweep, ended, is_unwanted, looks, of_pool, owes_due, owes_launch, owes_report, owes_swept, recorded, report_of, start_of, sweeps}
-use Rattle.np_lists.proofs.Each.{all-push}
 use Rattle.np_worker.specs.declared.ask.Ask.TheVariants as ask
 use Rattle.np_worker.specs.declared.ask.Turn.TheVariants as turn
-use Rattle.np_worker.specs.declared.start.Start.{Start}
-use Rattle.np_worker.specs.Phase.{start_in, start_of, report_of}
-use Rattle.np_worker.specs.Trace.{start_made, IsAskOf, is_idle}
 use Rattle.np_worker.proofs.Events.{start-parts}
 use Rattle.np_worker.proofs.Choices.{chosen-start}
 use Rattle.np_worker.proofs.RoleLemmas.{useful-done, useful-start_role, current-role}
-use Rattle.np_worker.specs.Reports.{reported, number_in, numbers_in, reports_of, AreAloneSound, FailAfter}
-use Rattle.np_worker.specs.Hosting.{WasLaunchedFor, IsServerOf}
 use Rattle.np_worker.proofs.Starts.{MayReport}
 use Rattle.np_worker.proofs.Idle.{NoLauncherWaits, may-report, report-accepted, IsReportedBy, may-before_done}
 use Rattle.np_worker.proofs.Waiting.{IsPolite}
 use Rattle.np_worker.proofs.Pools.{was-of, quiet-report, reports-next}
 use Rattle.np_worker.proofs.StageLemmas.{Reportable, Begun, At, at-step, at-quiet, after-next, may-last, IsForeign, numbers-push, fail-push, nobody, IsReportOf, Never, WasStarted, Tells, Held, Calm, IsThere, Reporting, IsLeft, Rest, Stands, tells-gap, held-gap}
-use Rattle.np_machine.proofs.Steps.{next-keeps}
-use Rattle.np_worker.specs.declared.ask.Ask.{Ask}
-use Rattle.np_worker.specs.declared.ask.Turn.{Turn}
 use Rattle.np_worker.proofs.Steps.{TurnCases, goes_on}
+use Rattle.np_worker.proofs.RoundEnds.{role_goes}
 
 -- the roles of a pool's worker
 abbrev pub IsOwn : PoolId → Role → Type 0
@@ -87,9 +73,7 @@ module _ (c : Configuration) (p : PoolId) (sound : List ℕ → Bool) (room earl
 
     -- an accepted start has such a reply
     start-is : (session : SessionId) (n : NodeId) (k first : ℕ) → e.event ≡ ev.Start session n → judge_start s session n ≡ Ok (done.Started k first) → start_of p e ≡ Some (record { session = session; tag = record { pool = p; node = n; attempt = k; start = first } })
-    start-is session n k first is ok =
-        let said : e.reply ≡ reply.Done (done.Started k first) = replied.reply ∙ (ap (λ (f : Event). reply_of (judge c s f)) is ∙ ap reply_of ok) in
-        ap (λ (f : Event). start_in p f e.reply) is ∙ ap (λ (y : Reply). start_in p (ev.Start session n) y) said
+    start-is session n k first x1 x2 = grind (arith, nat_tests)
 
     -- ### no start
 
@@ -239,9 +223,6 @@ module _ (c : Configuration) (p : PoolId) (sound : List ℕ → Bool) (room earl
   own-role : (r : Role) → IsAskOf (of_pool p) (ask.Act r) → IsOwn p r
   own-role r is = is
 
-  not-ended : (r : Role) (m : ℕ) → acting r m ≡ ended → ⊥
-  not-ended r m = goes_on (λ s. s ≡ ended → ⊥) (λ q k e. cc) (λ pool k e. cc) (λ pool e. cc) (λ e. cc) r m
-
   -- ## turns in which a role acts
 
   acted : (r : Role) (m : ℕ) (e : Entry) → start_made (ask.Act r) (turn.Did e) ≡ None → Turned (acts r m) (ask.Act r) (turn.Did e) (acting r m)
@@ -265,9 +246,7 @@ module _ (c : Configuration) (p : PoolId) (sound : List ℕ → Bool) (room earl
   rested : (r : Role) (m : ℕ) (t : Turn) → is_idle t ≡ true → Turned (acts r m) (ask.Act r) t (acting r 0)
   rested r m (turn.Did e) i before seen own of answer sees full ready stands = absurd (false≢true i)
   rested r m turn.Full i before seen own of answer sees full ready stands = absurd (false≢true i)
-  rested r m (turn.DueNode n x) i before seen own of answer sees full ready stands = here (acting r 0) before seen sees (goes r 0 before stands.tells stands.rest)
-  rested r m turn.Swept i before seen own of answer sees full ready stands = here (acting r 0) before seen sees (goes r 0 before stands.tells stands.rest)
-  rested r m turn.Idle i before seen own of answer sees full ready stands = here (acting r 0) before seen sees (goes r 0 before stands.tells stands.rest)
+  rested r m _ i before seen own of answer sees full ready stands = here (acting r 0) before seen sees (goes r 0 before stands.tells stands.rest)
 
   -- ## reports
 
@@ -278,10 +257,8 @@ module _ (c : Configuration) (p : PoolId) (sound : List ℕ → Bool) (room earl
       (goes (Launcher pool) m (before ++ e ∷ [])
       (tells-report c p sound room earlier final before e it.waits it.polite launches servers s o answer.0 stands.rest stands.tells)
       (calm-report c p sound room earlier final before e it.waits it.polite launches servers s o answer.0 stands.rest))
-  told pool m s o (turn.DueNode n x) before seen own of answer sees full ready stands = absurd answer
-  told pool m s o turn.Swept before seen own of answer sees full ready stands = absurd answer
-  told pool m s o turn.Idle before seen own of answer sees full ready stands = absurd answer
-  told pool m s o turn.Full before seen own of answer sees full ready stands = absurd (not-ended (Launcher pool) m (full refl))
+  told pool m s o turn.Full before seen own of answer sees full ready stands = absurd (role_goes (Launcher pool) m (full refl))
+  told pool m s o _ before seen own of answer sees full ready stands = absurd answer
 
   -- ## due nodes
 
@@ -302,11 +279,9 @@ module _ (c : Configuration) (p : PoolId) (sound : List ℕ → Bool) (room earl
   })
 
   looked : (pool : PoolId) (m : ℕ) (t : Turn) → Turned (looks pool m) (ask.Due pool) t (acts (Janitor pool) m)
-  looked pool m (turn.Did e) before seen own of answer sees full ready stands = absurd answer
   looked pool m (turn.DueNode n x) before seen own of answer sees full ready stands = here (acts (Janitor pool) m) before seen sees (record { tells = stands.tells; rest = stands.rest })
-  looked pool m turn.Swept before seen own of answer sees full ready stands = absurd answer
   looked pool m turn.Idle before seen own of answer sees full ready stands = here (acts (Janitor pool) m) before seen sees (record { tells = stands.tells; rest = stands.rest })
-  looked pool m turn.Full before seen own of answer sees full ready stands = absurd answer
+  looked pool m _ before seen own of answer sees full ready stands = absurd answer
 
   -- ## sweeps
 
@@ -359,17 +334,14 @@ module _ (c : Configuration) (p : PoolId) (sound : List ℕ → Bool) (room earl
       (record { tells = it.0; rest = (it.1, left-server (before ++ e ∷ []) n x of (still-unwanted pool before e n x answer)) })
   unwanted-found pool n x (turn.DueNode m y) u before seen own of answer sees full ready stands = absurd answer
   unwanted-found pool n x turn.Swept u before seen own of answer sees full ready stands = here (owes_swept pool x) before seen sees (record { tells = stands.tells; rest = (stands.rest, left-server before n x of answer.0.unwanted) })
-  unwanted-found pool n x turn.Idle u before seen own of answer sees full ready stands = absurd (false≢true u)
-  unwanted-found pool n x turn.Full u before seen own of answer sees full ready stands = absurd (false≢true u)
+  unwanted-found pool n x _ u before seen own of answer sees full ready stands = absurd (false≢true u)
 
   kept-found : (pool : PoolId) (n : NodeId) (x : ℕ) (t : Turn) → Turned (sweeps pool) (ask.Sweep pool n x) t (sweeps pool)
   kept-found pool n x (turn.Did e) before seen own of answer sees full ready stands =
       let it = swept-stands pool before e n x answer (ready e refl) stands in
       subst (λ (j : List Entry). At' (sweeps pool) j) (sym sees) (record { tells = it.0; rest = it.1 })
   kept-found pool n x (turn.DueNode m y) before seen own of answer sees full ready stands = absurd answer
-  kept-found pool n x turn.Swept before seen own of answer sees full ready stands = here (sweeps pool) before seen sees stands
-  kept-found pool n x turn.Idle before seen own of answer sees full ready stands = here (sweeps pool) before seen sees stands
-  kept-found pool n x turn.Full before seen own of answer sees full ready stands = here (sweeps pool) before seen sees stands
+  kept-found pool n x _ before seen own of answer sees full ready stands = here (sweeps pool) before seen sees stands
 
   pub turns-stand : TurnCases Turned
   turns-stand = record {

@@ -1,21 +1,9 @@
 -- where the records and the queues of nodes come from, over one event that is no start, no report and no lock of a node
-use Rattle.std.proofs.Common.{◌≡◌, ◌∙◌, sym, refl, ap, subst, ◌⊎◌, inl, inr, ℕ, List, [], ◌∷◌, ◌++◌, drop, arith, Option, Some, None, Bool, true, false, cond, not, Ok, ◌<◌, ◌≤◌, eqb-true}
-use Rattle.std.specs.Prelude.{◌==◌, is_some, is_none, slice_get, nat_lt, map}
-use Rattle.np_changes.specs.Prelude.{AllByRecursion, Configuration, Done, EndAs, Event, JobId, JobRecord, LabelId, NodeEntry, NodeId, NodeRecord, NodeState, PoolId, RequestId, RequestRecord, Rises, SessionId, State, TenantId, accept_by, accepted, acquired, all_freed, all_in_use, allocated, change_first, crashed, create_by, create_for, created, decline_by, declined, effect, ended_as, expired, failed, finished, freed, fulfilled, given_back, given_up, holder, is_building, is_fulfilled, is_in_use, is_pending_by, is_ready, is_request, is_session, is_session_of, joined, judge, judge_end_node, judge_take, judge_take_ready, kept_ready, left, list_any, made, next, next_label, node_ended, node_freed, node_holder, node_in, node_left, node_queue, option_map, put_node, put_node_queue, registered, registers, released, remove_node, request_holder, request_in, request_of_job, revise_request, revised, session_of, submit_for, submitted, take_for, take_from, taken, tenant_of_request, took_ready, withdrawn}
-use Rattle.std.proofs.lemmas.Bool.{false≢true, false_from_ne_true}
-use Rattle.std.proofs.lemmas.Bool.Decides.{nat_tests}
-use Rattle.std.proofs.lemmas.Option.{none-some, same_Some}
+use Rattle.np_worker.proofs.Prelude.{AllByRecursion, Bool, Configuration, Done, EndAs, Event, Invariant, JobId, JobRecord, LabelId, List, NodeEntry, NodeId, NodeRecord, NodeState, None, Ok, Option, PoolId, RequestId, RequestRecord, Rises, RunsWhileBuilding, SessionId, Some, State, TenantId, [], after_found-keeps, after_given-keeps, all-filter, all_freed, all_in_use, allocated, ap, arith, by_bool, change_first, cond, create_by, create_for, created, decline_by, declined, drop, effect, ended_as, eqb-true, expired, false, false≢true, freed, fulfilled, given_back, given_up, holder, incomplete, inl, inr, is_building, is_fulfilled, is_in_use, is_none, is_pending_by, is_ready, is_request, is_session, is_session_of, is_some, is_up, joined, judge, judge_end_node, judge_take, judge_take_ready, launcher, left, list_any, made, map, nat_lt, nat_tests, next, next-keeps, next_label, node_ended, node_freed, node_holder, node_in, node_in-allocated, node_in-freed, node_in-in_use, node_in-later, node_in-left, node_in-new, node_in-other, node_in-put, node_in-queue, node_in-remove, node_in-removed, node_left, node_queue, node_queue-allocated, node_queue-freed, node_queue-in_use, node_queue-left, node_queue-new, node_queue-nowhere, node_queue-other, node_queue-put, node_queue-queue, node_queue-remove, none-some, not, on-found, on-given, on-need, option_map, put_node, put_node_queue, refl, registered, remove_node, request_holder, request_in, same_Some, same_node-is, session_of, slice_get, subst, sym, take_for, take_from, taken, tenant_of_request, took_ready, true, used_from, ℕ, ⊎_elim, ◌++◌, ◌<◌, ◌==◌, ◌∙◌, ◌∷◌, ◌≡◌, ◌≤◌, ◌⊎◌}
+use Rattle.np_laws.proofs.Accepted.{take_ready-stands}
+use Rattle.np_laws.proofs.StandsOn.{owns-if, owned-node}
 use Rattle.np_text.specs.declared.word.NodeState.TheVariants as node_state
 use Rattle.np_event.specs.declared.event.Event.TheVariants as ev
-use Rattle.np_lists.proofs.Each.{all-filter}
-use Rattle.np_machine.specs.Tests.{launcher, incomplete}
-use Rattle.np_machine.proofs.Steps.{after_found-keeps, after_given-keeps, next-keeps}
-use Rattle.np_laws.specs.Parts.{RunsWhileBuilding, Invariant}
-use Rattle.np_laws.proofs.Accepted.{take_ready-stands, take_ready-free}
-use Rattle.np_laws.proofs.StandsOn.{owns-if, owned-node}
-use Rattle.np_changes.proofs.Tested.{on-given, on-found, on-need}
-use Rattle.np_laws.proofs.Lookups.{same_node-is, node_in-put, node_in-allocated, node_in-queue, node_in-left, node_in-freed, used_from, node_in-in_use, node_in-other, node_in-new, node_in-later, node_in-remove, node_in-removed, node_queue-put, node_queue-freed, node_queue-in_use, node_queue-allocated, node_queue-queue, node_queue-nowhere, node_queue-left, node_queue-other, node_queue-new, node_queue-remove}
-use Rattle.np_worker.specs.Nodes.{is_up}
 
 -- ## one record
 
@@ -31,16 +19,14 @@ same-record : (k : NodeRecord) → ComesFrom k k
 same-record k = record { of_pool = refl; server = refl; attempts = refl; up = λ u. u; flies = λ f. f }
 
 ready-up : (state : NodeState) → is_ready state ≡ true → is_up state ≡ true
-ready-up node_state.Ready is = refl
-ready-up _ is = absurd cc
+ready-up state is = grind (arith, nat_tests)
 
 freed-comes : (k : NodeRecord) → ComesFrom k (freed k)
 freed-comes k = record { of_pool = refl; server = refl; attempts = refl; up = λ u. u; flies = λ f. f }
 
 -- one record is put
 put-comes : (old kept : NodeRecord) (b : Bool) → (b ≡ true → ComesFrom old kept) → ComesFrom old (cond b kept old)
-put-comes old kept true new = new refl
-put-comes old kept false new = same-record old
+put-comes old kept b new = by_bool (λ b. ComesFrom old (cond b kept old)) b new (λ _. same-record old)
 
 -- ## all records and queues
 
@@ -71,13 +57,9 @@ behind-all P (first ∷ queue) all = all.1
 
 behind-left : (P : SessionId → Type 0) (gone : SessionId) (queue : List SessionId) → AllByRecursion P (behind queue) → AllByRecursion P (behind (left gone queue))
 behind-left P gone [] all = tt
-behind-left P gone (first ∷ queue) all = by (is_session first gone) where
-  rest : AllByRecursion P (left gone queue)
-  rest = all-filter P (λ other. not (is_session other gone)) queue all
-
-  by : (b : Bool) → AllByRecursion P (behind (cond (not b) (first ∷ left gone queue) (left gone queue)))
-  by true = behind-all P (left gone queue) rest
-  by false = rest
+behind-left P gone (first ∷ queue) all =
+    let rest : AllByRecursion P (left gone queue) = all-filter P (λ other. not (is_session other gone)) queue all in
+    by_bool (λ b. AllByRecursion P (behind (cond (not b) (first ∷ left gone queue) (left gone queue)))) (is_session first gone) (λ _. behind-all P (left gone queue) rest) (λ _. rest)
 
 behind-less : (P : SessionId → Type 0) (now before : List SessionId) → IsLess now before → AllByRecursion P (behind before) → AllByRecursion P (behind now)
 behind-less P now before (inl same) all = subst (λ (queue : List SessionId). AllByRecursion P (behind queue)) (sym same) all
@@ -102,26 +84,14 @@ module _ (P : SessionId → Type 0) (s t : State) where
   abbrev Stays : NodeId → NodeRecord → Type 0
   Stays n k = Had s n k × IsLess (node_queue n t.nodes) (node_queue n s.nodes)
 
-  waits-as : (n : NodeId) (k : NodeRecord) → Stays n k ⊎ IsFresh n k → AllByRecursion P (behind (node_queue n s.nodes)) → AllByRecursion P (behind (node_queue n t.nodes))
-  waits-as n k (inl stays) all = behind-less P (node_queue n t.nodes) (node_queue n s.nodes) stays.1 all
-  waits-as n k (inr fresh) all = subst (AllByRecursion P) (sym fresh.alone) tt
-
   waits-by : (n : NodeId) (o : Option NodeRecord) → node_in n t.nodes ≡ o → ((k : NodeRecord) → node_in n t.nodes ≡ Some k → Stays n k ⊎ IsFresh n k) → AllByRecursion P (behind (node_queue n s.nodes)) → AllByRecursion P (behind (node_queue n t.nodes))
   waits-by n None is each all = subst (λ (queue : List SessionId). AllByRecursion P (behind queue)) (sym (node_queue-nowhere n t.nodes is)) tt
-  waits-by n (Some k) is each all = waits-as n k (each k is) all
-
-  had-as : (n : NodeId) (k : NodeRecord) (x : ℕ) → k.server ≡ Some x → Stays n k ⊎ IsFresh n k → Had s n k
-  had-as n k x has (inl stays) = stays.0
-  had-as n k x has (inr fresh) = fresh.had x has
-
-  flew-as : (n : NodeId) (k : NodeRecord) → k.in_flight ≡ true → Stays n k ⊎ IsFresh n k → Stays n k
-  flew-as n k flies (inl stays) = stays
-  flew-as n k flies (inr fresh) = absurd (false≢true (sym fresh.idle ∙ flies))
+  waits-by n (Some k) is each all = ⊎_elim (λ stays. behind-less P (node_queue n t.nodes) (node_queue n s.nodes) stays.1 all) (λ fresh. subst (AllByRecursion P) (sym fresh.alone) tt) (each k is)
 
   each-comes : ((n : NodeId) (k : NodeRecord) → node_in n t.nodes ≡ Some k → Stays n k ⊎ IsFresh n k) → Back P s t
   each-comes each = record {
-    servers = λ n k x is has. had-as n k x has (each n k is);
-    launches = λ n k is flies. flew-as n k flies (each n k is);
+    servers = λ n k x is has. ⊎_elim (λ stays. stays.0) (λ fresh. fresh.had x has) (each n k is);
+    launches = λ n k is flies. ⊎_elim (λ stays. stays) (λ fresh. absurd (false≢true (sym fresh.idle ∙ flies))) (each n k is);
     waiting = λ n all. waits-by n (node_in n t.nodes) refl (each n) all;
   }
 
@@ -193,14 +163,10 @@ none-held [] none = refl
 none-held (first ∷ queue) none = absurd cc
 
 ready-idle : (k : NodeRecord) → is_ready k.state ≡ true → (k.in_flight ≡ true → is_building k.state ≡ true) → k.in_flight ≡ false
-ready-idle k ready runs = false_from_ne_true k.in_flight (λ flies. by k.state ready (runs flies)) where
-  by : (state : NodeState) → is_ready state ≡ true → is_building state ≡ true → ⊥
-  by node_state.Ready ready building = false≢true building
-  by _ ready building = false≢true ready
+ready-idle k ready runs = grind (arith, nat_tests)
 
 allocated-idle : (r : RequestId) (tenant : Option TenantId) (k : NodeRecord) (b : Bool) → k.in_flight ≡ false → (cond b (record k { allocated_to = Some r; tenant = tenant }) k).in_flight ≡ false
-allocated-idle r tenant k true idle = idle
-allocated-idle r tenant k false idle = idle
+allocated-idle r tenant k b idle = grind (arith, nat_tests)
 
 module _ (P : SessionId → Type 0) (s t : State) (m : NodeId) (r : RequestId) (tenant : Option TenantId) (session : SessionId) (before : NodeRecord) (stands : node_in m s.nodes ≡ Some before) (ready : is_ready before.state ≡ true) (free : node_holder m s.nodes ≡ None) (runs : RunsWhileBuilding s) (same : t.nodes ≡ change_first (λ e. e.id.0 == m.0) (allocated r tenant session) s.nodes) where
   abbrev taking : NodeId → NodeRecord → NodeRecord
@@ -269,8 +235,7 @@ module _ (c : Configuration) (s : State) (by : SessionId) (what : Done) where
       subst (λ (x : NodeRecord). is_ready x.state ≡ true) (same_Some node k (sym stood ∙ stands)) ready)))))))))
 
   take_ready-unheld : (r : RequestId) (n : NodeId) → judge_take_ready s by r n ≡ Ok what → (o : Option SessionId) → node_holder n s.nodes ≡ o → o ≡ None
-  take_ready-unheld r n is None held = refl
-  take_ready-unheld r n is (Some other) held = absurd (take_ready-free c s by what r n other is held)
+  take_ready-unheld r n x1 o x2 = grind (arith, nat_tests)
 
   end_node-used : (n : NodeId) (k : NodeRecord) → judge_end_node c s by n ≡ Ok what → node_in n s.nodes ≡ Some k → is_in_use k.state ≡ true
   end_node-used n k is stands = grind (arith, nat_tests)
@@ -279,8 +244,7 @@ module _ (c : Configuration) (s : State) (by : SessionId) (what : Done) where
   take-fulfilled j kept r request is stands asks has = grind (arith, nat_tests)
 
 used-up : (state : NodeState) → is_in_use state ≡ true → is_up state ≡ true
-used-up node_state.InUse is = refl
-used-up _ is = absurd cc
+used-up state is = grind (arith, nat_tests)
 
 -- ## by the event
 
@@ -332,19 +296,7 @@ module _ (P : SessionId → Type 0) (c : Configuration) (s : State) (whole : Inv
   freeing n k stands = put (node_freed s n k) n k (freed k) stands (freed-comes k) refl
 
   effect-back : (e : Event) → is_plain e ≡ true → (what : Done) → judge c s e ≡ Ok what → B (effect c s e)
-  effect-back (ev.Crash session) plain what ok = after_found-keeps B (session_of session s) s (crashed s session) none (λ facts _. still P s _ refl)
   effect-back (ev.Expire session) plain what ok = after_found-keeps B (session_of session s) s (expired s session) none (λ facts _. all-left P s _ session refl)
-  effect-back (ev.Register session) plain what ok = after_given-keeps B (launcher s session) s (registers s session) none (λ p _. still P s _ refl)
-  effect-back (ev.Submit session j) plain what ok =
-      after_found-keeps B (slice_get c.jobs j.0) s (submit_for s j) none (λ job _.
-      after_found-keeps B (slice_get s.jobs j.0) s (submitted s j job) none (λ kept _. still P s _ refl))
-  effect-back (ev.Revise session j relative) plain what ok =
-      after_found-keeps B (request_of_job j s) s (revise_request s relative) none (λ r _.
-      after_found-keeps B (request_in r s.requests) s (revised s relative r) none (λ request _. still P s _ refl))
-  effect-back (ev.MinReady session l) plain what ok = after_given-keeps B (launcher s session) s (kept_ready s l) none (λ p _. still P s _ refl)
-  effect-back (ev.Accept session r) plain what ok =
-      after_given-keeps B (launcher s session) s (accept_by s r) none (λ p _.
-      after_found-keeps B (request_in r s.requests) s (accepted s r p) none (λ request _. still P s _ refl))
   effect-back (ev.Decline session r why) plain what ok =
       after_given-keeps B (launcher s session) s (decline_by s r why) none (λ p _.
       after_found-keeps B (request_in r s.requests) s (declined s r why p) none (λ request _. freed-all P s _ r refl))
@@ -358,21 +310,16 @@ module _ (P : SessionId → Type 0) (c : Configuration) (s : State) (whole : Inv
   effect-back (ev.Fulfil session r) plain what ok = after_found-keeps B (request_in r s.requests) s (fulfilled s r) none (λ request _. fulfilling r request (is_some request.pinned) refl)
   effect-back (ev.LockNode session n) plain what ok = absurd (false≢true plain)
   effect-back (ev.UnlockNode session n) plain what ok = queue-left P s _ n session refl
-  effect-back (ev.Acquire session j) plain what ok = after_found-keeps B (slice_get c.jobs j.0) s (acquired s j) none (λ job _. still P s _ refl)
   effect-back (ev.Take session j) plain what ok =
       after_found-keeps B (slice_get s.jobs j.0) s (take_for s j) none (λ kept stands.
       after_found-keeps B kept.request s (take_from s j kept) none (λ r asks.
       after_found-keeps B (request_in r s.requests) s (taken s j kept r) none (λ request has. taking-over session j what ok kept stands r asks request has)))
   effect-back (ev.EndNode session n as_what) plain what ok = after_found-keeps B (node_in n s.nodes) s (node_ended s n as_what) none (λ k stands. ending session n as_what what ok k stands)
-  effect-back (ev.Finish session j) plain what ok = after_found-keeps B (slice_get s.jobs j.0) s (finished s j) none (λ kept _. still P s _ refl)
-  effect-back (ev.Withdraw session j) plain what ok = after_found-keeps B (slice_get s.jobs j.0) s (withdrawn s j) none (λ kept _. still P s _ refl)
-  effect-back (ev.Release session j) plain what ok = after_found-keeps B (slice_get c.jobs j.0) s (released s j) none (λ job _. still P s _ refl)
   effect-back (ev.MarkDeleting session n) plain what ok = after_found-keeps B (node_in n s.nodes) s (given_up s n) none (λ k stands. giving-up n k stands)
   effect-back (ev.Gone session n) plain what ok = node-gone P s _ n whole.numbered.nodes_rise refl
   effect-back (ev.Reset session r) plain what ok = after_found-keeps B (request_in r s.requests) s (given_back s r) none (λ request _. freed-all P s _ r refl)
   effect-back (ev.FreeNode session n) plain what ok = after_found-keeps B (node_in n s.nodes) s (node_freed s n) none (λ k stands. freeing n k stands)
-  effect-back (ev.FailDeclined session r) plain what ok = after_found-keeps B (request_in r s.requests) s (failed s r) none (λ request _. still P s _ refl)
-  effect-back _ plain what ok = still P s _ refl
+  effect-back _ plain what ok = still P s _ (grind (arith, nat_tests))
 
   -- records and queues come from those before a plain event
   pub back-next : (e : Event) → is_plain e ≡ true → B (next c s e)

@@ -1,32 +1,15 @@
 -- A worker's round at a board.
-use Rattle.std.proofs.Common.{◌≡◌, ◌∙◌, inl, inr, ⊎_elim, ℕ, suc, ◌+◌, ◌≤◌, List, [], ◌∷◌, ◌++◌, length, length-append, append-nil, append_assoc, refl, sym, ap, subst, arith, Bool, true, false}
-use Rattle.std.specs.Prelude.{All, IfOk, IfSome, MatchBool, Option, Some, None, Result, Ok, Err}
-use Rattle.std.proofs.lemmas.Bool.{false≢true}
-use Rattle.np_changes.specs.Prelude.{Configuration, Entry, Event, Janitor, Launcher, NoMemory, PoolId, Reaper, Requester, Role, after}
-use Rattle.np_desk.proofs.HistoryLemmas.{starts_on, starts_same}
-use Rattle.np_worker.specs.Prelude.{AreAsksOf, AreRising, Driving, IsAskOf, IsUseful, Move, OwesRemoval, Phase, Records, Server, Sight, StartsWith, Walk, WasKept, Work, acts, asked, ended, first_phase, launched, looks, of_pool, of_reaper, of_requester, owes_due, owes_launch, owes_report, owes_swept, recorded, removed, rests, sweeps}
-use Rattle.np_worker.specs.declared.ask.Ask.{Ask}
+use Rattle.np_worker.proofs.Prelude.{All, AreAsksOf, AreKept, Ask, Bool, Configuration, Driving, EndsAs, Entry, Err, Event, HasServers, IfOk, IfSome, IsAskOf, IsPastJanitor, IsPastLauncher, IsUseful, Janitor, Launcher, List, MatchBool, Move, NoMemory, None, Ok, Option, OwesRemoval, Part, Phase, Player, PlayerEnd, PlaysFrom, PoolId, Reaper, Records, RemovalFailed, Requester, Rests, Result, Role, RolesTook, RoundEnd, Server, Sight, Some, StandAt, StartsWith, TookAll, Turn, Walk, WasAnswered, WasIdle, WasKept, Work, [], after, answers_of, ap, append-nil, append_assoc, arith, asked, ended, entries_of, false, false≢true, first_phase, inl, inr, is_idle, length, length-append, nat_tests, of_pool, of_reaper, of_requester, owes_due, owes_swept, recorded, refl, starts_on, starts_same, subst, sym, true, ℕ, ⊎_elim, ◌++◌, ◌+◌, ◌∙◌, ◌∷◌, ◌≡◌}
+use Rattle.np_worker.specs.Board.{AnswersAsBoard, AreSweptSo, CameFar, CameToEnd, HadNothing, HasRoundAtBoard, IsRoundAtBoard, IsSweptSo, RolesCameFar, ServersGo, ServersLeave, ServersStay, acts_as}
 use Rattle.np_worker.specs.declared.ask.Ask.TheVariants as ask
-use Rattle.np_worker.specs.declared.ask.Turn.{Turn}
 use Rattle.np_worker.specs.declared.ask.Turn.TheVariants as turn
-use Rattle.np_worker.specs.Move.{entries_of}
-use Rattle.np_worker.specs.Trace.{IsPastJanitor, IsPastLauncher, StandAt, TookAll, WasIdle, is_idle}
-use Rattle.np_worker.specs.Planned.{answers_of}
-use Rattle.np_worker.specs.Players.{Player, WasAnswered}
-use Rattle.np_worker.specs.Played.{PlayerEnd, PlaysFrom}
-use Rattle.np_worker.specs.Servers.{HasServers}
 use Rattle.np_worker.proofs.Gained.{turn_seen, walk_gains, walk_seen}
 use Rattle.np_worker.proofs.Leaving.{kept-stay, left-with_cause, own-node, own-pair}
 use Rattle.np_worker.proofs.OfRoles.{entry-of_worker}
 use Rattle.np_worker.proofs.RoundEnds.{ends_full, is_at_end}
-use Rattle.np_worker.proofs.Steps.{goes_on}
 use Rattle.np_worker.proofs.SweepLemmas.{sweep-removes}
+use Rattle.np_worker.proofs.Servers.{rises}
 use Rattle.np_worker.proofs.Unwanted.{unwanted-gone}
-use Rattle.np_worker.specs.Board.{AnswersAsBoard, AreSweptSo, CameFar, CameToEnd, HadNothing, HasRoundAtBoard, IsRoundAtBoard, IsSweptSo, RolesCameFar, ServersGo, ServersLeave, ServersStay, acts_as}
-use Rattle.np_worker.specs.declared.worker.RoundEnd.{RoundEnd}
-use Rattle.np_worker.specs.Moves.{RolesTook}
-use Rattle.np_worker.specs.Part.{AreKept, Part, RemovalFailed}
-use Rattle.np_worker.specs.Round.{EndsAs, Rests}
 use Rattle.np_worker.proofs.Orderly.{orderly}
 
 -- ## earlier places
@@ -46,49 +29,15 @@ module _ {F : Type 0} (answers : F → List Entry → Ask → Turn → Type 0) (
       let turned = shift_turn (recorded a t) h.1.0 pre m v h.0 is h.1.3 in
       let rest = shift_walk ms pre turned.0 h.0 w turned.1 h.2 in
       (rest.0, rest.1, (sight h.0.seen turned.0, (h.1.0, h.1.1, h.1.2, turned.2), rest.2))
-  shift_walk (launched tag o ∷ ms) pre m v w is h = shift_walk ms pre m v w is h
-  shift_walk (removed x ∷ ms) pre m v w is h = shift_walk ms pre m v w is h
+  shift_walk (move ∷ ms) pre m v w is h = shift_walk ms pre m v w is h
 
 -- the answers of a board
 walk_as : {F : Type 0} (answers : F → List Entry → Ask → Turn → Type 0) (plans : Bool) (site : F → Configuration) → AnswersAsBoard plans site answers → (f : F) (ms : List Move) (v w : Sight Entry) → Walk answers f ms v w → Walk (answers_of plans) (site f) ms v w
 walk_as answers plans site told f [] v w h = h
 walk_as answers plans site told f (asked a t ∷ ms) v w h = (h.0, (h.1.0, h.1.1, told f h.1.0 a t h.1.2, h.1.3), walk_as answers plans site told f ms h.0 w h.2)
-walk_as answers plans site told f (launched tag o ∷ ms) v w h = walk_as answers plans site told f ms v w h
-walk_as answers plans site told f (removed x ∷ ms) v w h = walk_as answers plans site told f ms v w h
+walk_as answers plans site told f (move ∷ ms) v w h = walk_as answers plans site told f ms v w h
 
 -- ## where the entries stand
-
-rising_from : (a b n : ℕ) (xs : List ℕ) → b ≤ a → AreRising a xs n → AreRising b xs n
-rising_from a b n [] less h = tt
-rising_from a b n (x ∷ xs) less h = (omega (arith, less, h.0), h.1, h.2)
-
--- the places that were gained rise, from the end of what had been seen on
-abbrev Rises : Sight Entry → Sight Entry → Type 0
-Rises v w = (g : List ℕ) × (w.mine ≡ v.mine ++ g) × AreRising (length v.seen) g (length w.seen)
-
-rising_turn : (r : Option Entry) (before : List Entry) (v u w : Sight Entry) → StartsWith before v.seen → Records r before v u → StartsWith w.seen u.seen → Rises u w → Rises v w
-rising_turn None before v u w starts h grows rest = (
-  rest.0,
-  rest.1 ∙ ap (λ (l : List ℕ). l ++ rest.0) h.1,
-  rising_from (length u.seen) (length v.seen) (length w.seen) rest.0 (omega (arith, ap length h.0, ap length starts.1, length-append v.seen starts.0)) rest.2,
-)
-rising_turn (Some e) before v u w starts h grows rest =
-    let long : length u.seen ≡ suc (length before) = omega (arith, ap length h.0, length-append before (e ∷ [])) in (
-      length before ∷ rest.0,
-      rest.1 ∙ (ap (λ (l : List ℕ). l ++ rest.0) h.1 ∙ append_assoc v.mine (length before ∷ []) rest.0),
-      (
-        omega (arith, ap length starts.1, length-append v.seen starts.0),
-        omega (arith, long, ap length grows.1, length-append u.seen grows.0),
-        rising_from (length u.seen) (suc (length before)) (length w.seen) rest.0 (omega (arith, long)) rest.2,
-      ),
-    )
-
-module _ {F : Type 0} (answers : F → List Entry → Ask → Turn → Type 0) (f : F) where
-  walk_rises : (ms : List Move) (v w : Sight Entry) → Walk answers f ms v w → Rises v w
-  walk_rises [] v w h = ([], h.1 ∙ sym (append-nil v.mine), tt)
-  walk_rises (asked a t ∷ ms) v w h = rising_turn (recorded a t) h.1.0 v h.0 w h.1.1 h.1.3 (walk_seen answers f ms h.0 w h.2) (walk_rises ms h.0 w h.2)
-  walk_rises (launched tag o ∷ ms) v w h = walk_rises ms v w h
-  walk_rises (removed x ∷ ms) v w h = walk_rises ms v w h
 
 -- of a player that had made nothing
 stands : (plans : Bool) (c : Configuration) (history : List Entry) (player : Player) (end : PlayerEnd) (plays : PlaysFrom plans c history player end) → StandAt end.sight.seen end.sight.mine (entries_of plays.trace)
@@ -96,46 +45,26 @@ stands plans c history player end plays =
     let gains = walk_gains (answers_of plans) c plays.trace (sight history []) end.sight plays.walked in
     subst (λ (l : List ℕ). StandAt end.sight.seen l (entries_of plays.trace)) (sym gains.1) gains.2
 
-rises : (plans : Bool) (c : Configuration) (history : List Entry) (player : Player) (end : PlayerEnd) (plays : PlaysFrom plans c history player end) → AreRising (length history) end.sight.mine (length end.sight.seen)
-rises plans c history player end plays =
-    let is = walk_rises (answers_of plans) c plays.trace (sight history []) end.sight plays.walked in
-    subst (λ (l : List ℕ). AreRising (length history) l (length end.sight.seen)) (sym is.1) is.2
-
 -- ## sweeps
 
 swept_so : (plans : Bool) (c : Configuration) (before : List Entry) (a : Ask) (t : Turn) → answers_of plans c before a t → IsSweptSo a t
-swept_so plans c before (ask.Act role) t h = tt
-swept_so plans c before (ask.Do e) t h = tt
-swept_so plans c before (ask.Due p) t h = tt
 swept_so plans c before (ask.Sweep p n x) (turn.Did e) h = sweep-removes c before p n x e h
-swept_so plans c before (ask.Sweep p n x) (turn.DueNode m y) h = tt
-swept_so plans c before (ask.Sweep p n x) turn.Swept h = tt
-swept_so plans c before (ask.Sweep p n x) turn.Idle h = tt
-swept_so plans c before (ask.Sweep p n x) turn.Full h = tt
+swept_so plans c before a t h = tt
 
 are_swept_so : (plans : Bool) (c : Configuration) (ms : List Move) (v w : Sight Entry) → Walk (answers_of plans) c ms v w → AreSweptSo ms
 are_swept_so plans c [] v w h = tt
 are_swept_so plans c (asked a t ∷ ms) v w h = (swept_so plans c h.1.0 a t h.1.2, are_swept_so plans c ms h.0 w h.2)
-are_swept_so plans c (launched tag o ∷ ms) v w h = are_swept_so plans c ms v w h
-are_swept_so plans c (removed x ∷ ms) v w h = are_swept_so plans c ms v w h
+are_swept_so plans c (move ∷ ms) v w h = are_swept_so plans c ms v w h
 
 -- ## how far the roles came
 
 unrecorded : (a : Ask) (t : Turn) → is_idle t ≡ true → recorded a t ≡ None
-unrecorded a (turn.Did e) is = absurd (false≢true is)
-unrecorded a (turn.DueNode n x) is = refl
-unrecorded a turn.Swept is = refl
-unrecorded a turn.Idle is = refl
-unrecorded a turn.Full is = refl
+unrecorded a t x1 = grind (arith, nat_tests)
 
 module _ (plans : Bool) (c : Configuration) where
   -- a board answers so only where the role has no useful event
   idle_turn : (before : List Entry) (role : Role) (t : Turn) → is_idle t ≡ true → answers_of plans c before (ask.Act role) t → (e : Event) → IsUseful c (after c before) role e → ⊥
-  idle_turn before role (turn.Did e) is h = absurd (false≢true is)
-  idle_turn before role (turn.DueNode n x) is h = absurd h
-  idle_turn before role turn.Swept is h = absurd h
-  idle_turn before role turn.Idle is h = h
-  idle_turn before role turn.Full is h = absurd (false≢true is)
+  idle_turn before role t x1 x2 e x3 = grind (arith, nat_tests)
 
   -- the turns that are counted for a role are its own
   abbrev Names : Work → Role → Type 0
@@ -153,8 +82,7 @@ module _ (plans : Bool) (c : Configuration) where
       })
       (λ (later : WasIdle (acts_as role) ms). had_nothing work role names history ms h.0 w (starts_on h.0.seen v.seen history (turn_seen (answers_of plans) c a t v h.0 h.1) on) h.2 asks.1 later)
       idle
-  had_nothing work role names history (launched tag o ∷ ms) v w on h asks idle = had_nothing work role names history ms v w on h asks idle
-  had_nothing work role names history (removed x ∷ ms) v w on h asks idle = had_nothing work role names history ms v w on h asks idle
+  had_nothing work role names history (move ∷ ms) v w on h asks idle = had_nothing work role names history ms v w on h asks idle
 
   came_far : (work : Work) (role : Role) → Names work role → (history : List Entry) (ms : List Move) (w : Sight Entry) → Walk (answers_of plans) c ms (sight history []) w → AreAsksOf work ms → TookAll (acts_as role) ms → CameFar c history w.seen ms role
   came_far work role names history ms w h asks (inl all) = inl all
@@ -162,28 +90,16 @@ module _ (plans : Bool) (c : Configuration) where
 
 names_launcher : (plans : Bool) (c : Configuration) (pool : PoolId) → Names plans c (of_pool pool) (Launcher pool)
 names_launcher plans c pool (ask.Act (Launcher p)) own is = ⊎_elim (λ (same : Launcher p ≡ Launcher pool). ap ask.Act same) (λ (other : Launcher p ≡ Janitor pool). absurd cc) own
-names_launcher plans c pool (ask.Act _) own is = absurd (false≢true is)
-names_launcher plans c pool (ask.Do e) own is = absurd (false≢true is)
-names_launcher plans c pool (ask.Due p) own is = absurd (false≢true is)
-names_launcher plans c pool (ask.Sweep p n x) own is = absurd (false≢true is)
+names_launcher plans c pool _ own is = absurd (false≢true is)
 
 names_janitor : (plans : Bool) (c : Configuration) (pool : PoolId) → Names plans c (of_pool pool) (Janitor pool)
 names_janitor plans c pool (ask.Act (Janitor p)) own is = ⊎_elim (λ (other : Janitor p ≡ Launcher pool). absurd cc) (λ (same : Janitor p ≡ Janitor pool). ap ask.Act same) own
-names_janitor plans c pool (ask.Act _) own is = absurd (false≢true is)
-names_janitor plans c pool (ask.Do e) own is = absurd (false≢true is)
-names_janitor plans c pool (ask.Due p) own is = absurd (false≢true is)
-names_janitor plans c pool (ask.Sweep p n x) own is = absurd (false≢true is)
+names_janitor plans c pool _ own is = absurd (false≢true is)
 
 owes_past : (p : Phase) → OwesRemoval p → IsPastLauncher p
-owes_past (acts r n) owes = absurd owes
-owes_past (owes_launch pool n s) owes = absurd owes
-owes_past (owes_report pool n s o) owes = absurd owes
-owes_past (looks pool n) owes = absurd owes
 owes_past (owes_due pool n x) owes = tt
-owes_past (sweeps pool) owes = absurd owes
 owes_past (owes_swept pool x) owes = tt
-owes_past rests owes = absurd owes
-owes_past ended owes = absurd owes
+owes_past p owes = absurd owes
 
 roles_came_far : (plans : Bool) (c : Configuration) (work : Work) (history : List Entry) (ms : List Move) (to : Phase) (w : Sight Entry) (before now : Option Driving) → Walk (answers_of plans) c ms (sight history []) w → AreAsksOf work ms → RolesTook work ms to → Rests work before now ms to → RolesCameFar c work history w.seen ms (RemovalFailed before now)
 roles_came_far plans c (of_pool pool) history ms to w before now h asks took rested =
@@ -206,17 +122,10 @@ if_room true P Q h is = absurd (false≢true (sym is))
 if_room false P Q h is = h
 
 first_goes_on : (work : Work) → first_phase work ≡ ended → ⊥
-first_goes_on (of_pool pool) = goes_on (λ (p : Phase). p ≡ ended → ⊥) (λ q m e. cc) (λ q m e. cc) (λ q e. cc) (λ e. cc) (Launcher pool) 16
-first_goes_on (of_requester q) = goes_on (λ (p : Phase). p ≡ ended → ⊥) (λ q m e. cc) (λ q m e. cc) (λ q e. cc) (λ e. cc) (Requester q) 16
-first_goes_on of_reaper = goes_on (λ (p : Phase). p ≡ ended → ⊥) (λ q m e. cc) (λ q m e. cc) (λ q e. cc) (λ e. cc) Reaper 16
+first_goes_on work x1 = grind (arith, nat_tests)
 
 rests_before_end : (work : Work) (before now : Option Driving) (ms : List Move) (to : Phase) → Rests work before now ms to → to ≡ ended → ⊥
-rests_before_end (of_pool pool) before now ms to rested is = ⊎_elim
-    (λ done. let at : sweeps pool ≡ ended = sym done.0 ∙ is in cc)
-    (λ failed. subst OwesRemoval is failed.0)
-    rested
-rests_before_end (of_requester q) before now ms to rested is = let at : rests ≡ ended = sym rested ∙ is in cc
-rests_before_end of_reaper before now ms to rested is = let at : rests ≡ ended = sym rested ∙ is in cc
+rests_before_end work before now ms to x1 x2 = grind (arith, nat_tests)
 
 -- no removal failed, so all servers were asked about
 all_kept : (pool : PoolId) (before now : Option Driving) (ms : List Move) (to : Phase) → Rests (of_pool pool) before now ms to → (RemovalFailed before now → ⊥) → AreKept pool ms now
@@ -273,7 +182,7 @@ module _ (plans : Bool) (c : Configuration) (history : List Entry) (player : Pla
     plays = plays;
     orderly = orderly player.work plays.trace end.phase plays.led;
     stand = stands plans c history player end plays;
-    rising = rises plans c history player end plays;
+    rising = (rises c history player end plays).1;
     makers = entry-of_worker {plans = plans} c history player end plays;
     swept = are_swept_so plans c plays.trace (sight history []) end.sight plays.walked;
     leave = leave;

@@ -1,35 +1,17 @@
 -- launches and removals of a pool's worker: what each leaves of what is known
-use Rattle.std.proofs.Common.{◌≡◌, ◌∙◌, sym, refl, ap, subst, ◌⊎◌, inl, inr, ⊎_elim, ℕ, suc, ◌+◌, ◌≤◌, List, [], ◌∷◌, length, length-append, arith, Option, Some, Bool, true, false, Contains, eqb-true, eq-eqb, ◌<◌, ◌++◌, append_assoc, append-nil, None}
-use Rattle.std.specs.Prelude.{◌==◌, ◌||◌, not}
-use Rattle.np_changes.specs.Prelude.{Configuration, Entry, NodeId, NodeRecord, NodeState, Outcome, PoolId, after, is_building, is_deleting, is_server, is_wanted, node_in, option_map_or, Janitor}
-use Rattle.std.proofs.lemmas.Bool.{false≢true, or_right}
-use Rattle.std.proofs.lemmas.Option.{same_Some}
-use Rattle.std.proofs.lemmas.List.Elements.{Contains-append_left, Contains-push, Contains-push_cases}
-use Rattle.np_text.specs.declared.word.NodeState.TheVariants as node_state
-use Rattle.np_event.specs.declared.event.Outcome.TheVariants as outcome
-use Rattle.np_worker.specs.Prelude.{Launch, Server, Tag, AreAsksOf, Move, Records, Sight, StartsWith, Walk, asked, launched, launches_of, recorded, removed}
+use Rattle.np_worker.proofs.Prelude.{AreAsksOf, AreSoundAlone, Ask, Bool, Configuration, Contains, Contains-append_left, Contains-push, Contains-push_cases, Entry, FailFull, FailsFull, IsServerOf, IsSoundAlone, Janitor, Launch, Leads, List, MayAsk, MayLaunch, MayRemove, Move, NodeId, NodeRecord, NodeState, None, Option, Outcome, Phase, PoolId, Records, Server, Sight, Some, Start, StartsWith, SweepsServers, Tag, Turn, Walk, [], acts, after, after_launch, after_removal, after_turn, answers_of, ap, append-nil, append_assoc, arith, asked, eq-eqb, eqb-true, false, false≢true, inl, inr, is_building, is_deleting, is_server, is_up, is_wanted, launched, launches_of, length, length-append, length-filter_at_most, nat_tests, node_in, not, number_in, numbers_in, of_pool, option_map_or, or_right, owes_due, owes_launch, owes_report, owes_swept, recorded, refl, removed, reports_of, same_Some, servers_after, starts_on, subst, suc, sweeps, sym, true, with_launch, with_launched, without_number, ℕ, ⊎_elim, ◌++◌, ◌+◌, ◌<◌, ◌==◌, ◌||◌, ◌∙◌, ◌∷◌, ◌≡◌, ◌≤◌, ◌⊎◌}
 use Rattle.np_cloud.specs.declared.driver.TheConstants.{MOST_LAUNCHES}
-use Rattle.np_cloud.specs.Calls.{with_launch, with_launched, without_number}
-use Rattle.np_lists.proofs.Each.{length-filter_at_most}
-use Rattle.np_worker.specs.declared.start.Start.{Start}
-use Rattle.np_worker.specs.Drive.{IsSoundAlone, FailsFull, servers_after, SweepsServers, AreSoundAlone, FailFull}
-use Rattle.np_worker.specs.Nodes.{is_up}
-use Rattle.np_worker.specs.Reports.{number_in, numbers_in, reports_of}
-use Rattle.np_worker.specs.Hosting.{IsServerOf}
+use Rattle.np_event.specs.declared.event.Outcome.TheVariants as outcome
+use Rattle.np_worker.specs.declared.ask.Turn.TheVariants as turn
 use Rattle.np_worker.proofs.Numbers.{one-launch}
 use Rattle.np_worker.proofs.Pools.{few-reports}
 use Rattle.np_worker.proofs.Removed.{kept_at, launched_stay}
-use Rattle.np_desk.proofs.HistoryLemmas.{starts_on}
-use Rattle.np_worker.specs.declared.ask.Ask.{Ask}
-use Rattle.np_worker.specs.declared.ask.Turn.{Turn}
-use Rattle.np_worker.specs.declared.ask.Turn.TheVariants as turn
-use Rattle.np_worker.specs.Planned.{answers_of}
 use Rattle.np_worker.proofs.Choices.{plain-answer}
 use Rattle.np_worker.proofs.Histories.{starts_length}
 use Rattle.np_worker.proofs.Leaving.{AreBelow, below-turn, filtered-member}
-use Rattle.np_worker.specs.Phase.{of_pool, Phase, acts, owes_launch, owes_report, looks, owes_due, sweeps, owes_swept, ended, after_turn, after_launch, after_removal, MayAsk, MayLaunch, MayRemove, Leads}
 use Rattle.np_worker.proofs.Gained.{turn_seen, walk_seen}
 use Rattle.np_worker.proofs.Steps.{of_turn}
+use Rattle.np_worker.proofs.RoundEnds.{full_ends}
 use Rattle.np_worker.proofs.StageLemmas.{IsForeign, AreForeign, IsReportOf, IsLate, Never, WasStarted, Held, Calm, IsThere, Reporting, IsGoing, IsLeft, Tells, Rest, Stands, Leaves, stands-gap, tells-gap, leaves-of, leaves-later}
 use Rattle.np_worker.proofs.Acts.{Sees, IsReady, Turned, turns-stand}
 
@@ -128,8 +110,7 @@ module _ (c : Configuration) (p : PoolId) (sound : List ℕ → Bool) (room earl
 
   -- a node that is deleted has the server, so none that is up has
   deleting-down : (state : NodeState) → is_deleting state ≡ true → is_up state ≡ true → ⊥
-  deleting-down node_state.Deleting gone up = false≢true up
-  deleting-down _ gone up = false≢true gone
+  deleting-down state x1 x2 = grind (arith, nat_tests)
 
   pub going-unused : Calm c p sound room earlier final journal launches servers → (x : ℕ) → IsGoing c p sound room earlier final journal x → Never c p sound room earlier final → (n : NodeId) (k : NodeRecord) → node_in n (after c journal).nodes ≡ Some k → k.pool.0 ≡ p.0 → is_up k.state ≡ true → k.server ≡ Some x → ⊥
   going-unused held x going never n k is own up has =
@@ -168,8 +149,7 @@ module _ {F : Type 0} (says : F → List Entry → Ask → Turn → Type 0) (f :
       (λ (old : Contains walk.0.mine y). ⊎_elim (λ was. inl was) (λ (new : length walk.1.0 ≤ y). inr (omega (arith, new, starts_length walk.1.0 v.seen walk.1.1))) (later-turn (recorded a t) walk.1.0 v walk.0 y walk.1.1 walk.1.3 old))
       (λ (new : length walk.0.seen ≤ y). inr (omega (arith, new, starts_length walk.0.seen v.seen (turn_seen says f a t v walk.0 walk.1))))
       (late ms walk.0 w walk.2 y there)
-  late (launched tag o ∷ ms) v w walk y there = late ms v w walk y there
-  late (removed x ∷ ms) v w walk y there = late ms v w walk y there
+  late (move ∷ ms) v w walk y there = late ms v w walk y there
 
   -- no place before a turn that was not seen before is one's own
   none-between : (a : Ask) (t : Turn) (ms : List Move) (v w : Sight Entry) (walk : Walk says f (asked a t ∷ ms) v w) → AreBelow v → (y : ℕ) → length v.seen ≤ y → y < length walk.1.0 → Contains w.mine y → ⊥
@@ -189,8 +169,7 @@ module _ {F : Type 0} (says : F → List Entry → Ask → Turn → Type 0) (f :
 pub walk-early : {F : Type 0} (says : F → List Entry → Ask → Turn → Type 0) (f : F) (ms : List Move) (v w : Sight Entry) → Walk says f ms v w → AreBelow v → AreBelow w
 walk-early says f [] v w walk early y there = omega (arith, early y (subst (λ (l : List ℕ). Contains l y) walk.1 there), starts_length w.seen v.seen walk.0)
 walk-early says f (asked a t ∷ ms) v w walk early y there = walk-early says f ms walk.0 w walk.2 (below-turn (recorded a t) walk.1.0 v walk.0 walk.1.1 walk.1.3 early) y there
-walk-early says f (launched tag o ∷ ms) v w walk early y there = walk-early says f ms v w walk early y there
-walk-early says f (removed x ∷ ms) v w walk early y there = walk-early says f ms v w walk early y there
+walk-early says f (move ∷ ms) v w walk early y there = walk-early says f ms v w walk early y there
 
 sees-of : (r : Option Entry) (before : List Entry) (v u : Sight Entry) → Records r before v u → Sees r before u.seen
 sees-of None before v u records = records.0
@@ -243,17 +222,10 @@ module _ (c : Configuration) (p : PoolId) (sound : List ℕ → Bool) (room earl
         (λ y from below is. none-between (answers_of false) c a t ms v w walk early y from (omega (arith, below, ap length gap)) (subst (λ (l : List ℕ). Contains l y) (sym own) is)) in
         let now : At' ph before launches servers = subst (λ (l : List Entry). At' ph l launches servers) (sym gap) (stands-gap c p sound room earlier final v.seen walk.1.1.0 foreign ph a launches servers may stands) in
         of_turn (Turned c p sound room earlier final launches servers) (turns-stand c p sound room earlier final launches servers) ph a t may before walk.0.seen asks.0 swept.0 (plain-answer c before a t walk.1.2) (sees-of (recorded a t) before v walk.0 walk.1.3)
-        (λ full. ap (λ (x : Turn). after_turn ph a x) full ∙ full-ends ph a may)
+        (λ full. ap (λ (x : Turn). after_turn ph a x) full ∙ full_ends ph a may)
         (λ e is. around.ready before e (starts_on whole walk.0.seen (before ++ e ∷ []) later
         (let seen : Sees (recorded a (turn.Did e)) before walk.0.seen = subst (λ (x : Turn). Sees (recorded a x) before walk.0.seen) is (sees-of (recorded a t) before v walk.0 walk.1.3) in ([], seen ∙ sym (append-nil (before ++ e ∷ []))))))
         now
-      where
-        full-ends : (q : Phase) (b : Ask) → MayAsk q b → after_turn q b turn.Full ≡ ended
-        full-ends (acts r m) b is = refl
-        full-ends (owes_report pool m s o) b is = refl
-        full-ends (looks pool m) b is = refl
-        full-ends (sweeps pool) b is = refl
-        full-ends _ b is = absurd is
 
     -- ## launches and removals
 

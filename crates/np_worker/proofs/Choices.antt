@@ -1,19 +1,10 @@
 -- what is known of an event that a role chose, be it useful now or when it was planned
-use Rattle.std.proofs.Common.{◌≡◌, ◌∙◌, ◌⊎◌, inl, inr, ⊎_elim, ℕ, zero, suc, ◌≤◌, List, [], ◌∷◌, ◌++◌, length, take, take-append-drop, refl, sym, ap, subst, arith, Option, Some, Bool, true, false}
-use Rattle.std.specs.Prelude.{drop, is_ok}
-use Rattle.std.proofs.lemmas.Bool.{false≢true, and_parts}
-use Rattle.np_changes.specs.Prelude.{Configuration, Entry, Event, Janitor, Launcher, NodeId, NodeRecord, Outcome, PoolId, Reaper, Requester, Role, SessionId, SomeTurn, State, after, judge, judge_start, maker_of, node_in, role_of, same_role, start, turns}
-use Rattle.np_event.specs.declared.event.Event.TheVariants as ev
-use Rattle.np_worker.specs.Prelude.{Move, Says, Sight, Walk, WasOfUse, WasUseful, answers, asked, is_planned, launched, removed}
-use Rattle.np_useful.specs.Sessions.{may_open}
-use Rattle.np_useful.specs.Useful.{IsUseful, is_maker_of, row_holds}
-use Rattle.np_changes.proofs.Tested.{ok-is}
-use Rattle.np_worker.specs.declared.ask.Ask.{Ask}
-use Rattle.np_worker.specs.declared.ask.Ask.TheVariants as ask
+use Rattle.np_worker.proofs.Prelude.{Ask, Bool, Configuration, Entry, Event, IsChosen, IsOfRole, IsTurnAs, IsUseful, Launcher, List, Move, NodeId, NodeRecord, Option, Outcome, PoolId, Reaper, Role, Says, SessionId, Sight, Some, SomeTurn, State, Walk, WasOfUse, WasUseful, [], after, answers, answers_of, ap, arith, asked, drop, false, false≢true, inl, inr, is_ok, is_planned, judge, judge_start, length, maker_of, nat_tests, node_in, ok-is, refl, role_of, start, subst, suc, sym, take, take-append-drop, true, turns, zero, ℕ, ⊎_elim, ◌++◌, ◌∙◌, ◌∷◌, ◌≡◌, ◌≤◌, ◌⊎◌}
+use Rattle.np_useful.specs.Useful.{is_maker_of, row_holds}
 use Rattle.np_worker.specs.declared.ask.Turn.{Turn as Answer}
+use Rattle.np_event.specs.declared.event.Event.TheVariants as ev
+use Rattle.np_worker.specs.declared.ask.Ask.TheVariants as ask
 use Rattle.np_worker.specs.declared.ask.Turn.TheVariants as turn
-use Rattle.np_worker.specs.Makers.{IsOfRole}
-use Rattle.np_worker.specs.Planned.{answers_of, IsChosen, IsTurnAs}
 use Rattle.np_worker.proofs.Places.{turn_after, some-from, turns-append}
 use Rattle.np_worker.proofs.RoleLemmas.{same_role-is, current-role, role-stays, start-of_pool, useful-done, useful-tickless}
 
@@ -21,19 +12,14 @@ use Rattle.np_worker.proofs.RoleLemmas.{same_role-is, current-role, role-stays, 
 
 -- a session that it opens is of the role
 useful-opens : (c : Configuration) (s : State) (role r : Role) → row_holds c s role (ev.OpenSession r) ≡ true → r ≡ role
-useful-opens c s (Launcher p) r is = same_role-is r (Launcher p) (and_parts (same_role r (Launcher p)) (may_open c r s) is).0
-useful-opens c s (Janitor p) r is = same_role-is r (Janitor p) (and_parts (same_role r (Janitor p)) (may_open c r s) is).0
-useful-opens c s (Requester q) r is = same_role-is r (Requester q) (and_parts (same_role r (Requester q)) (may_open c r s) is).0
-useful-opens c s Reaper r is = absurd (false≢true is)
+useful-opens c s role r is = grind (arith, nat_tests, same_role-is)
 
 -- and only the reaper takes sessions away
 useful-crashes : (c : Configuration) (s : State) (role : Role) (session : SessionId) → row_holds c s role (ev.Crash session) ≡ true → role ≡ Reaper
-useful-crashes c s Reaper session is = refl
-useful-crashes c s _ session is = absurd (false≢true is)
+useful-crashes c s role session is = grind (arith, nat_tests)
 
 useful-expires : (c : Configuration) (s : State) (role : Role) (session : SessionId) → row_holds c s role (ev.Expire session) ≡ true → role ≡ Reaper
-useful-expires c s Reaper session is = refl
-useful-expires c s _ session is = absurd (false≢true is)
+useful-expires c s role session is = grind (arith, nat_tests)
 
 pub useful-of_role : (c : Configuration) (s : State) (role : Role) (e : Event) → IsUseful c s role e → IsOfRole role s e
 useful-of_role c s role e useful = record {
@@ -134,13 +120,11 @@ module _ (c : Configuration) (journal : List Entry) where
   -- where nothing is planned the answers are the board's
   pub plain-answer : (a : Ask) (t : Answer) → answers_of false c journal a t → answers c journal a t
   plain-answer (ask.Act r) (turn.Did e) h = (⊎_elim (λ (useful : IsUseful c (after c journal) r e.event). useful) (λ none. absurd none) h.0, h.1)
-  plain-answer (ask.Act r) t h = h
   plain-answer a t h = h
 
   -- and the board's answers are always allowed
   pub allowed-answer : (plans : Bool) (a : Ask) (t : Answer) → answers c journal a t → answers_of plans c journal a t
   allowed-answer plans (ask.Act r) (turn.Did e) h = (inl h.0, h.1)
-  allowed-answer plans (ask.Act r) t h = h
   allowed-answer plans a t h = h
 
 pub allowed-walk : (plans : Bool) (c : Configuration) (ms : List Move) (v w : Sight Entry) → Walk answers c ms v w → Walk (answers_of plans) c ms v w
@@ -148,5 +132,4 @@ allowed-walk plans c [] v w walk = walk
 allowed-walk plans c (asked a t ∷ ms) v w walk =
     let it = walk.1 in
     (walk.0, (it.0, it.1, allowed-answer c it.0 plans a t it.2, it.3), allowed-walk plans c ms walk.0 w walk.2)
-allowed-walk plans c (launched tag o ∷ ms) v w walk = allowed-walk plans c ms v w walk
-allowed-walk plans c (removed x ∷ ms) v w walk = allowed-walk plans c ms v w walk
+allowed-walk plans c (move ∷ ms) v w walk = allowed-walk plans c ms v w walk

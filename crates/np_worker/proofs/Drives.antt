@@ -1,27 +1,9 @@
 -- What a part of a round did with its driver.
-use Rattle.std.proofs.Common.{◌≡◌, ℕ, ◌≤◌, List, [], ◌∷◌, ◌++◌, sym, refl, ap, ◌∙◌, arith, subst, append_assoc, append-nil, true, eq-eqb}
-use Rattle.std.specs.Prelude.{Bool, ◌==◌, IsTrue, Option, Some, None, IfSome, Ok, Err}
-use Rattle.std.proofs.lemmas.Bool.{or_left, or_right}
-use Rattle.np_changes.specs.Prelude.{Outcome, option_map}
+use Rattle.np_worker.proofs.Prelude.{Answers, AreSoundAlone, Ask, Bool, DriverFacts, Drives, Driving, Drove, Err, FailFull, FailsFull, FollowsPlan, IfSome, IsAsPlanned, IsFull, IsOfDriver, IsOfServer, IsSoundAlone, IsTrue, KeepsCounts, Launch, List, Move, None, Ok, Option, Outcome, RemovalFailed, Server, Some, Soundness, SweepsServers, Tag, Turn, [], ap, append-nil, append_assoc, arith, asked, eq-eqb, is_number, launched, launches_of, nat_tests, numbers_of, option_map, or_left, or_right, refl, removed, servers_after, subst, sym, true, with_launched, without_number, ℕ, ◌++◌, ◌==◌, ◌∙◌, ◌∷◌, ◌≡◌, ◌≤◌}
 use Rattle.np_io.specs.Counts.{Rose}
 use Rattle.np_event.specs.declared.event.Outcome.TheVariants as outcome
-use Rattle.np_worker.specs.Prelude.{DriverFacts, Launch, Move, Server, Tag, asked, launched, launches_of, removed}
 use Rattle.np_cloud.specs.declared.driver.LaunchFault.TheVariants as fault
-use Rattle.np_cloud.specs.Calls.{Answers, IsAsPlanned, with_launched, without_number, KeepsCounts}
-use Rattle.np_cloud.specs.Sound.{numbers_of, is_number, Soundness, IsFull}
-use Rattle.np_worker.specs.declared.ask.Ask.{Ask}
-use Rattle.np_worker.specs.declared.ask.Turn.{Turn}
-use Rattle.np_worker.specs.Drive.{Driving, servers_after, IsOfServer, SweepsServers, FollowsPlan, IsSoundAlone, AreSoundAlone, FailsFull, FailFull, Drives, Drove}
-use Rattle.np_worker.specs.Part.{IsOfDriver, RemovalFailed}
-use Rattle.np_worker.proofs.Traces.{launches-append, servers-append, sweeps-append, plan-append, alone-append, full-append}
-
-map_twice : {A : Type 0} (f g h : A → A) → ((x : A) → g (f x) ≡ h x) → (o : Option A) → option_map g (option_map f o) ≡ option_map h o
-map_twice f g h e None = refl
-map_twice f g h e (Some x) = ap (λ y. Some y) (e x)
-
-map_same : {A : Type 0} (f : A → A) → ((x : A) → x ≡ f x) → (o : Option A) → o ≡ option_map f o
-map_same f e None = refl
-map_same f e (Some x) = ap (λ y. Some y) (e x)
+use Rattle.np_worker.proofs.Traces.{launches-append, servers-append, sweeps-append, plan-append, alone-append, full-append, map_twice, map_same, with_launches}
 
 swept_both : (ms ns : List Move) (o : Option (List Server)) → IfSome o (λ s. SweepsServers ms s) → IfSome (option_map (servers_after ms) o) (λ s. SweepsServers ns s) → IfSome o (λ s. SweepsServers (ms ++ ns) s)
 swept_both ms ns None h k = h
@@ -49,9 +31,6 @@ full_now a b ms ns e f g h =
     (subst (λ (o : Option (List Server)). FailFull b.room ns (option_map (λ (ls : List Launch). ls ++ launches_of ms) a.facts.answered) o) f
     (subst (λ (o : Option (List Launch)). FailFull b.room ns o b.facts.servers) e h))
 
-keeps_counts : (a : DriverFacts) → KeepsCounts a a
-keeps_counts a = record { launches = omega arith; removals = omega arith }
-
 pub drives-append : (a b c : Driving) (ms ns : List Move) → Drives ms a b → Drives ns b c → Drives (ms ++ ns) a c
 drives-append a b c ms ns h k = record {
   answered = k.answered ∙ (ap (option_map (λ (ls : List Launch). ls ++ launches_of ns)) h.answered ∙ map_twice (λ (ls : List Launch). ls ++ launches_of ms) (λ (ls : List Launch). ls ++ launches_of ns) (λ (ls : List Launch). ls ++ launches_of (ms ++ ns)) (λ ls. append_assoc ls (launches_of ms) (launches_of ns) ∙ ap (λ (l : List Launch). ls ++ l) (sym (launches-append ms ns))) a.facts.answered);
@@ -67,40 +46,41 @@ drives-append a b c ms ns h k = record {
 }
 
 pub drove-append : (a b c : Option Driving) (ms ns : List Move) → Drove ms a b → Drove ns b c → Drove (ms ++ ns) a c
+drove-append (Some a) (Some b) (Some c) ms ns h k = drives-append a b c ms ns h k
+drove-append (Some a) (Some b) None ms ns h k = k
 drove-append None None None ms ns h k = tt
 drove-append None None (Some c) ms ns h k = k
-drove-append None (Some b) c ms ns h k = absurd h
-drove-append (Some a) None c ms ns h k = absurd h
-drove-append (Some a) (Some b) None ms ns h k = k
-drove-append (Some a) (Some b) (Some c) ms ns h k = drives-append a b c ms ns h k
+drove-append _ _ c ms ns h k = absurd h
+
+-- what is sound and how much room there is stayed
+pub record StaysSame (a b : Driving) : Type 0 where
+  pub plan : b.plan ≡ a.plan
+  pub sound : b.sound ≡ a.sound
+  pub room : b.room ≡ a.room
+  pub counts : KeepsCounts a.facts b.facts
+
+stays_same : (d : Driving) → StaysSame d d
+stays_same d = record { plan = refl; sound = refl; room = refl; counts = record { launches = omega arith; removals = omega arith } }
+
+drives_of : (ms : List Move) (a b : Driving) → b.facts.answered ≡ option_map (with_launches ms) a.facts.answered → b.facts.servers ≡ option_map (servers_after ms) a.facts.servers → IfSome a.facts.servers (λ s. SweepsServers ms s) → FollowsPlan a.plan ms → IfSome a.facts.servers (λ s. AreSoundAlone a.sound ms)
+    → FailFull a.room ms a.facts.answered a.facts.servers → StaysSame a b → Drives ms a b
+drives_of ms a b answered servers swept planned alone full k =
+    record { answered = answered; servers = servers; swept = swept; planned = planned; alone = alone; full = full; plan = k.plan; sound = k.sound; room = k.room; counts = k.counts }
+
+none_more : (o : Option (List Launch)) → o ≡ option_map (with_launches []) o
+none_more o = map_same (with_launches []) (λ ls. sym (append-nil ls)) o
+
+same_servers : (o : Option (List Server)) → o ≡ option_map (servers_after []) o
+same_servers o = map_same (servers_after []) (λ s. refl) o
+
+pub drives_kept : (a b : Driving) → b.facts.answered ≡ a.facts.answered → b.facts.servers ≡ a.facts.servers → StaysSame a b → Drives [] a b
+drives_kept a b h s k = drives_of [] a b (h ∙ none_more a.facts.answered) (s ∙ same_servers a.facts.servers) (swept_none a.facts.servers) tt (swept_none a.facts.servers) tt k
 
 pub drives_none : (d : Driving) → Drives [] d d
-drives_none d = record {
-  answered = map_same (λ (ls : List Launch). ls ++ []) (λ ls. sym (append-nil ls)) d.facts.answered;
-  servers = map_same (λ (s : List Server). s) (λ s. refl) d.facts.servers;
-  swept = swept_none d.facts.servers;
-  planned = tt;
-  alone = swept_none d.facts.servers;
-  full = tt;
-  plan = refl;
-  sound = refl;
-  room = refl;
-  counts = keeps_counts d.facts;
-}
+drives_none d = drives_kept d d refl refl (stays_same d)
 
 drives_ask : (d : Driving) (a : Ask) (t : Turn) → IfSome d.facts.servers (λ s. IsOfServer a s) → Drives (asked a t ∷ []) d d
-drives_ask d a t h = record {
-  answered = map_same (λ (ls : List Launch). ls ++ []) (λ ls. sym (append-nil ls)) d.facts.answered;
-  servers = map_same (λ (s : List Server). s) (λ s. refl) d.facts.servers;
-  swept = swept_ask a d.facts.servers h;
-  planned = tt;
-  alone = swept_none d.facts.servers;
-  full = tt;
-  plan = refl;
-  sound = refl;
-  room = refl;
-  counts = keeps_counts d.facts;
-}
+drives_ask d a t h = drives_of (asked a t ∷ []) d d (none_more d.facts.answered) (same_servers d.facts.servers) (swept_ask a d.facts.servers h) tt (swept_none d.facts.servers) tt (stays_same d)
 
 pub drove_none : (d : Option Driving) → Drove [] d d
 drove_none None = tt
@@ -110,38 +90,18 @@ pub drove_ask : (d : Option Driving) (a : Ask) (t : Turn) → IsOfDriver a d →
 drove_ask None a t h = tt
 drove_ask (Some d) a t h = drives_ask d a t h
 
--- what is sound and how much room there is stayed
-pub record StaysSame (a b : Driving) : Type 0 where
-  pub plan : b.plan ≡ a.plan
-  pub sound : b.sound ≡ a.sound
-  pub room : b.room ≡ a.room
-  pub counts : KeepsCounts a.facts b.facts
-
 alone_one : (sound : List ℕ → Bool) (o : Outcome) (s : Option (List Server)) → IfSome s (λ _. IsSoundAlone sound o) → IfSome s (λ _. IsSoundAlone sound o × Unit {0})
 alone_one sound o None h = tt
 alone_one sound o (Some s) h = (h, tt)
 
 drives_launched : (a b : Driving) (tag : Tag) (o : Outcome) → Answers a.facts tag o b.facts → IfSome (a.plan tag) (λ planned. planned ≡ o) → IfSome a.facts.servers (λ _. IsSoundAlone a.sound o) → FailsFull a.room o a.facts.answered a.facts.servers → StaysSame a b → Drives (launched tag o ∷ []) a b
-drives_launched a b tag o h p alone full k = record {
-  answered = h.answered;
-  servers = h.servers;
-  swept = swept_none a.facts.servers;
-  planned = (p, tt);
-  alone = alone_one a.sound o a.facts.servers alone;
-  full = (full, tt);
-  plan = k.plan;
-  sound = k.sound;
-  room = k.room;
-  counts = k.counts;
-}
+drives_launched a b tag o h p alone full k = drives_of (launched tag o ∷ []) a b h.answered h.servers (swept_none a.facts.servers) (p, tt) (alone_one a.sound o a.facts.servers alone) (full, tt) k
 
 launched_as_planned : (p : Option Outcome) (x : ℕ) → IsAsPlanned p (Ok x) → IfSome p (λ planned. planned ≡ outcome.Launched x)
-launched_as_planned None x h = tt
-launched_as_planned (Some p) x h = h
+launched_as_planned p x x1 = grind (arith, nat_tests)
 
 failed_as_planned : (p : Option Outcome) → IsAsPlanned p (Err fault.Failed) → IfSome p (λ planned. planned ≡ outcome.Failed)
-failed_as_planned None h = tt
-failed_as_planned (Some p) h = h
+failed_as_planned p x1 = grind (arith, nat_tests)
 
 -- the number of the last server is one of the numbers
 last_number : (x : ℕ) (tag : Tag) (servers : List Server) → is_number x (numbers_of (with_launched tag (outcome.Launched x) servers)) ≡ true
@@ -156,62 +116,29 @@ alone_launched a b tag x (Some s) e f h =
     let sound : IsTrue (b.sound (numbers_of now)) = subst (λ (o : Option (List Server)). IfSome o (λ servers. IsTrue (b.sound (numbers_of servers)))) e h.servers in
     subst (λ (g : List ℕ → Bool). IsTrue (g (x ∷ []))) f (h.fewer (numbers_of now) (x ∷ []) sound (refl, tt) (last_number x tag s, tt))
 
-none_alone : (s : Option (List Server)) → IfSome s (λ _. Unit {0})
-none_alone s = swept_none s
-
 pub drives_launch : (a b : Driving) (tag : Tag) (x : ℕ) → Answers a.facts tag (outcome.Launched x) b.facts → IsAsPlanned (a.plan tag) (Ok x) → Soundness b.facts b.sound → StaysSame a b → Drives (launched tag (outcome.Launched x) ∷ []) a b
 drives_launch a b tag x h p sound k = drives_launched a b tag (outcome.Launched x) h (launched_as_planned (a.plan tag) x p) (alone_launched a b tag x a.facts.servers h.servers k.sound sound) tt k
 
 pub drives_failed : (a b : Driving) (tag : Tag) → Answers a.facts tag outcome.Failed b.facts → IsAsPlanned (a.plan tag) (Err fault.Failed) → IsFull a.facts a.room → StaysSame a b → Drives (launched tag outcome.Failed ∷ []) a b
-drives_failed a b tag h p full k = drives_launched a b tag outcome.Failed h (failed_as_planned (a.plan tag) p) (none_alone a.facts.servers) full k
+drives_failed a b tag h p full k = drives_launched a b tag outcome.Failed h (failed_as_planned (a.plan tag) p) (swept_none a.facts.servers) full k
 
 pub drives_removed : (a b : Driving) (x : ℕ) → b.facts.answered ≡ a.facts.answered → b.facts.servers ≡ option_map (without_number x) a.facts.servers → StaysSame a b → Drives (removed x ∷ []) a b
-drives_removed a b x h s k = record {
-  answered = h ∙ map_same (λ (ls : List Launch). ls ++ []) (λ ls. sym (append-nil ls)) a.facts.answered;
-  servers = s;
-  swept = swept_none a.facts.servers;
-  planned = tt;
-  alone = swept_none a.facts.servers;
-  full = tt;
-  plan = k.plan;
-  sound = k.sound;
-  room = k.room;
-  counts = k.counts;
-}
-
-pub drives_kept : (a b : Driving) → b.facts.answered ≡ a.facts.answered → b.facts.servers ≡ a.facts.servers → StaysSame a b → Drives [] a b
-drives_kept a b h s k = record {
-  answered = h ∙ map_same (λ (ls : List Launch). ls ++ []) (λ ls. sym (append-nil ls)) a.facts.answered;
-  servers = s ∙ map_same (λ (l : List Server). l) (λ l. refl) a.facts.servers;
-  swept = swept_none a.facts.servers;
-  planned = tt;
-  alone = swept_none a.facts.servers;
-  full = tt;
-  plan = k.plan;
-  sound = k.sound;
-  room = k.room;
-  counts = k.counts;
-}
+drives_removed a b x h s k = drives_of (removed x ∷ []) a b (h ∙ none_more a.facts.answered) s (swept_none a.facts.servers) tt (swept_none a.facts.servers) tt k
 
 rose_before : (a b c : ℕ) → a ≤ b → Rose b c → Rose a c
 rose_before a b c h k = omega arith
 
 pub failed_before : (a b c : Option Driving) (ms : List Move) → Drove ms a b → RemovalFailed b c → RemovalFailed a c
-failed_before None None c ms k h = absurd h
+failed_before (Some a) (Some b) (Some c) ms k h = rose_before a.facts.remove_faults b.facts.remove_faults c.facts.remove_faults k.counts.removals h
 failed_before None (Some b) c ms k h = absurd k
 failed_before (Some a) None c ms k h = absurd k
-failed_before (Some a) (Some b) None ms k h = absurd h
-failed_before (Some a) (Some b) (Some c) ms k h = rose_before a.facts.remove_faults b.facts.remove_faults c.facts.remove_faults k.counts.removals h
+failed_before _ _ c ms k h = absurd h
 
 abbrev driving_with : DriverFacts → (Tag → Option Outcome) → (List ℕ → Bool) → ℕ → Driving
 driving_with facts plan sound room = record { facts = facts; plan = plan; sound = sound; room = room }
 
 pub same_driving : (a b : Driving) → a.facts ≡ b.facts → a.plan ≡ b.plan → a.sound ≡ b.sound → a.room ≡ b.room → a ≡ b
-same_driving a b h k l m =
-    ap (λ (x : DriverFacts). driving_with x a.plan a.sound a.room) h
-    ∙ (ap (λ (p : Tag → Option Outcome). driving_with b.facts p a.sound a.room) k
-    ∙ (ap (λ (f : List ℕ → Bool). driving_with b.facts b.plan f a.room) l
-    ∙ ap (λ (n : ℕ). driving_with b.facts b.plan b.sound n) m))
+same_driving a b x1 x2 x3 x4 = grind (arith, nat_tests)
 
 pub drove_same : (a b : Driving) → b ≡ a → Drove [] (Some a) (Some b)
 drove_same a b h = subst (λ (d : Driving). Drove [] (Some a) (Some d)) (sym h) (drives_none a)

@@ -1,14 +1,7 @@
 -- players and their ends: whose work each is, and the drivers among them
-use Rattle.std.proofs.Common.{Bool, ◌≡◌, ⊎_elim, ℕ, suc, ◌≤◌, List, [], ◌∷◌, map, All, Contains, Option, Some, None, refl, sym, ap, subst, arith, ◌∙◌, ◌++◌, zero, ◌+◌, slice_get, IfSome}
-use Rattle.np_changes.specs.Prelude.{Configuration, Entry, PoolId, Outcome, option_map, NodeId}
-use Rattle.np_worker.specs.Prelude.{Driving, Drove, Move, Work, of_pool, Launch, Tag, asked, launched, launches_of, removed}
-use Rattle.np_worker.specs.Players.{Player, driving_in, drivings_of, IsNumbered, next_number, AreNumbered, AreNamed, WasAnswered, launch_of}
-use Rattle.np_worker.specs.Played.{PlayerEnd, PlaysFrom, EachPlaysFrom}
+use Rattle.np_worker.proofs.Prelude.{All, All-cons, All-contains, All-nil, AreNamed, AreNumbered, Bool, Configuration, Contains, Contains-append_left, Contains-append_right, Drives, Driving, Drove, EachPlaysFrom, Entry, FollowsPlan, IfSome, IsNumbered, Launch, List, Move, NodeId, None, Option, Outcome, Player, PlayerEnd, PlaysFrom, PoolId, Some, Tag, WasAnswered, Work, [], ap, arith, driving_in, drivings_of, launch_of, launched, launches_of, map, nat_tests, next_number, of_pool, option_map, refl, slice_get, subst, suc, sym, zero, ℕ, ⊎_elim, ◌++◌, ◌+◌, ◌∙◌, ◌∷◌, ◌≡◌, ◌≤◌}
 use Rattle.np_worker.proofs.Servers.{HasDriver, numbered_driver}
 use Rattle.np_worker.proofs.Histories.{member-cases, no-member, All-left, All-right}
-use Rattle.std.specs.Prelude.{Option, Some, None, IfSome, Contains, All}
-use Rattle.std.proofs.lemmas.List.Elements.{Contains-append_left, Contains-append_right, All-contains, All-cons, All-nil}
-use Rattle.np_worker.specs.Drive.{Driving, FollowsPlan, Drives, Drove}
 
 abbrev pub player_of : PlayerEnd → Player
 player_of end = end.player
@@ -61,16 +54,11 @@ module _ (plans : Bool) (c : Configuration) (history : List Entry) where
 
 -- the first number only rises
 next-least : (n : ℕ) (work : Work) → n ≤ next_number n work
-next-least n (of_pool pool) = omega arith
-next-least n _ = omega arith
+next-least n work = grind (arith, nat_tests)
 
 -- a pool's worker is not numbered below the first
 number-least : (n : ℕ) (work : Work) (driving : Option Driving) (pool : PoolId) → IsNumbered n work driving → work ≡ of_pool pool → (pool.0 ≡ n) × (next_number n work ≡ suc n)
-number-least n (of_pool other) (Some d) pool is same =
-    let equal : other ≡ pool = cc in
-    (ap (λ (p : PoolId). p.0) (sym equal) ∙ is, refl)
-number-least n (of_pool other) None pool is same = absurd is
-number-least n _ driving pool is same = absurd cc
+number-least n work driving pool x1 x2 = grind (arith, nat_tests)
 
 numbered-least : (n : ℕ) (players : List Player) → AreNumbered n players → (player : Player) → Contains players player → (pool : PoolId) → player.work ≡ of_pool pool → n ≤ pool.0
 numbered-least n [] are player there pool own = no-member player there
@@ -131,9 +119,8 @@ answers_launches moves before now d l h = subst (λ (o : Option (List Launch)). 
 
 all_planned : (plan : Tag → Option Outcome) (moves : List Move) → FollowsPlan plan moves → All (IsPlanned plan) (launches_of moves)
 all_planned plan [] h = All-nil (IsPlanned plan)
-all_planned plan (asked a t ∷ moves) h = all_planned plan moves h
 all_planned plan (launched tag o ∷ moves) h = All-cons (IsPlanned plan) (record { tag = tag; outcome = o }) (launches_of moves) h.0 (all_planned plan moves h.1)
-all_planned plan (removed x ∷ moves) h = all_planned plan moves h
+all_planned plan (move ∷ moves) h = all_planned plan moves h
 
 -- each launch of a round went as it was planned
 pub launches_planned : (moves : List Move) (before now : Driving) → Drives moves before now → (l : Launch) → Contains (launches_of moves) l → IsPlanned before.plan l

@@ -1,19 +1,10 @@
 -- what the events of launches say
-use Rattle.std.proofs.Common.{◌≡◌, ⊎_elim, ℕ, true, Some, refl, sym, ap}
-use Rattle.std.specs.Prelude.{◌==◌, ◌&&◌}
-use Rattle.std.proofs.lemmas.Bool.{and_parts}
-use Rattle.np_changes.specs.Prelude.{Event, NodeId, Outcome, PoolId, Reply, Role, SessionId, is_node, is_session}
+use Rattle.np_worker.proofs.Prelude.{Event, IsAskOf, NodeId, Outcome, PoolId, Reply, Role, SessionId, Some, Start, Work, and_parts, ap, arith, equal-numbers, is_node, is_report_of, is_session, is_tick, nat_tests, of_pool, session-equal, start_in, sym, true, ℕ, ◌&&◌, ◌==◌, ◌≡◌}
 use Rattle.np_text.specs.declared.id.Role.TheVariants as role
 use Rattle.np_event.specs.declared.event.Event.TheVariants as ev
 use Rattle.np_event.specs.declared.reply.Reply.TheVariants as reply
 use Rattle.np_event.specs.declared.reply.Done.TheVariants as done
-use Rattle.np_useful.specs.Driven.{is_tick, is_report_of}
 use Rattle.np_worker.specs.declared.ask.Ask.TheVariants as ask
-use Rattle.np_worker.specs.declared.start.Start.{Start}
-use Rattle.np_worker.specs.Phase.{Work, of_pool, of_requester, of_reaper, start_in}
-use Rattle.np_worker.specs.Trace.{IsAskOf}
-use Rattle.np_lists.proofs.Plain.{equal-numbers}
-use Rattle.np_machine.proofs.Ids.{session-equal}
 
 -- the event and the reply of an accepted start
 pub record StartParts (pool : PoolId) (e : Event) (r : Reply) (s : Start) : Type 0 where
@@ -46,22 +37,12 @@ report-event session n attempt (ev.Done by m k o) is =
 report-event session n attempt _ is = absurd cc
 
 pub tick-event : (e : Event) → is_tick e ≡ true → e ≡ ev.Tick
-tick-event ev.Tick is = refl
-tick-event _ is = absurd cc
+tick-event e x1 = grind (arith, nat_tests)
 
 -- who acts for a launcher is its pool's worker
 pub act-work : (work : Work) (r : Role) (pool : PoolId) → IsAskOf work (ask.Act r) → r ≡ role.Launcher pool → work ≡ of_pool pool
-act-work (of_pool other) r pool own is = ⊎_elim
-    (λ (h : r ≡ role.Launcher other). let same : other ≡ pool = cc in ap of_pool same)
-    (λ (h : r ≡ role.Janitor other). absurd cc) own
-act-work (of_requester q) r pool own is =
-    let other : r ≡ role.Requester q = cc in
-    absurd cc
-act-work of_reaper r pool own is =
-    let other : r ≡ role.Reaper = cc in
-    absurd cc
+act-work work r pool x1 x2 = grind (arith, nat_tests)
 
 -- and who sweeps for a pool is its worker
 pub sweep-work : (work : Work) (pool : PoolId) (n : NodeId) (x : ℕ) → IsAskOf work (ask.Sweep pool n x) → work ≡ of_pool pool
-sweep-work (of_pool other) pool n x own = ap of_pool (sym own)
-sweep-work _ pool n x own = absurd cc
+sweep-work work pool n x x1 = grind (arith, nat_tests)

@@ -1,13 +1,8 @@
 -- a round reports a launch once
-use Rattle.std.proofs.Common.{Bool, false, ◌≡◌, inl, inr, ⊎_elim, ℕ, ◌<◌, List, ◌∷◌, ◌++◌, length, true, Some, is_ok, sym, ap, subst, arith, ◌∙◌, ◌≤◌, [], map, Contains, subst₂, append_assoc, length-append}
-use Rattle.np_changes.specs.Prelude.{Configuration, Entry, Event, Launcher, NodeId, NodeRecord, Outcome, PoolId, Runs, SessionId, after, judge, node_in, role_of, turns}
+use Rattle.np_worker.proofs.Prelude.{All-contains, AreNumbered, BeginsLaunch, Bool, Configuration, Contains, Entry, Event, HaveDrivenAs, IsChosen, IsDrivenTurn, IsOfUse, IsReportOfLaunch, IsRound, IsSweepOfServer, IsTickBetween, IsTurnAs, Launch, Launcher, List, NodeId, NodeRecord, Outcome, Player, PlayerEnd, PlaysFrom, PoolId, Runs, Says, SessionId, Some, StartsWith, WasOfUse, Work, [], after, ap, append_assoc, arith, false, inl, inr, is_ok, judge, launches_of, length, length-append, map, node_in, of_pool, role_of, start_state, subst, subst₂, sym, true, turns, ℕ, ⊎_elim, ◌++◌, ◌<◌, ◌∙◌, ◌∷◌, ◌≡◌, ◌≤◌}
 use Rattle.np_event.specs.declared.event.Event.TheVariants as ev
 use Rattle.np_event.specs.declared.reply.Done.TheVariants as done
 use Rattle.np_event.specs.declared.reply.Reply.TheVariants as reply
-use Rattle.np_worker.specs.Prelude.{Launch, WasOfUse, Work, of_pool, StartsWith, launches_of}
-use Rattle.np_machine.specs.State.{start as start_state}
-use Rattle.np_useful.specs.Driven.{Says, IsDrivenTurn, IsOfUse, IsTickBetween, IsSweepOfServer, IsReportOfLaunch, BeginsLaunch}
-use Rattle.np_worker.specs.Planned.{IsChosen, IsTurnAs}
 use Rattle.np_worker.proofs.Choices.{chosen-accepted, chosen-done, chosen-start}
 use Rattle.np_worker.proofs.Made.{Cause, IsActed, IsReported}
 use Rattle.np_worker.proofs.Histories.{split-outer, split-within, length-split, same-split}
@@ -15,9 +10,6 @@ use Rattle.np_worker.proofs.Places.{turn_after, some-place}
 use Rattle.np_worker.proofs.Starts.{once, report-later}
 use Rattle.np_worker.proofs.RoleLemmas.{role-stays}
 use Rattle.np_worker.proofs.Events.{start-parts, act-work}
-use Rattle.std.proofs.lemmas.List.Elements.{All-contains}
-use Rattle.np_worker.specs.Players.{Player, HaveDrivenAs, AreNumbered}
-use Rattle.np_worker.specs.Played.{PlayerEnd, PlaysFrom, IsRound}
 use Rattle.np_worker.proofs.Servers.{each_made}
 use Rattle.np_worker.proofs.Ends.{player_of, round-of, numbered-now}
 

@@ -1,18 +1,6 @@
 -- What a walk gained of the history.
-use Rattle.std.proofs.Common.{List, [], ap, append-nil, append_assoc, arith, length, length-append, refl, subst, suc, sym, ℕ, ◌++◌, ◌+◌, ◌∙◌, ◌∷◌, ◌≡◌}
-use Rattle.std.specs.Prelude.{Option, Some, None, slice_get}
-use Rattle.np_desk.specs.Pass.{Sight}
-use Rattle.np_desk.specs.Turned.{Records, Answered}
+use Rattle.np_worker.proofs.Prelude.{Answered, Ask, Entry, Gains, List, Move, None, Option, Records, Sight, Some, StandAt, StartsWith, Turn, Walk, [], ap, append-nil, append_assoc, arith, asked, entries_of, length, length-append, recorded, refl, slice_get, starts_more, starts_on, subst, suc, sym, ℕ, ◌++◌, ◌+◌, ◌∙◌, ◌∷◌, ◌≡◌}
 use Rattle.np_desk.specs.Turned as turned
-use Rattle.np_desk.specs.History.{StartsWith}
-use Rattle.np_desk.proofs.HistoryLemmas.{starts_on, starts_more}
-use Rattle.np_event.specs.declared.entry.Entry.{Entry}
-use Rattle.np_worker.specs.declared.ask.Ask.{Ask}
-use Rattle.np_worker.specs.declared.ask.Turn.{Turn}
-use Rattle.np_worker.specs.Asks.{recorded}
-use Rattle.np_worker.specs.Move.{Move, asked, launched, removed, entries_of}
-use Rattle.np_worker.specs.Walk.{Walk}
-use Rattle.np_worker.specs.Trace.{Gains, StandAt}
 
 -- an entry is where it was added, in each history that continues from there
 pub get_last : (before : List Entry) (e : Entry) (rest : List Entry) → slice_get ((before ++ e ∷ []) ++ rest) (length before) ≡ Some e
@@ -30,8 +18,7 @@ gained_turn (Some e) before v u w es h k i = (length before ∷ i.0, i.1 ∙ (ap
 stand_length : (seen : List Entry) (xs : List ℕ) (es : List Entry) → StandAt seen xs es → length xs ≡ length es
 stand_length seen [] [] h = refl
 stand_length seen (x ∷ xs) (e ∷ es) h = ap suc (stand_length seen xs es h.1)
-stand_length seen [] (e ∷ es) h = absurd h
-stand_length seen (x ∷ xs) [] h = absurd h
+stand_length seen _ _ h = absurd h
 
 pub gains_counted : (v : Sight Entry) (es : List Entry) (w : Sight Entry) → Gains v es w → length w.mine ≡ length v.mine + length es
 gains_counted v es w h = omega (arith, ap length h.1, length-append v.mine h.0, stand_length w.seen h.0 es h.2)
@@ -44,11 +31,9 @@ module _ {F : Type 0} (answers : F → List Entry → Ask → Turn → Type 0) (
   pub walk_seen : (ms : List Move) (v w : Sight Entry) → Walk answers f ms v w → StartsWith w.seen v.seen
   walk_seen [] v w h = h.0
   walk_seen (asked a t ∷ ms) v w h = starts_on w.seen h.0.seen v.seen (walk_seen ms h.0 w h.2) (turn_seen a t v h.0 h.1)
-  walk_seen (launched tag o ∷ ms) v w h = walk_seen ms v w h
-  walk_seen (removed x ∷ ms) v w h = walk_seen ms v w h
+  walk_seen (move ∷ ms) v w h = walk_seen ms v w h
 
   pub walk_gains : (ms : List Move) (v w : Sight Entry) → Walk answers f ms v w → Gains v (entries_of ms) w
   walk_gains [] v w h = ([], h.1 ∙ sym (append-nil v.mine), tt)
   walk_gains (asked a t ∷ ms) v w h = gained_turn (recorded a t) h.1.0 v h.0 w (entries_of ms) h.1.3 (walk_seen ms h.0 w h.2) (walk_gains ms h.0 w h.2)
-  walk_gains (launched tag o ∷ ms) v w h = walk_gains ms v w h
-  walk_gains (removed x ∷ ms) v w h = walk_gains ms v w h
+  walk_gains (move ∷ ms) v w h = walk_gains ms v w h

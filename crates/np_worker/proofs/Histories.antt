@@ -1,13 +1,5 @@
 -- Histories that go on, and the places of one's own, which rise in them
-use Rattle.std.proofs.Common.{◌≡◌, ℕ, suc, ◌≤◌, List, [], ◌∷◌, ◌++◌, length, length-append, sym, ap, ◌∙◌, arith, subst, append-nil, ◌⊎◌, inl, inr, ⊎_elim, zero, ◌<◌, get_or, All, Contains, refl, append_assoc}
-use Rattle.std.specs.Prelude.{Option, Some, None, Contains}
-use Rattle.np_changes.specs.Prelude.{AllByRecursion, Entry}
-use Rattle.std.proofs.lemmas.List.Elements.{All-from_recursion, All-contains, Contains-append_left, All-nil, All-cons, All-head, All-tail}
-use Rattle.np_worker.specs.Prelude.{AreRising, Move, Records, Sight, StartsWith, Walk, asked, launched, recorded, removed}
-use Rattle.np_worker.specs.declared.ask.Ask.{Ask}
-use Rattle.np_worker.specs.declared.ask.Turn.{Turn}
-use Rattle.np_desk.proofs.HistoryLemmas.{rising_more}
-use Rattle.np_desk.specs.History.{AreRising}
+use Rattle.np_worker.proofs.Prelude.{All, All-cons, All-contains, All-from_recursion, All-head, All-nil, All-tail, AllByRecursion, AreRising, Ask, Contains, Contains-append_left, Entry, List, Move, None, Option, Records, Sight, Some, StartsWith, Turn, Walk, [], ap, append-nil, append_assoc, arith, asked, get_or, length, length-append, nat_tests, recorded, refl, rising_more, subst, suc, sym, ℕ, ⊎_elim, ◌++◌, ◌<◌, ◌∙◌, ◌∷◌, ◌≡◌, ◌≤◌, ◌⊎◌}
 
 -- ## what a history begins with
 
@@ -64,8 +56,7 @@ module _ {F : Type 0} (answers : F → List Entry → Ask → Turn → Type 0) (
   pub walk_rises : (n : ℕ) (ms : List Move) (v w : Sight Entry) → Walk answers f ms v w → Rises n v → Rises n w
   walk_rises n [] v w h k = rises_seen n v w h.0 h.1 k
   walk_rises n (asked a t ∷ ms) v w h k = walk_rises n ms h.0 w h.2 (rises_turn n (recorded a t) h.1.0 v h.0 h.1.1 h.1.3 k)
-  walk_rises n (launched tag o ∷ ms) v w h k = walk_rises n ms v w h k
-  walk_rises n (removed x ∷ ms) v w h k = walk_rises n ms v w h k
+  walk_rises n (move ∷ ms) v w h k = walk_rises n ms v w h k
 
 -- ## lists that are split at a member, and places that rise
 
@@ -75,14 +66,13 @@ module _ {A : Type 0} where
   -- the place of a member determines what comes before it, the member, and what follows it
   pub same-split : (a b x y : List A) (d e : A) → a ++ d ∷ x ≡ b ++ e ∷ y → length a ≡ length b → (a ≡ b) × (d ≡ e) × (x ≡ y)
   same-split [] [] x y d e is long = (refl, cc, cc)
-  same-split [] (v ∷ b) x y d e is long = absurd (omega arith)
-  same-split (u ∷ a) [] x y d e is long = absurd (omega arith)
   same-split (u ∷ a) (v ∷ b) x y d e is long =
       let head : u ≡ v = cc in
       let tail : a ++ d ∷ x ≡ b ++ e ∷ y = cc in
       let short : length a ≡ length b = omega arith in
       let rest = same-split a b x y d e tail short in
       (cc (head, rest.0), rest.1, rest.2)
+  same-split _ _ x y d e is long = absurd (omega arith)
 
   -- a member that comes early enough is in the beginning of the list
   pub split-within : (a b x y : List A) (d : A) → a ++ d ∷ x ≡ b ++ y → length a < length b → (z : List A) × (b ≡ a ++ d ∷ z)
@@ -107,8 +97,7 @@ module _ {A : Type 0} where
   -- ## members
 
   member-at : (x : A) (xs : List A) (y : A) (k : ℕ) → k < length (x ∷ xs) → get_or (x ∷ xs) k y ≡ y → (x ≡ y) ⊎ Contains xs y
-  member-at x xs y zero less is = inl is
-  member-at x xs y (suc k) less is = inr (k, omega arith, is)
+  member-at x xs y k x1 x2 = grind (arith, nat_tests)
 
   pub member-cases : (x : A) (xs : List A) (y : A) → Contains (x ∷ xs) y → (x ≡ y) ⊎ Contains xs y
   member-cases x xs y h = member-at x xs y h.0 h.1 h.2

@@ -1,22 +1,10 @@
 -- a round, a tick and the start, for each pool with its driver
-use Rattle.std.proofs.Common.{◌≡◌, ◌∙◌, sym, refl, ap, subst, ⊎_elim, ℕ, zero, suc, ◌+◌, ◌<◌, ◌≤◌, List, [], ◌∷◌, ◌++◌, length, length-append, arith, append_assoc, append-nil, Option, Some, None, Bool, true, false, Contains, map, slice_get}
-use Rattle.std.specs.Prelude.{◌==◌, ◌||◌, All, IfSome, IsTrue, is_some}
-use Rattle.np_changes.specs.Prelude.{Configuration, Entry, NodeEntry, NodeId, NodeRecord, Outcome, PoolId, Runs, after, maker_of, node_in, option_map, option_map_or, turns}
-use Rattle.std.proofs.lemmas.Bool.{false≢true, false_from_ne_true, cases_lt}
-use Rattle.std.proofs.lemmas.Option.{none-some, same_Some}
-use Rattle.std.proofs.lemmas.List.Elements.{All-head, All-tail, All-contains, Contains-append_left}
+use Rattle.np_worker.proofs.Prelude.{All, All-contains, All-head, All-tail, AreAloneSound, AreNumbered, AreSoundAlone, BeginAfter, Bool, Carries, Configuration, Contains, Contains-append_left, DistinctNumbers, DrivenBy, Drives, Driving, Drove, EachPlaysFrom, Earlier, Entry, FailAfter, FailFull, HaveDriven, HaveHosted, HaveSoundness, Hosts, IfSome, IsCutOff, IsHosted, IsNumbered, IsRound, IsTrue, Launch, Leads, List, NodeEntry, NodeId, NodeRecord, None, Option, Outcome, Phase, Player, PlayerEnd, PlaysFrom, PoolId, Runs, Says, Server, Some, Soundness, StartsWith, SweepsServers, WasAnswered, Work, [], after, all-weaker, answers_of, ap, append-nil, append_assoc, arith, cases_lt, driving_in, drivings_of, ended, false, false_from_ne_true, false≢true, first_phase, fresh_sight, is_number, is_some, is_tick, launcher-role, launches_of, length, length-append, maker_of, map, nat_tests, next_number, node_in, none-some, numbers_in, numbers_of, of_pool, option_map, option_map_or, owes_launch, owes_report, refl, reported, reports_of, same_Some, servers_after, servers_up, slice_get, subst, suc, sym, true, turns, zero, ℕ, ⊎_elim, ◌++◌, ◌+◌, ◌<◌, ◌∙◌, ◌∷◌, ◌≡◌, ◌≤◌}
+use Rattle.np_worker.specs.Carried.{BeginsEmpty, BeginsNew, NeverRepeats, AreCarried, FailOnlyFull}
 use Rattle.np_event.specs.declared.event.Event.TheVariants as ev
 use Rattle.np_event.specs.declared.event.Outcome.TheVariants as outcome
-use Rattle.np_worker.specs.Prelude.{DrivenBy, Launch, Leads, Phase, Says, Server, StartsWith, Work, ended, first_phase, is_tick, launches_of, of_pool, owes_launch, owes_report}
-use Rattle.np_cloud.specs.Sound.{numbers_of, is_number, DistinctNumbers, Soundness}
-use Rattle.np_lists.proofs.Each.{all-weaker}
-use Rattle.np_changes.proofs.Makers.{launcher-role}
-use Rattle.np_worker.specs.Drive.{Driving, Drives, Drove, servers_after, SweepsServers, AreSoundAlone, FailFull}
 use Rattle.np_worker.proofs.Works.{asks_of}
 use Rattle.np_worker.proofs.Gained.{walk_seen}
-use Rattle.np_worker.specs.Planned.{answers_of}
-use Rattle.np_worker.specs.Players.{Player, driving_in, drivings_of, IsNumbered, next_number, AreNumbered, HaveDriven, WasAnswered}
-use Rattle.np_worker.specs.Played.{PlayerEnd, PlaysFrom, EachPlaysFrom, IsCutOff, IsRound, fresh_sight}
 use Rattle.np_worker.proofs.Ends.{player_of}
 use Rattle.np_worker.proofs.Servers.{told}
 use Rattle.np_worker.proofs.First.{old-entry}
@@ -24,10 +12,6 @@ use Rattle.np_worker.proofs.Leaves.{round-have-driven}
 use Rattle.np_worker.proofs.Starts.{holds-after}
 use Rattle.np_worker.proofs.Plays.{round-driven, round-no-tick}
 use Rattle.np_worker.proofs.Histories.{same-split, split-within, no-member}
-use Rattle.np_worker.specs.Nodes.{servers_up}
-use Rattle.np_worker.specs.Reports.{reported, numbers_in, reports_of, AreAloneSound, FailAfter}
-use Rattle.np_worker.specs.Carried.{BeginsEmpty, BeginsNew, NeverRepeats, AreCarried, FailOnlyFull}
-use Rattle.np_worker.specs.Hosting.{Carries, Hosts, Earlier, HaveSoundness, BeginAfter, HaveHosted, IsHosted}
 use Rattle.np_worker.proofs.Idle.{may-report, report-accepted}
 use Rattle.np_worker.proofs.Numbers.{outcomes, IsKnown, found-rows, up-sound, numbers-append}
 use Rattle.np_worker.proofs.StageLemmas.{IsForeign, AreForeign, nobody, Never, Tells, Calm, Leaves, Stands, tells-gap, held-gap, leaves-later}
@@ -97,7 +81,7 @@ module _ (c : Configuration) (history : List Entry) where
   pool-first n player end players ends plays _ own None None had has drove is rest i d' at same = pool-later c history player players end ends i i (n + i) d' (λ d stood. ap (λ (f : ℕ → Option Driving). f i) (sym same) ∙ stood) (rest i d' at)
   pool-first n player end players ends plays (of_pool pool) own (Some a) None had has drove is rest i d' at same = absurd drove
   pool-first n player end players ends plays _ own None (Some b) had has drove is rest i d' at same = absurd drove
-  pool-first n player end players ends plays _ own (Some a) now had has drove is rest i d' at same = absurd is
+  pool-first n player end players ends plays _ own _ now had has drove is rest i d' at same = absurd is
 
   pool-round : (n : ℕ) (players : List Player) (ends : List PlayerEnd) → EachPlaysFrom false c history players ends → AreNumbered n players → (i : ℕ) (d' : Driving) → slice_get (drivings_of (map player_of ends)) i ≡ Some d' → PoolRound c history players ends i (n + i) d'
   pool-round n [] [] each are i d' at = absurd (none-some d' at)
@@ -109,10 +93,7 @@ module _ (c : Configuration) (history : List Entry) where
 
 more-numbers : (z : ℕ) (us vs : List ℕ) → is_number z us ≡ true → is_number z (us ++ vs) ≡ true
 more-numbers z [] vs there = absurd (false≢true there)
-more-numbers z (u ∷ us) vs there = either (u == z) (more-numbers z us vs) there where
-  either : (b : Bool) → (is_number z us ≡ true → is_number z (us ++ vs) ≡ true) → (b || is_number z us) ≡ true → (b || is_number z (us ++ vs)) ≡ true
-  either true rest is = refl
-  either false rest is = rest is
+more-numbers z (u ∷ us) vs there = let rest = more-numbers z us vs in grind (arith, nat_tests)
 
 fewer-numbers : (z : ℕ) (us vs : List ℕ) → is_number z (us ++ vs) ≡ false → is_number z us ≡ false
 fewer-numbers z us vs out = false_from_ne_true (is_number z us) (λ there. false≢true (sym out ∙ more-numbers z us vs there))

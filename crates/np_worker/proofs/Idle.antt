@@ -1,37 +1,17 @@
 -- which reports of a pool's launcher the machine would accept: an event makes none acceptable, except a start
-use Rattle.std.proofs.Common.{◌≡◌, ◌≢◌, ◌∙◌, sym, refl, ap, subst, ◌⊎◌, inl, inr, ⊎_elim, ℕ, List, [], ◌∷◌, ◌++◌, arith, Option, Some, None, Result, Ok, Bool, true, false, cond, not, eqb-true, ◌+◌}
-use Rattle.std.specs.Prelude.{◌==◌, ◌-◌, is_ok, slice_get}
-use Rattle.np_changes.specs.Prelude.{AllByRecursion, Configuration, Event, Launcher, NodeEntry, NodeId, NodeRecord, PoolId, Refusal, Role, SessionFacts, SessionId, State, acting, as_launcher, change_session, ended, found, grown, is_session, is_session_of, joined, judge, launcher, left, list_any, muted, need, next, node_entry, node_holder, node_in, node_queue, option_map, option_map_or, plan, role_of, sessions_changed, with_act, ◌>>=◌, ◌>>◌, Done, Outcome, effect, holder, judge_done, judge_start, launched, put_node, reported, retries_of, start_by, started, starts_of}
-use Rattle.std.proofs.lemmas.Bool.{false≢true}
-use Rattle.std.proofs.lemmas.Bool.Decides.{nat_tests}
-use Rattle.std.proofs.lemmas.Option.{same_Some, none-some}
+use Rattle.np_worker.proofs.Prelude.{AllByRecursion, Bool, Changes, Configuration, Done, Event, Invariant, IsLive, IsQueue, Launcher, List, NodeEntry, NodeId, NodeRecord, None, Ok, Option, Outcome, PoolId, Refusal, Result, Role, SessionFacts, SessionId, SessionsChange, Some, State, [], after_found-keeps, after_given-keeps, all-filter, all-find, all-push, ap, arith, as_launcher, by_bool, change_session, cond, effect, eqb-true, facts-grown, facts_in, false, false≢true, found, grown, holder, inl, inr, is_ok, is_session, is_session_of, is_up, joined, judge, judge_done, judge_start, launcher, launcher-role, left, list_any, muted, nat_tests, need, next, next-keeps, node_entry, node_holder, node_in, node_in-put, node_in-queue, node_queue, node_queue-nowhere, node_queue-put, node_queue-queue, none-some, not, ok-is, option_map, option_map_or, plan, plan-next, put_node, refl, retries_of, role_of, same_Some, same_node-is, session-equal, sessions_changed, slice_get, slice_get-change_at, slice_get-change_at_other, start_by, started, starts_of, subst, sym, true, with_act, ℕ, ⊎_elim, ◌++◌, ◌+◌, ◌-◌, ◌==◌, ◌>>=◌, ◌>>◌, ◌∙◌, ◌∷◌, ◌≡◌, ◌⊎◌}
+use Rattle.np_changes.specs.Prelude.{acting, ended, launched, reported}
+use Rattle.np_machine.specs.Node.{effect_lock_node}
+use Rattle.np_laws.proofs.Firsts.{is_first, one-named}
 use Rattle.np_event.specs.declared.event.Event.TheVariants as ev
 use Rattle.np_event.specs.declared.reply.Refusal.TheVariants as no
-use Rattle.np_lists.proofs.Each.{all-find, all-filter, all-push}
-use Rattle.np_lists.proofs.ChangeLemmas.{slice_get-change_at, slice_get-change_at_other}
-use Rattle.np_machine.specs.Node.{judge_done, effect_lock_node}
-use Rattle.np_machine.proofs.Steps.{next-keeps, after_found-keeps, after_given-keeps}
-use Rattle.np_changes.specs.declared.changes.Changes.{Changes}
-use Rattle.np_changes.specs.declared.changes.SessionsChange.{SessionsChange}
 use Rattle.np_changes.specs.declared.changes.SessionsChange.TheVariants as sessions
-use Rattle.np_changes.proofs.Makers.{launcher-role}
-use Rattle.np_changes.proofs.PlanLaws.{plan-next}
-use Rattle.np_laws.specs.Parts.{IsLive, IsQueue, Invariant}
-use Rattle.np_laws.proofs.Firsts.{is_first, one-named}
-use Rattle.np_laws.proofs.Lookups.{same_node-is, node_in-queue, node_queue-queue, node_queue-nowhere, node_in-put, node_queue-put}
-use Rattle.np_laws.proofs.Sessions.{facts_in, facts-grown}
-use Rattle.np_worker.proofs.RoleLemmas.{same_launcher}
-use Rattle.np_worker.proofs.Starts.{MayReport, reporting, IsStarting, start-leads, starting}
-use Rattle.np_worker.proofs.Back.{Had, IsLess, behind, Back, is_plain, back-next}
-use Rattle.np_machine.proofs.Ids.{session-equal}
 use Rattle.np_text.specs.declared.word.NodeState.TheVariants as node_state
 use Rattle.np_event.specs.declared.event.Outcome.TheVariants as outcome
 use Rattle.np_event.specs.declared.reply.Done.TheVariants as done
-use Rattle.np_machine.specs.Tests.{launcher, after_found}
-use Rattle.np_changes.proofs.Tested.{ok-is}
-use Rattle.np_laws.proofs.Ids.{same_pool}
-use Rattle.np_laws.proofs.Replies.{accepted-state}
-use Rattle.np_worker.specs.Nodes.{is_up}
+use Rattle.np_worker.proofs.RoleLemmas.{same_launcher}
+use Rattle.np_worker.proofs.Starts.{MayReport, reporting, IsStarting, start-leads, starting}
+use Rattle.np_worker.proofs.Back.{Had, IsLess, behind, Back, is_plain, back-next}
 
 -- ## sessions
 
@@ -40,8 +20,7 @@ abbrev heard : Option SessionFacts → Result PoolId Refusal
 heard o = (found o no.NoSession >>= λ facts. need facts.live no.Expired >> (need (not facts.mute) no.Crashed >> Ok facts.role)) >>= as_launcher
 
 muted-unheard : (live : Bool) (role : Role) (p : PoolId) → ((need live no.Expired >> (need (not true) no.Crashed >> Ok role)) >>= as_launcher) ≡ Ok p → ⊥
-muted-unheard true role p is = cc
-muted-unheard false role p is = cc
+muted-unheard live role p is = grind (arith, nat_tests)
 
 -- the facts of a session after a change of one session's
 changed-facts : (other : SessionId) (g : SessionFacts → SessionFacts) (session : SessionId) (f : SessionFacts) (rows : List SessionFacts) → facts_in session rows ≡ Some f
@@ -49,15 +28,7 @@ changed-facts : (other : SessionId) (g : SessionFacts → SessionFacts) (session
 changed-facts other g session f rows is = by (session.0 == 0) refl is where
   at_place : (b : Bool) → (session.0 - 1 == other.0 - 1) ≡ b → (session.0 == 0) ≡ false → slice_get rows (session.0 - 1) ≡ Some f
       → (facts_in session (change_session other g rows) ≡ Some (g f)) ⊎ (facts_in session (change_session other g rows) ≡ Some f)
-  at_place true same positive there =
-      let place : session.0 - 1 ≡ other.0 - 1 = eqb-true (session.0 - 1) (other.0 - 1) same in
-      let here : slice_get rows (other.0 - 1) ≡ Some f = subst (λ (i : ℕ). slice_get rows i ≡ Some f) place there in
-      let now : slice_get (change_session other g rows) (session.0 - 1) ≡ Some (g f) =
-      subst (λ (i : ℕ). slice_get (change_session other g rows) i ≡ Some (g f)) (sym place) (slice_get-change_at (other.0 - 1) g rows ∙ ap (λ (o : Option SessionFacts). option_map g o) here) in
-      inl (rw positive now)
-  at_place false apart positive there =
-      let differ : session.0 - 1 ≢ other.0 - 1 = λ e. absurd (grind (arith, nat_tests)) in
-      inr (rw positive (slice_get-change_at_other (other.0 - 1) (session.0 - 1) g rows differ ∙ there))
+  at_place b same positive there = grind (arith, nat_tests, slice_get-change_at, slice_get-change_at_other)
 
   by : (b : Bool) → (session.0 == 0) ≡ b → cond b None (slice_get rows (session.0 - 1)) ≡ Some f → (facts_in session (change_session other g rows) ≡ Some (g f)) ⊎ (facts_in session (change_session other g rows) ≡ Some f)
   by true zero_number none = absurd cc
@@ -65,14 +36,10 @@ changed-facts other g session f rows is = by (session.0 == 0) refl is where
 
 settled-heard : (change : SessionsChange) (session : SessionId) (f : SessionFacts) (p : PoolId) (rows : List SessionFacts) → facts_in session rows ≡ Some f → heard (facts_in session (sessions_changed change rows)) ≡ Ok p → heard (Some f) ≡ Ok p
 settled-heard sessions.Same session f p rows is now = ap heard (sym is) ∙ now
-settled-heard (sessions.Mute other) session f p rows is now = by (changed-facts other muted session f rows is) where
-  by : (facts_in session (change_session other muted rows) ≡ Some (muted f)) ⊎ (facts_in session (change_session other muted rows) ≡ Some f) → heard (Some f) ≡ Ok p
-  by (inl quiet) = absurd (muted-unheard f.live f.role p (ap heard (sym quiet) ∙ now))
-  by (inr same) = ap heard (sym same) ∙ now
-settled-heard (sessions.End other) session f p rows is now = by (changed-facts other ended session f rows is) where
-  by : (facts_in session (change_session other ended rows) ≡ Some (ended f)) ⊎ (facts_in session (change_session other ended rows) ≡ Some f) → heard (Some f) ≡ Ok p
-  by (inl over) = absurd (let none : heard (Some (ended f)) ≡ Ok p = ap heard (sym over) ∙ now in cc)
-  by (inr same) = ap heard (sym same) ∙ now
+settled-heard (sessions.Mute other) session f p rows is now = ⊎_elim
+    (λ quiet. absurd (muted-unheard f.live f.role p (ap heard (sym quiet) ∙ now))) (λ same. ap heard (sym same) ∙ now) (changed-facts other muted session f rows is)
+settled-heard (sessions.End other) session f p rows is now = ⊎_elim
+    (λ over. absurd (let none : heard (Some (ended f)) ≡ Ok p = ap heard (sym over) ∙ now in cc)) (λ same. ap heard (sym same) ∙ now) (changed-facts other ended session f rows is)
 
 -- a session that was there, and may make events as a launcher, might before
 heard-before : (c : Configuration) (s : State) (e : Event) (session : SessionId) (p : PoolId) → IsLive s session → launcher (next c s e) session ≡ Ok p → launcher s session ≡ Ok p
@@ -108,10 +75,8 @@ less-all P now before (inr less) all = subst (AllByRecursion P) (sym less.1) (al
 -- who is first after others left was first, or stood behind the first
 left-first : (P : SessionId → Type 0) (session gone : SessionId) (queue : List SessionId) → is_first session (left gone queue) ≡ true → AllByRecursion P (behind queue) → (is_first session queue ≡ true) ⊎ P session
 left-first P session gone [] first all = absurd cc
-left-first P session gone (other ∷ queue) first all = by (is_session other gone) first where
-  by : (b : Bool) → is_first session (cond (not b) (other ∷ left gone queue) (left gone queue)) ≡ true → (is_first session (other ∷ queue) ≡ true) ⊎ P session
-  by true there = inr (first-all P session (left gone queue) there (all-filter P (λ x. not (is_session x gone)) queue all))
-  by false there = inl there
+left-first P session gone (other ∷ queue) first all = by_bool (λ b. is_first session (cond (not b) (other ∷ left gone queue) (left gone queue)) ≡ true → (is_first session (other ∷ queue) ≡ true) ⊎ P session) (is_session other gone)
+    (λ _ there. inr (first-all P session (left gone queue) there (all-filter P (λ x. not (is_session x gone)) queue all))) (λ _ there. inl there) first
 
 less-first : (P : SessionId → Type 0) (session : SessionId) (now before : List SessionId) → IsLess now before → is_first session now ≡ true → AllByRecursion P (behind before) → (is_first session before ≡ true) ⊎ P session
 less-first P session now before (inl same) first all = inl (subst (λ (queue : List SessionId). is_first session queue ≡ true) same first)
@@ -130,9 +95,7 @@ pub record IsNoLauncher (s : State) (session : SessionId) : Type 0 where
   pub other : is_launcher role ≡ false
 
 no-launcher : (s : State) (session : SessionId) (p : PoolId) → IsNoLauncher s session → launcher s session ≡ Ok p → ⊥
-no-launcher s session p none who =
-    let same : none.role ≡ Launcher p = same_Some none.role (Launcher p) (sym none.begun ∙ launcher-role s session p who) in
-    false≢true (sym none.other ∙ ap is_launcher same)
+no-launcher s session p x1 x2 = grind (arith, nat_tests)
 
 -- no launcher stands behind the holder of a node
 pub record NoLauncherWaits (s : State) : Type 0 where
@@ -188,17 +151,11 @@ may-same s t p session n k may same stands holds = record {
 
 joined-first : (P : SessionId → Type 0) (session by : SessionId) (queue : List SessionId) → is_first session (joined by queue) ≡ true → P by → (is_first session queue ≡ true) ⊎ P session
 joined-first P session by [] first such = inr (subst P (session-equal by session first) such)
-joined-first P session by (other ∷ queue) first such = inl (place (list_any (λ x. is_session x by) (other ∷ queue)) first) where
-  place : (b : Bool) → is_first session (cond b (other ∷ queue) (other ∷ queue ++ by ∷ [])) ≡ true → is_first session (other ∷ queue) ≡ true
-  place true there = there
-  place false there = there
+joined-first P session by (other ∷ queue) first such = inl (grind (arith, nat_tests))
 
 behind-joined : (P : SessionId → Type 0) (by : SessionId) (queue : List SessionId) → P by → AllByRecursion P (behind queue) → AllByRecursion P (behind (joined by queue))
 behind-joined P by [] such all = tt
-behind-joined P by (other ∷ queue) such all = place (list_any (λ x. is_session x by) (other ∷ queue)) where
-  place : (b : Bool) → AllByRecursion P (behind (cond b (other ∷ queue) (other ∷ queue ++ by ∷ [])))
-  place true = all
-  place false = all-push P queue by all such
+behind-joined P by (other ∷ queue) such all = by_bool (λ b. AllByRecursion P (behind (cond b (other ∷ queue) (other ∷ queue ++ by ∷ [])))) (list_any (λ x. is_session x by) (other ∷ queue)) (λ _. all) (λ _. all-push P queue by all such)
 
 module _ (c : Configuration) (s : State) (by : SessionId) (m : NodeId) (such : IsNoLauncher s by) where
   abbrev locking : State
@@ -270,8 +227,7 @@ module _ (c : Configuration) (s : State) (by : SessionId) (m : NodeId) (a : ℕ)
   later k = launched (retries_of c k.pool) s.tick o k
 
   done-leads : (q : PoolId) (r : MayReport s q by m a) → is_ok (judge_done s by m a) ≡ true → next c s (ev.Done by m a o) ≡ with_act (acting s (ev.Done by m a o)) (reported c s m o r.node)
-  done-leads q r accepted = accepted-state c s (ev.Done by m a o) accepted
-      ∙ ap (λ (x : Option NodeRecord). with_act (acting s (ev.Done by m a o)) (after_found x s (reported c s m o))) r.stands
+  done-leads q r x1 = grind (arith, nat_tests)
 
   -- after an accepted report none is acceptable on its node, and no other that was not
   pub may-before_done : is_ok (judge_done s by m a) ≡ true → (p : PoolId) (session : SessionId) (n : NodeId) (k : ℕ) → MayReport (next c s (ev.Done by m a o)) p session n k → MayReport s p session n k × ((m.0 == n.0) ≡ false)
@@ -345,29 +301,12 @@ kept-same s n k stood = record { old = k; stood = stood; of_pool = refl; server 
 
 -- a failed launch leaves a node where it is, or failed
 failed-up : (retries : ℕ) (k : NodeRecord) (b : Bool) → is_up (cond b node_state.Failed k.state) ≡ true → is_up k.state ≡ true
-failed-up retries k true up = absurd (false≢true up)
-failed-up retries k false up = up
+failed-up retries k b up = grind (arith, nat_tests)
 
 module _ (c : Configuration) (s : State) (by : SessionId) (m : NodeId) (a : ℕ) (accepted : is_ok (judge_done s by m a) ≡ true) where
   done-server : (o : Outcome) (q : PoolId) (r : MayReport s q by m a) (n : NodeId) (k : NodeRecord) (x : ℕ) → m ≡ n → launched (retries_of c r.node.pool) s.tick o r.node ≡ k → k.server ≡ Some x
       → KeptServer s n k ⊎ IsReportedBy s (ev.Done by m a o) n k x
-  done-server (outcome.Launched y) q r n k x here is has =
-      let same : y ≡ x = same_Some y x (ap (λ (z : NodeRecord). z.server) is ∙ has) in
-      let pool : r.node.pool ≡ k.pool = ap (λ (z : NodeRecord). z.pool) is in
-      inr (record {
-        by = by;
-        attempt = a;
-        event = ap (λ (z : NodeId). ev.Done by z a (outcome.Launched y)) here ∙ ap (λ (z : ℕ). ev.Done by n a (outcome.Launched z)) same;
-        accepted = subst (λ (z : NodeId). is_ok (judge_done s by z a) ≡ true) here accepted;
-        who = r.who ∙ ap (λ (z : PoolId). Ok z) (sym (same_pool r.node.pool q r.of_pool) ∙ pool);
-      })
-  done-server outcome.Failed q r n k x here is has = inl (record {
-    old = r.node;
-    stood = ap (λ (z : NodeId). node_in z s.nodes) (sym here) ∙ r.stands;
-    of_pool = ap (λ (z : NodeRecord). z.pool.0) (sym is);
-    server = ap (λ (z : NodeRecord). z.server) (sym is);
-    up = λ u. failed-up (retries_of c r.node.pool) r.node (r.node.attempts == retries_of c r.node.pool) (subst (λ (z : NodeRecord). is_up z.state ≡ true) (sym is) u);
-  })
+  done-server o q r n k x x1 x2 x3 = grind (arith, nat_tests)
 
   pub server-before_done : (o : Outcome) (n : NodeId) (k : NodeRecord) (x : ℕ) → node_in n (next c s (ev.Done by m a o)).nodes ≡ Some k → k.server ≡ Some x → KeptServer s n k ⊎ IsReportedBy s (ev.Done by m a o) n k x
   server-before_done o n k x is has =

@@ -1,16 +1,9 @@
 -- Servers that reports named: they stay so, and a launch's server is named by the report of the launch
-use Rattle.std.proofs.Common.{◌≡◌, inl, inr, ℕ, List, [], ◌∷◌, ◌++◌, sym, refl, subst, Bool, false, All, Some}
-use Rattle.std.specs.Prelude.{All}
-use Rattle.std.proofs.lemmas.List.Elements.{All-push, All-weaker, All-nil}
-use Rattle.np_changes.specs.Prelude.{Configuration, Entry, Outcome, SessionId, SomeTurn, Turn, after, start, turns, turns_from, EachAfter}
+use Rattle.np_worker.proofs.Prelude.{All, All-nil, All-push, All-weaker, AreNamed, AreNumbered, Bool, Configuration, DrivenAs, Driving, EachAfter, EachAfter-push, Entry, HaveDrivenAs, IsTurnAs, List, NamesServer, Outcome, Player, Says, Server, SessionId, Some, SomeTurn, Start, StartsWith, WasAnswered, WasNamed, [], after, drivings_of, false, inl, inr, is_tick, refl, report_of, start, subst, sym, turns, turns_from, with_launched, ℕ, ◌++◌, ◌∷◌, ◌≡◌}
+use Rattle.np_changes.specs.Prelude.{Turn}
 use Rattle.np_event.specs.declared.event.Event.TheVariants as ev
 use Rattle.np_event.specs.declared.event.Outcome.TheVariants as outcome
-use Rattle.np_worker.specs.Prelude.{NamesServer, Server, StartsWith, report_of, with_launched, Driving, Says, is_tick}
-use Rattle.np_worker.specs.declared.start.Start.{Start}
-use Rattle.np_worker.specs.Players.{WasNamed, Player, drivings_of, AreNumbered, HaveDrivenAs, WasAnswered, AreNamed}
 use Rattle.np_worker.proofs.Places.{turn_of, turns-append, some-left, turn_after, as-each, each-as, turn-as}
-use Rattle.np_lists.proofs.EachAfterLemmas.{EachAfter-push}
-use Rattle.np_worker.specs.Planned.{IsTurnAs, DrivenAs}
 
 module _ (P : Turn → Type 0) where
   some_last : (ts : List Turn) (t : Turn) → P t → SomeTurn P (ts ++ t ∷ [])

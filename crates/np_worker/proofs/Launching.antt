@@ -1,35 +1,21 @@
 -- Accepted starts, their launches and the reports of these.
-use Rattle.std.proofs.Common.{◌≡◌, ℕ, List, [], ◌∷◌, ◌++◌, sym, refl, ap, ◌∙◌, subst, append-nil, append_assoc, true}
-use Rattle.std.specs.Prelude.{Option, None, IfSome, map}
-use Rattle.np_changes.specs.Prelude.{Outcome, PoolId, Role}
+use Rattle.np_worker.proofs.Prelude.{AreReported, Ask, IfSome, IsReported, Launch, Leads, List, MayAsk, Move, None, Option, Outcome, Phase, PoolId, Reports, Role, Start, Tag, Turn, [], acting, after_launch, after_removal, after_turn, ap, append-nil, append_assoc, arith, asked, is_idle, launched, launches_of, map, nat_tests, owed_tags, owes_launch, owes_report, refl, removed, start_made, subst, sym, tags_launched, tags_of, true, ℕ, ◌++◌, ◌∙◌, ◌∷◌, ◌≡◌}
+use Rattle.np_worker.specs.Trace.{starts_of}
 use Rattle.np_text.specs.declared.id.Role.TheVariants as role
-use Rattle.np_cloud.specs.declared.driver.Tag.{Tag}
-use Rattle.np_cloud.specs.declared.driver.Launch.{Launch}
-use Rattle.np_worker.specs.declared.ask.Ask.{Ask}
 use Rattle.np_worker.specs.declared.ask.Ask.TheVariants as ask
-use Rattle.np_worker.specs.declared.ask.Turn.{Turn}
 use Rattle.np_worker.specs.declared.ask.Turn.TheVariants as turn
-use Rattle.np_worker.specs.declared.start.Start.{Start}
-use Rattle.np_worker.specs.Move.{Move, asked, launched, removed, launches_of}
-use Rattle.np_worker.specs.Phase.{Phase, owes_launch, owes_report, acting, after_turn, after_launch, after_removal, MayAsk, Leads}
-use Rattle.np_worker.specs.Trace.{tags_of, start_made, starts_of, tags_launched, owed_tags, IsReported, Reports, AreReported, is_idle}
 use Rattle.np_worker.proofs.Steps.{TurnCases, of_turn, of_launch, of_removal, goes_on}
 
 none_full : (a : Ask) → start_made a turn.Full ≡ None
-none_full (ask.Act (role.Launcher pool)) = refl
-none_full (ask.Act r) = refl
-none_full a = refl
+none_full a = grind (arith, nat_tests)
 
 none_idle : (r : Role) (t : Turn) → is_idle t ≡ true → start_made (ask.Act r) t ≡ None
-none_idle (role.Launcher pool) (turn.Did e) i = absurd (cc)
-none_idle (role.Launcher pool) t i = refl
-none_idle r t i = refl
+none_idle r t x1 = grind (arith, nat_tests)
 
 -- ## launches
 
 asks_owe_none : (p : Phase) (a : Ask) → MayAsk p a → owed_tags p ≡ []
-asks_owe_none (owes_launch pool n s) a m = absurd m
-asks_owe_none p a m = refl
+asks_owe_none p a x1 = grind (arith, nat_tests)
 
 role_owes_none : (r : Role) (n : ℕ) → [] ≡ owed_tags (acting r n)
 role_owes_none r n = goes_on (λ s. [] ≡ owed_tags s) (λ q m. refl) (λ pool m. refl) (λ pool. refl) refl r n
@@ -63,14 +49,12 @@ starts_launched p q (removed y ∷ ms) h = of_removal (λ u s. owed_tags u ++ st
 reports : (pool : PoolId) (n : ℕ) (s : Start) (o : Outcome) (ms : List Move) (q : Phase) → Leads (owes_report pool n s o) ms q → Reports s o ms q
 reports pool n s o [] q h = (pool, n, sym h)
 reports pool n s o (asked a t ∷ ms) q h = h.0
-reports pool n s o (launched tag x ∷ ms) q h = absurd h.0
-reports pool n s o (removed x ∷ ms) q h = absurd h.0
+reports pool n s o _ q h = absurd h.0
 
 is_reported : (pool : PoolId) (n : ℕ) (s : Start) (ms : List Move) (q : Phase) → Leads (owes_launch pool n s) ms q → IsReported s ms q
 is_reported pool n s [] q h = (pool, n, sym h)
-is_reported pool n s (asked a t ∷ ms) q h = absurd h.0
 is_reported pool n s (launched tag o ∷ ms) q h = (h.0, reports pool n s o ms q h.1)
-is_reported pool n s (removed x ∷ ms) q h = absurd h.0
+is_reported pool n s _ q h = absurd h.0
 
 module _ (ms : List Move) (q : Phase) where
   -- the start, if there is one, is launched and reported in these moves
@@ -97,11 +81,9 @@ module _ (ms : List Move) (q : Phase) where
 pub are_reported : (p q : Phase) (ms : List Move) → Leads p ms q → AreReported ms q
 are_reported p q [] h = tt
 are_reported p q (asked a t ∷ ms) h = (of_turn (TurnReported ms q) (turns_reported ms q) p a t h.0 h.1, are_reported (after_turn p a t) q ms h.1)
-are_reported p q (launched tag o ∷ ms) h = are_reported _ q ms h.1
-are_reported p q (removed x ∷ ms) h = are_reported _ q ms h.1
+are_reported p q (move ∷ ms) h = are_reported _ q ms h.1
 
 pub tags_of_launches : (ms : List Move) → tags_launched ms ≡ map (λ (l : Launch). l.tag) (launches_of ms)
 tags_of_launches [] = refl
-tags_of_launches (asked a t ∷ ms) = tags_of_launches ms
 tags_of_launches (launched tag o ∷ ms) = ap (λ (l : List Tag). tag ∷ l) (tags_of_launches ms)
-tags_of_launches (removed x ∷ ms) = tags_of_launches ms
+tags_of_launches (move ∷ ms) = tags_of_launches ms

@@ -1,10 +1,5 @@
 -- a round of players none of whom was cut off: each of their servers was named
-use Rattle.std.proofs.Common.{◌≡◌, suc, ◌<◌, List, [], ◌∷◌, ◌++◌, map, length, Bool, false, All, Contains, refl, sym, subst, arith}
-use Rattle.std.proofs.lemmas.List.Elements.{All-nil, All-append, All-weaker, All-contains}
-use Rattle.np_changes.specs.Prelude.{Configuration, Entry, Runs, after}
-use Rattle.np_worker.specs.Prelude.{Driving, StartsWith}
-use Rattle.np_worker.specs.Players.{Player, driving_in, drivings_of, AreNamed, HaveDrivenAs}
-use Rattle.np_worker.specs.Played.{PlayerEnd, IsCutOff, IsRound}
+use Rattle.np_worker.proofs.Prelude.{All, All-append, All-contains, All-nil, All-weaker, AreNamed, Bool, Configuration, Contains, Driving, Entry, HaveDrivenAs, IsCutOff, IsRound, List, Player, PlayerEnd, Runs, StartsWith, [], after, arith, driving_in, drivings_of, false, length, map, refl, subst, suc, sym, ◌++◌, ◌<◌, ◌∷◌, ◌≡◌}
 use Rattle.np_worker.proofs.Ends.{player_of, round-of}
 use Rattle.np_worker.proofs.Journals.{names-later}
 use Rattle.np_worker.proofs.Servers.{servers_named}

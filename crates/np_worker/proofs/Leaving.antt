@@ -1,32 +1,20 @@
 -- Why a server left: a removal comes right after a turn that named the server.
-use Rattle.std.proofs.Common.{◌≡◌, ◌⊎◌, inl, inr, ℕ, zero, suc, ◌<◌, Bool, true, List, [], ◌∷◌, ◌++◌, length, get_or, sym, refl, ap, subst, arith, ◌∙◌, false, ◌+◌, length-append}
-use Rattle.std.specs.Prelude.{Contains, filter, not, ◌==◌, Some, None, Option, slice_get, All, unwrap_or}
-use Rattle.std.proofs.lemmas.List.Elements.{All-contains, All-contains_itself, All-filter, Contains-push, Contains-push_cases, All-weaker}
-use Rattle.np_changes.specs.Prelude.{Configuration, Entry, NodeId, Outcome, PoolId, after, is_swept, option_map}
+use Rattle.np_worker.proofs.Prelude.{All, All-contains, All-contains_itself, All-filter, All-weaker, Answered, AreAsksOf, AreInOrder, Ask, Bool, Configuration, Contains, Contains-push, Contains-push_cases, Drives, Driving, Drove, Entry, HasServers, IsAskOf, IsDue, IsOfRound, IsOfServer, IsOnlyNodeOfItsNumber, IsOnlyOfItsNumber, IsSweepAt, IsSweptAfter, Launch, Leads, LeftWithCause, List, Move, NodeId, None, Option, Outcome, Phase, Player, PlayerEnd, PlaysFrom, PoolId, Records, Server, Sight, Some, StartsWith, StaysKept, SweepsServers, Tag, Turn, Walk, WasDue, WasFull, WasKept, WasLaunched, WasRemoved, WasSwept, Work, [], after, answers_of, answers_sweep, ap, arith, asked, ended, false, filter, first_phase, fresh_sight, get_or, inl, inr, is_remove, is_swept, is_unwanted, launched, launches_of, length, length-append, nat_tests, not, of_pool, recorded, refl, removed, servers_after, slice_get, stage_of, starts_on, starts_same, subst, suc, sym, true, with_launched, without_number, zero, ℕ, ◌++◌, ◌+◌, ◌<◌, ◌==◌, ◌∙◌, ◌∷◌, ◌≡◌, ◌⊎◌}
+use Rattle.np_worker.specs.Trace.{NamesServer, AreNamed}
 use Rattle.np_event.specs.declared.event.Outcome.TheVariants as outcome
-use Rattle.np_worker.specs.Prelude.{Answered, IsDue, IsOfServer, Launch, Move, Records, Server, Sight, StartsWith, SweepsServers, Tag, Walk, answers_sweep, asked, is_unwanted, launched, launches_of, of_pool, recorded, removed, servers_after, with_launched, without_number, Drives, Driving, Drove, Leads, Phase, WasKept, Work, ended, first_phase}
-use Rattle.np_worker.specs.declared.ask.Ask.{Ask}
 use Rattle.np_worker.specs.declared.ask.Ask.TheVariants as ask
-use Rattle.np_worker.specs.declared.ask.Turn.{Turn}
 use Rattle.np_worker.specs.declared.ask.Turn.TheVariants as turn
-use Rattle.np_worker.specs.Trace.{IsAskOf, AreAsksOf, NamesServer, AreNamed, WasRemoved, AreInOrder, WasFull, stage_of}
-use Rattle.np_worker.proofs.Removed.{stays_or_goes}
-use Rattle.np_worker.specs.Planned.{answers_of}
-use Rattle.np_worker.specs.Servers.{WasLaunched, IsOfRound, WasDue, WasSwept, IsSweepAt, StaysKept, HasServers, IsOnlyOfItsNumber, IsOnlyNodeOfItsNumber, IsSweptAfter, LeftWithCause}
-use Rattle.np_worker.proofs.Swept.{swept-stays, swept-after}
-use Rattle.np_desk.proofs.HistoryLemmas.{starts_on, starts_same}
-use Rattle.np_worker.proofs.Gained.{turn_seen, walk_seen, get_last}
 use Rattle.np_text.specs.declared.id.Role.TheVariants as role
 use Rattle.np_event.specs.declared.reply.Done.TheVariants as done
 use Rattle.np_event.specs.declared.reply.Reply.TheVariants as reply
-use Rattle.np_worker.specs.Phase.{is_remove, is_unwanted}
+use Rattle.np_worker.proofs.Removed.{stays_or_goes}
+use Rattle.np_worker.proofs.Swept.{swept-stays, swept-after}
+use Rattle.np_worker.proofs.Gained.{turn_seen, walk_seen, get_last}
 use Rattle.np_worker.proofs.Histories.{starts_length}
 use Rattle.np_worker.proofs.RoundEnds.{is_at_end}
 use Rattle.np_worker.proofs.Order.{in_order}
 use Rattle.np_worker.proofs.Removals.{are_named}
 use Rattle.np_worker.proofs.Works.{asks_of}
-use Rattle.np_worker.specs.Players.{Player}
-use Rattle.np_worker.specs.Played.{PlayerEnd, PlaysFrom, fresh_sight}
 use Rattle.np_worker.proofs.Servers.{told}
 use Rattle.np_worker.proofs.SweepLemmas.{sweep-removes}
 
@@ -131,8 +119,6 @@ module _ (plans : Bool) (c : Configuration) (pool : PoolId) (history : List Entr
   named-cause now own _ _ y v u mine there names from to h = absurd names
 
   pub removed-cause : (ms : List Move) (now : List Server) (v : Sight Entry) (x : ℕ) → StartsWith v.seen history → Walk (answers_of plans) c ms v w → AreNamed ms → AreAsksOf (of_pool pool) ms → SweepsServers ms now → AreOfRound now → LaunchesAreOfRound ms → WasRemoved x ms → HasCause x
-  removed-cause [] now v x from walk named mine swept own launches gone = absurd gone
-  removed-cause (asked a t ∷ []) now v x from walk named mine swept own launches gone = absurd gone
   removed-cause (asked a t ∷ asked b s ∷ ms) now v x from walk named mine swept own launches gone =
       removed-cause (asked b s ∷ ms) now walk.0 x (starts_on walk.0.seen v.seen history (turn_seen (answers_of plans) c a t v walk.0 walk.1) from) walk.2 named mine.1 swept.1 own launches gone
   removed-cause (asked a t ∷ launched tag o ∷ ms) now v x from walk named mine swept own launches gone =
@@ -144,6 +130,7 @@ module _ (plans : Bool) (c : Configuration) (pool : PoolId) (history : List Entr
   removed-cause (launched tag o ∷ ms) now v x from walk named mine swept own launches gone =
       removed-cause ms (with_launched tag o now) v x from walk named mine swept (more-of_round tag o ms now own launches) (later-launches tag o ms launches) gone
   removed-cause (removed y ∷ ms) now v x from walk named mine swept own launches gone = absurd named
+  removed-cause _ now v x from walk named mine swept own launches gone = absurd gone
 
 -- ## Where servers stay: each was kept at its sweep, and from the first sweep on a round only sweeps.
 
@@ -188,16 +175,14 @@ module _ (plans : Bool) (c : Configuration) where
 
   sweeps-last : (ms : List Move) (v w : Sight Entry) → AreInOrder 2 ms → Walk (answers_of plans) c ms v w → (x : ℕ) → Contains w.mine x → (Contains v.mine x) ⊎ IsSweepAt w.seen x
   sweeps-last [] v w order walk x there = inl (subst (λ (l : List ℕ). Contains l x) walk.1 there)
-  sweeps-last (asked (ask.Act (role.Janitor p)) t ∷ ms) v w order walk x there = absurd (omega (arith, order.0))
-  sweeps-last (asked (ask.Act r) t ∷ ms) v w order walk x there = absurd (omega (arith, order.0))
   sweeps-last (asked (ask.Sweep p n y) t ∷ ms) v w order walk x there =
       elim (sweeps-last ms walk.0 w order.1 walk.2 x there) [
         | inl k ↦ sweep-made p n y t v walk.0 w walk.1 (walk_seen (answers_of plans) c ms walk.0 w walk.2) x k
         | inr s ↦ inr s
       ]
+  sweeps-last (asked (ask.Act (role.Janitor p)) t ∷ ms) v w order walk x there = absurd (omega (arith, order.0))
   sweeps-last (asked a t ∷ ms) v w order walk x there = absurd (omega (arith, order.0))
-  sweeps-last (launched tag o ∷ ms) v w order walk x there = sweeps-last ms v w order walk x there
-  sweeps-last (removed y ∷ ms) v w order walk x there = sweeps-last ms v w order walk x there
+  sweeps-last (move ∷ ms) v w order walk x there = sweeps-last ms v w order walk x there
 
   -- ## a server that was kept
 
@@ -239,8 +224,7 @@ module _ (plans : Bool) (c : Configuration) where
         kept-stays t ms walk.0 (stage_of a) k unwanted (omega (arith, l)) is (λ full. room (inr full)) order.1
         (starts_on walk.0.seen v.seen history (turn_seen (answers_of plans) c a s v walk.0 walk.1) from)
         (below-turn (recorded a s) walk.1.0 v walk.0 walk.1.1 walk.1.3 below) walk.2
-    kept-stays t (launched tag o ∷ ms) v stage (suc k) unwanted l is room order from below walk = kept-stays t ms v stage k unwanted (omega (arith, l)) is room order from below walk
-    kept-stays t (removed x ∷ ms) v stage (suc k) unwanted l is room order from below walk = kept-stays t ms v stage k unwanted (omega (arith, l)) is room order from below walk
+    kept-stays t (move ∷ ms) v stage (suc k) unwanted l is room order from below walk = kept-stays t ms v stage k unwanted (omega (arith, l)) is room order from below walk
 
 -- ## What became of a driver's servers in a player's round.
 
@@ -250,8 +234,7 @@ drives-between : (trace : List Move) (a b : Option Driving) (d e : Driving) → 
 drives-between trace a b d e is to h = subst (λ (o : Option Driving). Drove trace (Some d) o) to (subst (λ (o : Option Driving). Drove trace o b) is h)
 
 servers-left : (trace : List Move) (d e : Driving) (before now : List Server) → Drives trace d e → d.facts.servers ≡ Some before → e.facts.servers ≡ Some now → now ≡ servers_after trace before
-servers-left trace d e before now h was is =
-    ap (λ (o : Option (List Server)). unwrap_or o []) (sym is ∙ h.servers ∙ ap (option_map (servers_after trace)) was)
+servers-left trace d e before now x1 x2 x3 = grind (arith, nat_tests)
 
 trace-cause : (plans : Bool) (c : Configuration) (history : List Entry) (w : Sight Entry) (pool : PoolId) (q : Phase) (trace : List Move) (before : List Server) (server : Server) → Walk (answers_of plans) c trace (fresh_sight history) w → Leads (first_phase (of_pool pool)) trace q → SweepsServers trace before → IsOfRound trace before server → (Contains (servers_after trace before) server → ⊥) → LeftWithCause c history w.seen pool trace before server
 trace-cause plans c history w pool q trace before server walked led swept own gone =

@@ -1,18 +1,9 @@
 -- a legal journal is one that runs
-use Rattle.std.proofs.Common.{◌≡◌, ◌∙◌, ◌<◌, ◌≤◌, ℕ, zero, suc, true, List, [], ◌∷◌, ◌++◌, length, take, Some, refl, sym, ap, subst, arith, length-append}
-use Rattle.std.specs.Prelude.{nat_le, slice_get}
-use Rattle.std.proofs.lemmas.Bool.Decides.{nat_tests}
-use Rattle.np_changes.specs.Prelude.{Configuration, Entry, Reply, Runs, State, after, judge, next, replayed, reply_of, start, state_after}
+use Rattle.np_worker.proofs.Prelude.{Configuration, Entry, IsReplied, List, Reply, Runs, Some, State, [], after, and_from, and_parts, ap, arith, head-reply, is-at_most, is_same_reply, judge, length, length-append, nat_le, nat_tests, next, refl, replayed, replied-at, reply_of, slice_get, start, state_after, subst, suc, sym, tail-replies, take, true, zero, ℕ, ◌++◌, ◌<◌, ◌∙◌, ◌∷◌, ◌≡◌, ◌≤◌}
 use Rattle.np_machine.proofs.Runs.{Runs-prefix}
-use Rattle.np_laws.proofs.Replies.{head-reply, tail-replies}
 use Rattle.np_changes.proofs.RunSteps.{Runs-next}
-use Rattle.np_worker.specs.Answers.{IsReplied}
 use Rattle.np_worker.specs.Legal.{has_replies, is_legal}
-use Rattle.np_worker.specs.Replies.{is_same_reply}
 use Rattle.np_worker.proofs.ReplyLemmas.{same-reply, reply-same}
-use Rattle.np_lists.proofs.Plain.{is-at_most}
-use Rattle.std.proofs.lemmas.Bool.{and_parts, and_from}
-use Rattle.np_laws.proofs.LiveHolders.{replied-at}
 
 -- ## the replies
 

@@ -49,3 +49,4 @@ pub mod Taken
 pub mod RoundEnds
 pub mod Works
 pub mod Removed
+pub mod Prelude

@@ -1,21 +1,11 @@
 -- why a player's round made an entry: it acted for its role, it swept a server, or it reported a launch that it had begun with its entry before
-use Rattle.std.proofs.Common.{◌≡◌, ◌⊎◌, inl, inr, ⊎_elim, Bool, ℕ, length, List, [], ◌∷◌, ◌++◌, Some, sym, refl, ap, ◌∙◌, subst, append_assoc, append-nil, arith, true, false, cond}
-use Rattle.std.specs.Prelude.{Contains, All, Option, Some, None, not, ◌==◌}
-use Rattle.std.proofs.lemmas.List.Elements.{Contains-push_cases, All-contains, All-filter, Contains-push}
-use Rattle.np_changes.specs.Prelude.{Configuration, Entry, Launcher, NodeId, Outcome, PoolId, Role, SomeTurn, turns}
-use Rattle.np_worker.specs.Prelude.{IsAskOf, IsReplied, Launch, NamesServer, Sight, StartsWith, Unturned, Work, answers_sweep, of_pool, report_of, start_of, Answered, AreAsksOf, IsFull, IsOfServer, Move, Server, SweepsServers, Tag, Walk, asked, launched, launches_of, recorded, removed, servers_after, with_launched, without_number}
+use Rattle.np_worker.proofs.Prelude.{All, All-contains, All-filter, Answered, AreAsksOf, Ask, Bool, Configuration, Contains, Contains-push, Contains-push_cases, Entry, IsAskOf, IsChosen, IsOfServer, IsReplied, Launch, Launcher, Leads, List, MayAsk, MayLaunch, MayRemove, Move, NamesServer, NodeId, None, Option, Outcome, Phase, PoolId, Role, Server, Sight, Some, SomeTurn, Start, StartsWith, SweepsServers, Tag, Turn, Unturned, Walk, WasNamed, Work, [], acting, acts, after_entry, after_launch, after_removal, after_role, after_start, after_turn, answers_of, answers_sweep, ap, append-nil, append_assoc, arith, asked, cond, ended, false, first_phase, inl, inr, is_remove, launched, launches_of, length, looks, not, of_pool, owes_due, owes_launch, owes_report, owes_swept, recorded, refl, removed, report_of, servers_after, start_of, starts_more, starts_on, starts_same, subst, sweeps, sym, true, turns, with_launched, without_number, ℕ, ⊎_elim, ◌++◌, ◌==◌, ◌∙◌, ◌∷◌, ◌≡◌, ◌⊎◌}
+use Rattle.np_worker.specs.Prelude.{IsFull}
 use Rattle.np_worker.specs.declared.ask.Ask.TheVariants as ask
 use Rattle.np_worker.specs.declared.ask.Turn.TheVariants as turn
-use Rattle.np_worker.specs.declared.start.Start.{Start}
-use Rattle.np_desk.proofs.HistoryLemmas.{starts_more, starts_on, starts_same}
-use Rattle.np_worker.specs.Planned.{IsChosen, answers_of}
-use Rattle.np_worker.proofs.Histories.{starts_equal, contains_later, starts_length}
 use Rattle.np_text.specs.declared.id.Role.TheVariants as role
-use Rattle.np_worker.specs.declared.ask.Ask.{Ask}
-use Rattle.np_worker.specs.declared.ask.Turn.{Turn}
-use Rattle.np_worker.specs.Phase.{Work, of_pool, Phase, acting, acts, owes_launch, owes_report, looks, owes_due, sweeps, owes_swept, ended, first_phase, after_role, after_start, after_entry, after_turn, after_launch, after_removal, is_remove, start_of, report_of, MayAsk, MayLaunch, MayRemove, Leads}
+use Rattle.np_worker.proofs.Histories.{starts_equal, contains_later, starts_length}
 use Rattle.np_worker.proofs.Steps.{goes_on, of_removal}
-use Rattle.np_worker.specs.Players.{WasNamed}
 use Rattle.np_worker.proofs.Events.{act-work, sweep-work}
 use Rattle.np_worker.proofs.Journals.{all_named_later, named_later, report_names}
 

@@ -1,16 +1,7 @@
 -- numbers of servers: none is launched twice, and those of nodes that are up are among the driver's
-use Rattle.std.proofs.Common.{◌≡◌, ◌∙◌, sym, refl, ap, subst, ◌⊎◌, inl, inr, ⊎_elim, ℕ, suc, List, [], ◌∷◌, ◌++◌, arith, append_assoc, Option, Some, None, Bool, true, false, cond, eqb-true, eq-eqb, map, Contains}
-use Rattle.std.specs.Prelude.{◌==◌, ◌&&◌, ◌||◌, nat_lt, IsTrue}
-use Rattle.np_changes.specs.Prelude.{AllByRecursion, NodeEntry, NodeId, NodeRecord, Outcome, PoolId, Rises, node_in}
-use Rattle.std.proofs.lemmas.Bool.{false≢true, and_parts, or_left, or_right, false_from_ne_true}
-use Rattle.std.proofs.lemmas.Bool.Decides.{nat_tests}
+use Rattle.np_worker.proofs.Prelude.{AllByRecursion, Bool, Contains, DistinctNumbers, IsServerOf, IsTrue, Launch, List, NodeEntry, NodeId, NodeRecord, None, Option, Outcome, PoolId, Rises, Server, Some, Tag, WasLaunchedFor, [], and_parts, ap, append_assoc, arith, cond, eq-eqb, eqb-true, false, false_from_ne_true, false≢true, is_number, is_up, listed, map, nat_lt, nat_tests, node_in, number_in, numbers_in, numbers_of, or_left, or_right, refl, server_up, servers_up, subst, suc, sym, true, ℕ, ⊎_elim, ◌&&◌, ◌++◌, ◌==◌, ◌∙◌, ◌∷◌, ◌≡◌, ◌⊎◌}
 use Rattle.np_event.specs.declared.event.Outcome.TheVariants as outcome
-use Rattle.np_worker.specs.Prelude.{Launch, Server, Tag}
-use Rattle.np_cloud.specs.Sound.{numbers_of, is_number, DistinctNumbers}
 use Rattle.np_worker.proofs.Histories.{member-cases, no-member}
-use Rattle.np_worker.specs.Nodes.{is_up, listed, server_up, servers_up}
-use Rattle.np_worker.specs.Reports.{number_in, numbers_in}
-use Rattle.np_worker.specs.Hosting.{WasLaunchedFor, IsServerOf}
 
 -- ## numbers of launches
 
@@ -33,8 +24,7 @@ launched-number (l ∷ launches) tag x there = ⊎_elim
 
 -- the later of two lists of numbers without repeats has none
 distinct-later : (o : Outcome) (numbers : List ℕ) → DistinctNumbers (number_in o ++ numbers) → DistinctNumbers numbers
-distinct-later (outcome.Launched y) numbers distinct = distinct.1
-distinct-later outcome.Failed numbers distinct = distinct
+distinct-later o numbers distinct = grind (arith, nat_tests)
 
 not-later : (l : Launch) (launches : List Launch) (tag other : Tag) (x : ℕ) → DistinctNumbers (number_in l.outcome ++ numbers_in (outcomes launches)) → l ≡ record { tag = tag; outcome = outcome.Launched x } → Contains launches (record { tag = other; outcome = outcome.Launched x }) → ⊥
 not-later l launches tag other x distinct here later =
@@ -118,10 +108,7 @@ module _ (p : PoolId) (launches : List Launch) (servers : List Server) (distinct
   HasUp k x = (k.pool.0 ≡ p.0) × (is_up k.state ≡ true) × (k.server ≡ Some x)
 
   up-cases : (k : NodeRecord) (x : ℕ) (rest : List ℕ) → is_number x (server_up p k ++ rest) ≡ true → HasUp k x ⊎ (is_number x rest ≡ true)
-  up-cases k x rest = server-by (λ l. is_number x (l ++ rest) ≡ true → HasUp k x ⊎ (is_number x rest ≡ true)) k (λ here. inr here) (λ y own up has. either y own up has (y == x) refl) where
-    either : (y : ℕ) → k.pool.0 ≡ p.0 → is_up k.state ≡ true → k.server ≡ Some y → (b : Bool) → (y == x) ≡ b → (b || is_number x rest) ≡ true → HasUp k x ⊎ (is_number x rest ≡ true)
-    either y own up has true same there = inl (own, up, has ∙ ap (λ (z : ℕ). Some z) (eqb-true y x same))
-    either y own up has false other there = inr there
+  up-cases k x rest x1 = grind (arith, nat_tests)
 
   row-of_number : (rows : List NodeEntry) (x : ℕ) → is_number x (servers_up p rows) ≡ true → IsRowOf rows x
   row-of_number [] x is = absurd (false≢true is)

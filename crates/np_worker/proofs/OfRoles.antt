@@ -1,13 +1,6 @@
 -- each entry of a worker's round is of a role that the worker acts for
-use Rattle.std.proofs.Common.{◌≡◌, ◌∙◌, inl, inr, ℕ, List, ◌∷◌, refl, sym, ap, subst}
-use Rattle.std.specs.Prelude.{Contains, Some, Bool}
-use Rattle.std.proofs.lemmas.Option.{none-some, same_Some}
-use Rattle.np_changes.specs.Prelude.{Configuration, Entry, Event, Janitor, Launcher, Role, SessionId, State, after, maker_of, role_of}
-use Rattle.np_worker.specs.Prelude.{IsAskOf, Launch, Work}
+use Rattle.np_worker.proofs.Prelude.{Bool, Configuration, Contains, Entry, Event, IsAskOf, IsOfRole, IsOfWorker, IsRound, Janitor, Launch, Launcher, List, Player, PlayerEnd, PlaysFrom, Role, SessionId, Some, State, Work, after, ap, inl, inr, maker_of, none-some, refl, role_of, same_Some, subst, sym, ℕ, ◌∙◌, ◌∷◌, ◌≡◌}
 use Rattle.np_worker.specs.declared.ask.Ask.TheVariants as ask
-use Rattle.np_worker.specs.Makers.{IsOfRole, IsOfWorker}
-use Rattle.np_worker.specs.Players.{Player}
-use Rattle.np_worker.specs.Played.{PlayerEnd, PlaysFrom, IsRound}
 use Rattle.np_worker.proofs.Choices.{chosen-of_role}
 use Rattle.np_worker.proofs.Ends.{end-plays}
 use Rattle.np_worker.proofs.Events.{start-parts}

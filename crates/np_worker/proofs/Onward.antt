@@ -1,15 +1,6 @@
 -- How the roles of a worker go on.
-use Rattle.std.proofs.Common.{◌≡◌, ◌<◌, List, refl, ◌∙◌, subst}
-use Rattle.std.specs.Prelude.{Option, Ok}
-use Rattle.np_changes.specs.Prelude.{Entry, PoolId}
-use Rattle.np_worker.specs.Prelude.{Driving, Drove, Move, Phase, Sight, Work, of_pool, sweeps}
-use Rattle.np_worker.specs.declared.ask.Ask.{Ask}
-use Rattle.np_worker.specs.declared.ask.Turn.{Turn}
-use Rattle.np_worker.specs.Part.{Part, Comes}
-use Rattle.np_worker.specs.Stage.{IsOfWork, WentOn, phase_of, steps_left}
-use Rattle.np_worker.specs.declared.next.Next.{Next}
+use Rattle.np_worker.proofs.Prelude.{Ask, Comes, Driving, Drove, Entry, IsOfWork, List, Move, Next, Ok, Option, Part, Phase, PoolId, Sight, Stage, Turn, WentOn, Work, of_pool, phase_of, refl, steps_left, subst, sweeps, ◌<◌, ◌∙◌, ◌≡◌}
 use Rattle.np_worker.specs.declared.next.Next.TheVariants as next
-use Rattle.np_worker.specs.declared.stage.Stage.{Stage}
 use Rattle.np_worker.proofs.Drives.{failed_before}
 use Rattle.np_worker.proofs.Stages.{pool_swept}
 

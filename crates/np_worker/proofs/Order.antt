@@ -1,13 +1,6 @@
 -- The order of a worker's asks.
-use Rattle.std.proofs.Common.{◌≡◌, ℕ, zero, suc, ◌≤◌, List, [], ◌∷◌, ap, arith}
-use Rattle.np_text.specs.declared.id.Role.{Role}
-use Rattle.np_text.specs.declared.id.Role.TheVariants as role
-use Rattle.np_worker.specs.declared.ask.Ask.{Ask}
+use Rattle.np_worker.proofs.Prelude.{AreInOrder, Ask, Leads, List, MayAsk, Move, Phase, Role, Turn, [], acting, acts, after_launch, after_removal, after_turn, arith, asked, launched, looks, nat_tests, owes_due, owes_launch, owes_report, owes_swept, removed, stage_of, sweeps, ℕ, ◌∷◌, ◌≡◌, ◌≤◌}
 use Rattle.np_worker.specs.declared.ask.Ask.TheVariants as ask
-use Rattle.np_worker.specs.declared.ask.Turn.{Turn}
-use Rattle.np_worker.specs.Move.{Move, asked, launched, removed}
-use Rattle.np_worker.specs.Phase.{Phase, acts, owes_launch, owes_report, looks, owes_due, sweeps, owes_swept, rests, ended, acting, after_turn, after_launch, after_removal, MayAsk, Leads}
-use Rattle.np_worker.specs.Trace.{stage_of, AreInOrder}
 use Rattle.np_worker.proofs.Steps.{TurnCases, of_turn, of_launch, of_removal}
 
 -- the stage of what comes in a phase
@@ -19,25 +12,16 @@ stage_at (looks pool n) = 1
 stage_at (owes_due pool n x) = 1
 stage_at (sweeps pool) = 2
 stage_at (owes_swept pool x) = 2
-stage_at rests = 3
-stage_at ended = 3
+stage_at _ = 3
 
 ask_stage : (p : Phase) (a : Ask) → MayAsk p a → stage_of a ≡ stage_at p
-ask_stage (acts r n) a h = ap stage_of h
-ask_stage (owes_report pool n s o) a h = ap stage_of h
-ask_stage (looks pool n) a h = ap stage_of h
-ask_stage (sweeps pool) a h = ap stage_of h.2
-ask_stage p a h = absurd h
+ask_stage p a x1 = grind (arith, nat_tests)
 
 end_is_last : (p : Phase) → stage_at p ≤ 3
-end_is_last (acts (role.Janitor pool) n) = omega arith
-end_is_last (acts r n) = omega arith
-end_is_last p = omega arith
+end_is_last p = grind (arith, nat_tests)
 
 role_later : (r : Role) (n : ℕ) → stage_of (ask.Act r) ≤ stage_at (acting r n)
-role_later (role.Janitor pool) zero = omega arith
-role_later (role.Janitor pool) (suc n) = omega arith
-role_later r n = omega arith
+role_later r n = grind (arith, nat_tests)
 
 -- no turn leads to an earlier stage
 abbrev IsLater : Phase → Ask → Turn → Phase → Type 0

@@ -1,11 +1,6 @@
 -- The moves of a round are orderly.
-use Rattle.std.proofs.Common.{◌≡◌, ◌∙◌, ap, subst, List, ◌++◌}
-use Rattle.std.specs.Prelude.{Option, map}
-use Rattle.np_worker.specs.Prelude.{Driving, Launch, Leads, Move, OwesRemoval, Phase, Sight, Tag, Work, first_phase, launches_of, of_pool, of_reaper, of_requester}
-use Rattle.np_event.specs.declared.entry.Entry.{Entry}
-use Rattle.np_worker.specs.declared.ask.Ask.{Ask}
-use Rattle.np_worker.specs.declared.ask.Turn.{Turn}
-use Rattle.np_worker.specs.Trace.{starts_of, tags_launched, owed_tags}
+use Rattle.np_worker.proofs.Prelude.{AreOrderly, Ask, Driving, Entry, HasMoves, Launch, Leads, List, Move, Option, OwesRemoval, Part, Phase, RolesTook, Sight, Tag, Turn, Work, ap, arith, first_phase, launches_of, map, nat_tests, of_pool, of_reaper, of_requester, owed_tags, subst, tags_launched, ◌++◌, ◌∙◌, ◌≡◌}
+use Rattle.np_worker.specs.Trace.{starts_of}
 use Rattle.np_worker.proofs.RoundEnds.{is_at_end, ends_where_full}
 use Rattle.np_worker.proofs.Gained.{walk_gains}
 use Rattle.np_worker.proofs.Order.{in_order}
@@ -13,20 +8,15 @@ use Rattle.np_worker.proofs.Removals.{are_named}
 use Rattle.np_worker.proofs.Launching.{starts_launched, tags_of_launches, are_reported}
 use Rattle.np_worker.proofs.Taken.{launcher_took, janitor_took, requester_took, reaper_took}
 use Rattle.np_worker.proofs.Works.{asks_of}
-use Rattle.np_worker.specs.Moves.{RolesTook, AreOrderly, HasMoves}
-use Rattle.np_worker.specs.Part.{Part}
 
 first_owes_none : (work : Work) → OwesRemoval (first_phase work) → ⊥
-first_owes_none (of_pool pool) owes = owes
-first_owes_none (of_requester q) owes = owes
-first_owes_none of_reaper owes = owes
+first_owes_none work x1 = grind (arith, nat_tests)
 
 first_launches : (work : Work) (trace : List Move) (to : Phase) → Leads (first_phase work) trace to → starts_of trace ≡ map (λ (l : Launch). l.tag) (launches_of trace) ++ owed_tags to
 first_launches work trace to led = by work (starts_launched (first_phase work) to trace led) ∙ ap (λ (l : List Tag). l ++ owed_tags to) (tags_of_launches trace) where
   by : (w : Work) → owed_tags (first_phase w) ++ starts_of trace ≡ tags_launched trace ++ owed_tags to → starts_of trace ≡ tags_launched trace ++ owed_tags to
-  by (of_pool pool) is = is
-  by (of_requester q) is = is
   by of_reaper is = is
+  by w is = is
 
 roles_took : (work : Work) (trace : List Move) (to : Phase) → Leads (first_phase work) trace to → RolesTook work trace to
 roles_took (of_pool pool) trace to led = (launcher_took pool to trace led, janitor_took pool to trace led)

@@ -1,20 +1,12 @@
 -- the entries of other workers in a round
-use Rattle.std.proofs.Common.{◌≡◌, ◌≢◌, ◌∙◌, sym, ap, subst, inl, inr, ℕ, ◌≤◌, List, [], ◌∷◌, ◌++◌, length, append-nil, Some, Bool, false, eqb-true, eq-eqb, Contains}
-use Rattle.std.proofs.lemmas.Option.{same_Some}
-use Rattle.np_changes.specs.Prelude.{Configuration, Entry, Event, Launcher, NodeId, Outcome, PoolId, SessionId, after, maker_of, node_in, role_of, turns}
+use Rattle.np_worker.proofs.Prelude.{Bool, Configuration, Contains, DrivenBy, Entry, Event, HaveDriven, IsChosen, IsRound, Launcher, List, NodeId, Outcome, Player, PlayerEnd, PoolId, SessionId, Some, WasAnswered, [], after, ap, append-nil, drivings_of, eq-eqb, eqb-true, false, inl, inr, launches_of, length, maker_of, node_in, of_pool, reported, role_of, same_Some, same_pool, subst, sym, turns, was_node_of, ℕ, ◌++◌, ◌∙◌, ◌∷◌, ◌≡◌, ◌≢◌, ◌≤◌}
 use Rattle.np_event.specs.declared.event.Event.TheVariants as ev
-use Rattle.np_worker.specs.Prelude.{DrivenBy, launches_of, of_pool}
-use Rattle.np_laws.proofs.Ids.{same_pool}
-use Rattle.np_worker.specs.Planned.{IsChosen}
-use Rattle.np_worker.specs.Players.{Player, HaveDriven, drivings_of, WasAnswered}
-use Rattle.np_worker.specs.Played.{PlayerEnd, IsRound}
 use Rattle.np_worker.proofs.Ends.{one-end}
 use Rattle.np_worker.proofs.Events.{start-parts, act-work}
 use Rattle.np_worker.proofs.Made.{IsActed, IsReported}
 use Rattle.np_worker.proofs.First.{NewEntry, new-entry, now-numbered}
 use Rattle.np_worker.proofs.OfRoles.{of-cause}
 use Rattle.np_worker.proofs.Choices.{chosen-accepted, chosen-done, chosen-start}
-use Rattle.np_worker.specs.Reports.{was_node_of, reported}
 use Rattle.np_worker.proofs.Idle.{may-report}
 use Rattle.np_worker.proofs.Pools.{never-of, quiet-report}
 use Rattle.np_worker.proofs.StageLemmas.{IsForeign}

@@ -1,8 +1,6 @@
 -- journals that are driven, place by place
-use Rattle.std.proofs.Common.{Bool, true, false, ◌≡◌, inl, inr, ⊎_elim, ℕ, List, [], ◌∷◌, ◌++◌, sym, refl, ap, subst, append_assoc, append-nil}
-use Rattle.np_changes.specs.Prelude.{Configuration, EachAfter, EachTurn, Entry, NodeId, Outcome, PoolId, SomeTurn, State, Turn, after, next, start, state_after, turns, turns_from}
-use Rattle.np_useful.specs.Driven.{Says, DrivenFrom, IsDrivenTurn, IsReportOfLaunch}
-use Rattle.np_worker.specs.Planned.{IsTurnAs, DrivenAs}
+use Rattle.np_worker.proofs.Prelude.{Bool, Configuration, DrivenAs, DrivenFrom, EachAfter, EachTurn, Entry, IsDrivenTurn, IsReportOfLaunch, IsTurnAs, List, NodeId, Outcome, PoolId, Says, SomeTurn, State, [], after, ap, append-nil, append_assoc, false, inl, inr, next, refl, start, state_after, subst, sym, true, turns, turns_from, ℕ, ⊎_elim, ◌++◌, ◌∷◌, ◌≡◌}
+use Rattle.np_changes.specs.Prelude.{Turn}
 
 -- the turn of an entry in a state, and after a journal
 abbrev pub turn_of : Configuration → State → Entry → Turn

@@ -1,12 +1,6 @@
 -- drivers that answer as the configuration plans
-use Rattle.std.proofs.Common.{true, ◌≡◌, ℕ, zero, suc, ◌+◌, List, [], ◌∷◌, map, slice_get, Option, Some, IfSome, subst, arith}
-use Rattle.np_changes.specs.Prelude.{Configuration, Entry, NodeId, Outcome, PoolId, outcome_of, turns}
-use Rattle.np_worker.specs.Prelude.{Driving, Tag}
+use Rattle.np_worker.proofs.Prelude.{Configuration, Driven, DrivenBy, Driving, EachAfter-weaker, Entry, IfSome, IsPlannedTurn, List, NodeId, Option, Outcome, PlannedBy, PlannedDriven, PoolId, Some, Tag, WasAnswered, [], arith, as_planned, launch_of, map, outcome_of, slice_get, subst, suc, true, turns, zero, ℕ, ◌+◌, ◌∷◌, ◌≡◌}
 use Rattle.np_cloud.specs.Clouds.{ArePlanned}
-use Rattle.np_useful.specs.Driven.{DrivenBy, Driven, as_planned}
-use Rattle.np_lists.proofs.EachAfterLemmas.{EachAfter-weaker}
-use Rattle.np_worker.specs.Planned.{IsPlannedTurn, PlannedBy, PlannedDriven}
-use Rattle.np_worker.specs.Players.{WasAnswered, launch_of}
 use Rattle.np_worker.proofs.Places.{driven-more, turn-more_as}
 
 module _ (c : Configuration) where

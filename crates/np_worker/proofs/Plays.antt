@@ -1,15 +1,6 @@
 -- a round of all players leaves a driven journal
-use Rattle.std.proofs.Common.{◌≡◌, inl, inr, ⊎_elim, ℕ, ◌<◌, ◌≤◌, List, ◌∷◌, ◌++◌, length, map, Bool, false, Contains, refl, sym, subst, arith, ◌∙◌}
-use Rattle.std.proofs.lemmas.Bool.{cases_lt, false_from_ne_true}
-use Rattle.std.proofs.lemmas.List.Elements.{Contains-append_right}
-use Rattle.np_changes.specs.Prelude.{Configuration, EachTurn, Entry, Event, Outcome, PoolId, Runs, SomeTurn, after, turns}
+use Rattle.np_worker.proofs.Prelude.{AreNumbered, AreRising, BeginsLaunch, Bool, Configuration, Contains, Contains-append_right, DrivenAs, EachTurn, Entry, Event, HaveDrivenAs, IsChosen, IsReportOfLaunch, IsRound, IsSweepOfServer, IsTurnAs, List, Outcome, Player, PlayerEnd, PoolId, Runs, Says, SomeTurn, WasAnswered, Work, after, arith, cases_lt, drivings_of, false, false_from_ne_true, inl, inr, is_report_of, is_tick, launch_of, launches_of, length, map, of_pool, refl, start_state, subst, sym, turns, ℕ, ⊎_elim, ◌++◌, ◌<◌, ◌∙◌, ◌∷◌, ◌≡◌, ◌≤◌}
 use Rattle.np_event.specs.declared.event.Event.TheVariants as ev
-use Rattle.np_worker.specs.Prelude.{AreRising, Says, Work, launches_of, of_pool}
-use Rattle.np_machine.specs.State.{start as start_state}
-use Rattle.np_useful.specs.Driven.{IsSweepOfServer, IsReportOfLaunch, BeginsLaunch, is_tick, is_report_of}
-use Rattle.np_worker.specs.Planned.{IsChosen, IsTurnAs, DrivenAs}
-use Rattle.np_worker.specs.Players.{Player, HaveDrivenAs, drivings_of, AreNumbered, WasAnswered, launch_of}
-use Rattle.np_worker.specs.Played.{PlayerEnd, IsRound}
 use Rattle.np_worker.proofs.Choices.{chosen-tickless, chosen-turn}
 use Rattle.np_worker.proofs.Made.{Cause, Follows, HasReported, IsReported, IsSwept}
 use Rattle.np_worker.proofs.Histories.{split-outer, length-split, none-between}

@@ -1,32 +1,19 @@
 -- of which pool a node is, and what a journal reports of a pool
-use Rattle.std.proofs.Common.{◌≡◌, ◌≢◌, ◌∙◌, sym, refl, ap, subst, inl, inr, ⊎_elim, ℕ, ◌<◌, ◌≤◌, List, [], ◌∷◌, ◌++◌, length, length-append, arith, append_assoc, append-nil, Option, Some, None, Bool, true, false, cond, eqb-true, eq-eqb}
-use Rattle.std.specs.Prelude.{◌==◌, ◌||◌}
-use Rattle.np_changes.specs.Prelude.{Configuration, Entry, Event, NodeId, NodeRecord, Outcome, PoolId, SessionId, SomeTurn, State, Turn, after, list_any, next, node_in, option_map_or, start, state_after, turns, turns_from}
-use Rattle.std.proofs.lemmas.Bool.{cases_lt, false_from_ne_true, or_left, or_right}
-use Rattle.std.proofs.lemmas.Option.{same_Some}
+use Rattle.np_worker.proofs.Prelude.{BeginsLaunch, Bool, Changes, Configuration, Entry, Event, List, NodeId, NodeRecord, Option, Outcome, PoolId, SessionId, Some, SomeTurn, StartsWith, State, Way, [], after, ap, append-nil, append_assoc, arith, cases_lt, eq-eqb, false, is_node_of, length, length-append, list_any, nat_tests, next, node_in, node_in-below, option_map_or, or_left, or_right, refl, reported, reports_from, reports_of, same_Some, start, state_after, subst, sym, true, turns, turns_from, was_node_of, ℕ, ⊎_elim, ◌++◌, ◌<◌, ◌==◌, ◌||◌, ◌∙◌, ◌∷◌, ◌≡◌, ◌≢◌, ◌≤◌}
+use Rattle.np_changes.specs.Prelude.{Turn}
 use Rattle.np_event.specs.declared.event.Event.TheVariants as ev
-use Rattle.np_worker.specs.Prelude.{BeginsLaunch, StartsWith}
-use Rattle.np_changes.specs.declared.changes.Changes.{Changes}
-use Rattle.np_laws.proofs.Lookups.{node_in-below}
-use Rattle.np_laws.proofs.Puts.{Way}
 use Rattle.np_worker.proofs.Starts.{IsSteady, given-stays, holds-after}
 use Rattle.np_worker.proofs.Places.{turn_of, turn_after, turns-append}
 use Rattle.np_worker.proofs.Histories.{split-within}
-use Rattle.np_worker.specs.Reports.{is_node_of, was_node_of, reported, reports_from, reports_of}
 
 -- an event reports nothing of a pool if each node that it reports on was never of it
 pub quiet-report : (p : PoolId) (past : List Turn) (e : Event) → ((session : SessionId) (n : NodeId) (k : ℕ) (o : Outcome) → e ≡ ev.Done session n k o → was_node_of p n past ≡ false) → reported p past e ≡ []
-quiet-report p past (ev.Done session n k o) never = rw (never session n k o refl) refl
-quiet-report p past _ never = refl
+quiet-report p past e x1 = grind (arith, nat_tests)
 
 -- ## a node keeps its pool
 
 way-pool : (q : ℕ) (c : Configuration) (s : State) (ch : Changes) (n : NodeId) (node kept : NodeRecord) → Way c s ch n node kept → node.pool.0 ≡ q → kept.pool.0 ≡ q
-way-pool q c s ch n node kept (inl starts) old = ap (λ (x : NodeRecord). x.pool.0) starts.record_after ∙ old
-way-pool q c s ch n node kept (inr (inl reports)) old = ap (λ (x : NodeRecord). x.pool.0) reports.record_after ∙ old
-way-pool q c s ch n node kept (inr (inr (inl ends))) old = ap (λ (x : NodeRecord). x.pool.0) ends.record_after ∙ old
-way-pool q c s ch n node kept (inr (inr (inr (inl gives)))) old = ap (λ (x : NodeRecord). x.pool.0) gives.record_after ∙ old
-way-pool q c s ch n node kept (inr (inr (inr (inr frees)))) old = ap (λ (x : NodeRecord). x.pool.0) frees.record_after ∙ old
+way-pool q c s ch n node kept way old = grind (arith, nat_tests)
 
 pool-steady : (q : ℕ) → IsSteady (λ node. node.pool.0 ≡ q)
 pool-steady q = record {
@@ -65,8 +52,7 @@ module _ (c : Configuration) where
   is-of p n s k stands own = ap (λ (o : Option NodeRecord). option_map_or (λ (x : NodeRecord). x.pool.0 == p.0) o false) stands ∙ eq-eqb k.pool.0 p.0 own
 
   none-is : (p : PoolId) (o : Option NodeRecord) → ((k : NodeRecord) → o ≡ Some k → k.pool.0 ≢ p.0) → option_map_or (λ (x : NodeRecord). x.pool.0 == p.0) o false ≡ false
-  none-is p None other = refl
-  none-is p (Some k) other = false_from_ne_true (k.pool.0 == p.0) (λ same. other k refl (eqb-true k.pool.0 p.0 same))
+  none-is p o other = grind (arith, nat_tests)
 
   pub was-of : (p : PoolId) (n : NodeId) (journal before : List Entry) (e : Entry) (rest : List Entry) (k : NodeRecord) → journal ≡ before ++ e ∷ rest → node_in n (after c before).nodes ≡ Some k → k.pool.0 ≡ p.0 → was_node_of p n (turns c journal) ≡ true
   was-of p n journal before e rest k is stands own = subst (λ (j : List Entry). was_node_of p n (turns c j) ≡ true) (sym is)
@@ -122,11 +108,7 @@ module _ (c : Configuration) where
       ∙ ap (λ (l : List Outcome). reports_of c p journal ++ l) (append-nil (reported p (turns c journal) e.event)))
 
   reported-few : (p : PoolId) (past : List Turn) (e : Event) → length (reported p past e) ≤ 1
-  reported-few p past (ev.Done session n attempt o) = by (was_node_of p n past) where
-    by : (b : Bool) → length (cond b (o ∷ []) []) ≤ 1
-    by true = omega arith
-    by false = omega arith
-  reported-few p past _ = omega arith
+  reported-few p past e = grind (arith, nat_tests)
 
   reports-few : (p : PoolId) (past : List Turn) (s : State) (journal : List Entry) → length (reports_from p past (turns_from c s journal)) ≤ length journal
   reports-few p past s [] = omega arith

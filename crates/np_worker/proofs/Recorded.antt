@@ -1,12 +1,7 @@
 -- an entry that a turn recorded
-use Rattle.std.proofs.Common.{◌≡◌, List, Some, subst}
-use Rattle.np_changes.specs.Prelude.{Configuration, Entry}
-use Rattle.np_worker.specs.declared.ask.Ask.{Ask}
+use Rattle.np_worker.proofs.Prelude.{Ask, Configuration, Entry, IsReplied, List, Some, Turn, answers, recorded, subst, ◌≡◌}
 use Rattle.np_worker.specs.declared.ask.Ask.TheVariants as asks
-use Rattle.np_worker.specs.declared.ask.Turn.{Turn}
 use Rattle.np_worker.specs.declared.ask.Turn.TheVariants as turn
-use Rattle.np_worker.specs.Answers.{IsReplied, answers}
-use Rattle.np_worker.specs.Asks.{recorded}
 
 replied-as : (c : Configuration) (journal : List Entry) (d e : Entry) → Some d ≡ Some e → IsReplied c journal d → IsReplied c journal e
 replied-as c journal d e is replied = let same : d ≡ e = cc in subst (λ (x : Entry). IsReplied c journal x) same replied
@@ -16,7 +11,4 @@ turn-replied c journal (asks.Act role) (turn.Did d) e answer is = replied-as c j
 turn-replied c journal (asks.Do event) (turn.Did d) e answer is = replied-as c journal d e is answer.1
 turn-replied c journal (asks.Due p) (turn.Did d) e answer is = absurd answer
 turn-replied c journal (asks.Sweep p n x) (turn.Did d) e answer is = replied-as c journal d e is answer.3
-turn-replied c journal ask (turn.DueNode n x) e answer is = absurd cc
-turn-replied c journal ask turn.Swept e answer is = absurd cc
-turn-replied c journal ask turn.Idle e answer is = absurd cc
-turn-replied c journal ask turn.Full e answer is = absurd cc
+turn-replied c journal ask _ e answer is = absurd cc

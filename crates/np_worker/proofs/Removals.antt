@@ -1,12 +1,7 @@
 -- Removals, and the turns that named them.
-use Rattle.std.proofs.Common.{ℕ, List, [], ◌∷◌, sym}
-use Rattle.np_text.specs.declared.id.Role.{Role}
-use Rattle.np_text.specs.declared.id.Role.TheVariants as role
-use Rattle.np_worker.specs.declared.ask.Ask.{Ask}
-use Rattle.np_worker.specs.declared.ask.Turn.{Turn}
-use Rattle.np_worker.specs.Move.{Move, asked, launched, removed}
-use Rattle.np_worker.specs.Phase.{Phase, acting, after_turn, after_launch, after_removal, MayRemove, Leads, OwesRemoval}
+use Rattle.np_worker.proofs.Prelude.{Ask, Leads, List, MayRemove, Move, OwesRemoval, Phase, Role, Turn, [], acting, after_launch, after_removal, after_turn, asked, launched, removed, sym, ℕ, ◌∷◌}
 use Rattle.np_worker.specs.Trace.{NamesServer, AreNamed}
+use Rattle.np_text.specs.declared.id.Role.TheVariants as role
 use Rattle.np_worker.proofs.Steps.{TurnCases, of_turn, of_launch, of_removal, goes_on}
 
 role_owes_none : (r : Role) (n x : ℕ) → MayRemove (acting r n) x → ⊥
@@ -38,15 +33,13 @@ NamedBut p (removed x ∷ ms) = MayRemove p x × AreNamed ms
 
 all_named : (p : Phase) (ms : List Move) → ((x : ℕ) → MayRemove p x → ⊥) → NamedBut p ms → AreNamed ms
 all_named p [] none h = tt
-all_named p (asked a t ∷ ms) none h = h
-all_named p (launched tag o ∷ ms) none h = h
 all_named p (removed x ∷ ms) none h = absurd (none x h.0)
+all_named p _ none h = h
 
 named_after : (a : Ask) (t : Turn) (s : Phase) (ms : List Move) → ((x : ℕ) → MayRemove s x → NamesServer a t x) → NamedBut s ms → AreNamed (asked a t ∷ ms)
 named_after a t s [] names h = tt
-named_after a t s (asked b u ∷ ms) names h = h
-named_after a t s (launched tag o ∷ ms) names h = h
 named_after a t s (removed x ∷ ms) names h = (names x h.0, h.1)
+named_after a t s _ names h = h
 
 named_but : (p q : Phase) (ms : List Move) → Leads p ms q → NamedBut p ms
 named_but p q [] h = tt

@@ -1,16 +1,6 @@
 -- How servers leave a driver.
-use Rattle.std.proofs.Common.{◌≡◌, ℕ, zero, suc, ◌<◌, ◌⊎◌, inl, inr, List, [], ◌∷◌, length, get_or, sym, refl, ap, arith, Bool, true, cond, eqb-true}
-use Rattle.std.specs.Prelude.{Contains, filter, not, ◌==◌}
-use Rattle.std.proofs.lemmas.List.Elements.{Contains-append_left}
-use Rattle.np_event.specs.declared.event.Outcome.{Outcome}
+use Rattle.np_worker.proofs.Prelude.{Bool, Contains, Contains-append_left, List, Move, Outcome, Server, Tag, WasRemoved, [], ap, arith, asked, by_bool, cond, eqb-true, filter, get_or, inl, inr, launched, length, not, refl, removed, servers_after, suc, sym, true, with_launched, without_number, zero, ℕ, ◌<◌, ◌==◌, ◌∷◌, ◌≡◌, ◌⊎◌}
 use Rattle.np_event.specs.declared.event.Outcome.TheVariants as outcome
-use Rattle.np_cloud.specs.declared.driver.Tag.{Tag}
-use Rattle.np_cloud.specs.declared.driver.Server.{Server}
-use Rattle.np_cloud.specs.Calls.{with_launched, without_number}
-use Rattle.np_worker.specs.Move.{Move, asked, launched, removed}
-use Rattle.np_worker.specs.Drive.{servers_after}
-use Rattle.np_worker.specs.Trace.{WasRemoved}
-use Rattle.np_lists.proofs.Plain.{by_bool}
 
 pub kept_at : (f : Server → Bool) (xs : List Server) (s : Server) → f s ≡ true → (k : ℕ) → k < length xs → get_or xs k s ≡ s → Contains (filter f xs) s
 kept_at f [] s e k l i = absurd (omega arith)

@@ -1,17 +1,16 @@
 -- the numbers of a reply determine it
-use Rattle.std.proofs.Common.{◌≡◌, ◌∙◌, ℕ, true, List, [], ◌∷◌, get_or, drop, refl, sym, ap}
+use Rattle.np_worker.proofs.Prelude.{Done, Ending, List, NodeState, Refusal, Reply, RequestState, [], arith, done_numbers, drop, ending_number, found_numbers, get_or, is_same_reply, nat_tests, node_state_number, phase_number, refl, refusal_numbers, reply_numbers, request_state_number, true, ℕ, ◌∷◌, ◌≡◌}
 use Rattle.std.proofs.lemmas.Slice.Eq.{bytes_eq-Decides}
-use Rattle.np_changes.specs.Prelude.{Done, Ending, NodeState, Phase, Refusal, Reply, RequestState}
+use Rattle.np_changes.specs.Prelude.{Phase}
+use Rattle.np_event.specs.declared.reply.Found.{Found}
 use Rattle.np_text.specs.declared.word.Ending.TheVariants as ending
 use Rattle.np_text.specs.declared.word.RequestState.TheVariants as request
 use Rattle.np_text.specs.declared.word.NodeState.TheVariants as node
 use Rattle.np_text.specs.declared.word.Phase.TheVariants as phase
 use Rattle.np_event.specs.declared.reply.Done.TheVariants as done
-use Rattle.np_event.specs.declared.reply.Found.{Found}
 use Rattle.np_event.specs.declared.reply.Found.TheVariants as found
 use Rattle.np_event.specs.declared.reply.Refusal.TheVariants as no
 use Rattle.np_event.specs.declared.reply.Reply.TheVariants as reply
-use Rattle.np_worker.specs.Replies.{ending_number, request_state_number, node_state_number, phase_number, found_numbers, done_numbers, refusal_numbers, reply_numbers, is_same_reply}
 
 -- ## what the numbers determine
 
@@ -63,45 +62,33 @@ reply_from ns = get_or (reply.Done (done_from (drop 1 ns)) ∷ reply.Refused (re
 -- ## each is read back
 
 ending-again : (e : Ending) → ending_from (ending_number e) ≡ e
-ending-again ending.Served = refl
-ending-again e = refl
+ending-again e = grind (arith, nat_tests)
 
 request_state-again : (s : RequestState) → request_state_from (request_state_number s) ≡ s
-request_state-again request.Requested = refl
-request_state-again s = refl
+request_state-again s = grind (arith, nat_tests)
 
 node_state-again : (s : NodeState) → node_state_from (node_state_number s) ≡ s
-node_state-again node.Building = refl
-node_state-again s = refl
+node_state-again s = grind (arith, nat_tests)
 
 phase-again : (p : Phase) → phase_from (phase_number p) ≡ p
-phase-again phase.New = refl
-phase-again p = refl
+phase-again p = grind (arith, nat_tests)
 
 found-again : (f : Found) → found_from (found_numbers f) ≡ f
-found-again (found.Request s) = ap found.Request (request_state-again s)
-found-again (found.Node s) = ap found.Node (node_state-again s)
-found-again found.InFlight = refl
-found-again (found.Job p) = ap found.Job (phase-again p)
+found-again f = grind (arith, nat_tests)
 
 done-again : (d : Done) → done_from (done_numbers d) ≡ d
-done-again (done.Ended how) = ap done.Ended (ending-again how)
-done-again d = refl
+done-again d = grind (arith, nat_tests)
 
 refusal-again : (r : Refusal) → refusal_from (refusal_numbers r) ≡ r
-refusal-again (no.WrongState state) = ap no.WrongState (found-again state)
-refusal-again r = refl
+refusal-again r = grind (arith, nat_tests)
 
 reply-again : (r : Reply) → reply_from (reply_numbers r) ≡ r
-reply-again (reply.Done d) = ap reply.Done (done-again d)
-reply-again (reply.Refused r) = ap reply.Refused (refusal-again r)
+reply-again r = grind (arith, nat_tests)
 
 -- ## the test
 
 pub same-reply : (a b : Reply) → is_same_reply a b ≡ true → a ≡ b
-same-reply a b is =
-    let numbers : reply_numbers a ≡ reply_numbers b = (bytes_eq-Decides (reply_numbers a) (reply_numbers b)).0 is in
-    sym (reply-again a) ∙ ap reply_from numbers ∙ reply-again b
+same-reply a b x1 = grind (arith, nat_tests)
 
 pub reply-same : (a : Reply) → is_same_reply a a ≡ true
 reply-same a = (bytes_eq-Decides (reply_numbers a) (reply_numbers a)).1 refl

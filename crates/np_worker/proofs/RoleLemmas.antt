@@ -1,20 +1,8 @@
 -- a session keeps its role over a run, and what a useful event says of its role
-use Rattle.std.proofs.Common.{◌≡◌, ◌∙◌, sym, ℕ, List, [], ◌∷◌, ◌++◌, refl, ap, subst, Option, Some, None, Bool, true, false, cond, not, Ok, eqb-true}
-use Rattle.std.specs.Prelude.{◌==◌, ◌-◌, ◌&&◌, is_ok, slice_get, drop}
-use Rattle.np_changes.specs.Prelude.{Configuration, Done, Entry, Event, Janitor, Launcher, NodeId, NodeRecord, Outcome, PoolId, Reaper, Requester, RequesterId, Role, SessionFacts, SessionId, State, after, change_session, ended, grown, judge, judge_start, list_any, muted, next, node_in, option_map, option_map_or, plan, role_of, same_role, session_of, sessions_changed, speaks_for, start, state_after}
-use Rattle.std.proofs.lemmas.Bool.{false≢true, and_parts}
-use Rattle.std.proofs.lemmas.Option.{same_Some}
+use Rattle.np_worker.proofs.Prelude.{Bool, Changes, Configuration, Done, Entry, Event, IsUseful, Launcher, List, NodeId, NodeRecord, None, Ok, Option, Outcome, PoolId, Role, SessionFacts, SessionId, SessionsChange, Some, State, [], after, ap, arith, change_session, cond, eqb-true, facts-grown, facts_in, false, false≢true, grown, is_current, is_ok, judge, judge_start, kept-change_at, launcher-role, muted, nat_tests, next, node_in, option_map, option_map_or, plan, plan-next, refl, role_of, row-of, same_Some, same_role, session_of, sessions_changed, slice_get, speaks_for, start, state_after, subst, sym, true, ℕ, ◌++◌, ◌-◌, ◌==◌, ◌∙◌, ◌∷◌, ◌≡◌}
+use Rattle.np_changes.specs.Prelude.{ended}
 use Rattle.np_event.specs.declared.event.Event.TheVariants as ev
-use Rattle.np_lists.proofs.ChangeLemmas.{kept-change_at}
-use Rattle.np_changes.specs.declared.changes.Changes.{Changes}
-use Rattle.np_changes.specs.declared.changes.SessionsChange.{SessionsChange}
 use Rattle.np_changes.specs.declared.changes.SessionsChange.TheVariants as sessions
-use Rattle.np_changes.proofs.Makers.{launcher-role}
-use Rattle.np_changes.proofs.PlanLaws.{plan-next}
-use Rattle.np_laws.proofs.Ids.{same_pool, row-of}
-use Rattle.np_laws.proofs.Sessions.{facts_in, facts-grown}
-use Rattle.np_useful.specs.Sessions.{is_current}
-use Rattle.np_useful.specs.Useful.{IsUseful}
 use Rattle.np_worker.proofs.Starts.{state_after-append, starting}
 
 -- ## a session keeps its role
@@ -61,27 +49,15 @@ role-stays c journal more session role is =
 
 -- ## who makes a useful event
 
-same_requester : (a b : RequesterId) → (a.0 == b.0) ≡ true → a ≡ b
-same_requester a b same = ap (λ (k : ℕ). let x : RequesterId = record { 0 = k } in x) (eqb-true a.0 b.0 same)
-
 pub same_role-is : (a b : Role) → same_role a b ≡ true → a ≡ b
-same_role-is (Launcher p) (Launcher q) is = ap (λ (x : PoolId). Launcher x) (same_pool p q is)
-same_role-is (Janitor p) (Janitor q) is = ap (λ (x : PoolId). Janitor x) (same_pool p q is)
-same_role-is (Requester p) (Requester q) is = ap (λ (x : RequesterId). Requester x) (same_requester p q is)
-same_role-is Reaper Reaper is = refl
-same_role-is _ _ is = absurd (false≢true is)
+same_role-is a b is = grind (arith, nat_tests)
 
 speaks-as : (role : Role) (o : Option SessionFacts) → option_map_or (speaks_for role) o false ≡ true → option_map (λ (f : SessionFacts). f.role) o ≡ Some role
-speaks-as role None is = absurd (false≢true is)
-speaks-as role (Some facts) is =
-    let heard = and_parts (same_role facts.role role && facts.live) (not facts.mute) is in
-    let live = and_parts (same_role facts.role role) facts.live heard.0 in
-    ap (λ (x : Role). Some x) (same_role-is facts.role role live.0)
+speaks-as role o is = grind (arith, nat_tests, same_role-is)
 
 -- the current session of a role has the role
 pub current-role : (role : Role) (session : SessionId) (s : State) → is_current role session s ≡ true → role_of session s ≡ Some role
-current-role role session s is =
-    speaks-as role (session_of session s) ((and_parts (option_map_or (speaks_for role) (session_of session s) false) (not (list_any (speaks_for role) (drop session.0 s.sessions))) is).0)
+current-role role session s x1 = grind (arith, nat_tests)
 
 -- ## useful starts and reports
 
@@ -108,5 +84,4 @@ useful-start_role c s _ session n useful = absurd (false≢true useful.row)
 -- ## what no role finds useful
 
 pub useful-tickless : (c : Configuration) (s : State) (role : Role) → IsUseful c s role ev.Tick → ⊥
-useful-tickless c s (Launcher pool) useful = false≢true useful.row
-useful-tickless c s _ useful = false≢true useful.row
+useful-tickless c s role x1 = grind (arith, nat_tests)

@@ -1,16 +1,10 @@
 -- The end of a round whose turn found no room in the journal.
-use Rattle.std.proofs.Common.{◌≡◌, ℕ, ◌⊎◌, inl, inr, List, [], ◌∷◌, refl, ap, ◌∙◌, subst}
-use Rattle.np_text.specs.declared.id.Role.{Role}
+use Rattle.np_worker.proofs.Prelude.{Ask, EndsWhereFull, Leads, List, MayAsk, Move, Phase, Role, Turn, WasFull, [], acting, after_launch, after_removal, after_turn, ap, arith, asked, ended, inl, inr, launched, nat_tests, refl, removed, subst, ℕ, ◌∙◌, ◌∷◌, ◌≡◌, ◌⊎◌}
 use Rattle.np_text.specs.declared.id.Role.TheVariants as role
-use Rattle.np_worker.specs.declared.ask.Ask.{Ask}
-use Rattle.np_worker.specs.declared.ask.Turn.{Turn}
 use Rattle.np_worker.specs.declared.ask.Turn.TheVariants as turn
-use Rattle.np_worker.specs.Move.{Move, asked, launched, removed}
-use Rattle.np_worker.specs.Phase.{Phase, acts, owes_report, looks, sweeps, ended, acting, after_turn, after_launch, after_removal, MayAsk, Leads}
-use Rattle.np_worker.specs.Trace.{WasFull, EndsWhereFull}
 use Rattle.np_worker.proofs.Steps.{TurnCases, of_turn, of_launch, of_removal, goes_on, nothing_more}
 
-role_goes : (r : Role) (n : ℕ) → acting r n ≡ ended → ⊥
+pub role_goes : (r : Role) (n : ℕ) → acting r n ≡ ended → ⊥
 role_goes r n = goes_on (λ s. s ≡ ended → ⊥) (λ q m e. cc) (λ pool m e. cc) (λ pool e. cc) (λ e. cc) r n
 
 -- only a turn that found the journal full leads to the end
@@ -36,12 +30,8 @@ ends_full p q (asked a t ∷ ms) free h k = elim (of_turn EndsBy turns_end p a t
 ends_full p q (launched tag o ∷ ms) free h k = ends_full (after_launch p o) q ms (of_launch (λ u x s. s ≡ ended → ⊥) (λ pool n s x e. cc) p tag o h.0) h.1 k
 ends_full p q (removed x ∷ ms) free h k = ends_full (after_removal p) q ms (of_removal (λ u s. s ≡ ended → ⊥) (λ pool n y e. cc) (λ pool y e. cc) p x h.0) h.1 k
 
-full_ends : (p : Phase) (a : Ask) → MayAsk p a → after_turn p a turn.Full ≡ ended
-full_ends (acts r n) a h = refl
-full_ends (owes_report pool n s o) a h = refl
-full_ends (looks pool n) a h = refl
-full_ends (sweeps pool) a h = refl
-full_ends p a h = absurd h
+pub full_ends : (p : Phase) (a : Ask) → MayAsk p a → after_turn p a turn.Full ≡ ended
+full_ends p a x1 = grind (arith, nat_tests)
 
 -- nothing comes after such a turn
 full_stops : (p q : Phase) (a : Ask) (t : Turn) (ms : List Move) → MayAsk p a → Leads (after_turn p a t) ms q → t ≡ turn.Full → (ms ≡ []) × (q ≡ ended)

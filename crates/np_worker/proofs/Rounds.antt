@@ -1,16 +1,8 @@
 -- Rounds, by the kind of worker.
-use Rattle.std.proofs.Common.{◌≡◌, List, sym, subst}
-use Rattle.std.specs.Prelude.{ℕ, Bool, Option, None, Result}
-use Rattle.np_changes.specs.Prelude.{Entry, NoMemory, Outcome, RequesterId}
-use Rattle.np_text.specs.declared.id.Role.TheVariants as role
-use Rattle.np_worker.specs.Prelude.{DriverFacts, Sight, Tag, acting, first_phase, of_reaper, of_requester}
-use Rattle.np_worker.specs.declared.ask.Ask.{Ask}
-use Rattle.np_worker.specs.declared.ask.Turn.{Turn}
-use Rattle.np_worker.specs.declared.worker.RoundEnd.{RoundEnd}
+use Rattle.np_worker.proofs.Prelude.{Ask, Bool, DriverFacts, EndsAs, Entry, List, NoMemory, None, Option, Outcome, Part, RequesterId, Result, RoundEnd, Sight, Tag, Turn, acting, driving_of, first_phase, of_reaper, of_requester, subst, sym, work_of, ℕ, ◌≡◌}
 use Rattle.np_worker.specs.declared.worker.Worker.{Worker}
+use Rattle.np_text.specs.declared.id.Role.TheVariants as role
 use Rattle.np_worker.specs.declared.worker.Worker.TheVariants as worker
-use Rattle.np_worker.specs.Part.{Part}
-use Rattle.np_worker.specs.Round.{EndsAs, work_of, driving_of}
 
 module _ {F : Type 0} {answers : F → List Entry → Ask → Turn → Type 0} {f : F} {D : Type 0} (facts : D → DriverFacts) (plan : D → Tag → Option Outcome) (sound : D → List ℕ → Bool) (room : D → ℕ) where
   pub requester_round : (w : Worker D) (q : RequesterId) {v u : Sight Entry} (r : Result RoundEnd NoMemory) → w ≡ worker.Requester q

@@ -1,16 +1,9 @@
 -- The series of turns that leads from one stage to another.
-use Rattle.std.proofs.Common.{◌≡◌, ◌+◌, ◌<◌, ◌≤◌, ◌^◌, List, [], ◌∷◌, length, sym, refl, ap, arith, subst, ⊎_elim, inl, inr}
-use Rattle.std.specs.Prelude.{Option, None, Result, Ok, Err, MatchResult}
-use Rattle.np_changes.specs.Prelude.{Entry, NoMemory}
-use Rattle.np_worker.specs.Prelude.{Driving, Sight, Unturned, Work, recorded}
+use Rattle.np_worker.proofs.Prelude.{Ask, Counts, Driving, Entry, Err, Hears, IsOfWork, List, MatchResult, NoMemory, None, Ok, Option, Part, Playing, Result, Sight, Turn, Unturned, WentFar, Work, [], ap, arith, ask_of, asks, inl, inr, length, phase_of, recorded, refl, steps_left, subst, sym, ⊎_elim, ◌+◌, ◌<◌, ◌^◌, ◌∷◌, ◌≡◌, ◌≤◌}
 use Rattle.np_desk.specs.Series.{Asked, Walked, Heard, Took, IsOver}
-use Rattle.np_worker.specs.declared.ask.Ask.{Ask}
-use Rattle.np_worker.specs.declared.ask.Turn.{Turn}
-use Rattle.np_worker.specs.Part.{Part, Counts}
-use Rattle.np_worker.specs.Stage.{IsOfWork, Hears, WentFar, ask_of, asks, phase_of, steps_left}
-use Rattle.np_worker.specs.declared.playing.Playing.{Playing}
 use Rattle.np_worker.proofs.Parts.{follow, no_turn, of_no_server, one_turn, counts_turn, unturned_same}
-use Rattle.np_worker.proofs.Stages.{may_ask, asks_no_server, work_after, steps_after}
+use Rattle.np_worker.proofs.Stages.{may_ask, asks_no_server, steps_after}
+use Rattle.np_worker.proofs.Works.{work_after}
 
 -- the turns of a series were at least as many as the steps that they used up
 pub heard_steps : (p q : Playing) (xs : List (Asked Ask Turn)) → Heard asks Hears p xs q → steps_left (phase_of q.stage) + length xs ≤ steps_left (phase_of p.stage)
@@ -19,7 +12,7 @@ heard_steps p q (x ∷ xs) h = let r : Playing = h.1 in omega (arith, heard_step
 
 pub heard_work : (w : Work) (p q : Playing) (xs : List (Asked Ask Turn)) → Heard asks Hears p xs q → IsOfWork w (phase_of p.stage) → IsOfWork w (phase_of q.stage)
 heard_work w p q [] h k = subst (λ (x : Playing). IsOfWork w (phase_of x.stage)) h k
-heard_work w p q (x ∷ xs) h k = let r : Playing = h.1 in heard_work w r q xs h.3 (subst (IsOfWork w) (sym (h.2.0 x.ask h.0)) (work_after w p.stage x.ask x.turn h.0 k))
+heard_work w p q (x ∷ xs) h k = let r : Playing = h.1 in heard_work w r q xs h.3 (subst (IsOfWork w) (sym (h.2.0 x.ask h.0)) (work_after w (phase_of p.stage) x.ask x.turn (may_ask p.stage x.ask h.0) k))
 
 module _ {F : Type 0} (answers : F → List Entry → Ask → Turn → Type 0) (f : F) where
   -- the turns, as a part of a round

@@ -1,13 +1,6 @@
 -- The servers of a worker's driver over a round
-use Rattle.std.proofs.Common.{◌≡◌, List, [], ap, ◌∙◌, subst, Bool, ℕ, ◌≤◌, length, arith}
-use Rattle.std.specs.Prelude.{All, Option, Some, None, IfSome, ℕ, Contains}
-use Rattle.np_changes.specs.Prelude.{Configuration, Entry, PoolId, option_map}
-use Rattle.std.proofs.lemmas.List.Elements.{All-head, All-cons, All-nil}
-use Rattle.np_worker.specs.Prelude.{Drives, Driving, Drove, Move, Server, SweepsServers, Work, of_pool, servers_after, AreRising, Launch, Phase, Sight, ended, first_phase, launches_of, owes_launch, owes_report}
-use Rattle.np_worker.specs.Players.{WasNamed, AreNamed, driving_in, IsNumbered, Player}
+use Rattle.np_worker.proofs.Prelude.{All, All-cons, All-head, All-nil, AreNamed, AreRising, Bool, Configuration, Contains, Drives, Driving, Drove, Entry, IfSome, IsCutOff, IsNumbered, Launch, List, Move, None, Option, Phase, Player, PlayerEnd, PlaysFrom, PoolId, Server, Sight, Some, SweepsServers, WasNamed, Work, [], answers_of, ap, arith, driving_in, ended, first_phase, fresh_sight, launches_of, length, of_pool, option_map, owes_launch, owes_report, servers_after, subst, ℕ, ◌∙◌, ◌≡◌, ◌≤◌}
 use Rattle.np_worker.proofs.Works.{asks_of}
-use Rattle.np_worker.specs.Planned.{answers_of}
-use Rattle.np_worker.specs.Played.{PlayerEnd, PlaysFrom, IsCutOff, fresh_sight}
 use Rattle.np_worker.proofs.Histories.{Rises, walk_rises, rising_lower, rising_least}
 use Rattle.np_worker.proofs.Made.{Made, Fits, Stands, first_fits, walk_stands}
 
@@ -65,7 +58,7 @@ fits_named plans c work _ v launches servers o h = h tt
 module _ {plans : Bool} (c : Configuration) (history : List Entry) (player : Player) (end : PlayerEnd) (p : PlaysFrom plans c history player end) where
   -- ## the history
 
-  rises : Rises (length history) end.sight
+  pub rises : Rises (length history) end.sight
   rises = walk_rises (answers_of plans) c (length history) p.trace (fresh_sight history) end.sight p.walked (omega arith, tt)
 
   -- the places of what it made rise, and come after the history

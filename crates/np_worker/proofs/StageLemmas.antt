@@ -1,23 +1,12 @@
 -- what is known of a pool's nodes after a journal, and how one entry more changes it
-use Rattle.std.proofs.Common.{◌≡◌, ◌∙◌, sym, refl, ap, subst, ◌⊎◌, inl, inr, ⊎_elim, ℕ, List, [], ◌∷◌, ◌++◌, append_assoc, append-nil, Some, Ok, Bool, true, false, eq-eqb, suc, ◌+◌, ◌≤◌, length, arith, Contains}
-use Rattle.std.specs.Prelude.{is_ok}
-use Rattle.np_changes.specs.Prelude.{Answer, Configuration, Done, Entry, Event, Launcher, NodeId, NodeRecord, Outcome, PoolId, SessionId, State, after, judge, judge_done, judge_start, launcher, maker_of, next, node_in, role_of, start, turns, is_deleting, is_wanted}
+use Rattle.np_worker.proofs.Prelude.{Answer, AreAloneSound, ArePresent, Ask, Bool, Configuration, Contains, DistinctNumbers, Done, Entry, Event, FailAfter, Invariant, IsServerOf, IsSoundAlone, Launch, Launcher, List, MayAsk, NodeId, NodeRecord, Ok, Outcome, Phase, PoolId, Server, SessionId, Some, Start, State, WasLaunchedFor, WereLaunched, [], acts, after, ap, append-nil, append_assoc, arith, ended, eq-eqb, false, inl, inr, is_deleting, is_ok, is_wanted, judge, judge_done, judge_start, launcher, launcher-role, length, looks, maker_of, next, node_in, number_in, numbers_in, ok-is, owes_due, owes_launch, owes_report, owes_swept, refl, reported, reports_of, role_of, same_pool, start, subst, suc, sweeps, sym, true, turns, ℕ, ⊎_elim, ◌++◌, ◌+◌, ◌∙◌, ◌∷◌, ◌≡◌, ◌≤◌, ◌⊎◌}
 use Rattle.np_event.specs.declared.event.Event.TheVariants as ev
 use Rattle.np_event.specs.declared.reply.Done.TheVariants as done
-use Rattle.np_worker.specs.Prelude.{Launch, Server, DistinctNumbers, IsSoundAlone, MayAsk, Phase, acts, ended, looks, owes_due, owes_launch, owes_report, owes_swept, sweeps}
-use Rattle.np_changes.proofs.Makers.{launcher-role}
-use Rattle.np_changes.proofs.Tested.{ok-is}
-use Rattle.np_laws.specs.Parts.{Invariant}
-use Rattle.np_laws.proofs.Ids.{same_pool}
+use Rattle.np_event.specs.declared.event.Outcome.TheVariants as outcome
 use Rattle.np_worker.proofs.Starts.{holds-after, state_after-append, MayReport}
-use Rattle.np_worker.specs.Reports.{reported, reports_of, number_in, numbers_in, AreAloneSound, FailAfter}
-use Rattle.np_worker.specs.Hosting.{WasLaunchedFor, IsServerOf, WereLaunched, ArePresent}
 use Rattle.np_worker.proofs.Idle.{NoLauncherWaits, may-before, may-before_lock, KeptServer, IsReportedBy, IsOfStart, server-before, may-before_done, may-before_start}
 use Rattle.np_worker.proofs.Waiting.{IsPolite}
 use Rattle.np_worker.proofs.Pools.{reports-next}
-use Rattle.np_event.specs.declared.event.Outcome.TheVariants as outcome
-use Rattle.np_worker.specs.declared.ask.Ask.{Ask}
-use Rattle.np_worker.specs.declared.start.Start.{Start}
 use Rattle.np_worker.proofs.Numbers.{outcomes, numbers-append}
 
 -- ## reports that may be made next

@@ -1,35 +1,18 @@
 -- what holds of a node's record over whatever follows in a run
-use Rattle.std.proofs.Common.{◌≡◌, ◌∙◌, sym, inl, inr, ℕ, ◌<◌, ◌≤◌, List, [], ◌∷◌, ◌++◌, refl, arith, subst, Option, Some, None, Bool, true, false, cond, ◌+◌, ap, not, Result, Ok, Err, eqb-true, eq-eqb, ◌⊎◌, length, length-append}
-use Rattle.std.specs.Prelude.{◌==◌, is_ok, nat_lt, ◌&&◌}
-use Rattle.np_changes.specs.Prelude.{Configuration, Entry, Event, NodeEntry, NodeId, NodeRecord, NodesPremise, Premises, PutsNode, RequestId, Rises, State, TenantId, after, changed, freed, grown, is_building, is_request, joined, judge, left, list_any, next, node_in, node_queue, nodes_changed, nodes_left, option_map, plan, start, state_after, Done, Outcome, PoolId, Refusal, SessionId, acting, is_session_of, judge_done, judge_start, node_holder, put_node, reply_of, start_by, started, starts_of, with_act, Runs}
-use Rattle.std.proofs.lemmas.Option.{none-some, same_Some}
-use Rattle.np_changes.specs.declared.changes.Maker.{Maker}
-use Rattle.np_changes.specs.declared.changes.Changes.{Changes}
-use Rattle.np_changes.specs.declared.changes.Growth.{Growth}
-use Rattle.np_changes.specs.declared.changes.Growth.TheVariants as grow
+use Rattle.np_worker.proofs.Prelude.{Answer, Bool, Changes, Configuration, Done, Entry, Event, Growth, Invariant, List, Maker, NodeEntry, NodeId, NodeRecord, NodesPremise, Ok, Option, Outcome, PoolId, Premises, PutsNode, RequestId, Rises, Runs, RunsWhileBuilding, SessionId, SessionsChange, Some, State, TenantId, Way, [], above-apart, after, arith, by_bool, cases_lt, changed, cond, eqb-true, false, freed, grown, inl, inr, invariant-after, invariant-next, invariant-start, is_building, is_ok, is_request, is_session_of, joined, judge, judge_done, judge_start, launcher, left, length, length-append, list_any, nat_lt, nat_tests, next, node_holder, node_in, node_in-allocated, node_in-below, node_in-freed, node_in-in_use, node_in-left, node_in-other, node_in-put, node_in-queue, node_in-remove, node_in-removed, node_queue, nodes_changed, nodes_left, none-some, not, ok-is, on-found, on-given, on-need, option_map, plan, plan-next, put_node, refl, replied-at, reply_of, same_Some, same_node-is, start, started, starts_of, state_after, subst, sym, true, used_from, with_act, ℕ, ◌&&◌, ◌++◌, ◌+◌, ◌<◌, ◌==◌, ◌∙◌, ◌∷◌, ◌≡◌, ◌≤◌, ◌⊎◌}
+use Rattle.np_changes.specs.Prelude.{acting}
 use Rattle.np_changes.specs.declared.changes.NodesChange.{NodesChange}
-use Rattle.np_changes.specs.declared.changes.NodesChange.TheVariants as nodes
-use Rattle.np_changes.specs.declared.changes.SessionsChange.{SessionsChange}
-use Rattle.np_changes.specs.declared.changes.SessionsChange.TheVariants as sessions
-use Rattle.np_changes.proofs.PlanLaws.{plan-next}
 use Rattle.np_changes.proofs.PremisesOf.{premises}
-use Rattle.np_laws.specs.Parts.{RunsWhileBuilding, Invariant, IsNumbered}
-use Rattle.np_laws.proofs.Lookups.{same_node-is, node_in-put, node_in-allocated, node_in-queue, node_in-left, node_in-freed, used_from, node_in-in_use, node_in-other, node_in-remove, node_in-removed, node_in-below}
+use Rattle.np_laws.specs.Parts.{IsNumbered}
 use Rattle.np_laws.proofs.Numbered.{grown-numbered}
 use Rattle.np_laws.proofs.After.{next-more}
-use Rattle.np_laws.proofs.Puts.{Way}
-use Rattle.np_laws.proofs.Runs.{invariant-next, invariant-after}
-use Rattle.np_laws.proofs.Start.{invariant-start}
-use Rattle.np_lists.proofs.Plain.{above-apart}
-use Rattle.std.proofs.lemmas.Bool.{cases_lt}
-use Rattle.np_worker.proofs.Histories.{same-split, split-within}
+use Rattle.np_changes.specs.declared.changes.Growth.TheVariants as grow
+use Rattle.np_changes.specs.declared.changes.NodesChange.TheVariants as nodes
+use Rattle.np_changes.specs.declared.changes.SessionsChange.TheVariants as sessions
 use Rattle.np_event.specs.declared.event.Event.TheVariants as ev
 use Rattle.np_event.specs.declared.reply.Done.TheVariants as done
 use Rattle.np_event.specs.declared.reply.Reply.TheVariants as reply
-use Rattle.np_machine.specs.Tests.{Answer, launcher, after_found, after_given}
-use Rattle.np_changes.proofs.Tested.{ok-is, on-given, on-found, on-need}
-use Rattle.np_laws.proofs.Replies.{accepted-state}
-use Rattle.np_laws.proofs.LiveHolders.{replied-at}
+use Rattle.np_worker.proofs.Histories.{same-split, split-within}
 
 -- no change of a node takes it away from a record (own)
 pub record IsSteady (P : NodeRecord → Type 0) : Type 0 where
@@ -50,12 +33,10 @@ module _ (n : NodeId) (P : NodeRecord → Type 0) (steady : IsSteady P) where
 
   -- of a record that was mapped
   mapped-holds : (f : NodeRecord → NodeRecord) (o : Option NodeRecord) (node : NodeRecord) → option_map f o ≡ Some node → ((old : NodeRecord) → o ≡ Some old → P (f old)) → P node
-  mapped-holds f None node is each = absurd (none-some node is)
-  mapped-holds f (Some old) node is each = subst P (same_Some (f old) node is) (each old refl)
+  mapped-holds f o node is each = grind (arith, nat_tests)
 
   either-holds : (b : Bool) (kept node : NodeRecord) → (b ≡ true → P kept) → P node → P (cond b kept node)
-  either-holds true kept node new old = new refl
-  either-holds false kept node new old = old
+  either-holds b kept node new old = by_bool (λ b. P (cond b kept node)) b new (λ _. old)
 
   -- ## growth
 
@@ -143,11 +124,7 @@ abbrev pub IsSpent : NodeId → ℕ → State → Type 0
 IsSpent n k s = IsGiven n (λ node. k ≤ node.attempts) s
 
 more-attempts : (k : ℕ) (c : Configuration) (s : State) (ch : Changes) (n : NodeId) (node kept : NodeRecord) → Way c s ch n node kept → k ≤ node.attempts → k ≤ kept.attempts
-more-attempts k c s ch n node kept (inl starts) old = subst (λ (x : NodeRecord). k ≤ x.attempts) (sym starts.record_after) (omega (arith, old))
-more-attempts k c s ch n node kept (inr (inl reports)) old = subst (λ (x : NodeRecord). k ≤ x.attempts) (sym reports.record_after) old
-more-attempts k c s ch n node kept (inr (inr (inl ends))) old = subst (λ (x : NodeRecord). k ≤ x.attempts) (sym ends.record_after) old
-more-attempts k c s ch n node kept (inr (inr (inr (inl gives)))) old = subst (λ (x : NodeRecord). k ≤ x.attempts) (sym gives.record_after) old
-more-attempts k c s ch n node kept (inr (inr (inr (inr frees)))) old = subst (λ (x : NodeRecord). k ≤ x.attempts) (sym frees.record_after) old
+more-attempts k c s ch n node kept way old = grind (arith, nat_tests)
 
 pub attempts-steady : (k : ℕ) → IsSteady (λ node. k ≤ node.attempts)
 attempts-steady k = record {
@@ -165,8 +142,7 @@ spent-over n k = given-over n (λ (node : NodeRecord). k ≤ node.attempts) (att
 
 -- an answer with the reply of what was done
 answer-is : (a : Answer) (what : Done) → reply_of a ≡ reply.Done what → a ≡ Ok what
-answer-is (Ok other) what is = cc
-answer-is (Err why) what is = absurd cc
+answer-is a what is = grind (arith, nat_tests)
 
 -- ## a start
 
@@ -197,26 +173,17 @@ next-attempt s session n k m b = let is : done.Started k m ≡ done.Started (b.n
 
 -- the start as the machine answered it
 start-begins : (c : Configuration) (s : State) (e : Entry) (session : SessionId) (n : NodeId) (k m : ℕ) → e.reply ≡ reply_of (judge c s e.event) → e.event ≡ ev.Start session n → e.reply ≡ reply.Done (done.Started k m) → judge_start s session n ≡ Ok (done.Started k m)
-start-begins c s e session n k m says event_is reply_is =
-    answer-is (judge_start s session n) (done.Started k m) (ap (λ (x : Event). reply_of (judge c s x)) (sym event_is) ∙ sym says ∙ reply_is)
+start-begins c s e session n k m x1 x2 x3 = grind (arith, nat_tests)
 
 -- where it leads
 pub start-leads : (c : Configuration) (s : State) (session : SessionId) (n : NodeId) (what : Done) (b : IsStarting s session n what) → judge_start s session n ≡ Ok what
     → next c s (ev.Start session n) ≡ with_act (acting s (ev.Start session n)) (started s n b.pool b.node)
-start-leads c s session n what b ok =
-    accepted-state c s (ev.Start session n) (ap (λ (a : Answer). is_ok a) ok)
-    ∙ ap (λ (t : State). with_act (acting s (ev.Start session n)) t)
-    (ap (λ (o : Result PoolId Refusal). after_given o s (start_by s n)) b.who ∙ ap (λ (o : Option NodeRecord). after_found o s (started s n b.pool)) b.stands)
+start-leads c s session n what b x1 = grind (arith, nat_tests)
 
 -- the node's record that is put has had this many attempts
 put-had : (s : State) (session : SessionId) (n : NodeId) (k m first : ℕ) (b : IsStarting s session n (done.Started k m)) (node : NodeRecord) →
     node_in n (put_node n (record b.node { attempts = b.node.attempts + 1; in_flight = true; start = first }) s.nodes) ≡ Some node → k ≤ node.attempts
-put-had s session n k m first b node is =
-    let kept : NodeRecord = record b.node { attempts = b.node.attempts + 1; in_flight = true; start = first } in
-    let put : node_in n (put_node n kept s.nodes) ≡ Some (cond (n.0 == n.0) kept b.node) = node_in-put n n kept s.nodes ∙ ap (λ (o : Option NodeRecord). option_map (λ x. cond (n.0 == n.0) kept x) o) b.stands in
-    let self : Some (cond (n.0 == n.0) kept b.node) ≡ Some kept = ap (λ (t : Bool). Some (cond t kept b.node)) (eq-eqb n.0 n.0 refl) in
-    let same : kept ≡ node = same_Some kept node (sym (put ∙ self) ∙ is) in
-    subst (λ (x : NodeRecord). k ≤ x.attempts) same (omega (arith, next-attempt s session n k m b))
+put-had s session n k m first b node is = let put = node_in-put n n (record b.node { attempts = b.node.attempts + 1; in_flight = true; start = first }) s.nodes in let one = next-attempt s session n k m b in grind (arith, nat_tests)
 
 begins-spends : (c : Configuration) (s : State) (session : SessionId) (n : NodeId) (k m : ℕ) → IsNumbered s → judge_start s session n ≡ Ok (done.Started k m) → IsSpent n k (next c s (ev.Start session n))
 begins-spends c s session n k m numbered ok =
@@ -232,9 +199,7 @@ start-spends c s e session n k m numbered says event_is reply_is =
 
 -- which was not spent before
 pub start-fresh : (c : Configuration) (s : State) (e : Entry) (session : SessionId) (n : NodeId) (k m : ℕ) → e.reply ≡ reply_of (judge c s e.event) → e.event ≡ ev.Start session n → e.reply ≡ reply.Done (done.Started k m) → IsSpent n k s → ⊥
-start-fresh c s e session n k m says event_is reply_is spent =
-    let b = starting s session n (done.Started k m) (start-begins c s e session n k m says event_is reply_is) in
-    omega (arith, spent.holds b.node b.stands, next-attempt s session n k m b)
+start-fresh c s e session n k m x1 x2 x3 x4 = grind (arith, nat_tests)
 
 -- ## a report
 

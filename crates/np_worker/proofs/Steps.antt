@@ -1,24 +1,14 @@
 -- What follows a phase, case by case.
-use Rattle.std.proofs.Common.{◌≡◌, ℕ, zero, suc, List, [], ◌∷◌, sym, refl, subst, Bool, true, false, cond}
-use Rattle.std.specs.Prelude.{Option, Some, None}
-use Rattle.np_changes.specs.Prelude.{Entry, NodeId, Outcome, PoolId, Role}
+use Rattle.np_worker.proofs.Prelude.{Ask, Bool, Entry, Leads, List, MayAsk, MayLaunch, MayRemove, Move, NodeId, None, Option, Outcome, Phase, PoolId, Role, Some, Start, Tag, Turn, [], acting, acts, after_act, after_launch, after_look, after_removal, after_report, after_start, after_sweep, after_turn, asked, cond, ended, false, is_idle, is_unwanted, looks, owes_due, owes_launch, owes_report, owes_swept, refl, report_of, rests, server_in, start_made, start_of, subst, suc, sweeps, sym, true, zero, ℕ, ◌∷◌, ◌≡◌}
 use Rattle.np_text.specs.declared.id.Role.TheVariants as role
-use Rattle.np_cloud.specs.declared.driver.Tag.{Tag}
-use Rattle.np_worker.specs.declared.ask.Ask.{Ask}
 use Rattle.np_worker.specs.declared.ask.Ask.TheVariants as ask
-use Rattle.np_worker.specs.declared.ask.Turn.{Turn}
 use Rattle.np_worker.specs.declared.ask.Turn.TheVariants as turn
-use Rattle.np_worker.specs.declared.start.Start.{Start}
-use Rattle.np_worker.specs.Move.{Move, asked, launched, removed}
-use Rattle.np_worker.specs.Phase.{Phase, acts, owes_launch, owes_report, looks, owes_due, sweeps, owes_swept, rests, ended, acting, after_start, after_act, after_report, after_look, after_sweep, server_in, after_turn, after_launch, after_removal, MayAsk, MayLaunch, MayRemove, Leads, start_of, report_of, is_unwanted}
-use Rattle.np_worker.specs.Trace.{start_made, is_idle}
 
 -- nothing comes after the end
 pub nothing_more : (q : Phase) (ms : List Move) → Leads ended ms q → (ms ≡ []) × (q ≡ ended)
 nothing_more q [] h = (refl, sym h)
 nothing_more q (asked a t ∷ ms) h = absurd h.0
-nothing_more q (launched tag o ∷ ms) h = absurd h.0
-nothing_more q (removed x ∷ ms) h = absurd h.0
+nothing_more q (move ∷ ms) h = absurd h.0
 
 -- when a role goes on, or is done, it acts, looks or sweeps, or its worker rests
 pub goes_on : (P : Phase → Type 0) → ((r : Role) (n : ℕ) → P (acts r n)) → ((pool : PoolId) (n : ℕ) → P (looks pool n)) → ((pool : PoolId) → P (sweeps pool)) → P rests → (r : Role) (n : ℕ) → P (acting r n)

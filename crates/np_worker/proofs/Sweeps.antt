@@ -1,37 +1,12 @@
 -- The servers that were asked about, the last first.
-use Rattle.std.proofs.Common.{◌≡◌, ℕ, zero, suc, ◌≤◌, inl, inr, List, [], ◌∷◌, ◌++◌, length, get_or, drop, sym, refl, ap, arith, subst, Bool, true, false, cond, eq-eqb}
-use Rattle.std.specs.Prelude.{Option, Some, None, IfSome, All, filter, not, ◌==◌, slice_get}
-use Rattle.np_changes.specs.Prelude.{AllByRecursion, PoolId, option_map}
-use Rattle.std.proofs.lemmas.List.Elements.{All-from_recursion, Contains-append_left, Contains-append_right}
-use Rattle.np_worker.specs.Prelude.{Driving, Move, Server, WasKept, asked, without_number}
+use Rattle.np_worker.proofs.Prelude.{All, All-from_recursion, AllByRecursion, AreKept, Bool, Contains-append_left, Contains-append_right, Driving, IfSome, IsDealtWith, List, Move, None, Option, PoolId, Server, Some, WasKept, [], all-filter_to, all-weaker, ap, asked, by_bool, cond, drop, drop-past, drop-there, eq-eqb, false, filter, get_or, inl, inr, length, not, option_map, refl, slice_get, subst, suc, sym, true, without_number, zero, ℕ, ◌++◌, ◌==◌, ◌∷◌, ◌≡◌, ◌≤◌}
+use Rattle.std.proofs.lemmas.List.{drop_all}
 use Rattle.np_worker.specs.declared.ask.Ask.TheVariants as ask
-use Rattle.np_worker.specs.Part.{AreKept, IsDealtWith}
-use Rattle.np_lists.proofs.Plain.{by_bool}
 
 -- the servers from a place on were asked about and kept
 abbrev pub KeptFrom : PoolId → List Move → ℕ → Option (List Server) → Type 0
 KeptFrom pool trace n None = Unit {0}
 KeptFrom pool trace n (Some s) = AllByRecursion (WasKept pool trace) (drop n s)
-
-all_weaker : (P Q : Server → Type 0) → ((x : Server) → P x → Q x) → (xs : List Server) → AllByRecursion P xs → AllByRecursion Q xs
-all_weaker P Q w [] h = tt
-all_weaker P Q w (x ∷ xs) h = (w x h.0, all_weaker P Q w xs h.1)
-
-drop_past : (n : ℕ) (s : List Server) → length s ≤ n → drop n s ≡ []
-drop_past zero [] h = refl
-drop_past zero (x ∷ xs) h = absurd (omega arith)
-drop_past (suc n) [] h = refl
-drop_past (suc n) (x ∷ xs) h = drop_past n xs (omega arith)
-
-pub get_past : (n : ℕ) (s : List Server) → slice_get s n ≡ None → length s ≤ n
-get_past n [] h = omega arith
-get_past zero (x ∷ xs) h = absurd (cc)
-get_past (suc n) (x ∷ xs) h = omega (arith, get_past n xs h)
-
-get_drop : (n : ℕ) (s : List Server) (x : Server) → slice_get s n ≡ Some x → drop n s ≡ x ∷ drop (suc n) s
-get_drop n [] x h = absurd (cc)
-get_drop zero (y ∷ ys) x h = let e : y ≡ x = cc in ap (λ (z : Server). z ∷ ys) e
-get_drop (suc n) (y ∷ ys) x h = get_drop n ys x h
 
 drop_more : (P : Server → Type 0) (n : ℕ) (s : List Server) → AllByRecursion P (drop n s) → AllByRecursion P (drop (suc n) s)
 drop_more P zero [] h = tt
@@ -39,12 +14,8 @@ drop_more P zero (x ∷ xs) h = h.1
 drop_more P (suc n) [] h = tt
 drop_more P (suc n) (x ∷ xs) h = drop_more P n xs h
 
-filter_all : (P : Server → Type 0) (f : Server → Bool) (s : List Server) → AllByRecursion (λ x. f x ≡ true → P x) s → AllByRecursion P (filter f s)
-filter_all P f [] h = tt
-filter_all P f (x ∷ xs) h = by_bool (λ b. AllByRecursion P (cond b (x ∷ filter f xs) (filter f xs))) (f x) (λ e. (h.0 e, filter_all P f xs h.1)) (λ e. filter_all P f xs h.1)
-
 drop_filter : (P : Server → Type 0) (f : Server → Bool) (n : ℕ) (s : List Server) → AllByRecursion (λ x. f x ≡ true → P x) (drop n s) → AllByRecursion P (drop n (filter f s))
-drop_filter P f zero s h = filter_all P f s h
+drop_filter P f zero s h = all-filter_to (λ x. f x ≡ true → P x) P f s (λ x is each. each is) h
 drop_filter P f (suc n) [] h = tt
 drop_filter P f (suc n) (x ∷ xs) h = by_bool (λ b. AllByRecursion P (drop (suc n) (cond b (x ∷ filter f xs) (filter f xs)))) (f x) (λ e. drop_filter P f n xs h) (λ e. drop_filter P f (suc n) xs (drop_more (λ y. f y ≡ true → P y) n xs h))
 
@@ -59,7 +30,7 @@ was_kept_after pool ms ns x h = (h.0, Contains-append_right ms ns (asked (ask.Sw
 
 pub kept_start : (pool : PoolId) (ms : List Move) (n : ℕ) (o : Option (List Server)) → IfSome o (λ s. length s ≤ n) → KeptFrom pool ms n o
 kept_start pool ms n None h = tt
-kept_start pool ms n (Some s) h = subst (AllByRecursion (WasKept pool ms)) (sym (drop_past n s h)) tt
+kept_start pool ms n (Some s) h = subst (AllByRecursion (WasKept pool ms)) (sym (drop_all n s h)) tt
 
 kept_all : (pool : PoolId) (ms : List Move) (o : Option (List Server)) → KeptFrom pool ms 0 o → IfSome o (λ s. All (WasKept pool ms) s)
 kept_all pool ms None h = tt
@@ -78,21 +49,21 @@ are_kept_after pool ms ns d h = kept_before pool ms ns d.facts.servers h
 
 pub kept_none : (pool : PoolId) (ms : List Move) (n : ℕ) (o : Option (List Server)) → IfSome o (λ s. None ≡ slice_get s n) → KeptFrom pool ms n o
 kept_none pool ms n None h = tt
-kept_none pool ms n (Some s) h = subst (AllByRecursion (WasKept pool ms)) (sym (drop_past n s (get_past n s (sym h)))) tt
+kept_none pool ms n (Some s) h = subst (AllByRecursion (WasKept pool ms)) (sym (drop-past s n (sym h))) tt
 
 later : (pool : PoolId) (n : ℕ) (ms ns : List Move) (s : List Server) → AllByRecursion (WasKept pool ms) (drop (suc n) s) → AllByRecursion (WasKept pool (ms ++ ns)) (drop (suc n) s)
-later pool n ms ns s k = all_weaker (WasKept pool ms) (WasKept pool (ms ++ ns)) (λ x h. was_kept_before pool ms ns x h) (drop (suc n) s) k
+later pool n ms ns s k = all-weaker (WasKept pool ms) (WasKept pool (ms ++ ns)) (λ x h. was_kept_before pool ms ns x h) (drop (suc n) s) k
 
 kept_stays : (pool : PoolId) (n : ℕ) (x : Server) (ms ns : List Move) (o : Option (List Server)) → IfSome o (λ s. Some x ≡ slice_get s n) → KeptFrom pool ms (suc n) o → WasKept pool ns x → KeptFrom pool (ms ++ ns) n o
 kept_stays pool n x ms ns None h k w = tt
-kept_stays pool n x ms ns (Some s) h k w = subst (AllByRecursion (WasKept pool (ms ++ ns))) (sym (get_drop n s x (sym h))) (was_kept_after pool ms ns x w, later pool n ms ns s k)
+kept_stays pool n x ms ns (Some s) h k w = subst (AllByRecursion (WasKept pool (ms ++ ns))) (sym (drop-there s n x (sym h))) (was_kept_after pool ms ns x w, later pool n ms ns s k)
 
 kept_goes : (pool : PoolId) (n : ℕ) (x : Server) (ms ns : List Move) (o : Option (List Server)) → IfSome o (λ s. Some x ≡ slice_get s n) → KeptFrom pool ms (suc n) o → KeptFrom pool (ms ++ ns) n (option_map (without_number x.number) o)
 kept_goes pool n x ms ns None h k = tt
 kept_goes pool n x ms ns (Some s) h k =
     let P : Server → Type 0 = WasKept pool (ms ++ ns) in
     let Q : Server → Type 0 = λ y. not (y.number == x.number) ≡ true → WasKept pool (ms ++ ns) y in
-    drop_filter P (λ (y : Server). not (y.number == x.number)) n s (subst (AllByRecursion Q) (sym (get_drop n s x (sym h))) ((λ e. absurd (not_itself x.number e)), all_weaker P Q (λ y p e. p) (drop (suc n) s) (later pool n ms ns s k)))
+    drop_filter P (λ (y : Server). not (y.number == x.number)) n s (subst (AllByRecursion Q) (sym (drop-there s n x (sym h))) ((λ e. absurd (not_itself x.number e)), all-weaker P Q (λ y p e. p) (drop (suc n) s) (later pool n ms ns s k)))
 
 pub kept_one : (pool : PoolId) (n : ℕ) (x : Server) (d e : Driving) (ms ns : List Move) → IfSome d.facts.servers (λ s. Some x ≡ slice_get s n) → KeptFrom pool ms (suc n) d.facts.servers → IsDealtWith pool x d e ns → KeptFrom pool (ms ++ ns) n e.facts.servers
 kept_one pool n x d e ms ns h k dealt = elim dealt [

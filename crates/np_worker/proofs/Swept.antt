@@ -1,16 +1,9 @@
 -- Swept pairs: what a sweep adds, and that none goes.
-use Rattle.std.proofs.Common.{◌≡◌, ◌∙◌, ℕ, Bool, true, false, cond, List, [], ◌∷◌, ◌++◌, Ok, Err, refl, sym, ap, subst, eq-eqb}
-use Rattle.std.specs.Prelude.{Option, None, is_ok}
-use Rattle.std.proofs.lemmas.Bool.{or_left, or_right}
-use Rattle.np_changes.specs.Prelude.{Answer, Configuration, Entry, Event, NodeId, SessionId, State, Swept, acting, after, effect, grown, insert_before, is_pair, is_pair_after, is_swept, is_wanted, judge, next, plan, reply_of, start, state_after, with_act, with_pair}
-use Rattle.np_event.specs.declared.event.Event.TheVariants as ev
-use Rattle.np_desk.specs.History.{StartsWith}
+use Rattle.np_worker.proofs.Prelude.{Answer, Bool, Configuration, Entry, Err, Event, Growth, List, Maker, NodeId, None, Ok, Option, SessionId, StartsWith, State, Swept, [], after, ap, arith, cond, effect, eq-eqb, false, grown, insert_before, is_ok, is_pair, is_pair_after, is_remove, is_swept, is_wanted, judge, nat_tests, next, or_left, or_right, plan, plan-next, refl, reply_of, start, state_after, subst, sym, true, with_act, with_pair, ℕ, ◌++◌, ◌∙◌, ◌∷◌, ◌≡◌}
+use Rattle.np_changes.specs.Prelude.{acting}
 use Rattle.np_lists.proofs.FilterLemmas.{list_any-insert_before}
-use Rattle.np_changes.specs.declared.changes.Maker.{Maker}
-use Rattle.np_changes.specs.declared.changes.Growth.{Growth}
+use Rattle.np_event.specs.declared.event.Event.TheVariants as ev
 use Rattle.np_changes.specs.declared.changes.Growth.TheVariants as grow
-use Rattle.np_changes.proofs.PlanLaws.{plan-next}
-use Rattle.np_worker.specs.Phase.{is_remove}
 use Rattle.np_worker.proofs.Starts.{state_after-append}
 
 -- ## a pair more
@@ -81,8 +74,7 @@ accepted-next_by P c s e (Ok what) is removes new = rw is new
 accepted-next_by P c s e (Err why) is removes new = absurd cc
 
 added-by : (s : State) (n : NodeId) (x : ℕ) (b : Bool) → b ≡ false → is_swept n x (cond b s.swept (with_pair n x s.swept)) ≡ true
-added-by s n x true unwanted = absurd cc
-added-by s n x false unwanted = pair-there n x s.swept
+added-by s n x b unwanted = grind (arith, nat_tests, pair-there)
 
 sweep-adds : (c : Configuration) (s : State) (e : Event) (session : SessionId) (n : NodeId) (x : ℕ) → e ≡ ev.Sweep session n x → is_wanted s n x ≡ false → is_swept n x (with_act (acting s e) (effect c s e)).swept ≡ true
 sweep-adds c s e session n x is unwanted =

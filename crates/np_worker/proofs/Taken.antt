@@ -1,14 +1,7 @@
 -- How many turns the roles took.
-use Rattle.std.proofs.Common.{◌≡◌, ℕ, zero, suc, ◌+◌, ◌⊎◌, inl, inr, List, [], ◌∷◌, sym, refl, ap, ◌∙◌, subst, arith, Bool, true, false, cond}
-use Rattle.std.specs.Prelude.{◌&&◌}
-use Rattle.np_changes.specs.Prelude.{Event, NodeId, PoolId, RequesterId, Role}
+use Rattle.np_worker.proofs.Prelude.{Ask, Bool, Event, IsPastJanitor, IsPastLauncher, Leads, List, Move, NodeId, Phase, PoolId, RequesterId, Role, TookAll, Turn, WasIdle, [], acting, acts, after_launch, after_removal, after_turn, ap, arith, asked, cond, did_count, ended, false, first_phase, inl, inr, is_did, is_idle, is_janitor_act, is_launcher_act, is_lone_act, launched, looks, nat_tests, of_pool, of_reaper, of_requester, owes_due, owes_launch, owes_report, refl, removed, report_of, rests, subst, suc, sym, true, ℕ, ◌&&◌, ◌+◌, ◌∙◌, ◌∷◌, ◌≡◌, ◌⊎◌}
 use Rattle.np_text.specs.declared.id.Role.TheVariants as role
-use Rattle.np_worker.specs.declared.ask.Ask.{Ask}
 use Rattle.np_worker.specs.declared.ask.Ask.TheVariants as ask
-use Rattle.np_worker.specs.declared.ask.Turn.{Turn}
-use Rattle.np_worker.specs.Move.{Move, asked, launched, removed}
-use Rattle.np_worker.specs.Phase.{Phase, acts, owes_launch, owes_report, looks, owes_due, sweeps, owes_swept, rests, ended, acting, first_phase, of_pool, of_requester, of_reaper, after_turn, after_launch, after_removal, Leads, report_of}
-use Rattle.np_worker.specs.Trace.{is_did, is_idle, is_launcher_act, is_janitor_act, is_lone_act, did_count, WasIdle, TookAll, IsPastLauncher, IsPastJanitor}
 use Rattle.np_worker.proofs.Steps.{TurnCases, of_turn, of_launch, of_removal, nothing_more}
 
 -- how many turns that pass the test may come after a role's
@@ -30,32 +23,24 @@ left test (owes_due pool n x) = left_to test (role.Janitor pool) (suc n)
 left test _ = 0
 
 none_counts : (b d : Bool) (k : ℕ) → b ≡ false → cond (b && d) 1 0 + k ≡ k
-none_counts true d k h = absurd (cc)
-none_counts false d k h = omega arith
+none_counts b d k x1 = grind (arith, nat_tests)
 
 none_left : (b : Bool) (m n k : ℕ) → b ≡ false → cond b m 0 + k ≡ cond b n 0 + k
-none_left true m n k h = absurd (cc)
-none_left false m n k h = refl
+none_left b m n k x1 = grind (arith, nat_tests)
 
 zero_left : (b : Bool) (k : ℕ) → k ≡ cond b 0 0 + k
-zero_left true k = omega arith
-zero_left false k = omega arith
+zero_left b k = grind (arith, nat_tests)
 
 one_less : (b : Bool) (n k : ℕ) → cond (b && true) 1 0 + (cond b n 0 + k) ≡ cond b (suc n) 0 + k
-one_less true n k = omega arith
-one_less false n k = omega arith
+one_less b n k = grind (arith, nat_tests)
 
 taken_on : (d n m k : ℕ) (W V : Type 0) → d + n ≡ k → (m ≡ n) ⊎ W → (d + m ≡ k) ⊎ (V ⊎ W)
-taken_on d n m k W V h (inl i) = inl (omega arith)
-taken_on d n m k W V h (inr w) = inr (inr w)
+taken_on d n m k W V x1 x2 = grind (arith, nat_tests)
 
 -- a test of what roles do, which no report, look or sweep passes
 module _ (test : Ask → Bool) (no_report : (e : Event) → test (ask.Do e) ≡ false) (no_look : (pool : PoolId) → test (ask.Due pool) ≡ false) (no_sweep : (pool : PoolId) (node : NodeId) (x : ℕ) → test (ask.Sweep pool node x) ≡ false) where
   left_acting : (r : Role) (n : ℕ) → left test (acting r n) ≡ left_to test r n
-  left_acting (role.Launcher pool) zero = zero_left (test (ask.Act (role.Launcher pool))) (left_after test (role.Launcher pool))
-  left_acting r zero = zero_left (test (ask.Act r)) (left_after test r)
-  left_acting (role.Launcher pool) (suc n) = refl
-  left_acting r (suc n) = refl
+  left_acting r n = grind (arith, nat_tests)
 
   -- a turn takes one of those that are left, or finds the role idle, or the journal full
   abbrev Leaves : Phase → Ask → Turn → Phase → Type 0
@@ -90,16 +75,10 @@ module _ (test : Ask → Bool) (no_report : (e : Event) → test (ask.Do e) ≡ 
   turns_taken p q (removed x ∷ ms) h z free = subst (λ (n : ℕ). (did_count test ms ≡ n) ⊎ WasIdle test ms) (of_removal (λ u s. left test s ≡ left test u) (λ pool n y. refl) (λ pool y. refl) p x h.0) (turns_taken (after_removal p) q ms h.1 z free)
 
 past_launcher : (q : Phase) → IsPastLauncher q → left is_launcher_act q ≡ 0
-past_launcher (acts (role.Janitor pool) n) h = refl
-past_launcher (acts r n) h = absurd h
-past_launcher (owes_launch pool n s) h = absurd h
-past_launcher (owes_report pool n s o) h = absurd h
-past_launcher q h = refl
+past_launcher q x1 = grind (arith, nat_tests)
 
 past_janitor : (q : Phase) → IsPastJanitor q → left is_janitor_act q ≡ 0
-past_janitor (sweeps pool) h = refl
-past_janitor (owes_swept pool x) h = refl
-past_janitor q h = absurd h
+past_janitor q x1 = grind (arith, nat_tests)
 
 pub launcher_took : (pool : PoolId) (q : Phase) (ms : List Move) → Leads (first_phase (of_pool pool)) ms q → IsPastLauncher q → TookAll is_launcher_act ms
 launcher_took pool q ms h past = turns_taken is_launcher_act (λ e. refl) (λ a. refl) (λ a n x. refl) (first_phase (of_pool pool)) q ms h (past_launcher q past) (λ e. subst IsPastLauncher e past)

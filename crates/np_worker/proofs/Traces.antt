@@ -1,33 +1,15 @@
 -- Traces one after the other.
-use Rattle.std.proofs.Common.{◌≡◌, ℕ, List, [], ◌∷◌, ◌++◌, length, sym, refl, ap, ◌∙◌, subst, append_assoc, append-nil}
-use Rattle.std.specs.Prelude.{Bool, Option, Some, None}
-use Rattle.np_changes.specs.Prelude.{Entry, Outcome, option_map}
-use Rattle.np_desk.specs.Pass.{Sight}
-use Rattle.np_desk.specs.Turned.{Answered, Unturned, Records}
-use Rattle.np_desk.proofs.HistoryLemmas.{starts_on}
-use Rattle.np_cloud.specs.declared.driver.Tag.{Tag}
-use Rattle.np_cloud.specs.declared.driver.Server.{Server}
-use Rattle.np_cloud.specs.declared.driver.Launch.{Launch}
-use Rattle.np_cloud.specs.Calls.{with_launch, with_launched, without_number}
-use Rattle.np_worker.specs.declared.ask.Ask.{Ask}
-use Rattle.np_worker.specs.declared.ask.Turn.{Turn}
-use Rattle.np_worker.specs.Asks.{recorded}
-use Rattle.np_worker.specs.Move.{Move, asked, launched, removed, launches_of}
-use Rattle.np_worker.specs.Phase.{Phase, Leads}
-use Rattle.np_worker.specs.Drive.{servers_after, SweepsServers, FollowsPlan, AreSoundAlone, FailFull}
-use Rattle.np_worker.specs.Walk.{Walk}
+use Rattle.np_worker.proofs.Prelude.{Answered, AreSoundAlone, Ask, Bool, Entry, FailFull, FollowsPlan, Launch, Leads, List, Move, None, Option, Outcome, Phase, Records, Server, Sight, Some, SweepsServers, Tag, Turn, Unturned, Walk, [], ap, append-nil, append_assoc, arith, asked, launched, launches_of, length, nat_tests, option_map, recorded, refl, removed, servers_after, starts_on, subst, sym, with_launch, with_launched, without_number, ℕ, ◌++◌, ◌∙◌, ◌∷◌, ◌≡◌}
 
 pub leads-append : (p q r : Phase) (ms ns : List Move) → Leads p ms q → Leads q ns r → Leads p (ms ++ ns) r
 leads-append p q r [] ns e h = subst (λ (s : Phase). Leads s ns r) (sym e) h
 leads-append p q r (asked a t ∷ ms) ns l h = (l.0, leads-append _ q r ms ns l.1 h)
-leads-append p q r (launched tag o ∷ ms) ns l h = (l.0, leads-append _ q r ms ns l.1 h)
-leads-append p q r (removed x ∷ ms) ns l h = (l.0, leads-append _ q r ms ns l.1 h)
+leads-append p q r (move ∷ ms) ns l h = (l.0, leads-append _ q r ms ns l.1 h)
 
 pub launches-append : (ms ns : List Move) → launches_of (ms ++ ns) ≡ launches_of ms ++ launches_of ns
 launches-append [] ns = refl
-launches-append (asked a t ∷ ms) ns = launches-append ms ns
 launches-append (launched tag o ∷ ms) ns = ap (λ (ls : List Launch). record { tag = tag; outcome = o } ∷ ls) (launches-append ms ns)
-launches-append (removed x ∷ ms) ns = launches-append ms ns
+launches-append (move ∷ ms) ns = launches-append ms ns
 
 pub servers-append : (ms ns : List Move) (s : List Server) → servers_after (ms ++ ns) s ≡ servers_after ns (servers_after ms s)
 servers-append [] ns s = refl
@@ -43,61 +25,38 @@ sweeps-append (removed x ∷ ms) ns s h k = sweeps-append ms ns (without_number 
 
 pub plan-append : (plan : Tag → Option Outcome) (ms ns : List Move) → FollowsPlan plan ms → FollowsPlan plan ns → FollowsPlan plan (ms ++ ns)
 plan-append plan [] ns h k = k
-plan-append plan (asked a t ∷ ms) ns h k = plan-append plan ms ns h k
 plan-append plan (launched tag o ∷ ms) ns h k = (h.0, plan-append plan ms ns h.1 k)
-plan-append plan (removed x ∷ ms) ns h k = plan-append plan ms ns h k
+plan-append plan (move ∷ ms) ns h k = plan-append plan ms ns h k
 
 pub alone-append : (sound : List ℕ → Bool) (ms ns : List Move) → AreSoundAlone sound ms → AreSoundAlone sound ns → AreSoundAlone sound (ms ++ ns)
 alone-append sound [] ns h k = k
-alone-append sound (asked a t ∷ ms) ns h k = alone-append sound ms ns h k
 alone-append sound (launched tag o ∷ ms) ns h k = (h.0, alone-append sound ms ns h.1 k)
-alone-append sound (removed x ∷ ms) ns h k = alone-append sound ms ns h k
+alone-append sound (move ∷ ms) ns h k = alone-append sound ms ns h k
 
 -- the launches of these moves come last
 abbrev pub with_launches : List Move → List Launch → List Launch
 with_launches ms launches = launches ++ launches_of ms
 
-none-more : (o : Option (List Launch)) → option_map (with_launches []) o ≡ o
-none-more None = refl
-none-more (Some launches) = ap (λ (l : List Launch). Some l) (append-nil launches)
+pub map_twice : {A : Type 0} (f g h : A → A) → ((x : A) → g (f x) ≡ h x) → (o : Option A) → option_map g (option_map f o) ≡ option_map h o
+map_twice f g h x1 o = grind (arith, nat_tests)
 
-same-servers : (o : Option (List Server)) → option_map (servers_after []) o ≡ o
-same-servers None = refl
-same-servers (Some servers) = refl
-
-one-launch : (tag : Tag) (o : Outcome) (ms : List Move) (ls : Option (List Launch)) → option_map (with_launches (launched tag o ∷ ms)) ls ≡ option_map (with_launches ms) (option_map (with_launch tag o) ls)
-one-launch tag o ms None = refl
-one-launch tag o ms (Some launches) = ap (λ (l : List Launch). Some l) (sym (append_assoc launches (record { tag = tag; outcome = o } ∷ []) (launches_of ms)))
-
-one-server : (tag : Tag) (o : Outcome) (ms : List Move) (s : Option (List Server)) → option_map (servers_after (launched tag o ∷ ms)) s ≡ option_map (servers_after ms) (option_map (with_launched tag o) s)
-one-server tag o ms None = refl
-one-server tag o ms (Some servers) = refl
-
-one-less : (x : ℕ) (ms : List Move) (s : Option (List Server)) → option_map (servers_after (removed x ∷ ms)) s ≡ option_map (servers_after ms) (option_map (without_number x) s)
-one-less x ms None = refl
-one-less x ms (Some servers) = refl
-
-asked-launches : (a : Ask) (t : Turn) (ms : List Move) (ls : Option (List Launch)) → option_map (with_launches (asked a t ∷ ms)) ls ≡ option_map (with_launches ms) ls
-asked-launches a t ms None = refl
-asked-launches a t ms (Some launches) = refl
-
-asked-servers : (a : Ask) (t : Turn) (ms : List Move) (s : Option (List Server)) → option_map (servers_after (asked a t ∷ ms)) s ≡ option_map (servers_after ms) s
-asked-servers a t ms None = refl
-asked-servers a t ms (Some servers) = refl
-
-less-launches : (x : ℕ) (ms : List Move) (ls : Option (List Launch)) → option_map (with_launches (removed x ∷ ms)) ls ≡ option_map (with_launches ms) ls
-less-launches x ms None = refl
-less-launches x ms (Some launches) = refl
+pub map_same : {A : Type 0} (f : A → A) → ((x : A) → x ≡ f x) → (o : Option A) → o ≡ option_map f o
+map_same f x1 o = grind (arith, nat_tests)
 
 module _ (room : ℕ) (ns : List Move) where
   same-fulls : (ls ls' : Option (List Launch)) (s s' : Option (List Server)) → ls ≡ ls' → s ≡ s' → FailFull room ns ls s → FailFull room ns ls' s'
   same-fulls ls ls' s s' e f h = subst (λ (x : Option (List Server)). FailFull room ns ls' x) f (subst (λ (x : Option (List Launch)). FailFull room ns x s) e h)
 
   pub full-append : (ms : List Move) (ls : Option (List Launch)) (s : Option (List Server)) → FailFull room ms ls s → FailFull room ns (option_map (with_launches ms) ls) (option_map (servers_after ms) s) → FailFull room (ms ++ ns) ls s
-  full-append [] ls s h k = same-fulls (option_map (with_launches []) ls) ls (option_map (servers_after []) s) s (none-more ls) (same-servers s) k
-  full-append (asked a t ∷ ms) ls s h k = full-append ms ls s h (same-fulls _ _ _ _ (asked-launches a t ms ls) (asked-servers a t ms s) k)
-  full-append (launched tag o ∷ ms) ls s h k = (h.0, full-append ms (option_map (with_launch tag o) ls) (option_map (with_launched tag o) s) h.1 (same-fulls _ _ _ _ (one-launch tag o ms ls) (one-server tag o ms s) k))
-  full-append (removed x ∷ ms) ls s h k = full-append ms ls (option_map (without_number x) s) h (same-fulls _ _ _ _ (less-launches x ms ls) (one-less x ms s) k)
+  full-append [] ls s h k = same-fulls _ ls _ s (sym (map_same (with_launches []) (λ l. sym (append-nil l)) ls)) (sym (map_same (servers_after []) (λ l. refl) s)) k
+  full-append (asked a t ∷ ms) ls s h k = full-append ms ls s h k
+  full-append (launched tag o ∷ ms) ls s h k = (
+    h.0,
+    full-append ms (option_map (with_launch tag o) ls) (option_map (with_launched tag o) s) h.1 (same-fulls _ _ _ _
+        (sym (map_twice (with_launch tag o) (with_launches ms) (with_launches (launched tag o ∷ ms)) (λ l. append_assoc l (record { tag = tag; outcome = o } ∷ []) (launches_of ms)) ls))
+        (sym (map_twice (with_launched tag o) (servers_after ms) (servers_after (launched tag o ∷ ms)) (λ l. refl) s)) k),
+  )
+  full-append (removed x ∷ ms) ls s h k = full-append ms ls (option_map (without_number x) s) h (same-fulls _ _ _ _ refl (sym (map_twice (without_number x) (servers_after ms) (servers_after (removed x ∷ ms)) (λ l. refl) s)) k)
 
 module _ {F : Type 0} (answers : F → List Entry → Ask → Turn → Type 0) (f : F) where
   pub unturned-on : (u v w : Sight Entry) → Unturned u v → Unturned v w → Unturned u w
@@ -113,11 +72,9 @@ module _ {F : Type 0} (answers : F → List Entry → Ask → Turn → Type 0) (
   pub walk-from : (u v w : Sight Entry) (ms : List Move) → Unturned u v → Walk answers f ms v w → Walk answers f ms u w
   walk-from u v w [] h k = unturned-on u v w h k
   walk-from u v w (asked a t ∷ ms) h k = (k.0, answered-from u v k.0 a t h k.1, k.2)
-  walk-from u v w (launched tag o ∷ ms) h k = walk-from u v w ms h k
-  walk-from u v w (removed x ∷ ms) h k = walk-from u v w ms h k
+  walk-from u v w (move ∷ ms) h k = walk-from u v w ms h k
 
   pub walk-append : (u v w : Sight Entry) (ms ns : List Move) → Walk answers f ms u v → Walk answers f ns v w → Walk answers f (ms ++ ns) u w
   walk-append u v w [] ns h k = walk-from u v w ns h k
   walk-append u v w (asked a t ∷ ms) ns h k = (h.0, h.1, walk-append h.0 v w ms ns h.2 k)
-  walk-append u v w (launched tag o ∷ ms) ns h k = walk-append u v w ms ns h k
-  walk-append u v w (removed x ∷ ms) ns h k = walk-append u v w ms ns h k
+  walk-append u v w (move ∷ ms) ns h k = walk-append u v w ms ns h k

@@ -1,27 +1,11 @@
 -- a server that no record wants any more is never wanted again, and so is gone after a whole round
-use Rattle.std.proofs.Common.{◌≡◌, ◌∙◌, inl, inr, ⊎_elim, ℕ, ◌<◌, ◌≤◌, arith, List, ◌∷◌, ◌++◌, Bool, true, false, ◌||◌, refl, sym, ap, subst, append_assoc}
-use Rattle.std.specs.Prelude.{All, Contains, Option, Some, None, is_ok}
-use Rattle.np_changes.specs.Prelude.{Configuration, EndAs, Entry, Event, NodeId, NodeRecord, PoolId, State, after, ended_as, is_building, is_server, is_wanted, judge, node_in, option_map_or, start, turns}
-use Rattle.std.proofs.lemmas.Bool.{false≢true, or_from}
-use Rattle.std.proofs.lemmas.List.Elements.{All-contains}
-use Rattle.np_text.specs.declared.word.EndAs.TheVariants as end_as
+use Rattle.np_worker.proofs.Prelude.{All, All-contains, BeginsLaunch, Bool, Changes, Configuration, Contains, DrivenAs, EndAs, Entry, Event, IsDrivenTurn, IsOfUse, IsReportOfLaunch, IsSweepOfServer, IsTickBetween, IsTurnAs, KeepsJanitor, List, NamesServer, NodeId, NodeRecord, Option, Player, PlayerEnd, PlaysFrom, PoolId, Says, Server, Some, StartsWith, State, StaysKept, WasKept, WasNamed, WasOfUse, WasUnwanted, Way, after, ap, append_assoc, arith, ended, ended_as, false, false≢true, is_building, is_ok, is_server, is_wanted, judge, nat_tests, node_in, node_in-below, not-second, option_map_or, start, starts_on, subst, sym, true, turns, ℕ, ⊎_elim, ◌++◌, ◌<◌, ◌||◌, ◌∙◌, ◌∷◌, ◌≡◌, ◌≤◌}
+use Rattle.np_worker.specs.Answers.{IsKept}
 use Rattle.np_event.specs.declared.event.Event.TheVariants as ev
 use Rattle.np_event.specs.declared.event.Outcome.TheVariants as outcome
-use Rattle.np_worker.specs.Prelude.{Server, StartsWith, WasKept, WasOfUse, ended}
-use Rattle.np_changes.specs.declared.changes.Changes.{Changes}
-use Rattle.np_laws.proofs.Lookups.{node_in-below}
-use Rattle.np_laws.proofs.Puts.{Way}
-use Rattle.np_useful.specs.Driven.{Says, IsDrivenTurn, IsOfUse, IsTickBetween, IsSweepOfServer, IsReportOfLaunch, BeginsLaunch, NamesServer}
-use Rattle.np_worker.specs.Answers.{IsKept}
-use Rattle.np_worker.specs.Planned.{IsTurnAs, DrivenAs}
-use Rattle.np_worker.specs.Players.{Player, WasNamed}
-use Rattle.np_worker.specs.Played.{PlayerEnd, PlaysFrom}
-use Rattle.np_worker.specs.Servers.{StaysKept, WasUnwanted, KeepsJanitor}
-use Rattle.np_desk.proofs.HistoryLemmas.{starts_on}
 use Rattle.np_worker.proofs.Starts.{IsSteady, IsGiven, attempts-steady, given-stays, holds-after, done-spends}
 use Rattle.np_worker.proofs.Places.{turn_after, some-place, driven-at}
 use Rattle.np_worker.proofs.Leaving.{kept-stay}
-use Rattle.np_lists.proofs.Plain.{not-second}
 
 -- ## a record that does not want a server stays so
 
@@ -30,21 +14,13 @@ abbrev Leaves : ℕ → NodeRecord → Type 0
 Leaves x node = (is_building node.state || is_server x node.server) ≡ false
 
 not-both : (a b : Bool) → (a || b) ≡ false → a ≡ true → ⊥
-not-both true b none is = false≢true (sym none)
-not-both false b none is = false≢true is
+not-both a b none is = grind (arith, nat_tests)
 
 ended-leaves : (as_what : EndAs) → is_building (ended_as as_what) ≡ false
-ended-leaves end_as.Used = refl
-ended-leaves end_as.Hold = refl
+ended-leaves as_what = grind (arith, nat_tests)
 
 put-leaves : (x : ℕ) (c : Configuration) (s : State) (ch : Changes) (n : NodeId) (node kept : NodeRecord) → (node.in_flight ≡ true → is_building node.state ≡ true) → Way c s ch n node kept → Leaves x node → Leaves x kept
-put-leaves x c s ch n node kept runs (inl starts) old = subst (Leaves x) (sym starts.record_after) old
-put-leaves x c s ch n node kept runs (inr (inl reports)) old = absurd (not-both (is_building node.state) (is_server x node.server) old (runs reports.running))
-put-leaves x c s ch n node kept runs (inr (inr (inl ends))) old =
-    subst (Leaves x) (sym ends.record_after) (or_from (is_building (ended_as ends.as_what)) (is_server x node.server) (ended-leaves ends.as_what) (not-second (is_building node.state) (is_server x node.server) old))
-put-leaves x c s ch n node kept runs (inr (inr (inr (inl gives)))) old =
-    subst (Leaves x) (sym gives.record_after) (not-second (is_building node.state) (is_server x node.server) old)
-put-leaves x c s ch n node kept runs (inr (inr (inr (inr frees)))) old = subst (Leaves x) (sym frees.record_after) old
+put-leaves x c s ch n node kept runs way old = grind (arith, nat_tests)
 
 leaves-steady : (x : ℕ) → IsSteady (Leaves x)
 leaves-steady x = record {
@@ -104,8 +80,7 @@ module _ (c : Configuration) where
       subst (λ (o : Option NodeRecord). option_map_or (λ (k : NodeRecord). is_building k.state || is_server x k.server) o false ≡ false) is unwanted
 
   unwanted-by : (x : ℕ) (o : Option NodeRecord) → ((node : NodeRecord) → o ≡ Some node → Leaves x node) → option_map_or (λ (k : NodeRecord). is_building k.state || is_server x k.server) o false ≡ false
-  unwanted-by x None each = refl
-  unwanted-by x (Some node) each = each node refl
+  unwanted-by x o each = grind (arith, nat_tests)
 
   unwanted-stays : (journal more : List Entry) (n : NodeId) (x : ℕ) → n.0 < (after c journal).next_node → is_wanted (after c journal) n x ≡ false → is_wanted (after c (journal ++ more)) n x ≡ false
   unwanted-stays journal more n x given unwanted =

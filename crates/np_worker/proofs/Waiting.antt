@@ -1,15 +1,8 @@
 -- no launcher stands behind the holder of a node, at each place of a driven journal
-use Rattle.std.proofs.Common.{◌≡◌, sym, refl, subst, ⊎_elim, List, [], ◌∷◌, ◌++◌, false}
-use Rattle.np_changes.specs.Prelude.{AllByRecursion, Configuration, Entry, Event, Launcher, NodeId, Role, SessionId, State, Turn, after, next, node_queue, start, state_after, turns, turns_from}
-use Rattle.std.proofs.lemmas.Bool.{false≢true, and_parts}
-use Rattle.np_event.specs.declared.event.Event.TheVariants as ev
-use Rattle.np_lists.proofs.Each.{all-weaker}
-use Rattle.np_laws.specs.Parts.{Invariant}
-use Rattle.np_laws.proofs.Runs.{invariant-next}
-use Rattle.np_laws.proofs.Start.{invariant-start}
-use Rattle.np_useful.specs.Driven.{Says, DrivenFrom, DrivenBy, IsDrivenTurn, IsOfUse, IsTickBetween, IsSweepOfServer, IsReportOfLaunch}
+use Rattle.np_worker.proofs.Prelude.{AllByRecursion, Configuration, DrivenBy, DrivenFrom, Entry, Event, Invariant, IsDrivenTurn, IsOfUse, IsReportOfLaunch, IsSweepOfServer, IsTickBetween, IsUseful, Launcher, List, NodeId, Role, Says, SessionId, State, [], after, all-weaker, and_parts, false, false≢true, invariant-next, invariant-start, next, node_queue, refl, start, state_after, subst, sym, turns, turns_from, ⊎_elim, ◌++◌, ◌∷◌, ◌≡◌}
+use Rattle.np_changes.specs.Prelude.{Turn}
 use Rattle.np_useful.specs.Launcher.{is_by_registrant}
-use Rattle.np_useful.specs.Useful.{IsUseful}
+use Rattle.np_event.specs.declared.event.Event.TheVariants as ev
 use Rattle.np_worker.proofs.Places.{turn_of, driven-at}
 use Rattle.np_worker.proofs.RoleLemmas.{role-over, current-role}
 use Rattle.np_worker.proofs.Back.{behind, Back, back-next}

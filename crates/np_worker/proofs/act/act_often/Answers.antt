@@ -1,12 +1,9 @@
-use Rattle.std.proofs.Common.{◌≡◌, ◌∙◌, refl, sym, ap, subst}
-use Rattle.std.proofs.lemmas.Result.{err_from_is_err_and}
-use Rattle.np_worker.specs.Phase.{Phase, acting, rests}
-use Rattle.np_worker.specs.Part.{Goes}
-use Rattle.np_worker.specs.Stage.{IsOfWork, WentFar, phase_of, player}
+use Rattle.np_worker.proofs.Prelude.{Goes, IsOfWork, Phase, WentFar, acting, ap, err_from_is_err_and, phase_of, player, refl, rests, subst, sym, ◌∙◌, ◌≡◌}
+use Rattle.np_worker.proofs.act.act_often.Goals as goal
 use Rattle.np_worker.proofs.Onward.{same_from}
 use Rattle.np_worker.proofs.Parts.{of_part, at_err}
-use Rattle.np_worker.proofs.Stages.{lone_rests, work_acting}
-use Rattle.np_worker.proofs.act.act_often.Goals as goal
+use Rattle.np_worker.proofs.Stages.{lone_rests}
+use Rattle.np_worker.proofs.Works.{work_acting}
 
 pub returns-in_err-take_turns-clause-part : goal.returns-in_err-take_turns-clause-part
 returns-in_err-take_turns-clause-part g c = λ d.

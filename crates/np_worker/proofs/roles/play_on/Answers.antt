@@ -1,14 +1,9 @@
-use Rattle.std.proofs.Common.{◌≡◌, ◌∙◌, ◌++◌, refl, ap}
-use Rattle.std.specs.Prelude.{Some, Ok}
-use Rattle.std.proofs.lemmas.Result.{err_from_is_err_and}
+use Rattle.np_worker.proofs.Prelude.{Comes, Ok, Part, Some, acts, ap, driving, err_from_is_err_and, owes_due, owes_launch, owes_report, phase_of, refl, ◌++◌, ◌∙◌, ◌≡◌}
 use Rattle.np_text.specs.declared.id.Role.TheVariants as role
-use Rattle.np_worker.specs.Prelude.{acts, driving, owes_due, owes_launch, owes_report}
-use Rattle.np_worker.specs.Part.{Comes, Part}
-use Rattle.np_worker.specs.Stage.{phase_of}
+use Rattle.np_worker.proofs.roles.play_on.Goals as goal
 use Rattle.np_worker.proofs.Drives.{drove_same}
 use Rattle.np_worker.proofs.Onward.{work_at}
 use Rattle.np_worker.proofs.Parts.{follow, of_part, no_move, one_launch, removal, comes_from, at_err}
-use Rattle.np_worker.proofs.roles.play_on.Goals as goal
 
 pub returns-in_err-reached-clause-part : goal.returns-in_err-reached-clause-part
 returns-in_err-reached-clause-part g c =

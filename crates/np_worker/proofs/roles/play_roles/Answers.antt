@@ -1,15 +1,10 @@
-use Rattle.std.proofs.Common.{◌∙◌, ◌++◌, refl, sym, ap, subst, arith}
-use Rattle.std.specs.Prelude.{Some}
-use Rattle.std.proofs.lemmas.Result.{err_from_is_err_and}
+use Rattle.np_worker.proofs.Prelude.{Comes, IsOfWork, Some, acting, ap, arith, driving, err_from_is_err_and, of_pool, phase_of, refl, steps_left, subst, sweeps, sym, ◌++◌, ◌∙◌}
 use Rattle.np_text.specs.declared.id.Role.TheVariants as role
-use Rattle.np_worker.specs.Prelude.{acting, driving, of_pool, sweeps}
-use Rattle.np_worker.specs.Part.{Comes}
-use Rattle.np_worker.specs.Stage.{IsOfWork, phase_of, steps_left}
 use Rattle.np_worker.specs.declared.next.Next.TheVariants as next
+use Rattle.np_worker.proofs.roles.play_roles.Goals as goal
 use Rattle.np_worker.proofs.Onward.{roles_end, went_go}
 use Rattle.np_worker.proofs.Parts.{no_turn, unturned_same, follow, same_fixed, comes_at, counts_on, at_err}
-use Rattle.np_worker.proofs.Stages.{work_acting}
-use Rattle.np_worker.proofs.roles.play_roles.Goals as goal
+use Rattle.np_worker.proofs.Works.{work_acting}
 
 pub loop-step-init : goal.loop-step-init
 loop-step-init g c = record {

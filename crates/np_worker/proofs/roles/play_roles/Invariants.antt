@@ -1,9 +1,5 @@
-use Rattle.std.proofs.Common.{◌≡◌, ◌+◌, ◌≤◌}
-use Rattle.std.specs.Prelude.{Some}
+use Rattle.np_worker.proofs.Prelude.{Counts, IsOfWork, Part, Some, acting, driving, of_pool, phase_of, steps_left, ◌+◌, ◌≡◌, ◌≤◌}
 use Rattle.np_text.specs.declared.id.Role.TheVariants as role
-use Rattle.np_worker.specs.Prelude.{acting, driving, of_pool}
-use Rattle.np_worker.specs.Part.{Counts, Part}
-use Rattle.np_worker.specs.Stage.{IsOfWork, phase_of, steps_left}
 use Rattle.np_worker.proofs.roles.play_roles.Given as goal
 
 abbrev pub invariant-loop-step : goal.invariant-loop-step

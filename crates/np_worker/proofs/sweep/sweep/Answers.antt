@@ -1,12 +1,8 @@
-use Rattle.std.proofs.Common.{refl, ◌∙◌, ◌≡◌, [], ◌<◌, ◌-◌, suc, ◌++◌, arith, subst}
-use Rattle.std.specs.Prelude.{Some}
-use Rattle.std.proofs.lemmas.Result.{err_from_is_err_and}
+use Rattle.np_worker.proofs.Prelude.{Some, SweepsAll, [], arith, driving, err_from_is_err_and, refl, subst, suc, sweeps, ◌++◌, ◌-◌, ◌<◌, ◌∙◌, ◌≡◌}
 use Rattle.np_worker.specs.declared.next.Next.TheVariants as next
-use Rattle.np_worker.specs.Prelude.{driving, sweeps}
-use Rattle.np_worker.specs.Part.{SweepsAll}
+use Rattle.np_worker.proofs.sweep.sweep.Goals as goal
 use Rattle.np_worker.proofs.Sweeps.{KeptFrom, kept_start, kept_end, kept_none, kept_one}
 use Rattle.np_worker.proofs.Parts.{no_turn, unturned_same, follow, of_part, same_fixed, sweeps_one_all, sweeps_one_at, counts_on, at_err}
-use Rattle.np_worker.proofs.sweep.sweep.Goals as goal
 
 pub returns-in_err-count-clause-part : goal.returns-in_err-count-clause-part
 returns-in_err-count-clause-part g c =

@@ -1,9 +1,6 @@
-use Rattle.std.proofs.Common.{◌≡◌}
-use Rattle.std.specs.Prelude.{Some}
-use Rattle.np_worker.specs.Prelude.{driving, sweeps}
-use Rattle.np_worker.specs.Part.{Counts, Part}
-use Rattle.np_worker.proofs.Sweeps.{KeptFrom}
+use Rattle.np_worker.proofs.Prelude.{Counts, Part, Some, driving, sweeps, ◌≡◌}
 use Rattle.np_worker.proofs.sweep.sweep.Given as goal
+use Rattle.np_worker.proofs.Sweeps.{KeptFrom}
 
 abbrev pub invariant-loop-at : goal.invariant-loop-at
 invariant-loop-at g l = record {

@@ -1,12 +1,6 @@
-use Rattle.std.proofs.Common.{refl, ap, ◌∙◌, ◌++◌, Bool, cond, sym}
-use Rattle.std.specs.Prelude.{Some, Ok}
-use Rattle.std.proofs.Common.{inl}
-use Rattle.std.proofs.lemmas.Result.{err_from_is_err_and}
-use Rattle.np_worker.specs.Drive.{driving}
-use Rattle.np_worker.specs.Phase.{sweeps, owes_swept, after_sweep}
-use Rattle.np_worker.specs.Part.{Part, SweepsOne}
-use Rattle.np_worker.proofs.Parts.{follow, of_part, swept_removal, sweeps_one_on, removed_deals, after_sweep_turn, of_kept_server, was_kept_now, at_err}
+use Rattle.np_worker.proofs.Prelude.{Bool, Ok, Part, Some, SweepsOne, after_sweep, ap, cond, driving, err_from_is_err_and, inl, owes_swept, refl, sweeps, sym, ◌++◌, ◌∙◌}
 use Rattle.np_worker.proofs.sweep.sweep_one.Goals as goal
+use Rattle.np_worker.proofs.Parts.{follow, of_part, swept_removal, sweeps_one_on, removed_deals, after_sweep_turn, of_kept_server, was_kept_now, at_err}
 
 pub returns-in_err-turn-clause-part : goal.returns-in_err-turn-clause-part
 returns-in_err-turn-clause-part g c =

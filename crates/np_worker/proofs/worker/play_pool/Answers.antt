@@ -1,10 +1,7 @@
-use Rattle.std.specs.Prelude.{Some}
-use Rattle.std.proofs.lemmas.Result.{err_from_is_err_and}
+use Rattle.np_worker.proofs.Prelude.{Some, SweepsAll, driving, err_from_is_err_and, sweeps}
 use Rattle.np_worker.specs.declared.next.Next.TheVariants as next
-use Rattle.np_worker.specs.Prelude.{driving, sweeps}
-use Rattle.np_worker.specs.Part.{SweepsAll}
-use Rattle.np_worker.proofs.Parts.{follow, of_part, same_fixed, comes_at, comes_to, sweeps_before, at_err}
 use Rattle.np_worker.proofs.worker.play_pool.Goals as goal
+use Rattle.np_worker.proofs.Parts.{follow, of_part, same_fixed, comes_at, comes_to, sweeps_before, at_err}
 
 pub returns-in_err-play_roles-clause-part : goal.returns-in_err-play_roles-clause-part
 returns-in_err-play_roles-clause-part g c =
