@@ -1,13 +1,14 @@
-pub mod Lists
-pub mod Players
+mod Lists
+mod Players
 mod Joined
-pub mod Fulls
-pub mod Starts
-pub mod Backs
+mod Fulls
+mod Starts
+mod Backs
 mod Taken
-pub mod OneRound
-pub mod Ticks
-pub mod Driven
-pub mod Hosted
+mod OneRound
+mod Ticks
+mod Driven
+mod Hosted
 mod Seats
-pub mod Laps
+mod PlainLemmas
+mod Laps

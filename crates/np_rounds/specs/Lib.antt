@@ -2,4 +2,5 @@ pub mod Crews
 pub mod Plays
 pub mod Backs
 pub mod Played
+pub mod Plain
 pub mod Laps

@@ -1,15 +1,16 @@
 //! Workers with their passes.
 
-ghost use Rattle.std.specs.Prelude.{◌≡◌, false, length, map, IfOk};
+ghost use Rattle.std.specs.Prelude.{◌≡◌, true, false, length, map, IfOk};
 ghost use Rattle.np_worker.specs.Prelude.{IsOf, driving};
 ghost use Rattle.np_worker.specs.Players.{drivings_of, AreNumbered};
 ghost use Rattle.np_rounds.specs.Crews.{players_of};
 ghost use Rattle.np_rounds.specs.Plays.{CrewPlays};
 
-use np_board::Board;
+use crate::plain::PlainTurns;
+use np_board::{PlannedBoard, Planner};
 use np_cloud::{Driver, Gate};
 use np_config::Config;
-use np_desk::{Desk, OnDesk, Pass};
+use np_desk::{Desk, Pass};
 use np_text::{NoMemory, PoolId, RequesterId};
 use np_worker::{RoundEnd, Worker};
 use std::alloc::Global;
@@ -17,41 +18,78 @@ use std::sync::Wait;
 
 /// A worker with its pass for a round.
 #[derive(Drop)]
-pub struct Crew<D, P> {
-    pub worker: Worker<D>,
-    pub pass: P,
+pub(crate) struct Crew<D, P> {
+    pub(crate) worker: Worker<D>,
+    pub(crate) pass: P,
 }
 
 /// A crew after a round, with what the round came to.
 #[derive(Drop)]
-pub struct CrewEnd<D, P> {
-    pub crew: Crew<D, P>,
-    pub end: Result<RoundEnd, NoMemory>,
+pub(crate) struct CrewEnd<D, P> {
+    pub(crate) crew: Crew<D, P>,
+    pub(crate) end: Result<RoundEnd, NoMemory>,
 }
 
-/// Lets the crew's worker play a round.
-pub(crate) fn play<R: Wait, D: Driver, G: Gate>(
+/// Lets the crew's worker play a round in which launchers plan.
+fn play_planned<R: Wait, D: Driver, G: Gate>(
     rt: &R,
-    desk: &Desk<Board>,
+    desk: &Desk<PlannedBoard>,
     gate: &G,
-    crew: Crew<D, Pass<Board>>,
-) -> CrewEnd<D, Pass<Board>>
+    crew: Crew<D, Pass<PlannedBoard>>,
+) -> CrewEnd<D, Pass<PlannedBoard>>
     requires own { IsOf crew.pass desk.now }
-    ensures { CrewPlays false D.facts D.plan D.sound D.room desk.now crew result }
+    ensures { CrewPlays true D.facts D.plan D.sound D.room desk.now crew result }
 {
     let Crew { mut worker, pass } = crew;
-    let mut turns = OnDesk { rt, desk, pass };
+    let mut turns = Planner { rt, desk, pass };
     let end = worker.round(&mut turns, gate);
-    let OnDesk { pass, .. } = turns;
+    let Planner { pass, .. } = turns;
     CrewEnd {
         crew: Crew { worker, pass },
         end,
     }
 }
 
+/// Lets the crew's worker play a round in which nobody plans.
+fn play_plainly<R: Wait, D: Driver, G: Gate>(
+    rt: &R,
+    desk: &Desk<PlannedBoard>,
+    gate: &G,
+    crew: Crew<D, Pass<PlannedBoard>>,
+) -> CrewEnd<D, Pass<PlannedBoard>>
+    requires own { IsOf crew.pass desk.now }
+    ensures { CrewPlays false D.facts D.plan D.sound D.room desk.now crew result }
+{
+    let Crew { mut worker, pass } = crew;
+    let mut turns = PlainTurns { rt, desk, pass };
+    let end = worker.round(&mut turns, gate);
+    let PlainTurns { pass, .. } = turns;
+    CrewEnd {
+        crew: Crew { worker, pass },
+        end,
+    }
+}
+
+/// Lets the crew's worker play a round.
+pub(crate) fn play<R: Wait, D: Driver, G: Gate>(
+    rt: &R,
+    desk: &Desk<PlannedBoard>,
+    plans: bool,
+    gate: &G,
+    crew: Crew<D, Pass<PlannedBoard>>,
+) -> CrewEnd<D, Pass<PlannedBoard>>
+    requires own { IsOf crew.pass desk.now }
+    ensures { CrewPlays plans D.facts D.plan D.sound D.room desk.now crew result }
+{
+    match plans {
+        true => play_planned(rt, desk, gate, crew),
+        false => play_plainly(rt, desk, gate, crew),
+    }
+}
+
 /// The workers of the site, in the reverse of the order in which they are given passes: the
 /// reaper's, one for each requester, and one for each pool with its driver, the first pool last.
-pub fn workers_of<D: Driver + Drop>(
+pub(crate) fn workers_of<D: Driver + Drop>(
     alloc: Global,
     config: &Config,
     mut drivers: Vec<D>,
@@ -80,7 +118,7 @@ pub fn workers_of<D: Driver + Drop>(
 }
 
 /// The drivers of the pools' workers, in the order of the pools.
-pub fn drivers_of<D: Driver + Drop>(
+pub(crate) fn drivers_of<D: Driver + Drop>(
     alloc: Global,
     mut workers: Vec<Worker<D>>,
 ) -> Result<Vec<D>, NoMemory>

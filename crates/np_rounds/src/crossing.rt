@@ -4,7 +4,7 @@
 ghost use Rattle.std.specs.Thread.{IsSend, IsSync};
 ghost use Rattle.np_active.specs.contracts.active.Active as active;
 ghost use Rattle.np_counts.specs.contracts.awaited.Awaited as awaited;
-ghost use Rattle.np_board.specs.contracts.board.Board as board;
+ghost use Rattle.np_board.specs.contracts.planned.board.PlannedBoard as board;
 ghost use Rattle.np_classes.specs.contracts.classes.Classes as classes;
 ghost use Rattle.np_config.specs.contracts.config.Config as config;
 ghost use Rattle.np_active.specs.contracts.given.Given as given;
@@ -16,27 +16,30 @@ ghost use Rattle.np_tables.specs.contracts.tables.Tables as tables;
 ghost use Rattle.np_tree.specs.contracts.tree.Tree as tree;
 
 use np_active::{Active, Given};
-use np_board::Board;
+use np_board::{Plan, PlannedBoard};
 use np_classes::Classes;
 use np_config::Config;
 use np_counts::Awaited;
 use np_event::Entry;
 use np_index::Index;
 use np_keeper::TreeStore;
+use np_lists::Items;
 use np_lookups::Lookups;
 use np_open::Open;
+use np_path::Path;
 use np_rules::Machine;
 use np_tables::Tables;
 use np_tree::Tree;
+use np_watch::Watches;
 
 /// A type with these bounds may be moved to other threads, and shared with them.
-pub fn crosses<T: Send + Sync>()
+fn crosses<T: Send + Sync>()
     ensures send { IsSend T.row }
     ensures sync { IsSync T.row }
 {}
 
 /// A type with this bound may be moved to other threads.
-pub fn sends<T: Send>()
+pub(crate) fn sends<T: Send>()
     ensures { IsSend T.row }
 {}
 
@@ -97,7 +100,7 @@ fn requested_crosses()
 }
 
 /// An index may be moved to other threads, and shared with them.
-pub fn index_crosses()
+fn index_crosses()
     ensures send { IsSend index.the_row }
     ensures sync { IsSync index.the_row }
 {
@@ -111,7 +114,7 @@ pub fn index_crosses()
 }
 
 /// Tables may be moved to other threads, and shared with them.
-pub fn tables_cross()
+fn tables_cross()
     ensures send { IsSend tables.the_row }
     ensures sync { IsSync tables.the_row }
 {
@@ -120,7 +123,7 @@ pub fn tables_cross()
 }
 
 /// A store in a tree may be moved to other threads, and shared with them.
-pub fn store_crosses()
+fn store_crosses()
     ensures send { IsSend store.the_row }
     ensures sync { IsSync store.the_row }
 {
@@ -138,5 +141,8 @@ pub(crate) fn board_crosses()
     store_crosses();
     crosses::<Vec<Entry>>();
     crosses::<Machine<TreeStore>>();
-    crosses::<Board>();
+    crosses::<Plan>();
+    crosses::<Items<Path>>();
+    crosses::<Watches>();
+    crosses::<PlannedBoard>();
 }

@@ -5,6 +5,10 @@
 //! entry, time advances by one tick. The site has come to its end when a round made no entry and
 //! the board is settled, or when the journal has no room.
 //!
+//! The board is one at which launchers may plan (np_board), and a parameter `plans` says whether they
+//! do: if so, each worker takes its turns through a `Planner`, and otherwise through `PlainTurns`
+//! (`plain`), which ask what is asked of any board.
+//!
 //! The one pass of a desk is split, a part for each worker, and joined again in the reverse order:
 //! so it is whole after each round, and knows every entry. A round of all crews is then a round of
 //! np_worker's players, and the journal is one that the workers and their drivers drove. Read
@@ -14,17 +18,12 @@
 //! A site is played in laps (`specs/Laps`): a round of all workers, in which each does what
 //! np_worker's `specs/Board` says, and then a tick if the round made an entry. What the laps leave
 //! of the journal and of the drivers follows from this by np_worker's laws (`proofs/Laps`).
-//!
-//! Crews, how passes are handed out and taken back, and what may cross threads serve rounds at other
-//! boards too (np_planned_rounds).
 #![tactic(auto)]
 
 mod crew;
 mod crossing;
+mod plain;
 mod round;
 mod rounds;
 
-pub use crew::{Crew, CrewEnd, drivers_of, workers_of};
-pub use crossing::{crosses, index_crosses, sends, store_crosses, tables_cross};
-pub use round::{Together, hand_out, take_back};
 pub use rounds::{Ended, run_rounds};

@@ -10,7 +10,7 @@ ghost use Rattle.np_rounds.specs.Played.{with_end};
 
 use crate::crew::{Crew, CrewEnd, play};
 use crate::crossing::{board_crosses, sends};
-use np_board::Board;
+use np_board::PlannedBoard;
 use np_cloud::{Driver, Gate};
 use np_config::Config;
 use np_desk::{Desk, Pass, SeqObject};
@@ -22,16 +22,16 @@ use std::sync::Wait;
 use std::thread::{self, Threads};
 
 /// What a round of all workers came to.
-#[derive(Clone, Copy, Debug, PartialEq, Eq)]
-pub struct Together {
+#[derive(Clone, Copy)]
+pub(crate) struct Together {
     /// Whether a worker made an entry.
-    pub moved: bool,
+    pub(crate) moved: bool,
     /// Whether a worker's round ended because the journal has no room.
-    pub full: bool,
+    pub(crate) full: bool,
 }
 
 /// Gives each worker a pass, the last worker first.
-pub fn hand_out<M: SeqObject<Entry = Entry, Fixed = Config>, D: Driver + Drop>(
+fn hand_out<M: SeqObject<Entry = Entry, Fixed = Config>, D: Driver + Drop>(
     alloc: Global,
     desk: &Desk<M>,
     pass: &mut Pass<M>,
@@ -60,24 +60,25 @@ pub fn hand_out<M: SeqObject<Entry = Entry, Fixed = Config>, D: Driver + Drop>(
 /// Lets all crews play, each in a thread of its own if one can be made.
 fn play_all<R: Threads + Wait + Sync, D: Driver + Send + Drop, G: Gate + Sync>(
     rt: &R,
-    desk: &Desk<Board>,
+    desk: &Desk<PlannedBoard>,
+    plans: bool,
     gate: &G,
-    crews: Vec<Crew<D, Pass<Board>>>,
-) -> Result<Vec<CrewEnd<D, Pass<Board>>>, NoMemory>
+    crews: Vec<Crew<D, Pass<PlannedBoard>>>,
+) -> Result<Vec<CrewEnd<D, Pass<PlannedBoard>>>, NoMemory>
     requires own { All (λ crew. IsOf crew.pass desk.now) crews.items }
-    ensures { IfOk result (λ v. Pairwise (CrewPlays false D.facts D.plan D.sound D.room desk.now)
+    ensures { IfOk result (λ v. Pairwise (CrewPlays plans D.facts D.plan D.sound D.room desk.now)
         crews.items v.items) }
 {
     board_crosses();
     sends::<Worker<D>>();
-    sends::<Pass<Board>>();
+    sends::<Pass<PlannedBoard>>();
     let ends = thread::map_vec(
         rt,
         crews,
-        &|crew: Crew<D, Pass<Board>>| -> CrewEnd<D, Pass<Board>>
+        &|crew: Crew<D, Pass<PlannedBoard>>| -> CrewEnd<D, Pass<PlannedBoard>>
             requires { IsOf crew.pass desk.now }
-            ensures { CrewPlays false D.facts D.plan D.sound D.room desk.entry.now crew result }
-        { play(rt, desk, gate, crew) },
+            ensures { CrewPlays plans D.facts D.plan D.sound D.room desk.entry.now crew result }
+        { play(rt, desk, plans, gate, crew) },
     )?;
     Ok(ends)
 }
@@ -94,7 +95,7 @@ fn with_end(sum: Together, end: Result<RoundEnd, NoMemory>) -> Result<Together, 
 }
 
 /// Takes the passes back, the last that was given first.
-pub fn take_back<M: SeqObject<Entry = Entry, Fixed = Config>, D: Driver + Drop>(
+fn take_back<M: SeqObject<Entry = Entry, Fixed = Config>, D: Driver + Drop>(
     desk: &Desk<M>,
     pass: &mut Pass<M>,
     workers: &mut Vec<Worker<D>>,
@@ -129,9 +130,10 @@ pub fn take_back<M: SeqObject<Entry = Entry, Fixed = Config>, D: Driver + Drop>(
 pub(crate) fn play_round<R: Threads + Wait + Sync, D: Driver + Send + Drop, G: Gate + Sync>(
     rt: &R,
     alloc: Global,
-    desk: &Desk<Board>,
-    pass: &mut Pass<Board>,
+    desk: &Desk<PlannedBoard>,
+    pass: &mut Pass<PlannedBoard>,
     workers: &mut Vec<Worker<D>>,
+    plans: bool,
     gate: &G,
 ) -> Result<Together, NoMemory>
     requires own { IsOf pass.old desk.now }
@@ -143,14 +145,14 @@ pub(crate) fn play_round<R: Threads + Wait + Sync, D: Driver + Send + Drop, G: G
     ensures moved { IfOk result (λ t. t.moved ≡ true →
         length pass.old.seen < length pass.new.seen) }
     ensures legal { IfOk result (λ _. is_legal desk.now.origin.fixed pass.new.seen ≡ true) }
-    ensures round { IfOk result (λ t. IsPlayedRound false desk.now.origin.fixed
+    ensures round { IfOk result (λ t. IsPlayedRound plans desk.now.origin.fixed
         pass.old.seen pass.new.seen
         (players_of D.facts D.plan D.sound D.room workers.old.items)
         (players_of D.facts D.plan D.sound D.room workers.new.items) t.full) }
 {
     pass.know();
     let crews = hand_out(alloc, desk, pass, workers)?;
-    let ends = play_all(rt, desk, gate, crews)?;
+    let ends = play_all(rt, desk, plans, gate, crews)?;
     let together = take_back(desk, pass, workers, ends)?;
     pass.know();
     Ok(together)

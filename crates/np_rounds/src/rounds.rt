@@ -2,15 +2,17 @@
 
 ghost use Rattle.std.specs.Prelude.{◌≡◌, [], length, map, All, IfOk, Some, true, false};
 ghost use Rattle.np_worker.specs.Prelude.{DrivenBy, IsOf, IsSettled, IsWhole, driving};
+ghost use Rattle.np_worker.specs.Planned.{PlannedBy};
 ghost use Rattle.np_worker.specs.Players.{WasAnswered};
 ghost use Rattle.np_worker.specs.Carried.{AreCarried, BeginsEmpty, BeginsNew, FailOnlyFull};
 ghost use Rattle.np_rounds.specs.Crews.{players_of};
 ghost use Rattle.np_rounds.specs.Laps.{HasLaps, IsTick, WasPlayed};
-ghost use Rattle.np_rounds.specs.Played.{EndsWithTick, IsRested, Stops, is_full};
+ghost use Rattle.np_rounds.specs.Plain.{is_plain_full};
+ghost use Rattle.np_rounds.specs.Played.{EndsWithTick, IsRested, Stops};
 
 use crate::crew::{drivers_of, workers_of};
 use crate::round::play_round;
-use np_board::Board;
+use np_board::{PlanAsk, PlanTurn, PlannedBoard};
 use np_cloud::{Driver, Gate};
 use np_config::Config;
 use np_desk::{Desk, Pass};
@@ -25,7 +27,7 @@ use std::thread::Threads;
 #[derive(Drop)]
 pub struct Ended<D> {
     /// The board, with the whole journal.
-    pub board: Board,
+    pub board: PlannedBoard,
     /// Whether the journal had no room for what came next.
     pub full: bool,
     /// The drivers, in the order of the pools.
@@ -33,14 +35,18 @@ pub struct Ended<D> {
 }
 
 /// Whether the turn found no room in the journal.
-fn is_full(turn: Turn) -> bool
-    ensures { result ≡ is_full turn }
+fn is_full(turn: PlanTurn) -> bool
+    ensures { result ≡ is_plain_full turn }
 {
-    matches!(turn, Turn::Full)
+    matches!(turn, PlanTurn::Plain(Turn::Full))
 }
 
 /// Advances time by one tick, and returns whether the journal has no room for that.
-fn tick<R: Wait>(rt: &R, desk: &Desk<Board>, pass: &mut Pass<Board>) -> Result<bool, NoMemory>
+fn tick<R: Wait>(
+    rt: &R,
+    desk: &Desk<PlannedBoard>,
+    pass: &mut Pass<PlannedBoard>,
+) -> Result<bool, NoMemory>
     requires own { IsOf pass.old desk.now }
     requires whole { IsWhole pass.old.part }
     ensures own { IsOf pass.new desk.now }
@@ -50,7 +56,7 @@ fn tick<R: Wait>(rt: &R, desk: &Desk<Board>, pass: &mut Pass<Board>) -> Result<b
         pass.old.seen pass.new.seen full) }
 {
     pass.know();
-    let turn = pass.turn(rt, desk, Ask::Do(Event::Tick))?;
+    let turn = pass.turn(rt, desk, PlanAsk::Plain(Ask::Do(Event::Tick)))?;
     Ok(is_full(turn))
 }
 
@@ -59,9 +65,10 @@ fn tick<R: Wait>(rt: &R, desk: &Desk<Board>, pass: &mut Pass<Board>) -> Result<b
 fn play_at<R: Threads + Wait + Sync, D: Driver + Send + Drop, G: Gate + Sync>(
     rt: &R,
     alloc: Global,
-    desk: &Desk<Board>,
-    pass: &mut Pass<Board>,
+    desk: &Desk<PlannedBoard>,
+    pass: &mut Pass<PlannedBoard>,
     workers: &mut Vec<Worker<D>>,
+    plans: bool,
     gate: &G,
 ) -> Result<bool, NoMemory>
     requires own { IsOf pass.old desk.now }
@@ -70,12 +77,12 @@ fn play_at<R: Threads + Wait + Sync, D: Driver + Send + Drop, G: Gate + Sync>(
     ensures own { IfOk result (λ _. IsOf pass.new desk.now) }
     ensures whole { IfOk result (λ _. IsWhole pass.new.part) }
     ensures stops { IfOk result (λ full. Stops full pass.new.seen) }
-    ensures laps { IfOk result (λ full. HasLaps false desk.now.origin.fixed
+    ensures laps { IfOk result (λ full. HasLaps plans desk.now.origin.fixed
         pass.old.seen (players_of D.facts D.plan D.sound D.room workers.old.items)
         pass.new.seen (players_of D.facts D.plan D.sound D.room workers.new.items) full) }
 {
     for _ in rt.forever() {
-        let together = play_round(rt, alloc, desk, pass, workers, gate)?;
+        let together = play_round(rt, alloc, desk, pass, workers, plans, gate)?;
         if together.full {
             return Ok(true);
         }
@@ -93,14 +100,15 @@ fn play_at<R: Threads + Wait + Sync, D: Driver + Send + Drop, G: Gate + Sync>(
 fn play_board<R: Threads + Wait + Sync, D: Driver + Send + Drop, G: Gate + Sync>(
     rt: &R,
     alloc: Global,
-    board: Board,
+    board: PlannedBoard,
     workers: &mut Vec<Worker<D>>,
+    plans: bool,
     gate: &G,
-) -> Result<(Board, bool), NoMemory>
+) -> Result<(PlannedBoard, bool), NoMemory>
     requires rested { IsRested board.journal }
     ensures configuration { IfOk result (λ r. r.0.configuration ≡ board.configuration) }
     ensures stops { IfOk result (λ r. Stops r.1 r.0.journal) }
-    ensures laps { IfOk result (λ r. HasLaps false board.configuration
+    ensures laps { IfOk result (λ r. HasLaps plans board.configuration
         board.journal (players_of D.facts D.plan D.sound D.room workers.old.items)
         r.0.journal (players_of D.facts D.plan D.sound D.room workers.new.items) r.1) }
 {
@@ -108,7 +116,7 @@ fn play_board<R: Threads + Wait + Sync, D: Driver + Send + Drop, G: Gate + Sync>
     let Ok((desk, mut pass)) = Desk::set_up(alloc, board) else {
         return Err(NoMemory);
     };
-    let full = play_at(rt, alloc, &desk, &mut pass, workers, gate)?;
+    let full = play_at(rt, alloc, &desk, &mut pass, workers, plans, gate)?;
     pass.know();
     Ok((desk.close(pass), full))
 }
@@ -118,21 +126,22 @@ fn play_board<R: Threads + Wait + Sync, D: Driver + Send + Drop, G: Gate + Sync>
 fn play_site<R: Threads + Wait + Sync, D: Driver + Send + Drop, G: Gate + Sync>(
     rt: &R,
     alloc: Global,
-    mut board: Board,
+    mut board: PlannedBoard,
     workers: &mut Vec<Worker<D>>,
+    plans: bool,
     gate: &G,
-) -> Result<(Board, bool), NoMemory>
+) -> Result<(PlannedBoard, bool), NoMemory>
     requires rested { IsRested board.journal }
     ensures configuration { IfOk result (λ r. r.0.configuration ≡ board.configuration) }
     ensures stops { IfOk result (λ r. Stops r.1 r.0.journal) }
     ensures settled { IfOk result (λ r. r.1 ≡ false →
         IsSettled r.0.configuration r.0.state) }
-    ensures laps { IfOk result (λ r. HasLaps false board.configuration
+    ensures laps { IfOk result (λ r. HasLaps plans board.configuration
         board.journal (players_of D.facts D.plan D.sound D.room workers.old.items)
         r.0.journal (players_of D.facts D.plan D.sound D.room workers.new.items) r.1) }
 {
     for _ in rt.forever() {
-        let (played, full) = play_board(rt, alloc, board, workers, gate)?;
+        let (played, full) = play_board(rt, alloc, board, workers, plans, gate)?;
         if full || played.settled() {
             return Ok((played, full));
         }
@@ -142,13 +151,15 @@ fn play_site<R: Threads + Wait + Sync, D: Driver + Send + Drop, G: Gate + Sync>(
 }
 
 /// Plays the site to its end: rounds of all workers, each with an entry followed by a tick. It ends
-/// when a round made no entry and the board is settled, or when the journal has no room. It may
-/// wait for as long as its workers do.
+/// when a round made no entry and the board is settled, or when the journal has no room. If launchers
+/// plan, they commit events that they chose on an older state, where nothing changed that they read.
+/// It may wait for as long as its workers do.
 pub fn run_rounds<R: Threads + Wait + Sync, D: Driver + Send + Drop, G: Gate + Sync>(
     rt: &R,
     alloc: Global,
     config: Config,
     drivers: Vec<D>,
+    plans: bool,
     gate: &G,
 ) -> Result<Ended<D>, NoMemory>
     requires drivers { length drivers.items ≡ length config.pools }
@@ -156,7 +167,7 @@ pub fn run_rounds<R: Threads + Wait + Sync, D: Driver + Send + Drop, G: Gate + S
     ensures settled { IfOk result (λ e. e.full ≡ false →
         IsSettled config e.board.state × EndsWithTick e.board.journal) }
     ensures full { IfOk result (λ e. e.full ≡ true → length e.board.journal ≡ 262144) }
-    ensures played { IfOk result (λ e. WasPlayed false config
+    ensures played { IfOk result (λ e. WasPlayed plans config
         (map (driving D.facts D.plan D.sound D.room) drivers.items)
         (map (driving D.facts D.plan D.sound D.room) e.drivers.items)
         e.board.journal e.full) }
@@ -164,21 +175,25 @@ pub fn run_rounds<R: Threads + Wait + Sync, D: Driver + Send + Drop, G: Gate + S
     ensures plans { IfOk result (λ e. map D.plan e.drivers.items ≡ map D.plan drivers.items) }
     ensures sounds { IfOk result (λ e. map D.sound e.drivers.items ≡ map D.sound drivers.items) }
     ensures rooms { IfOk result (λ e. map D.room e.drivers.items ≡ map D.room drivers.items) }
-    ensures driven { All (λ (d : D). (D.facts d).servers ≡ Some []) drivers.items →
+    ensures driven { plans ≡ false → All (λ (d : D). (D.facts d).servers ≡ Some []) drivers.items →
         IfOk result (λ e. DrivenBy
         (WasAnswered (map (driving D.facts D.plan D.sound D.room) e.drivers.items))
         config e.board.journal) }
-    ensures carried { All (λ (d : D). BeginsEmpty (D.facts d)) drivers.items →
+    ensures planned { plans ≡ true → All (λ (d : D). (D.facts d).servers ≡ Some []) drivers.items →
+        IfOk result (λ e. PlannedBy
+        (WasAnswered (map (driving D.facts D.plan D.sound D.room) e.drivers.items))
+        config e.board.journal) }
+    ensures carried { plans ≡ false → All (λ (d : D). BeginsEmpty (D.facts d)) drivers.items →
         IfOk result (λ e. AreCarried config e.board.journal
         (map (driving D.facts D.plan D.sound D.room) e.drivers.items)) }
-    ensures failed { All (λ (d : D). BeginsNew (D.facts d)) drivers.items →
+    ensures failed { plans ≡ false → All (λ (d : D). BeginsNew (D.facts d)) drivers.items →
         IfOk result (λ e. FailOnlyFull config e.board.journal
         (map (driving D.facts D.plan D.sound D.room) e.drivers.items)) }
 {
     config.soundness();
     let mut workers = workers_of(alloc, &config, drivers)?;
-    let board = Board::new(alloc, config)?;
-    let (played, full) = play_site(rt, alloc, board, &mut workers, gate)?;
+    let board = PlannedBoard::new(alloc, config)?;
+    let (played, full) = play_site(rt, alloc, board, &mut workers, plans, gate)?;
     played.soundness();
     let drivers = drivers_of(alloc, workers)?;
     Ok(Ended {

@@ -1,5 +1,5 @@
 -- each entry of a journal that was driven has a line
-use Rattle.std.proofs.Common.{◌≡◌, ◌++◌, refl, sym, subst, arith, ℕ, List, [], ◌∷◌, true, false, Option, Some, None, Result, Ok, Err, inl, inr}
+use Rattle.std.proofs.Common.{◌≡◌, ◌++◌, refl, sym, subst, arith, ℕ, List, [], ◌∷◌, Bool, true, false, Option, Some, None, Result, Ok, Err, inl, inr}
 use Rattle.std.specs.Prelude.{is_ok}
 use Rattle.np_changes.specs.Prelude.{AllByRecursion, Answer, Configuration, EachAfter, Entry, Event, IsSound, JobId, NodeId, Outcome, Refusal, RequestId, RequestRecord, Role, SessionId, State, Turn, found, janitor, judge, launcher, lock_request_as, maker, next, request_at, request_in, start, turns, turns_from, unlock_request_as, ◌>>=◌}
 use Rattle.np_text.specs.declared.id.Role.TheVariants as role
@@ -12,7 +12,7 @@ use Rattle.np_report.specs.Told.{has_digits}
 use Rattle.np_report.proofs.Ids.{IdHasDigits, HasIds, request-digits, HasIds-start, HasIds-next}
 use Rattle.np_useful.specs.Driven.{Says, IsDrivenTurn, DrivenFrom, DrivenBy}
 use Rattle.np_useful.specs.Planned.{WasOfUse, is_planned}
-use Rattle.np_worker.specs.Planned.{IsPlannedTurn, PlannedBy}
+use Rattle.np_worker.specs.Planned.{DrivenAs, IsPlannedTurn, PlannedBy}
 use Rattle.np_top.specs.Typed.{IsTyped}
 use Rattle.np_report.proofs.Chains.{text-of}
 
@@ -136,7 +136,7 @@ module _ (says : Says) (c : Configuration) (sound : IsSound c) where
       let t : Turn = record { before = s; entry = e; later = next c s e.event } in
       (line-of past t ids driven.0 typed.0, lines_from (past ++ t ∷ []) (next c s e.event) journal (HasIds-next c sound s e.event ids) driven.1 typed.1)
 
-  pub planned_lines : (journal : List Entry) → PlannedBy says c journal → AllByRecursion (λ (e : Entry). IsTyped e.event) journal → AllByRecursion (λ (e : Entry). HasEventLine e.event) journal
+  planned_lines : (journal : List Entry) → PlannedBy says c journal → AllByRecursion (λ (e : Entry). IsTyped e.event) journal → AllByRecursion (λ (e : Entry). HasEventLine e.event) journal
   planned_lines journal planned typed = lines_from [] (start c) journal (HasIds-start c) planned typed
 
   -- a driven journal plans nothing
@@ -144,5 +144,9 @@ module _ (says : Says) (c : Configuration) (sound : IsSound c) where
   planned-from past [] driven = tt
   planned-from past (t ∷ ts) driven = (inl driven.0, planned-from (past ++ t ∷ []) ts driven.1)
 
-  pub driven_lines : (journal : List Entry) → DrivenBy says c journal → AllByRecursion (λ (e : Entry). IsTyped e.event) journal → AllByRecursion (λ (e : Entry). HasEventLine e.event) journal
+  driven_lines : (journal : List Entry) → DrivenBy says c journal → AllByRecursion (λ (e : Entry). IsTyped e.event) journal → AllByRecursion (λ (e : Entry). HasEventLine e.event) journal
   driven_lines journal driven typed = planned_lines journal (planned-from [] (turns c journal) driven) typed
+
+  pub lines_as : (plans : Bool) (journal : List Entry) → DrivenAs says plans c journal → AllByRecursion (λ (e : Entry). IsTyped e.event) journal → AllByRecursion (λ (e : Entry). HasEventLine e.event) journal
+  lines_as false journal driven typed = driven_lines journal driven typed
+  lines_as true journal driven typed = planned_lines journal driven typed

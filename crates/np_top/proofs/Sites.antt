@@ -3,19 +3,20 @@ use Rattle.std.proofs.Common.{◌≡◌, ◌∙◌, refl, sym, ap, subst, true, 
 use Rattle.std.specs.Prelude.{All, Option, Some, is_some}
 use Rattle.std.proofs.lemmas.List.Elements.{All-nil, All-cons, All-append, All-map, All-weaker}
 use Rattle.np_changes.specs.Prelude.{Configuration, Entry, Outcome, Runs, State, after, fates}
-use Rattle.np_worker.specs.Prelude.{Driven, DrivenBy, DriverFacts, Driving, IsSettled, Tag, driving}
+use Rattle.np_worker.specs.Prelude.{DrivenBy, DriverFacts, Driving, IsSettled, Says, Tag, driving}
 use Rattle.np_cloud.specs.Sim.{Simulation, simulation_of, simulation_facts, simulation_plan}
 use Rattle.np_cloud.specs.Clouds.{ArePlanned, simulations}
 use Rattle.np_cloud.proofs.CloudLemmas.{simulations-planned}
 use Rattle.np_worker.specs.Carried.{BeginsEmpty, BeginsNew}
 use Rattle.np_worker.specs.Players.{WasAnswered}
-use Rattle.np_worker.specs.Planned.{PlannedBy, PlannedDriven}
+use Rattle.np_worker.specs.Planned.{DrivenAs, PlannedBy}
 use Rattle.np_worker.proofs.Plans.{planned-driven, planned-planned}
 use Rattle.np_report.specs.Printed.{IsPrinted}
 use Rattle.np_rules.specs.Ran.{Ran}
 use Rattle.np_rounds.specs.Laps.{WasPlayed}
 use Rattle.np_rounds.specs.Played.{EndsWithTick}
 use Rattle.np_top.specs.Play.{HasEnded, HasStopped, IsPlayedTo, WasPlayedBy, status_of_fates}
+use Rattle.np_top.specs.Run.{driven_as}
 
 -- ## the clouds
 
@@ -55,11 +56,14 @@ module _ (sound : Simulation → List ℕ → Bool) (room : Simulation → ℕ) 
     planned : ArePlanned c 0 (map (λ (d : Driving). d.plan) (clouds_driving now))
     planned = subst (ArePlanned c 0) (sym plans) (simulations-planned c (length c.pools))
 
-    pub driven_of : DrivenBy (WasAnswered (clouds_driving now)) c journal → Driven c journal
-    driven_of driven = planned-driven c (clouds_driving now) planned journal driven
+    pub driven_by_clouds : (may_plan : Bool) → DrivenAs (WasAnswered (clouds_driving now)) may_plan c journal → driven_as may_plan c journal
+    driven_by_clouds false driven = planned-driven c (clouds_driving now) planned journal driven
+    driven_by_clouds true driven = planned-planned c (clouds_driving now) planned journal driven
 
-    pub planned_of : PlannedBy (WasAnswered (clouds_driving now)) c journal → PlannedDriven c journal
-    planned_of driven = planned-planned c (clouds_driving now) planned journal driven
+-- with planned events, or without
+pub driven_either : (says : Says) (may_plan : Bool) (c : Configuration) (journal : List Entry) → (may_plan ≡ false → DrivenBy says c journal) → (may_plan ≡ true → PlannedBy says c journal) → DrivenAs says may_plan c journal
+driven_either says false c journal off on = off refl
+driven_either says true c journal off on = on refl
 
 -- ## the journal
 

@@ -9,7 +9,7 @@ ghost use Rattle.np_top.specs.Drill.{Drills, EndsDrill};
 ghost use Rattle.np_top.specs.Play.{HasEnded};
 
 use crate::playing::play_site;
-use np_board::Board;
+use np_board::PlannedBoard;
 use np_cloud::Gate;
 use np_io::Sink;
 use np_look::Look;
@@ -21,7 +21,7 @@ use std::sync::Wait;
 use std::thread::Threads;
 
 /// How a drill that ended with this board ends: with the summary of its jobs' fates.
-fn ending_at(alloc: Global, board: &Board, full: bool) -> Result<Ending, NoMemory>
+fn ending_at(alloc: Global, board: &PlannedBoard, full: bool) -> Result<Ending, NoMemory>
     requires sound { IsSound board.now.configuration }
     requires lines { AllByRecursion (λ e. HasEventLine e.event) board.now.journal }
     requires driven { Driven board.now.configuration board.now.journal }
@@ -48,7 +48,7 @@ fn play_drill<R: Threads + Wait + Sync, G: Gate + Sync>(
 {
     let config = np_gen::drill(alloc, jobs)?;
     config.soundness();
-    let (board, full) = play_site(rt, alloc, config, gate)?;
+    let (board, full) = play_site(rt, alloc, config, false, gate)?;
     let ending = ending_at(alloc, &board, full);
     board.close();
     ending

@@ -4,9 +4,9 @@ ghost use Rattle.std.specs.Prelude.{◌≡◌, Bool, length, IfOk, IfErr};
 ghost use Rattle.np_changes.specs.Prelude.{AllByRecursion, fate_of, fates};
 ghost use Rattle.np_event_lines.specs.Line.{HasEventLine};
 ghost use Rattle.np_top.specs.Play.{EndsPlay, HasEnded, is_waiting, status_of_fates};
-ghost use Rattle.np_top.specs.Run.{EndsRun, EndsSite, HasCome, RunsSite, plain_run, planned_run, site_run};
+ghost use Rattle.np_top.specs.Run.{EndsRun, EndsSite, HasCome, RunsSite, site_run};
 
-use crate::playing::{play_planned, play_site};
+use crate::playing::play_site;
 use np_cloud::Gate;
 use np_config::Config;
 use np_config_read::read_config;
@@ -88,36 +88,6 @@ pub(crate) fn ending_at<S: Store + Drop>(
     })
 }
 
-/// Plays the site to its end at a board at which launchers plan, and returns how the run ends then.
-fn played_with_plans<R: Threads + Wait + Sync, G: Gate + Sync>(
-    rt: &R,
-    alloc: Global,
-    config: Config,
-    gate: &G,
-) -> Result<Ending, NoMemory>
-    ensures { IfOk result (EndsSite planned_run config) }
-{
-    let (board, full) = play_planned(rt, alloc, config, gate)?;
-    let ending = ending_at(alloc, board.machine(), full);
-    board.close();
-    ending
-}
-
-/// The same at a board at which all choose in the turn in which they record.
-fn played_without<R: Threads + Wait + Sync, G: Gate + Sync>(
-    rt: &R,
-    alloc: Global,
-    config: Config,
-    gate: &G,
-) -> Result<Ending, NoMemory>
-    ensures { IfOk result (EndsSite plain_run config) }
-{
-    let (board, full) = play_site(rt, alloc, config, gate)?;
-    let ending = ending_at(alloc, board.machine(), full);
-    board.close();
-    ending
-}
-
 /// Plays the site to its end, and returns how the run ends then.
 fn played<R: Threads + Wait + Sync, G: Gate + Sync>(
     rt: &R,
@@ -128,10 +98,10 @@ fn played<R: Threads + Wait + Sync, G: Gate + Sync>(
 ) -> Result<Ending, NoMemory>
     ensures { IfOk result (EndsSite (site_run plans) config) }
 {
-    match plans {
-        true => played_with_plans(rt, alloc, config, gate),
-        false => played_without(rt, alloc, config, gate),
-    }
+    let (board, full) = play_site(rt, alloc, config, plans, gate)?;
+    let ending = ending_at(alloc, board.machine(), full);
+    board.close();
+    ending
 }
 
 /// How a run of what the source has left ends.

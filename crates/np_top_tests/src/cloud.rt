@@ -49,6 +49,6 @@ pub fn is_made_good<R: Threads + Wait + Sync + AllocGlobal>(rt: &R) -> Result<bo
     if simulated_clouds(alloc, &config)?.len() != clouds.len() {
         return Ok(false);
     }
-    let ended = run_rounds(rt, alloc, config, clouds, &OpenGate)?;
+    let ended = run_rounds(rt, alloc, config, clouds, false, &OpenGate)?;
     Ok(is_done(&ended))
 }

@@ -1,11 +1,11 @@
-use Rattle.std.proofs.Common.{false, ◌≡◌, length, rules, subst, sym}
+use Rattle.std.proofs.Common.{◌≡◌, length, rules, subst, sym}
 use Rattle.std.specs.Prelude.{slice_index_or}
 use Rattle.np_rounds.specs.Plays.{CrewPlays}
 use Rattle.np_rounds.proofs.Lists.{pairwise_from}
 use Rattle.np_rounds.proofs.round.play_all.Goals as goal
 
 pub returns : goal.returns
-returns g c = let R = CrewPlays false g.D.Driver.facts g.D.Driver.plan g.D.Driver.sound g.D.Driver.room c.args.desk.now in
+returns g c = let R = CrewPlays c.args.plans g.D.Driver.facts g.D.Driver.plan g.D.Driver.sound g.D.Driver.room c.args.desk.now in
     let len : length c.in_ok-ends.ends.items ≡ length c.args.crews.items = search rules in
     pairwise_from R c.args.crews.items c.in_ok-ends.ends.items len
     (λ i x y lt. let job = (c.in_ok-ends.ensures.each i y lt).1 in

@@ -1,4 +1,4 @@
-use Rattle.std.proofs.Common.{false, ◌≡◌, ◌<◌, ℕ, true, [], ◌∷◌, length, ap, ◌∙◌, sym, subst}
+use Rattle.std.proofs.Common.{◌≡◌, ◌<◌, ℕ, true, [], ◌∷◌, length, ap, ◌∙◌, sym, subst}
 use Rattle.np_changes.specs.Prelude.{Configuration, Entry}
 use Rattle.np_worker.specs.Prelude.{PassView, is_legal}
 use Rattle.np_rounds.specs.Crews.{zeros}
@@ -13,10 +13,10 @@ play_all-requires-clause-own g c κs within = given_own c.args.pass.now c.args.d
 
 pub take_back-requires-clause-part : goal.take_back-requires-clause-part
 take_back-requires-clause-part g c = ap (λ q. q.part) c.in_ok-crews.ensures.pass
-    ∙ ap (λ (n : ℕ). zeros n ∷ []) (sym (pairwise_len (CrewPlays false g.D.Driver.facts g.D.Driver.plan g.D.Driver.sound g.D.Driver.room c.args.desk.now) c.in_ok-crews.crews.items c.in_ok-ends.ends.items c.in_ok-ends.ensures))
+    ∙ ap (λ (n : ℕ). zeros n ∷ []) (sym (pairwise_len (CrewPlays c.args.plans g.D.Driver.facts g.D.Driver.plan g.D.Driver.sound g.D.Driver.room c.args.desk.now) c.in_ok-crews.crews.items c.in_ok-ends.ends.items c.in_ok-ends.ensures))
 
 pub take_back-requires-clause-back : goal.take_back-requires-clause-back
-take_back-requires-clause-back g c = are_back false g.D.Driver.facts g.D.Driver.plan g.D.Driver.sound g.D.Driver.room c.args.desk.now c.args.pass.now 0 c.in_ok-crews.crews.items c.in_ok-ends.ends.items c.in_ok-crews.ensures.given c.in_ok-ends.ensures
+take_back-requires-clause-back g c = are_back c.args.plans g.D.Driver.facts g.D.Driver.plan g.D.Driver.sound g.D.Driver.room c.args.desk.now c.args.pass.now 0 c.in_ok-crews.crews.items c.in_ok-ends.ends.items c.in_ok-crews.ensures.given c.in_ok-ends.ensures
 
 pub returns-clause-still : goal.returns-clause-still
 returns-clause-still g c = λ still. still_seen c.args.desk.now c.args.pass.now c.take_back.new.pass
@@ -36,7 +36,7 @@ pub returns-clause-legal : goal.returns-clause-legal
 returns-clause-legal g c = of_desk (λ o. is_legal o.fixed c.take_back.new.pass.seen ≡ true) c.args.desk.now c.take_back.new.pass c.in_ok-together.ensures.own c.know-2.ensures.legal
 
 pub returns-clause-round : goal.returns-clause-round
-returns-clause-round g c = is_round false g.D.Driver.facts g.D.Driver.plan g.D.Driver.sound g.D.Driver.room c.args.desk.now (length c.in_ok-crews.crews.items) c.args.pass.now c.hand_out.new.pass c.take_back.new.pass
+returns-clause-round g c = is_round c.args.plans g.D.Driver.facts g.D.Driver.plan g.D.Driver.sound g.D.Driver.room c.args.desk.now (length c.in_ok-crews.crews.items) c.args.pass.now c.hand_out.new.pass c.take_back.new.pass
     c.in_ok-crews.crews.items c.in_ok-ends.ends.items c.args.workers.now.items c.hand_out.new.workers.items c.take_back.new.workers.items c.in_ok-together.together
     (round_knows c.args.desk.now (length c.in_ok-crews.crews.items) c.args.pass.now c.hand_out.new.pass c.take_back.new.pass
     c.requires.own c.in_ok-together.ensures.own c.know.ensures.rising c.know.ensures.begins (c.know.ensures.whole c.requires.whole)

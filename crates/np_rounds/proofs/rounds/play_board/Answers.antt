@@ -1,4 +1,4 @@
-use Rattle.std.proofs.Common.{false, List, ap, subst, sym}
+use Rattle.std.proofs.Common.{List, ap, subst, sym}
 use Rattle.np_changes.specs.Prelude.{Configuration, Entry}
 use Rattle.np_worker.proofs.LegalLemmas.{Runs-legal}
 use Rattle.np_rounds.specs.Crews.{players_of}
@@ -23,7 +23,7 @@ returns-clause-laps g c =
     let site = ap (λ o. o.fixed) c.in-Ok.ensures.desk in
     let before = players_of g.D.Driver.facts g.D.Driver.plan g.D.Driver.sound g.D.Driver.room c.args.workers.now.items in
     let now = players_of g.D.Driver.facts g.D.Driver.plan g.D.Driver.sound g.D.Driver.room c.play_at.new.workers.items in
-    subst (λ (d : Configuration). HasLaps false d c.args.board.journal before c.close.result.journal now c.in_ok-full.full) site
-    (subst (λ (j : List Entry). HasLaps false c.in-Ok.desk.origin.fixed c.args.board.journal before j now c.in_ok-full.full) (sym is)
-    (subst (λ (j : List Entry). HasLaps false c.in-Ok.desk.origin.fixed j before c.play_at.new.pass.seen now c.in_ok-full.full) c.in-Ok.ensures.seen.0
+    subst (λ (d : Configuration). HasLaps c.args.plans d c.args.board.journal before c.close.result.journal now c.in_ok-full.full) site
+    (subst (λ (j : List Entry). HasLaps c.args.plans c.in-Ok.desk.origin.fixed c.args.board.journal before j now c.in_ok-full.full) (sym is)
+    (subst (λ (j : List Entry). HasLaps c.args.plans c.in-Ok.desk.origin.fixed j before c.play_at.new.pass.seen now c.in_ok-full.full) c.in-Ok.ensures.seen.0
     c.in_ok-full.ensures.laps))

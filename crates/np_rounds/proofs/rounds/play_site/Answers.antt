@@ -11,7 +11,7 @@ pub loop-init : goal.loop-init
 loop-init g c = record {
   configuration = refl;
   rested = c.requires.rested;
-  laps = laps_none false c.args.board.configuration c.args.board.journal (players_of g.D.Driver.facts g.D.Driver.plan g.D.Driver.sound g.D.Driver.room c.args.workers.now.items);
+  laps = laps_none c.args.plans c.args.board.configuration c.args.board.journal (players_of g.D.Driver.facts g.D.Driver.plan g.D.Driver.sound g.D.Driver.room c.args.workers.now.items);
 }
 
 pub loop-preserved : goal.loop-preserved
@@ -19,12 +19,12 @@ loop-preserved g c =
     let was = players_of g.D.Driver.facts g.D.Driver.plan g.D.Driver.sound g.D.Driver.room c.loop.workers.items in
     let now = players_of g.D.Driver.facts g.D.Driver.plan g.D.Driver.sound g.D.Driver.room c.play_board.new.workers.items in
     let journal = c.in_ok-played.played.journal in
-    let more = subst (λ (d : Configuration). HasLaps false d c.loop.board.journal was journal now c.in_ok-played.full) c.loop.invariant.configuration c.in_ok-played.ensures.laps in
+    let more = subst (λ (d : Configuration). HasLaps c.args.plans d c.loop.board.journal was journal now c.in_ok-played.full) c.loop.invariant.configuration c.in_ok-played.ensures.laps in
     record {
       configuration = c.in_ok-played.ensures.configuration ∙ c.loop.invariant.configuration;
       rested = subst (λ b. Stops b journal) c.if-full.false c.in_ok-played.ensures.stops;
-      laps = laps_on false c.args.board.configuration c.args.board.journal (players_of g.D.Driver.facts g.D.Driver.plan g.D.Driver.sound g.D.Driver.room c.args.workers.now.items) c.loop.board.journal was journal now false
-          c.loop.invariant.laps (subst (λ b. HasLaps false c.args.board.configuration c.loop.board.journal was journal now b) c.if-full.false more);
+      laps = laps_on c.args.plans c.args.board.configuration c.args.board.journal (players_of g.D.Driver.facts g.D.Driver.plan g.D.Driver.sound g.D.Driver.room c.args.workers.now.items) c.loop.board.journal was journal now false
+          c.loop.invariant.laps (subst (λ b. HasLaps c.args.plans c.args.board.configuration c.loop.board.journal was journal now b) c.if-full.false more);
     }
 
 pub returns-then-full-clause-settled : goal.returns-then-full-clause-settled
@@ -38,5 +38,5 @@ returns-then-full-clause-laps g c =
     let was = players_of g.D.Driver.facts g.D.Driver.plan g.D.Driver.sound g.D.Driver.room c.loop.workers.items in
     let now = players_of g.D.Driver.facts g.D.Driver.plan g.D.Driver.sound g.D.Driver.room c.play_board.new.workers.items in
     let journal = c.in_ok-played.played.journal in
-    laps_on false c.args.board.configuration c.args.board.journal (players_of g.D.Driver.facts g.D.Driver.plan g.D.Driver.sound g.D.Driver.room c.args.workers.now.items) c.loop.board.journal was journal now c.in_ok-played.full
-    c.loop.invariant.laps (subst (λ (d : Configuration). HasLaps false d c.loop.board.journal was journal now c.in_ok-played.full) c.loop.invariant.configuration c.in_ok-played.ensures.laps)
+    laps_on c.args.plans c.args.board.configuration c.args.board.journal (players_of g.D.Driver.facts g.D.Driver.plan g.D.Driver.sound g.D.Driver.room c.args.workers.now.items) c.loop.board.journal was journal now c.in_ok-played.full
+    c.loop.invariant.laps (subst (λ (d : Configuration). HasLaps c.args.plans d c.loop.board.journal was journal now c.in_ok-played.full) c.loop.invariant.configuration c.in_ok-played.ensures.laps)

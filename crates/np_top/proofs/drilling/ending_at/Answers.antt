@@ -1,6 +1,7 @@
 use Rattle.std.proofs.Common.{◌∙◌, refl, ap, true, false}
 use Rattle.np_changes.specs.Prelude.{State, fates}
 use Rattle.np_rules.specs.Running.{ran_of}
+use Rattle.np_board.specs.Outstanding.{ran_of as planning_ran}
 use Rattle.np_report.specs.Summary.{summary_of}
 use Rattle.np_report.proofs.ToldRuns.{jobs-Runs}
 use Rattle.np_top.proofs.Drills.{drill_shown}
@@ -11,14 +12,14 @@ pub summary-requires : goal.summary-requires
 summary-requires c =
     let board = c.args.board.now in
     record {
-      jobs = rows_jobs board (ran_of c.machine.result.now) c.machine.ensures.same _ _ c.rows.ensures.site c.rows.ensures.state
+      jobs = rows_jobs (planning_ran board) (ran_of c.machine.result.now) c.machine.ensures.same _ _ c.rows.ensures.site c.rows.ensures.state
           (jobs-Runs board.configuration board.journal board.state c.requires.sound c.soundness.ensures.runs);
     }
 
 pub returns-then-full : goal.returns-then-full
 returns-then-full c =
     let board = c.args.board.now in let text = c.in_ok-text.text.items in
-    let state = rows_state board (ran_of c.machine.result.now) c.machine.ensures.same _ _ c.rows.ensures.site c.rows.ensures.state in
+    let state = rows_state (planning_ran board) (ran_of c.machine.result.now) c.machine.ensures.same _ _ c.rows.ensures.site c.rows.ensures.state in
     drill_shown board.configuration board.configuration board.journal board.state text true refl c.requires.sound c.soundness.ensures.runs
     c.requires.lines c.requires.driven (ended_is false board.configuration board.journal c.args.full true c.if-full.true c.requires.ended)
     (c.in_ok-text.ensures ∙ ap (λ (s : State). summary_of (fates s)) state)
@@ -26,7 +27,7 @@ returns-then-full c =
 pub returns : goal.returns
 returns c =
     let board = c.args.board.now in let text = c.in_ok-text.text.items in
-    let state = rows_state board (ran_of c.machine.result.now) c.machine.ensures.same _ _ c.rows.ensures.site c.rows.ensures.state in (
+    let state = rows_state (planning_ran board) (ran_of c.machine.result.now) c.machine.ensures.same _ _ c.rows.ensures.site c.rows.ensures.state in (
       refl,
       drill_shown board.configuration board.configuration board.journal board.state text false refl c.requires.sound c.soundness.ensures.runs
           c.requires.lines c.requires.driven (ended_is false board.configuration board.journal c.args.full false c.if-full.false c.requires.ended)

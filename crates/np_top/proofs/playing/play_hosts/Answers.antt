@@ -13,5 +13,5 @@ pub returns-clause-driven : goal.returns-clause-driven
 returns-clause-driven g c =
     let ended = c.in_ok-ended.ended in
     let told = c.in_ok-ended.ensures in
-    hosts_driven (hosted_view c.args.site) c.requires c.args.site.drivers.items ended.drivers.items refl told.plans told.sounds told.rooms ended.board.journal told.driven told.carried told.failed
+    hosts_driven (hosted_view c.args.site) c.requires c.args.site.drivers.items ended.drivers.items refl told.plans told.sounds told.rooms ended.board.journal told.driven (told.carried refl) (told.failed refl)
     c.hosts_answer_no_number_twice.ensures

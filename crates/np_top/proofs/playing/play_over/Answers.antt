@@ -1,33 +1,38 @@
-use Rattle.std.proofs.Common.{false, map, subst}
+use Rattle.std.proofs.Common.{map, subst}
 use Rattle.np_changes.specs.Prelude.{AllByRecursion, Entry}
 use Rattle.np_worker.specs.Drive.{driving}
 use Rattle.np_worker.specs.Players.{WasAnswered}
 use Rattle.np_top.specs.Typed.{IsTyped}
-use Rattle.np_top.proofs.DrivenLines.{driven_lines}
-use Rattle.np_top.proofs.Sites.{ended_so, new_empty, new_servers, played_by}
+use Rattle.np_top.proofs.DrivenLines.{lines_as}
+use Rattle.np_top.proofs.Sites.{driven_either, ended_so, new_empty, new_servers, played_by}
 use Rattle.np_top.proofs.playing.play_over.Goals as goal
 
 pub returns-clause-lines : goal.returns-clause-lines
 returns-clause-lines g c =
-    let ended = c.in_ok-ended.ended in
-    driven_lines (WasAnswered (map (driving g.D.Driver.facts g.D.Driver.plan g.D.Driver.sound g.D.Driver.room) ended.drivers.items)) c.args.config c.soundness.ensures ended.board.journal
-    (c.in_ok-ended.ensures.driven (new_servers g.D.Driver.facts c.args.drivers.items c.requires.new))
+    let ended = c.in_ok-ended.ended in let told = c.in_ok-ended.ensures in
+    let none = new_servers g.D.Driver.facts c.args.drivers.items c.requires.new in
+    let says = WasAnswered (map (driving g.D.Driver.facts g.D.Driver.plan g.D.Driver.sound g.D.Driver.room) ended.drivers.items) in
+    lines_as says c.args.config c.soundness.ensures c.args.plans ended.board.journal
+    (driven_either says c.args.plans c.args.config ended.board.journal (λ off. told.driven off none) (λ on. told.planned on none))
     (subst (AllByRecursion (λ (e : Entry). IsTyped e.event)) c.journal.ensures c.numbers_are_within_their_types.ensures)
 
 pub returns-clause-driven : goal.returns-clause-driven
-returns-clause-driven g c = c.in_ok-ended.ensures.driven (new_servers g.D.Driver.facts c.args.drivers.items c.requires.new)
+returns-clause-driven g c =
+    let ended = c.in_ok-ended.ended in let told = c.in_ok-ended.ensures in
+    let none = new_servers g.D.Driver.facts c.args.drivers.items c.requires.new in
+    driven_either (WasAnswered (map (driving g.D.Driver.facts g.D.Driver.plan g.D.Driver.sound g.D.Driver.room) ended.drivers.items)) c.args.plans c.args.config ended.board.journal (λ off. told.driven off none) (λ on. told.planned on none)
 
 pub returns-clause-carried : goal.returns-clause-carried
-returns-clause-carried g c = c.in_ok-ended.ensures.carried (new_empty g.D.Driver.facts c.args.drivers.items c.requires.new)
+returns-clause-carried g c = λ off. c.in_ok-ended.ensures.carried off (new_empty g.D.Driver.facts c.args.drivers.items c.requires.new)
 
 pub returns-clause-failed : goal.returns-clause-failed
-returns-clause-failed g c = c.in_ok-ended.ensures.failed c.requires.new
+returns-clause-failed g c = λ off. c.in_ok-ended.ensures.failed off c.requires.new
 
 pub returns-clause-ended : goal.returns-clause-ended
 returns-clause-ended g c =
     let board = c.in_ok-ended.ended.board in (
       ended_so c.args.config board.configuration board.journal board.state c.in_ok-ended.ended.full c.in_ok-ended.ensures.configuration c.soundness-2.ensures.runs
           c.in_ok-ended.ensures.settled c.in_ok-ended.ensures.full,
-      played_by false g.D.Driver.facts g.D.Driver.plan g.D.Driver.sound g.D.Driver.room c.args.config c.args.drivers.items c.in_ok-ended.ended.drivers.items board.journal c.in_ok-ended.ended.full
+      played_by c.args.plans g.D.Driver.facts g.D.Driver.plan g.D.Driver.sound g.D.Driver.room c.args.config c.args.drivers.items c.in_ok-ended.ended.drivers.items board.journal c.in_ok-ended.ended.full
           (new_servers g.D.Driver.facts c.args.drivers.items c.requires.new) c.in_ok-ended.ensures.played,
     )

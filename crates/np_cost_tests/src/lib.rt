@@ -1,0 +1,12 @@
+//! Tests of what a call costs, which no clause says: how often it asks the state.
+//!
+//! `counted` has rows and searches that count each call, `scenes` the sites, each with few jobs or
+//! with many, and `costs` the calls: none may take more looks where more waits.
+#![tactic(auto)]
+
+#[cfg(test)]
+mod costs;
+#[cfg(test)]
+mod counted;
+#[cfg(test)]
+mod scenes;

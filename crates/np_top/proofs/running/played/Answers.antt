@@ -1,0 +1,25 @@
+use Rattle.std.specs.Prelude.{IfOk, List}
+use Rattle.np_changes.specs.Prelude.{AllByRecursion, Configuration, Entry}
+use Rattle.np_event_lines.specs.Line.{HasEventLine}
+use Rattle.np_rules.specs.Running.{ran_of}
+use Rattle.np_board.specs.Outstanding.{ran_of as planning_ran}
+use Rattle.np_top.specs.Play.{EndsPlay, HasEnded}
+use Rattle.np_top.specs.Run.{site_run}
+use Rattle.np_top.proofs.Endings.{ends_site}
+use Rattle.np_top.proofs.Sites.{from_machine, to_machine}
+use Rattle.np_top.proofs.running.played.Goals as goal
+
+pub ending_at-ending-requires-clause-lines : goal.ending_at-ending-requires-clause-lines
+ending_at-ending-requires-clause-lines g c =
+    let told = c.in_ok-board.ensures in
+    to_machine (ran_of c.machine.result.now) (planning_ran c.in_ok-board.board) c.machine.ensures.same c.args.config told.configuration
+    (λ (x : Configuration) (journal : List Entry). AllByRecursion (λ (e : Entry). HasEventLine e.event) journal) told.lines
+
+pub returns : goal.returns
+returns g c =
+    let board = c.in_ok-board.board in let told = c.in_ok-board.ensures in
+    ends_site (site_run c.args.plans) c.args.config board.journal c.ending_at-ending.result told.driven
+    (from_machine (ran_of c.machine.result.now) (planning_ran c.in_ok-board.board) c.machine.ensures.same c.args.config told.configuration
+    (λ (x : Configuration) (journal : List Entry). IfOk c.ending_at-ending.result (EndsPlay c.args.plans x journal)) (c.ending_at-ending.ensures c.args.plans
+    (to_machine (ran_of c.machine.result.now) (planning_ran c.in_ok-board.board) c.machine.ensures.same c.args.config told.configuration
+    (λ (x : Configuration) (journal : List Entry). HasEnded c.args.plans x journal c.in_ok-board.full) told.ended)))
