@@ -1,11 +1,5 @@
 -- the first of a requester's jobs that may acquire its handles
-use Rattle.std.proofs.Common.{◌≡◌, ◌∙◌, ◌⊎◌, inl, inr, ℕ, Bool, true, false, not, Option, None, refl, sym, ap}
-use Rattle.std.specs.Prelude.{◌&&◌, is_none}
-use Rattle.np_changes.specs.Prelude.{Configuration, JobId, JobRecord, RequesterId, State, first_full}
-use Rattle.np_look.specs.Readers.{request_state_of}
-use Rattle.np_look.specs.Jobs.{is_job_to_acquire, is_supplied, job_to_acquire, may_acquire, was_given}
-use Rattle.np_active.specs.Active.{ActiveOf, AreActive, is_job_in, lacking_group, lacking_ones}
-use Rattle.np_active.specs.Begin.{IsBest, comes_first}
+use Rattle.np_active.proofs.Prelude.{ActiveOf, AreActive, Bool, Configuration, IsBest, JobId, JobRecord, None, Option, RequesterId, State, ap, comes_first, false, first_full, inl, inr, is_job_in, is_job_to_acquire, is_none, is_supplied, job_to_acquire, lacking_group, lacking_ones, may_acquire, not, refl, request_state_of, sym, true, was_given, ℕ, ◌&&◌, ◌∙◌, ◌≡◌, ◌⊎◌}
 use Rattle.np_active.proofs.FirstFound.{AreLined, best-all, is_passed}
 use Rattle.np_active.proofs.Lined.{Waits, is_lined, lined-free, lined-in, own-where}
 use Rattle.np_active.proofs.OwnJobs.{IsOwn, is_such, such-own, such-turned, waits_in}

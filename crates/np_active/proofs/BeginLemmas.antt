@@ -1,13 +1,5 @@
 -- the first of a requester's jobs that may begin
-use Rattle.std.proofs.Common.{◌≡◌, ◌∙◌, ◌⊎◌, inl, inr, ℕ, Bool, true, false, Option, Some, None, refl, sym, ap}
-use Rattle.std.specs.Prelude.{◌||◌, find, is_none}
-use Rattle.std.proofs.lemmas.Bool.{or_parts}
-use Rattle.np_changes.specs.Prelude.{Configuration, JobId, JobRecord, RequesterId, State, first_full, is_new}
-use Rattle.np_lists.proofs.FoundLemmas.{find-passes}
-use Rattle.np_table.specs.Groups.{ids_in}
-use Rattle.np_look.specs.Jobs.{is_job_to_begin, is_supplied, job_to_begin, may_begin}
-use Rattle.np_active.specs.Active.{ActiveOf, AreActive, is_job_in, is_prompt, prompt_group, prompt_ones, waiting_group, waiting_ones}
-use Rattle.np_active.specs.Begin.{IsBest, comes_first, may_begin_of}
+use Rattle.np_active.proofs.Prelude.{ActiveOf, AreActive, Bool, Configuration, IsBest, JobId, JobRecord, None, Option, RequesterId, Some, State, ap, comes_first, false, find, find-passes, first_full, ids_in, inl, inr, is_job_in, is_job_to_begin, is_new, is_none, is_prompt, is_supplied, job_to_begin, may_begin, may_begin_of, or_parts, prompt_group, prompt_ones, refl, sym, true, waiting_group, waiting_ones, ℕ, ◌||◌, ◌∙◌, ◌≡◌, ◌⊎◌}
 use Rattle.np_active.proofs.Blocked.{may-is}
 use Rattle.np_active.proofs.FirstFound.{AreLined, best-all, is_passed, job-least, job-there, kind-has, kind-rises, no-job}
 use Rattle.np_active.proofs.Lined.{Waits, lined-free, lined-in, own-where}

@@ -1,14 +1,6 @@
 -- the earliest of the jobs that a search through lines has come to
-use Rattle.std.proofs.Common.{◌≡◌, ◌∙◌, ◌⊎◌, inl, inr, ℕ, suc, ◌<◌, ◌≤◌, Bool, true, false, cond, List, Option, Some, None, refl, sym, subst, arith}
-use Rattle.std.specs.Prelude.{◌&&◌}
-use Rattle.std.proofs.lemmas.Bool.{cases_order}
-use Rattle.std.proofs.lemmas.Bool.Decides.{nat_tests}
-use Rattle.np_changes.specs.Prelude.{Configuration, JobId, Rises, State}
-use Rattle.np_table.specs.declared.groups.Group.{Group}
-use Rattle.np_table.specs.declared.groups.Member.{Member}
-use Rattle.np_table.specs.Groups.{is_member_before}
-use Rattle.np_look.specs.Keys.{is_job_before}
-use Rattle.np_active.specs.Begin.{IsBest, IsPast, comes_first, earlier_job, first_line, first_of_line, is_free, line_after}
+use Rattle.np_active.proofs.Prelude.{Bool, Configuration, Group, IsBest, JobId, List, Member, None, Option, Rises, Some, State, arith, cases_order, comes_first, cond, earlier_job, false, first_line, first_of_line, inl, inr, is_free, is_job_before, is_member_before, line_after, nat_tests, refl, subst, suc, sym, true, ℕ, ◌&&◌, ◌<◌, ◌∙◌, ◌≡◌, ◌≤◌, ◌⊎◌}
+use Rattle.np_active.specs.Begin.{IsPast}
 use Rattle.np_active.proofs.WaitingLemmas.{IsEmpty, IsLineFrom, first-line, next-line}
 
 -- ## the best of two

@@ -1,15 +1,8 @@
 -- which jobs a full semaphore blocks: of a line it blocks all
-use Rattle.std.proofs.Common.{◌≡◌, ◌∙◌, ℕ, Bool, true, false, cond, List, [], ◌∷◌, length, not, Option, Some, None, refl, sym, ap, subst, arith}
-use Rattle.std.specs.Prelude.{◌==◌, ◌&&◌, ◌||◌, find, is_none, slice_get}
+use Rattle.np_active.proofs.Prelude.{Bool, Configuration, Job, JobId, List, None, Option, SemId, Some, State, [], ap, cond, equal-numbers, false, find, first_full, has_handle, is_free, is_full, is_like, is_none, is_supplied, length, line_of, list_any, may_begin, may_begin_of, not, option_map_or, or_parts, refl, same_number, same_semaphores, slice_get, subst, sym, true, ℕ, ◌&&◌, ◌==◌, ◌||◌, ◌∙◌, ◌∷◌, ◌≡◌}
 use Rattle.std.specs.Bool.{Decides}
-use Rattle.np_changes.specs.Prelude.{Configuration, Job, JobId, SemId, State, first_full, has_handle, is_full, list_any, option_map_or}
-use Rattle.std.proofs.lemmas.Bool.{or_parts}
-use Rattle.std.proofs.lemmas.Bool.Decides.{nat_tests}
 use Rattle.std.proofs.lemmas.Slice.Eq.{slice_eq-Decides}
-use Rattle.np_laws.proofs.Ids.{same_semaphore}
-use Rattle.np_look.specs.Jobs.{is_supplied, may_begin}
-use Rattle.np_active.specs.Begin.{is_free, may_begin_of}
-use Rattle.np_active.specs.Lines.{is_like, line_of, same_semaphores}
+use Rattle.np_changes.proofs.Ids.{same_semaphore}
 
 -- ## by the row of a job
 
@@ -39,13 +32,8 @@ module _ (c : Configuration) (s : State) (j : JobId) (row : Job) (lacks : is_sup
   lacks-any : is_none (first_full c s j row) ≡ not (list_any (is_full c s) row.semaphores)
   lacks-any = let parts = or_parts (length row.semaphores == 0) (list_any (has_handle j s.handles) row.semaphores) lacks in free-any row.semaphores parts.1
 
-same-id : (x y : SemId) → (x.0 == y.0) ≡ true → x ≡ y
-same-id x y is = let number : x.0 ≡ y.0 = grind (arith, nat_tests) in same_semaphore x y number
-
 semaphore-decides : (a b : SemId) → Decides (a.0 == b.0) (a ≡ b)
-semaphore-decides a b = (λ is. same-id a b is, λ is. same (ap (λ (x : SemId). x.0) is)) where
-  same : a.0 ≡ b.0 → (a.0 == b.0) ≡ true
-  same is = grind (arith, nat_tests)
+semaphore-decides a b = (λ is. same_semaphore a b (equal-numbers a.0 b.0 is), λ is. same_number a.0 b.0 (ap (λ (x : SemId). x.0) is))
 
 -- the job with the number of a line has the semaphores of those that wait there
 line-row : (c : Configuration) (lines : List JobId) (j : JobId) (row : Job) (line : ℕ) → slice_get c.jobs j.0 ≡ Some row → line_of c lines j row ≡ line → (other : Job) × (slice_get c.jobs line ≡ Some other) × (other.semaphores ≡ row.semaphores)

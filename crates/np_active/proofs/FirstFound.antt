@@ -1,14 +1,5 @@
 -- the first of the jobs that pass, where some of them wait in lines: it is the earliest that the search finds
-use Rattle.std.proofs.Common.{◌≡◌, ◌∙◌, ◌⊎◌, inl, inr, ℕ, Bool, true, false, List, Option, Some, None, refl, sym, ap}
-use Rattle.std.specs.Prelude.{find, slice_get}
-use Rattle.np_changes.specs.Prelude.{Configuration, JobId, JobRecord, Rises, State, list_any, option_map_or}
-use Rattle.np_table.specs.declared.groups.Group.{Group}
-use Rattle.np_table.specs.Groups.{ids_in}
-use Rattle.np_table.proofs.Ids.{ids-has, ids-rise, same-itself}
-use Rattle.np_look.specs.Keys.{is_job_before, same_job, job_one_way, job_some_way, job_equal}
-use Rattle.np_look.specs.Readers.{jobs_from}
-use Rattle.np_active.specs.Active.{ActiveOf, AreActive, JobKind, is_job_in, job_group}
-use Rattle.np_active.specs.Begin.{IsBest, at_line, comes_first, first_of_line, is_free}
+use Rattle.np_active.proofs.Prelude.{ActiveOf, AreActive, Bool, Configuration, Group, IsBest, JobId, JobKind, JobRecord, List, None, Option, Rises, Some, State, ap, at_line, comes_first, false, find, first_of_line, ids-has, ids-rise, ids_in, inl, inr, is_free, is_job_before, is_job_in, job_equal, job_group, job_one_way, job_some_way, jobs_from, list_any, option_map_or, refl, same-itself, same_job, slice_get, sym, true, ℕ, ◌∙◌, ◌≡◌, ◌⊎◌}
 use Rattle.np_active.proofs.BestLemmas.{beaten-later}
 use Rattle.np_active.proofs.Blocked.{IsInLine, line-alike}
 use Rattle.np_active.proofs.Firsts.{find-always, found-least, found-there, none-found}

@@ -1,8 +1,5 @@
 -- the first of a list in order that passes
-use Rattle.std.proofs.Common.{◌≡◌, Bool, true, false, cond, List, [], ◌∷◌, Some, None, ◌∙◌, refl, sym, subst}
-use Rattle.std.specs.Prelude.{◌||◌, find, slice_get}
-use Rattle.np_changes.specs.Prelude.{AllByRecursion, Rises, list_any}
-use Rattle.std.proofs.lemmas.Bool.{false_from_ne_true, or_right}
+use Rattle.np_active.proofs.Prelude.{AllByRecursion, Bool, List, None, Rises, Some, [], cond, false, false_from_ne_true, find, list_any, or_right, refl, slice_get, subst, sym, true, ◌||◌, ◌∙◌, ◌∷◌, ◌≡◌}
 
 -- the first of all is the first that passes a test that each passes
 pub find-always : {X : Type 0} (xs : List X) → slice_get xs 0 ≡ find (λ x. true) xs

@@ -1,25 +1,7 @@
 -- the members of groups after a change, from those before it
-use Rattle.std.proofs.Common.{◌≡◌, ◌≤◌, ◌∙◌, false, List, [], ◌∷◌, Option, ℕ, suc, length, refl, sym, ap, subst, arith}
-use Rattle.std.specs.Prelude.{map}
-use Rattle.np_changes.specs.Prelude.{AllByRecursion, Configuration, IsReached, NodeId, SessionId, State, changed, list_any, node_in, node_queue, option_map_or}
-use Rattle.std.proofs.lemmas.List.{take_all}
-use Rattle.np_lists.proofs.Each.{all-weaker}
-use Rattle.np_changes.specs.declared.changes.Changes.{Changes}
-use Rattle.np_table.specs.declared.groups.Group.{Group}
-use Rattle.np_table.specs.declared.groups.Member.{Member}
-use Rattle.np_look.specs.Keys.{is_node_before, same_node}
-use Rattle.np_laws.proofs.Numbered.{numbered}
-use Rattle.np_laws.proofs.Runs.{invariant-Runs}
-use Rattle.np_table.specs.Moves.{Placed, with_all_moved, with_moved}
-use Rattle.np_classes.specs.Grouped.{AreGrouped, placed_all}
-use Rattle.np_classes.proofs.Grouped.{grouped-moved, nodes-in_order}
-use Rattle.np_active.specs.Given.{AreGivenGroups, groups_by, groups_of_node}
-use Rattle.np_active.specs.Listed.{touches_given}
-use Rattle.np_active.specs.GivenPrepared.{IsPrepared, PreparedOf, placed_node}
-use Rattle.np_active.specs.Within.{groups_within}
+use Rattle.np_active.proofs.Prelude.{AllByRecursion, AreGivenGroups, AreGrouped, Changes, Configuration, Group, IsPrepared, IsReached, List, Member, NodeId, Option, Placed, PreparedOf, SessionId, State, [], all-weaker, ap, arith, changed, contrapositive, false, grouped-moved, groups_by, groups_of_node, groups_within, invariant-Runs, is_node_before, length, list_any, map, node_in, node_queue, nodes-in_order, numbered, option_map_or, placed_all, placed_node, refl, same_node, subst, suc, sym, take_all, touches_given, with_all_moved, with_moved, ℕ, ◌∙◌, ◌∷◌, ◌≡◌, ◌≤◌}
 use Rattle.np_active.proofs.Untouched.{given-untouched}
 use Rattle.np_active.proofs.Longer.{queue-longer}
-use Rattle.np_lists.proofs.Plain.{contrapositive}
 
 -- the whole queue is read if there are so many sessions at most
 pub whole : (c : Configuration) (s : State) (most : ℕ) (n : NodeId) → length (node_queue n s.nodes) ≤ most → groups_within c s most n ≡ groups_of_node c s n

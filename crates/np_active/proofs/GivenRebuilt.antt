@@ -1,13 +1,5 @@
 -- the members of groups, made node by node
-use Rattle.std.proofs.Common.{◌≡◌, ℕ, List, [], Option, length, ap}
-use Rattle.np_changes.specs.Prelude.{Configuration, IsReached, NodeEntry, NodeId, State, node_queue, option_map, option_map_or}
-use Rattle.np_laws.proofs.Runs.{invariant-Runs}
-use Rattle.np_table.specs.declared.groups.Member.{Member}
-use Rattle.np_table.specs.Moves.{is_among}
-use Rattle.np_look.specs.Keys.{is_node_before, same_node}
-use Rattle.np_classes.specs.Grouped.{AreGrouped}
-use Rattle.np_classes.proofs.Grouped.{made, made-all, nodes-in_order, none-found}
-use Rattle.np_active.specs.Given.{AreGivenGroups, groups_by, groups_of_node}
+use Rattle.np_active.proofs.Prelude.{AreGivenGroups, AreGrouped, Configuration, IsReached, List, Member, NodeEntry, NodeId, Option, State, [], ap, groups_by, groups_of_node, invariant-Runs, is_among, is_node_before, length, made, made-all, node_queue, nodes-in_order, none-found, option_map, option_map_or, same_node, ℕ, ◌≡◌}
 
 abbrev pub nodes_made : Configuration → State → ℕ → List (Member NodeId)
 nodes_made c s at = made is_node_before same_node nodes-in_order (λ (e : NodeEntry). e.id) (groups_of_node c s) s.nodes at

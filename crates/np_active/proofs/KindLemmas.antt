@@ -1,18 +1,7 @@
 -- the groups that a job or a session is in say of which kinds it is
-use Rattle.std.proofs.Common.{◌≡◌, ◌∙◌, ℕ, Bool, true, false, cond, List, [], ◌∷◌, not, Option, None, Some, refl, sym, ap}
-use Rattle.std.specs.Prelude.{◌==◌, ◌&&◌, ◌||◌, map, slice_get}
-use Rattle.np_changes.specs.Prelude.{Configuration, Janitor, Job, JobId, JobRecord, Launcher, Phase, Reaper, RequestState, Requester, RequesterId, Role, SessionFacts, SessionId, State, has_handle, is_asked, is_failed, is_new, is_over, is_requesters, is_using, list_any, option_map, option_map_or, same_role, session_of}
+use Rattle.np_active.proofs.Prelude.{Bool, Configuration, Group, Janitor, Job, JobId, JobKind, JobRecord, Launcher, List, None, Option, Phase, Reaper, RequestState, Requester, RequesterId, Role, SessionFacts, SessionId, SessionKind, Some, State, [], and_false, and_true, ap, cond, ending_ones, false, groups_of_job, groups_of_session, has_handle, is_among, is_asked, is_failed, is_job_in, is_job_of, is_kind_in, is_new, is_of_kind, is_over, is_prompt, is_requesters, is_supplied, is_using, job_group, kind_by, kind_of_job, kind_of_rows, kinds_of_facts, kinds_of_session, lacking_ones, line_of, list_any, live_group, live_kind, live_ones, map, mute_group, mute_ones, no_kinds, not, option_map, option_map_or, or_false, prompt_ones, refl, releasing_ones, request_state_of, role_group, same_group, same_role, session_group, session_of, slice_get, speakers, supplied_ones, sym, true, waiting_ones, was_given, ℕ, ◌&&◌, ◌==◌, ◌||◌, ◌∙◌, ◌∷◌, ◌≡◌}
 use Rattle.np_text.specs.declared.word.Phase.TheVariants as phase
 use Rattle.np_text.specs.declared.word.RequestState.TheVariants as request_state
-use Rattle.np_lists.proofs.Plain.{and_false, and_true, or_false}
-use Rattle.np_look.specs.Jobs.{is_supplied, was_given}
-use Rattle.np_look.specs.Readers.{request_state_of}
-use Rattle.np_table.specs.declared.groups.Group.{Group}
-use Rattle.np_table.specs.Groups.{same_group}
-use Rattle.np_table.specs.Moves.{is_among}
-use Rattle.np_active.specs.Active.{JobKind, SessionKind, ending_ones, is_job_in, is_job_of, is_kind_in, is_of_kind, is_prompt, job_group, lacking_ones, live_group, live_ones, mute_group, mute_ones, prompt_ones, releasing_ones, role_group, session_group, speakers, supplied_ones, waiting_ones}
-use Rattle.np_active.specs.Lines.{line_of}
-use Rattle.np_active.specs.Placed.{groups_of_job, groups_of_session, kind_by, kind_of_job, kind_of_role, kind_of_rows, kinds_of_facts, kinds_of_session, live_kind, no_kinds}
 
 -- ## by kinds
 
@@ -69,62 +58,45 @@ module _ (r : RequesterId) (m : ℕ) where
   is_by (lacking_ones q l) prompt supplied has new given ending over = (same_requester r q && (not supplied && (m == l))) && given
 
   if-none : (kind : JobKind) (p s h : Bool) → false ≡ is_by kind p s h false false false false
-  if-none (supplied_ones q) p s h = off (same_requester r q && s)
   if-none (prompt_ones q) p s h = refl
   if-none (waiting_ones q l) p s h = refl
-  if-none (ending_ones q) p s h = off (same_requester r q)
-  if-none (releasing_ones q) p s h = off (same_requester r q && h)
-  if-none (lacking_ones q l) p s h = off (same_requester r q && (not s && (m == l)))
+  if-none _ p s h = simp and_false
 
   if-new : (kind : JobKind) (p s h : Bool) → is_kind kind (Some (cond p (prompt_ones r) (waiting_ones r m))) ≡ is_by kind p s h true false false false
   if-new (prompt_ones q) true s h = sym (and_true (same_requester r q))
   if-new (prompt_ones q) false s h = off (same_requester r q)
   if-new (waiting_ones q l) true s h = off (same_requester r q)
   if-new (waiting_ones q l) false s h = refl
-  if-new (supplied_ones q) true s h = off (same_requester r q && s)
-  if-new (supplied_ones q) false s h = off (same_requester r q && s)
-  if-new (ending_ones q) true s h = off (same_requester r q)
-  if-new (ending_ones q) false s h = off (same_requester r q)
-  if-new (releasing_ones q) true s h = off (same_requester r q && h)
-  if-new (releasing_ones q) false s h = off (same_requester r q && h)
-  if-new (lacking_ones q l) true s h = off (same_requester r q && (not s && (m == l)))
-  if-new (lacking_ones q l) false s h = off (same_requester r q && (not s && (m == l)))
+  if-new _ true s h = simp and_false
+  if-new _ false s h = simp and_false
 
   if-given : (kind : JobKind) (p s h : Bool) → is_kind kind (Some (cond s (supplied_ones r) (lacking_ones r m))) ≡ is_by kind p s h false true false false
   if-given (supplied_ones q) p true h = sym (and_true (same_requester r q && true) ∙ and_true (same_requester r q))
   if-given (supplied_ones q) p false h = off (same_requester r q) ∙ sym (and_true (same_requester r q && false))
   if-given (lacking_ones q l) p true h = off (same_requester r q) ∙ sym (and_true (same_requester r q && false))
   if-given (lacking_ones q l) p false h = sym (and_true (same_requester r q && (m == l)))
-  if-given (prompt_ones q) p true h = refl
-  if-given (prompt_ones q) p false h = refl
-  if-given (waiting_ones q l) p true h = refl
-  if-given (waiting_ones q l) p false h = refl
   if-given (ending_ones q) p true h = off (same_requester r q)
   if-given (ending_ones q) p false h = off (same_requester r q)
   if-given (releasing_ones q) p true h = off (same_requester r q && h)
   if-given (releasing_ones q) p false h = off (same_requester r q && h)
+  if-given _ p true h = refl
+  if-given _ p false h = refl
 
   if-ending : (kind : JobKind) (p s h : Bool) → is_kind kind (Some (ending_ones r)) ≡ is_by kind p s h false false true false
   if-ending (ending_ones q) p s h = sym (and_true (same_requester r q))
-  if-ending (supplied_ones q) p s h = off (same_requester r q && s)
   if-ending (prompt_ones q) p s h = refl
   if-ending (waiting_ones q l) p s h = refl
-  if-ending (releasing_ones q) p s h = off (same_requester r q && h)
-  if-ending (lacking_ones q l) p s h = off (same_requester r q && (not s && (m == l)))
+  if-ending _ p s h = simp and_false
 
   if-over : (kind : JobKind) (p s h : Bool) → is_kind kind (cond h (Some (releasing_ones r)) None) ≡ is_by kind p s h false false false true
   if-over (releasing_ones q) p s true = sym (and_true (same_requester r q && true) ∙ and_true (same_requester r q))
   if-over (releasing_ones q) p s false = off (same_requester r q) ∙ sym (and_true (same_requester r q && false))
-  if-over (supplied_ones q) p s true = off (same_requester r q && s)
-  if-over (supplied_ones q) p s false = off (same_requester r q && s)
   if-over (prompt_ones q) p s true = refl
   if-over (prompt_ones q) p s false = refl
   if-over (waiting_ones q l) p s true = refl
   if-over (waiting_ones q l) p s false = refl
-  if-over (ending_ones q) p s true = off (same_requester r q)
-  if-over (ending_ones q) p s false = off (same_requester r q)
-  if-over (lacking_ones q l) p s true = off (same_requester r q && (not s && (m == l)))
-  if-over (lacking_ones q l) p s false = off (same_requester r q && (not s && (m == l)))
+  if-over _ p s true = simp and_false
+  if-over _ p s false = simp and_false
 
 module _ (c : Configuration) (s : State) (lines : List JobId) (j : JobId) where
   -- the same of a job with this row, in this phase and with its request in this state
@@ -135,29 +107,20 @@ module _ (c : Configuration) (s : State) (lines : List JobId) (j : JobId) where
 
   by-phase : (kind : JobKind) (row : Job) (state : Option RequestState) (p : Phase) → is_kind kind (kind_by c s lines j row state p) ≡ is_by_row kind row state p
   by-phase kind row state phase.New = if-new row.requester (line_of c lines j row) kind (is_prompt s j row) (is_supplied s j row) (list_any (has_handle j s.handles) row.semaphores)
-  by-phase kind row None phase.Asked = if-none row.requester (line_of c lines j row) kind (is_prompt s j row) (is_supplied s j row) (list_any (has_handle j s.handles) row.semaphores)
-  by-phase kind row (Some request_state.Requested) phase.Asked = if-none row.requester (line_of c lines j row) kind (is_prompt s j row) (is_supplied s j row) (list_any (has_handle j s.handles) row.semaphores)
-  by-phase kind row (Some request_state.Pending) phase.Asked = if-none row.requester (line_of c lines j row) kind (is_prompt s j row) (is_supplied s j row) (list_any (has_handle j s.handles) row.semaphores)
   by-phase kind row (Some request_state.Fulfilled) phase.Asked = if-given row.requester (line_of c lines j row) kind (is_prompt s j row) (is_supplied s j row) (list_any (has_handle j s.handles) row.semaphores)
   by-phase kind row (Some request_state.Failed) phase.Asked = if-ending row.requester (line_of c lines j row) kind (is_prompt s j row) (is_supplied s j row) (list_any (has_handle j s.handles) row.semaphores)
+  by-phase kind row _ phase.Asked = if-none row.requester (line_of c lines j row) kind (is_prompt s j row) (is_supplied s j row) (list_any (has_handle j s.handles) row.semaphores)
   by-phase kind row state phase.Using = if-ending row.requester (line_of c lines j row) kind (is_prompt s j row) (is_supplied s j row) (list_any (has_handle j s.handles) row.semaphores)
   by-phase kind row state phase.Over = if-over row.requester (line_of c lines j row) kind (is_prompt s j row) (is_supplied s j row) (list_any (has_handle j s.handles) row.semaphores)
 
   of-row : (kind : JobKind) (row : Job) (kept : JobRecord) → slice_get c.jobs j.0 ≡ Some row → is_by_row kind row (request_state_of kept.request s) kept.phase ≡ is_job_of c s lines kind j kept
   of-row (supplied_ones q) row kept at = rw at refl
-  of-row (prompt_ones q) row kept at = rw at refl
-  of-row (waiting_ones q l) row kept at = rw at refl
-  of-row (ending_ones q) row kept at = rw at refl
-  of-row (releasing_ones q) row kept at = rw at refl
-  of-row (lacking_ones q l) row kept at = rw at refl
+  of-row _ row kept at = rw at refl
 
   no-row : (kind : JobKind) (kept : JobRecord) → slice_get c.jobs j.0 ≡ None → false ≡ is_job_of c s lines kind j kept
-  no-row (supplied_ones q) kept none = rw none refl
   no-row (prompt_ones q) kept none = rw none (off (is_new kept.phase))
   no-row (waiting_ones q l) kept none = rw none (off (is_new kept.phase))
-  no-row (ending_ones q) kept none = rw none refl
-  no-row (releasing_ones q) kept none = rw none refl
-  no-row (lacking_ones q l) kept none = rw none refl
+  no-row _ kept none = rw none refl
 
   kind-is : (kind : JobKind) → is_kind kind (kind_of_job c s lines j) ≡ is_job_in c s lines kind j
   kind-is kind = by (slice_get c.jobs j.0) refl (slice_get s.jobs j.0) where
@@ -174,21 +137,10 @@ module _ (c : Configuration) (s : State) (lines : List JobId) (j : JobId) where
 
 role-groups : (r q : Role) → same_group (role_group r) (role_group q) ≡ same_role r q
 role-groups (Launcher p) (Launcher q) = and_true (p.0 == q.0)
-role-groups (Launcher p) (Janitor q) = refl
-role-groups (Launcher p) (Requester q) = refl
-role-groups (Launcher p) Reaper = refl
-role-groups (Janitor p) (Launcher q) = refl
 role-groups (Janitor p) (Janitor q) = and_true (p.0 == q.0)
-role-groups (Janitor p) (Requester q) = refl
-role-groups (Janitor p) Reaper = refl
-role-groups (Requester p) (Launcher q) = refl
-role-groups (Requester p) (Janitor q) = refl
 role-groups (Requester p) (Requester q) = and_true (p.0 == q.0)
-role-groups (Requester p) Reaper = refl
-role-groups Reaper (Launcher q) = refl
-role-groups Reaper (Janitor q) = refl
-role-groups Reaper (Requester q) = refl
 role-groups Reaper Reaper = refl
+role-groups _ _ = refl
 
 abbrev pub same_kind : SessionKind → SessionKind → Bool
 same_kind (speakers r) (speakers q) = same_role r q
@@ -200,20 +152,16 @@ same_kind _ _ = false
 role-apart : (r : Role) (q : RequesterId)
     → ((same_group (role_group r) mute_group ≡ false) × (same_group mute_group (role_group r) ≡ false)) × ((same_group (role_group r) (live_group q) ≡ false) × (same_group (live_group q) (role_group r) ≡ false))
 role-apart (Launcher p) q = ((refl, refl), (refl, refl))
-role-apart (Janitor p) q = ((refl, refl), (refl, refl))
-role-apart (Requester p) q = ((refl, refl), (refl, refl))
-role-apart Reaper q = ((refl, refl), (refl, refl))
+role-apart _ q = ((refl, refl), (refl, refl))
 
 session-groups : (r q : SessionKind) → same_group (session_group r) (session_group q) ≡ same_kind r q
 session-groups (speakers r) (speakers q) = role-groups r q
 session-groups (speakers r) mute_ones = (role-apart r (record { 0 = 0 })).0.0
 session-groups (speakers r) (live_ones q) = (role-apart r q).1.0
 session-groups mute_ones (speakers q) = (role-apart q (record { 0 = 0 })).0.1
-session-groups mute_ones mute_ones = refl
-session-groups mute_ones (live_ones q) = refl
 session-groups (live_ones r) (speakers q) = (role-apart q r).1.1
-session-groups (live_ones r) mute_ones = refl
 session-groups (live_ones r) (live_ones q) = and_true (r.0 == q.0)
+session-groups _ _ = refl
 
 -- ## the kinds of a session
 
@@ -225,18 +173,11 @@ is_live_kind role (live_ones q) = is_requesters q (Some role)
 is_live_kind role kind = false
 
 live-kind : (role : Role) (kind : SessionKind) → is_session_kind kind (live_kind role) ≡ is_live_kind role kind
-live-kind (Requester r) (speakers q) = refl
-live-kind (Requester r) mute_ones = refl
 live-kind (Requester r) (live_ones q) = refl
-live-kind (Launcher p) (speakers q) = refl
-live-kind (Launcher p) mute_ones = refl
 live-kind (Launcher p) (live_ones q) = refl
-live-kind (Janitor p) (speakers q) = refl
-live-kind (Janitor p) mute_ones = refl
 live-kind (Janitor p) (live_ones q) = refl
-live-kind Reaper (speakers q) = refl
-live-kind Reaper mute_ones = refl
 live-kind Reaper (live_ones q) = refl
+live-kind _ _ = refl
 
 facts-are : (kind : SessionKind) (role : Role) (live mute : Bool) → list_any (is_session_kind kind) (kinds_of_facts (record { role = role; live = live; mute = mute })) ≡ is_of_kind kind (record { role = role; live = live; mute = mute })
 facts-are (speakers q) role false mute = sym (ap (λ (b : Bool). b && not mute) (and_false (same_role role q)))

@@ -20,3 +20,4 @@ pub mod Listed
 pub mod GivenNoted
 pub mod GivenRebuilt
 pub mod Outside
+pub mod Prelude

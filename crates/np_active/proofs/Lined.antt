@@ -1,14 +1,7 @@
 -- jobs of a requester that wait in lines, for one purpose or another
-use Rattle.std.proofs.Common.{◌≡◌, ◌∙◌, ◌⊎◌, inl, inr, ℕ, Bool, true, false, List, not, refl, sym, ap}
-use Rattle.std.specs.Prelude.{◌==◌, ◌&&◌, is_none}
-use Rattle.std.proofs.lemmas.Bool.{and_parts, not-true}
-use Rattle.np_changes.specs.Prelude.{Configuration, Job, JobId, JobRecord, RequesterId, State, first_full}
-use Rattle.np_look.specs.Jobs.{is_supplied}
-use Rattle.np_active.specs.Begin.{is_free}
-use Rattle.np_active.specs.Lines.{line_of}
+use Rattle.np_active.proofs.Prelude.{Bool, Configuration, Job, JobId, JobRecord, List, RequesterId, State, and_parts, ap, equal-itself, equal-numbers, false, first_full, inl, inr, is_free, is_none, is_supplied, line_of, not, not-true, refl, sym, true, ℕ, ◌&&◌, ◌==◌, ◌∙◌, ◌≡◌, ◌⊎◌}
 use Rattle.np_active.proofs.Blocked.{IsInLine, free-is}
 use Rattle.np_active.proofs.OwnJobs.{IsOwn, is_such, own-such, such-own, waits_in}
-use Rattle.np_lists.proofs.Plain.{equal-itself, equal-numbers}
 
 -- jobs wait in lines unless their rows pass: one that waits lacks handles, and it may go on if it finds none of
 -- its semaphores full

@@ -1,13 +1,6 @@
 -- all that the changes of an event touch is listed before it
-use Rattle.std.proofs.Common.{◌≡◌, ◌≤◌, ◌∙◌, Bool, true, false, List, ◌++◌, suc, length, refl, ap}
-use Rattle.std.specs.Prelude.{◌||◌, map}
-use Rattle.np_changes.specs.Prelude.{AllByRecursion, Configuration, NodeId, State, list_any, node_queue}
+use Rattle.np_active.proofs.Prelude.{AllByRecursion, Bool, Changes, Configuration, IsPrepared, List, NodeId, PreparedOf, State, ap, false, length, list_any, map, node_queue, nodes_by_job, nodes_by_state, placed_node, refl, same_node, suc, touches_given, touches_node, true, ◌++◌, ◌||◌, ◌∙◌, ◌≡◌, ◌≤◌}
 use Rattle.std.proofs.lemmas.List.Folds.{list_any-append}
-use Rattle.np_changes.specs.declared.changes.Changes.{Changes}
-use Rattle.np_look.specs.Keys.{same_node}
-use Rattle.np_classes.specs.Touched.{touches_node}
-use Rattle.np_active.specs.Listed.{nodes_by_job, nodes_by_state, touches_given}
-use Rattle.np_active.specs.GivenPrepared.{IsPrepared, PreparedOf, placed_node}
 
 abbrev listed : NodeId → List NodeId → Bool
 listed n ns = list_any (λ m. same_node m n) ns

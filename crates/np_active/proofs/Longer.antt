@@ -1,20 +1,11 @@
 -- the changes of an event make the queue of a node longer by one session at most
-use Rattle.std.proofs.Common.{◌≡◌, ◌≤◌, ◌∙◌, ℕ, suc, Bool, true, false, cond, List, [], ◌∷◌, ◌++◌, length, Option, None, Some, refl, sym, ap, subst, arith, length-append}
-use Rattle.std.specs.Prelude.{◌==◌, nat_lt}
-use Rattle.np_changes.specs.Prelude.{Configuration, IsReached, NodeEntry, NodeId, NodeRecord, RequestId, Rises, SessionId, State, TenantId, allocated, by_maker, change_first, changed, grown, is_queued, joined, left, node_in, node_queue, nodes_changed, nodes_left, option_map, put_node_queue, remove_node}
-use Rattle.std.proofs.lemmas.Bool.Decides.{nat_tests}
-use Rattle.np_changes.specs.declared.changes.Changes.{Changes}
+use Rattle.np_active.proofs.Prelude.{Bool, Changes, Configuration, IsNumbered, IsReached, List, Maker, NodeEntry, NodeId, NodeRecord, None, Option, RequestId, Rises, SessionId, Some, State, TenantId, [], allocated, ap, arith, by_maker, change_first, changed, cond, false, grown, grown-numbered, invariant-Runs, is_queued, joined, left, length, length-append, nat_lt, nat_tests, node_in, node_in-allocated, node_in-later, node_in-queue, node_queue, node_queue-allocated, node_queue-freed, node_queue-in_use, node_queue-left, node_queue-new, node_queue-nowhere, node_queue-other, node_queue-put, node_queue-queue, node_queue-remove, node_queue-removed, nodes_changed, nodes_left, option_map, put_node_queue, refl, remove_node, same_node-is, subst, suc, sym, true, ℕ, ◌++◌, ◌==◌, ◌∙◌, ◌∷◌, ◌≡◌, ◌≤◌}
 use Rattle.np_changes.specs.declared.changes.Growth.{Growth}
-use Rattle.np_laws.specs.Parts.{IsNumbered}
-use Rattle.np_changes.specs.declared.changes.Maker.{Maker}
 use Rattle.np_changes.specs.declared.changes.NodesChange.{NodesChange}
 use Rattle.np_changes.specs.declared.changes.SessionsChange.{SessionsChange}
 use Rattle.np_changes.specs.declared.changes.Growth.TheVariants as grow
 use Rattle.np_changes.specs.declared.changes.NodesChange.TheVariants as nodes
 use Rattle.np_changes.specs.declared.changes.SessionsChange.TheVariants as sessions
-use Rattle.np_laws.proofs.Lookups.{node_in-later, node_in-queue, node_in-allocated, node_queue-allocated, node_queue-freed, node_queue-in_use, node_queue-left, node_queue-new, node_queue-nowhere, node_queue-other, node_queue-put, node_queue-queue, node_queue-remove, node_queue-removed, same_node-is}
-use Rattle.np_laws.proofs.Numbered.{grown-numbered}
-use Rattle.np_laws.proofs.Runs.{invariant-Runs}
 use Rattle.np_changes.proofs.Shaping.{length-left}
 
 -- ## one queue

@@ -1,27 +1,11 @@
 -- the members of groups after the changes of an event, from those before it
-use Rattle.std.proofs.Common.{◌≡◌, ◌∙◌, Bool, true, false, List, [], ◌∷◌, length, Option, None, Some, refl, sym, ap, subst}
-use Rattle.std.specs.Prelude.{◌==◌, ◌||◌, map, option_and_then, slice_get}
+use Rattle.np_active.proofs.Prelude.{ActiveOf, AreActive, AreGroups, AreJobGroups, AreSessionGroups, Bool, Changes, Configuration, Group, IsOrder, IsPast, IsReached, Job, JobId, JobKind, JobRecord, List, Member, None, Option, PastOf, Phase, Placed, RequestRecord, RequestState, SemId, SessionFacts, SessionId, Some, State, [], any-same, ap, changed, false, groups_of_job, groups_of_session, has_handle, is_among, is_asked, is_job_before, is_job_in, is_kind_in, is_prompt, is_session_before, is_supplied, job_before, job_group, jobs-in_order, kind_by, kind_of_rows, kinds_of_facts, length, list_any, map, no_kinds, option_map, option_map_or, past_job, past_session, placed_all, refl, request_state_of, same_job, same_session, session_before, session_group, sessions-in_order, slice_get, subst, sym, touches_job, true, with_all_moved, ◌==◌, ◌||◌, ◌∙◌, ◌∷◌, ◌≡◌}
 use Rattle.std.proofs.lemmas.Simd.{map-map}
-use Rattle.np_changes.specs.Prelude.{Configuration, IsReached, Job, JobId, JobRecord, Phase, RequestRecord, RequestState, SemId, SessionFacts, SessionId, State, changed, has_handle, is_asked, list_any, option_map, option_map_or, session_of}
-use Rattle.np_changes.specs.declared.changes.Changes.{Changes}
 use Rattle.np_text.specs.declared.word.Phase.TheVariants as phase
-use Rattle.np_lists.proofs.Plain.{any-same}
-use Rattle.np_look.specs.Jobs.{is_supplied}
-use Rattle.np_look.specs.Keys.{is_job_before, is_session_before, same_job, same_session}
-use Rattle.np_look.specs.Readers.{request_state_of}
-use Rattle.np_table.specs.declared.groups.Group.{Group}
-use Rattle.np_table.specs.declared.groups.Member.{Member}
-use Rattle.np_table.specs.Moves.{Placed, is_among, with_all_moved}
-use Rattle.np_table.proofs.MoveLemmas.{each-moved, rises-all_moved}
-use Rattle.np_classes.specs.Grouped.{IsOrder, placed_all}
+use Rattle.np_lists.proofs.MoveLemmas.{each-moved, rises-all_moved}
 use Rattle.np_classes.specs.Listed.{IsTouched, TouchedOf}
-use Rattle.np_classes.specs.Touched.{touches_job, touches_session}
-use Rattle.np_classes.proofs.Grouped.{jobs-in_order, sessions-in_order}
 use Rattle.np_classes.proofs.JobsUntouched.{asked-untouched, handle-untouched, job-untouched}
 use Rattle.np_classes.proofs.SessionsUntouched.{session-untouched}
-use Rattle.np_active.specs.Active.{ActiveOf, AreActive, AreGroups, AreJobGroups, AreSessionGroups, JobKind, is_job_in, is_kind_in, is_prompt, job_group, session_group}
-use Rattle.np_active.specs.Placed.{groups_of_job, groups_of_session, kind_by, kind_of_rows, kinds_of_facts, no_kinds}
-use Rattle.np_active.specs.Prepared.{IsPast, PastOf, job_before, past_job, past_session, session_before}
 use Rattle.np_active.proofs.KindLemmas.{job-among, session-among}
 
 -- ## some ids move, and all others stay

@@ -1,24 +1,9 @@
 -- the nodes that a session has yet to lock and those that it is to leave are ids outside a group
-use Rattle.std.proofs.Common.{◌≡◌, ◌∙◌, ℕ, Bool, true, false, cond, not, List, [], ◌∷◌, map, Option, Some, None, refl, sym, ap, subst}
-use Rattle.std.specs.Prelude.{◌==◌, ◌&&◌, ◌||◌, filter, find, slice_get}
-use Rattle.np_changes.specs.Prelude.{AllByRecursion, Configuration, NodeEntry, NodeId, NodeRecord, RequesterId, Rises, SessionId, State, is_queued, list_any, node_entry, node_queue, option_map, option_map_or}
-use Rattle.std.proofs.lemmas.Option.{slice_get-map}
-use Rattle.np_look.specs.Readers.{queued_nodes}
-use Rattle.np_lists.proofs.Each.{all-weaker}
+use Rattle.np_active.proofs.Prelude.{AllByRecursion, AreGivenGroups, Bool, Configuration, Group, List, Member, NodeEntry, NodeId, NodeRecord, None, Option, RequesterId, Rises, SessionId, Some, State, [], all-weaker, and-first, and-second, and_false, and_true, ap, cond, false, filter, find, given_group, given_groups, given_to, groups_by, has_member, ids-has, ids-rise, ids_in, is_among, is_given_to, is_node_before, is_queued, is_to_leave, is_to_lock, list_any, locked_group, map, node-apart, node_entry, node_equal, node_one_way, node_queue, node_to_leave, node_to_lock, not, option_map, option_map_or, or_false, queued_nodes, refl, same-list, same_group, same_node, slice_get, slice_get-map, subst, sym, true, ℕ, ◌&&◌, ◌==◌, ◌||◌, ◌∙◌, ◌∷◌, ◌≡◌}
 use Rattle.np_lists.proofs.RisingLemmas.{Rises-filter}
-use Rattle.np_table.specs.declared.groups.Group.{Group}
-use Rattle.np_table.specs.declared.groups.Member.{Member}
-use Rattle.np_table.specs.Groups.{has_member, ids_in, same_group}
-use Rattle.np_table.proofs.Ids.{ids-rise, ids-has, same-list}
-use Rattle.np_look.specs.Keys.{same_node, is_node_before, node_equal, node_one_way}
-use Rattle.np_look.specs.Given.{given_to, is_given_to, is_to_leave, is_to_lock, node_to_leave, node_to_lock}
-use Rattle.np_table.specs.Moves.{is_among}
 use Rattle.np_classes.proofs.Apart.{same_node-self}
 use Rattle.np_classes.proofs.Rows.{ids-in_order, row-passes, rows-found}
-use Rattle.np_table.specs.Ranks.{outside}
-use Rattle.np_active.specs.Given.{AreGivenGroups, given_group, given_groups, groups_by, locked_group}
-use Rattle.np_lists.proofs.Plain.{or_false}
-use Rattle.np_laws.proofs.Lookups.{node-apart}
+use Rattle.np_lists.specs.Ranks.{outside}
 
 -- ## the groups of one node
 
@@ -30,10 +15,7 @@ none-locked q p (x ∷ queue) = none-locked q p queue
 -- a group of a session is there if the session is in the queue, and the requester is this one
 some-locked : (q p : RequesterId) (x : SessionId) (queue : List SessionId)
     → list_any (λ o. option_map_or (λ h. same_group h (locked_group q x)) o false) (map (λ session. Some (locked_group p session)) queue) ≡ ((p.0 == q.0) && is_queued x queue)
-some-locked q p x [] = by (p.0 == q.0) where
-  by : (b : Bool) → false ≡ (b && false)
-  by true = refl
-  by false = refl
+some-locked q p x [] = sym (and_false (p.0 == q.0))
 some-locked q p x (y ∷ queue) = ap (λ (b : Bool). ((p.0 == q.0) && (y.0 == x.0)) || b) (some-locked q p x queue) ∙ by (p.0 == q.0) where
   by : (b : Bool) → ((b && (y.0 == x.0)) || (b && is_queued x queue)) ≡ (b && ((y.0 == x.0) || is_queued x queue))
   by true = refl
@@ -45,10 +27,7 @@ module _ (c : Configuration) (s : State) (q : RequesterId) where
   among-given k queue = by (given_to c s k) where
     by : (o : Option RequesterId) → is_among (given_group q) (option_map_or (λ p. given_groups p queue) o []) ≡ option_map_or (λ p. p.0 == q.0) o false
     by None = refl
-    by (Some p) = ap (λ (b : Bool). same_group (given_group p) (given_group q) || b) (none-locked q p queue) ∙ or_false (same_group (given_group p) (given_group q)) ∙ alike (p.0 == q.0) where
-      alike : (b : Bool) → (b && true) ≡ b
-      alike true = refl
-      alike false = refl
+    by (Some p) = ap (λ (b : Bool). same_group (given_group p) (given_group q) || b) (none-locked q p queue) ∙ or_false (same_group (given_group p) (given_group q)) ∙ and_true (p.0 == q.0)
 
   -- and in the group of a session if the session is in its queue, too
   pub among-locked : (x : SessionId) (k : NodeRecord) (queue : List SessionId) → is_among (locked_group q x) (groups_by c s k queue) ≡ (is_given_to c s q k && is_queued x queue)
@@ -128,15 +107,11 @@ module _ (c : Configuration) (s : State) (ms : List (Member NodeId)) (are : AreG
 
   pub locked-given : (i : NodeId) → inside i ≡ true → has_member same_node (given_group q) i ms ≡ true
   locked-given i is = by (node_entry i s.nodes) refl where
-    first : (a b : Bool) → (a && b) ≡ true → a ≡ true
-    first true b both = refl
-    first false b both = absurd cc
-
     by : (o : Option NodeEntry) → node_entry i s.nodes ≡ o → has_member same_node (given_group q) i ms ≡ true
     by None none = let out : inside i ≡ false = group-at (locked_group q x) i None none in absurd cc
     by (Some e) found =
         group-at (given_group q) i (Some e) found ∙ among-given c s q e.kept (node_queue i s.nodes)
-        ∙ first (is_given_to c s q e.kept) (is_queued x (node_queue i s.nodes)) (sym (among-locked c s q x e.kept (node_queue i s.nodes)) ∙ sym (group-at (locked_group q x) i (Some e) found) ∙ is)
+        ∙ and-first (is_given_to c s q e.kept) (is_queued x (node_queue i s.nodes)) (sym (among-locked c s q x e.kept (node_queue i s.nodes)) ∙ sym (group-at (locked_group q x) i (Some e) found) ∙ is)
 
   -- a call that finds such an id finds the first node to lock
   pub locks-by : (g l : Group) (result : Option NodeId) → g ≡ given_group q → l ≡ locked_group q x
@@ -169,15 +144,11 @@ module _ (c : Configuration) (s : State) (ms : List (Member NodeId)) (are : AreG
 
   pub locked-queued : (i : NodeId) → inside i ≡ true → list_any (λ y. same_node y i) (queued_nodes x s) ≡ true
   locked-queued i is = row-passes is_node_before same_node id node_equal node-apart (λ (e : NodeEntry). is_queued x e.queue) i s.nodes are.once ∙ by (node_entry i s.nodes) refl where
-    second : (a b : Bool) → (a && b) ≡ true → b ≡ true
-    second true b both = both
-    second false b both = absurd cc
-
     by : (o : Option NodeEntry) → node_entry i s.nodes ≡ o → option_map_or (λ (e : NodeEntry). is_queued x e.queue) o false ≡ true
     by None none = let out : inside i ≡ false = group-at (locked_group q x) i None none in absurd cc
     by (Some e) found =
         ap (is_queued x) (sym (ap (λ (o : Option NodeEntry). option_map_or (λ e. e.queue) o []) found))
-        ∙ second (is_given_to c s q e.kept) (is_queued x (node_queue i s.nodes)) (sym (among-locked c s q x e.kept (node_queue i s.nodes)) ∙ sym (group-at (locked_group q x) i (Some e) found) ∙ is)
+        ∙ and-second (is_given_to c s q e.kept) (is_queued x (node_queue i s.nodes)) (sym (among-locked c s q x e.kept (node_queue i s.nodes)) ∙ sym (group-at (locked_group q x) i (Some e) found) ∙ is)
 
   -- a call that finds such an id finds the node to leave at the place
   pub leaves-by : (l : Group) (queued : List NodeId) (at : ℕ) (result : Option NodeId) → l ≡ locked_group q x → queued ≡ queued_nodes x s

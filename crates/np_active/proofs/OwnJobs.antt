@@ -1,10 +1,5 @@
 -- jobs of a requester whose record passes one test and whose row passes another
-use Rattle.std.proofs.Common.{◌≡◌, ◌∙◌, ℕ, Bool, true, false, List, not, Option, Some, None, refl, ap}
-use Rattle.std.specs.Prelude.{◌==◌, ◌&&◌, slice_get}
-use Rattle.np_changes.specs.Prelude.{Configuration, Job, JobId, JobRecord, RequesterId, State, option_map_or}
-use Rattle.std.proofs.lemmas.Bool.{and_parts}
-use Rattle.np_look.specs.Jobs.{is_own}
-use Rattle.np_active.specs.Lines.{line_of}
+use Rattle.np_active.proofs.Prelude.{Bool, Configuration, Job, JobId, JobRecord, List, None, Option, RequesterId, Some, State, and_parts, ap, false, is_own, line_of, not, option_map_or, refl, slice_get, true, ℕ, ◌&&◌, ◌==◌, ◌∙◌, ◌≡◌}
 
 -- the job is there, is the requester's, and its record passes
 pub record IsOwn (c : Configuration) (s : State) (q : RequesterId) (at : JobRecord → Bool) (j : JobId) : Type 0 where

@@ -1,7 +1,5 @@
 -- a walk to the first of a list that passes
-use Rattle.std.proofs.Common.{◌≡◌, ◌∙◌, ◌+◌, ℕ, suc, Bool, true, false, List, drop, add-one, Some, refl, sym, ap}
-use Rattle.std.specs.Prelude.{find, slice_get}
-use Rattle.np_lists.proofs.Plain.{drop-there}
+use Rattle.np_active.proofs.Prelude.{Bool, List, Some, add-one, ap, drop, drop-there, false, find, refl, slice_get, suc, sym, true, ℕ, ◌+◌, ◌∙◌, ◌≡◌}
 
 -- none before the place passes
 pub record IsAfter {X : Type 0} (p : X → Bool) (xs : List X) (at : ℕ) : Type 0 where

@@ -1,13 +1,5 @@
 -- a queue that is read by place, up to its end or to a bound
-use Rattle.std.proofs.Common.{◌≡◌, ◌∙◌, ◌≤◌, ◌+◌, ℕ, zero, suc, List, [], ◌∷◌, ◌++◌, take, Option, None, Some, sym, ap, arith, append_assoc}
-use Rattle.std.specs.Prelude.{slice_get}
-use Rattle.std.proofs.lemmas.List.{map-append, take_all}
-use Rattle.np_look.proofs.Walks.{take_there}
-use Rattle.np_changes.specs.Prelude.{RequesterId, SessionId}
-use Rattle.np_table.specs.declared.groups.Group.{Group}
-use Rattle.np_active.specs.Given.{locked_group}
-use Rattle.np_active.specs.Within.{locked_groups}
-use Rattle.np_lists.proofs.Plain.{past-end}
+use Rattle.np_active.proofs.Prelude.{Group, List, None, Option, RequesterId, SessionId, Some, [], ap, append_assoc, arith, locked_group, locked_groups, map-append, past-end, slice_get, sym, take, take_all, take_there, ℕ, ◌++◌, ◌+◌, ◌∙◌, ◌∷◌, ◌≡◌, ◌≤◌}
 
 module _ (q : RequesterId) (queue : List SessionId) (at : ℕ) where
   -- one session more is listed

@@ -1,16 +1,5 @@
 -- the members of a group are the jobs or the sessions of a kind, in order
-use Rattle.std.proofs.Common.{◌≡◌, ◌∙◌, ◌<◌, ◌+◌, ◌-◌, ℕ, suc, Bool, true, false, cond, List, [], ◌∷◌, length, Option, Some, None, refl, sym, ap, subst, arith}
-use Rattle.std.specs.Prelude.{◌==◌, ◌&&◌, ◌||◌, is_some, slice_get}
-use Rattle.np_changes.specs.Prelude.{Configuration, JobId, JobRecord, RequesterId, Rises, Role, SessionFacts, SessionId, State, has_live_session, list_any, option_map_or, option_or, speaks_for}
-use Rattle.std.proofs.lemmas.Bool.Decides.{nat_tests}
-use Rattle.std.proofs.lemmas.Option.{slice_get_past}
-use Rattle.np_table.specs.declared.groups.Group.{Group}
-use Rattle.np_table.specs.declared.groups.Member.{Member}
-use Rattle.np_table.specs.Groups.{ids_in}
-use Rattle.np_table.proofs.Ids.{ids-has, ids-rise, same-itself, same-list}
-use Rattle.np_look.specs.Keys.{is_job_before, same_job, job_one_way, job_some_way, job_equal, is_session_before, same_session, session_one_way, session_some_way, session_equal}
-use Rattle.np_look.specs.Readers.{current_of, first_mute, jobs_from, mute_from, speaker_from}
-use Rattle.np_active.specs.Active.{ActiveOf, AreActive, JobKind, SessionKind, is_job_of, is_kind_in, is_of_kind, job_group, live_group, live_ones, mute_group, mute_ones, role_group, session_group, speakers}
+use Rattle.np_active.proofs.Prelude.{ActiveOf, AreActive, Bool, Configuration, Group, JobId, JobKind, JobRecord, List, Member, None, Option, RequesterId, Rises, Role, SessionFacts, SessionId, SessionKind, Some, State, [], ap, arith, cond, current_of, false, first_mute, has_live_session, ids-has, ids-rise, ids_in, is_job_before, is_job_of, is_kind_in, is_of_kind, is_session_before, is_some, job_equal, job_group, job_one_way, job_some_way, jobs_from, length, list_any, live_group, live_ones, mute_from, mute_group, mute_ones, nat_tests, option_map_or, option_or, refl, role_group, same-itself, same-list, same_job, same_session, session_equal, session_group, session_one_way, session_some_way, slice_get, slice_get_past, speaker_from, speakers, speaks_for, subst, suc, sym, true, ℕ, ◌&&◌, ◌+◌, ◌-◌, ◌<◌, ◌==◌, ◌||◌, ◌∙◌, ◌∷◌, ◌≡◌}
 use Rattle.np_active.proofs.Rows.{has-at, ids_from, last-at, last_of, none-before, numbers-rise}
 
 -- ## jobs

@@ -1,19 +1,6 @@
 -- the members of groups, made number by number
-use Rattle.std.proofs.Common.{◌≡◌, ◌∙◌, ◌<◌, ◌≤◌, ◌+◌, ◌-◌, ℕ, Bool, true, false, cond, List, [], ◌∷◌, length, Option, None, refl, sym, ap, subst, arith}
-use Rattle.std.specs.Prelude.{◌==◌, nat_lt, slice_get}
-use Rattle.np_changes.specs.Prelude.{Configuration, JobId, JobRecord, SessionFacts, SessionId, State, option_map_or, session_of}
-use Rattle.std.proofs.lemmas.Bool.Decides.{nat_tests}
-use Rattle.std.proofs.lemmas.Option.{slice_get_past}
-use Rattle.np_table.specs.declared.groups.Group.{Group}
-use Rattle.np_table.specs.declared.groups.Member.{Member}
-use Rattle.np_table.specs.Moves.{is_among}
-use Rattle.np_look.specs.Keys.{is_job_before, is_session_before, same_job, same_session}
-use Rattle.np_classes.specs.Grouped.{AreGrouped}
-use Rattle.np_classes.proofs.Grouped.{below, jobs-in_order, sessions-in_order}
-use Rattle.np_active.specs.Active.{AreJobGroups, AreSessionGroups, JobKind, SessionKind, is_job_in, is_job_of, is_kind_in, is_of_kind, job_group, session_group}
-use Rattle.np_active.specs.Placed.{groups_of_job, groups_of_session}
+use Rattle.np_active.proofs.Prelude.{AreGrouped, AreJobGroups, AreSessionGroups, Bool, Configuration, Group, JobId, JobKind, JobRecord, List, Member, None, Option, SessionId, SessionKind, State, [], ap, arith, below, cond, false, groups_of_job, groups_of_session, is_among, is_job_before, is_job_in, is_job_of, is_kind_in, is_of_kind, is_session_before, job_group, jobs-in_order, length, nat_lt, nat_tests, not-below, option_map_or, refl, same_job, same_session, session_group, sessions-in_order, slice_get, slice_get_past, sym, true, ℕ, ◌-◌, ◌<◌, ◌==◌, ◌∙◌, ◌≡◌, ◌≤◌}
 use Rattle.np_active.proofs.KindLemmas.{job-among, session-among}
-use Rattle.np_lists.proofs.Plain.{not-below}
 
 -- ## jobs
 

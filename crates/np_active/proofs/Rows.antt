@@ -1,12 +1,5 @@
 -- the numbers of the rows that pass, in order
-use Rattle.std.proofs.Common.{◌≡◌, ◌∙◌, ◌<◌, ℕ, zero, suc, ◌+◌, ◌-◌, Bool, true, false, cond, List, [], ◌∷◌, length, Option, None, Some, refl, sym, ap, arith}
-use Rattle.std.specs.Prelude.{◌==◌, nat_lt, slice_get}
-use Rattle.np_changes.specs.Prelude.{AllByRecursion, Rises, list_any, option_map_or, option_or}
-use Rattle.std.proofs.lemmas.Bool.Decides.{nat_tests}
-use Rattle.np_lists.proofs.Plain.{is-below, above-apart}
-
-same-number : (a b : ℕ) → b ≡ a → (a == b) ≡ true
-same-number a b same = grind (arith, nat_tests)
+use Rattle.np_active.proofs.Prelude.{AllByRecursion, Bool, List, None, Option, Rises, Some, [], above-apart, ap, arith, cond, false, is-below, length, list_any, nat_lt, nat_tests, option_map_or, option_or, refl, same_number, slice_get, suc, sym, true, zero, ℕ, ◌+◌, ◌-◌, ◌<◌, ◌==◌, ◌∙◌, ◌∷◌, ◌≡◌}
 
 -- the last of a list
 abbrev pub last_of : {K : Type 0} → List K → Option K
@@ -74,7 +67,7 @@ module _ {K R : Type 0} (number : K → ℕ) (id : ℕ → K)
     here = let number_is : number k ≡ n = omega (arith, at) in sym (ap id number_is) ∙ id-number k
 
     by : (b : Bool) → passes (id n) row ≡ b → has k (cond b (id n ∷ ids_from (suc n) rows) (ids_from (suc n) rows)) ≡ passes k row
-    by true is = rw (number-id n, same-number n (number k) (omega (arith, at))) (sym is ∙ ap (λ (i : K). passes i row) here)
+    by true is = rw (number-id n, same_number n (number k) (omega (arith, at))) (sym is ∙ ap (λ (i : K). passes i row) here)
     by false is = none-before k (suc n) rows (omega (arith, at)) ∙ sym is ∙ ap (λ (i : K). passes i row) here
   has-at k (suc d) n (row ∷ rows) at = by (passes (id n) row) (has-at k d (suc n) rows (omega (arith, at))) where
     other : (n == number k) ≡ false

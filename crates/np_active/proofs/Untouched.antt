@@ -1,29 +1,15 @@
 -- a node that the changes of an event do not touch stays in the groups that it was in
-use Rattle.std.proofs.Common.{◌≡◌, ◌≢◌, ◌∙◌, ℕ, zero, suc, Bool, true, false, cond, List, [], Option, None, Some, refl, sym, ap}
-use Rattle.std.specs.Prelude.{◌||◌, option_and_then, slice_get}
-use Rattle.np_changes.specs.Prelude.{Configuration, IsReached, JobId, JobRecord, NodeId, NodeRecord, RequestEntry, RequestId, RequestRecord, RequestState, RequesterId, SessionId, State, changed, edited, grown, is_asked, is_fulfilled, is_request, jobs_changed, list_any, node_in, node_queue, option_map, option_map_or, request_in, requests_changed, same_request, with_mark}
-use Rattle.std.proofs.lemmas.Bool.{or_parts}
-use Rattle.np_changes.specs.declared.changes.Changes.{Changes}
+use Rattle.np_active.proofs.Prelude.{Bool, Changes, Configuration, Invariant, IsListed, IsReached, JobId, JobRecord, List, Maker, NodeId, NodeRecord, None, Option, RequestEntry, RequestId, RequestRecord, RequestState, RequesterId, SessionId, Some, State, [], ap, asker, changed, changes_node, changes_state, cond, edited, ends_at_node, false, given_groups, given_to, groups_by, groups_of_node, grown, grows_node, handed_to, invariant-Runs, is_asked, is_fulfilled, is_request, jobs_changed, list_any, node_in, node_queue, nodes_by_job, nodes_by_state, nodes_of_job, nodes_of_request, option_and_then, option_map, option_map_or, or_parts, refl, request_in, request_in-edit, request_in-remove, requests_changed, same_node, same_request, set-other, slice_get, sym, touches_given, touches_node, true, unclaims_node, with_mark, ℕ, ◌||◌, ◌∙◌, ◌≡◌, ◌≢◌}
 use Rattle.np_changes.specs.declared.changes.JobsChange.{JobsChange}
-use Rattle.np_changes.specs.declared.changes.Maker.{Maker}
 use Rattle.np_changes.specs.declared.changes.RequestEdit.{RequestEdit}
 use Rattle.np_changes.specs.declared.changes.RequestsChange.{RequestsChange}
 use Rattle.np_lists.proofs.ChangeLemmas.{kept-change_at}
-use Rattle.np_look.specs.Keys.{same_node}
 use Rattle.np_changes.specs.declared.changes.JobsChange.TheVariants as jobs
 use Rattle.np_changes.specs.declared.changes.RequestEdit.TheVariants as edit
 use Rattle.np_changes.specs.declared.changes.RequestsChange.TheVariants as requests
-use Rattle.np_laws.specs.Parts.{Invariant, IsListed}
-use Rattle.np_laws.proofs.After.{calm-request, found-grown, left-request}
-use Rattle.np_laws.proofs.JobsLater.{jobs-grown}
-use Rattle.np_laws.proofs.Lookups.{request_in-edit, request_in-remove}
-use Rattle.np_laws.proofs.Runs.{invariant-Runs}
-use Rattle.np_look.specs.Given.{asker, given_to, handed_to}
-use Rattle.np_classes.specs.Touched.{changes_node, ends_at_node, grows_node, touches_node, unclaims_node}
+use Rattle.np_changes.proofs.After.{calm-request, found-grown, left-request}
+use Rattle.np_changes.proofs.JobsLater.{jobs-grown}
 use Rattle.np_classes.proofs.Untouched.{node-untouched}
-use Rattle.np_active.specs.Given.{given_groups, groups_by, groups_of_node}
-use Rattle.np_active.specs.Listed.{changes_state, nodes_by_job, nodes_by_state, nodes_of_job, nodes_of_request, touches_given}
-use Rattle.np_lists.proofs.Plain.{set-other}
 use Rattle.np_machine.proofs.Ids.{request-equal, request-itself}
 
 -- the node is in the list

@@ -1,20 +1,9 @@
 -- lines in which jobs wait, one after another
-use Rattle.std.proofs.Common.{◌≡◌, ℕ, suc, ◌-◌, ◌^◌, ◌<◌, ◌≤◌, Bool, true, false, cond, List, Option, Some, None, not, refl, sym, ap, subst, arith}
-use Rattle.std.specs.Prelude.{◌==◌, ◌||◌, find, map, nat_lt, slice_get}
-use Rattle.np_changes.specs.Prelude.{AllByRecursion, JobId, NonePass, Rises, option_map, option_map_or}
-use Rattle.std.proofs.lemmas.Bool.Decides.{nat_tests}
-use Rattle.np_lists.proofs.Each.{all-weaker}
+use Rattle.np_active.proofs.Prelude.{AllByRecursion, Bool, Group, JobId, List, Member, None, NonePass, Option, Rises, Some, all-weaker, ap, arith, at_line, cond, false, find, find-alike, find-passes, first_line, first_of_line, group_after, is_group_before, is_job_before, is_member_before, line_after, line_if, map, nat_lt, nat_tests, not, option_map, option_map_or, refl, same_group, slice_get, subst, suc, sym, true, ℕ, ◌-◌, ◌<◌, ◌==◌, ◌^◌, ◌||◌, ◌≡◌, ◌≤◌}
 use Rattle.np_lists.proofs.FilterLemmas.{filter-nothing}
-use Rattle.np_lists.proofs.FoundLemmas.{find-passes}
 use Rattle.np_lists.proofs.Halves.{none-find}
-use Rattle.np_table.specs.declared.groups.Group.{Group}
-use Rattle.np_table.specs.declared.groups.Member.{Member}
-use Rattle.np_table.specs.Groups.{group_after, is_group_before, is_member_before, same_group}
-use Rattle.np_table.proofs.MemberOrder.{group-equal}
-use Rattle.np_table.proofs.Walk.{IsLeast, least-found}
-use Rattle.np_look.specs.Keys.{is_job_before}
-use Rattle.np_active.specs.Begin.{at_line, first_line, first_of_line, line_after, line_if}
-use Rattle.np_lists.proofs.Plain.{find-alike}
+use Rattle.np_lists.proofs.MemberOrder.{group-equal}
+use Rattle.np_lists.proofs.Walk.{IsLeast, least-found}
 
 -- how far the next line is from the greatest number of a line; 0 if there is no next
 abbrev pub lines_left : Option ℕ → ℕ

@@ -2,9 +2,9 @@
 use Rattle.std.specs.Prelude.{◌≡◌, ◌≤◌, ◌==◌, ◌&&◌, ◌||◌, ℕ, List, Bool, true, false, not, if◌then◌else◌, Option, Some, None, option_and_then, slice_get}
 use Rattle.np_changes.specs.Prelude.{Configuration, Janitor, Job, JobId, JobRecord, Launcher, Reaper, RequestId, Requester, RequesterId, Rises, Role, SessionFacts, SessionId, State, is_new, is_requesters, option_map_or, request_in, session_of, speaks_for}
 use Rattle.np_look.specs.Readers.{request_state_of}
-use Rattle.np_table.specs.declared.groups.Group.{Group}
-use Rattle.np_table.specs.declared.groups.Member.{Member}
-use Rattle.np_table.specs.Groups.{has_member, is_member_before}
+use Rattle.np_lists.specs.declared.groups.Group.{Group}
+use Rattle.np_lists.specs.declared.groups.Member.{Member}
+use Rattle.np_lists.specs.Groups.{has_member, is_member_before}
 use Rattle.np_look.specs.Keys.{is_job_before, is_session_before, same_job, same_session}
 use Rattle.np_look.specs.Jobs.{is_job_to_finish, is_job_to_release, is_job_to_take, is_own, is_supplied, was_given}
 use Rattle.np_active.specs.Lines.{line_of}

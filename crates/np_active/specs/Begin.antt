@@ -2,9 +2,9 @@
 -- the handles of a state: the search through lines is for both
 use Rattle.std.specs.Prelude.{◌≡◌, ◌<◌, ◌⊎◌, ℕ, List, Bool, true, false, ◌&&◌, if◌then◌else◌, Option, Some, None, is_none, option_and_then, slice_get}
 use Rattle.np_changes.specs.Prelude.{Configuration, JobId, State, first_full, option_map_or}
-use Rattle.np_table.specs.declared.groups.Group.{Group}
-use Rattle.np_table.specs.declared.groups.Member.{Member}
-use Rattle.np_table.specs.Groups.{group_after, group_from, ids_in, same_group}
+use Rattle.np_lists.specs.declared.groups.Group.{Group}
+use Rattle.np_lists.specs.declared.groups.Member.{Member}
+use Rattle.np_lists.specs.Groups.{group_after, group_from, ids_in, same_group}
 use Rattle.np_look.specs.Keys.{is_job_before}
 use Rattle.np_look.specs.Jobs.{may_begin}
 

@@ -1,12 +1,12 @@
 -- the groups of the nodes that were given to requesters, and what a state says of them
 use Rattle.std.specs.Prelude.{◌≡◌, ℕ, List, [], ◌∷◌, map, nat_lt, Option, Some}
 use Rattle.np_changes.specs.Prelude.{Configuration, NodeId, NodeRecord, RequesterId, Rises, SessionId, State, node_in, node_queue, option_map_or}
-use Rattle.np_table.specs.declared.groups.Group.{Group}
-use Rattle.np_table.specs.declared.groups.Member.{Member}
-use Rattle.np_table.specs.Groups.{has_member, is_member_before}
+use Rattle.np_lists.specs.declared.groups.Group.{Group}
+use Rattle.np_lists.specs.declared.groups.Member.{Member}
+use Rattle.np_lists.specs.Groups.{has_member, is_member_before}
 use Rattle.np_look.specs.Keys.{is_node_before, same_node}
 use Rattle.np_look.specs.Given.{given_to}
-use Rattle.np_table.specs.Moves.{is_among}
+use Rattle.np_lists.specs.Moves.{is_among}
 
 -- ## groups (own)
 

@@ -3,7 +3,7 @@ use Rattle.std.specs.Prelude.{◌≡◌, ◌≤◌, ◌*◌, ℕ, suc, List, tru
 use Rattle.np_changes.specs.Prelude.{AllByRecursion, Configuration, NodeId, State, list_any, node_queue}
 use Rattle.np_changes.specs.declared.changes.Changes.{Changes}
 use Rattle.np_look.specs.Keys.{same_node}
-use Rattle.np_table.specs.Moves.{Placed}
+use Rattle.np_lists.specs.Moves.{Placed}
 use Rattle.np_active.specs.Given.{GivenOf, groups_of_node}
 use Rattle.np_active.specs.Listed.{touches_given}
 

@@ -4,7 +4,7 @@ use Rattle.np_changes.specs.Prelude.{Configuration, Job, JobId, JobRecord, Phase
 use Rattle.np_text.specs.declared.word.Phase.TheVariants as phase
 use Rattle.np_look.specs.Jobs.{is_supplied}
 use Rattle.np_look.specs.Readers.{request_state_of}
-use Rattle.np_table.specs.declared.groups.Group.{Group}
+use Rattle.np_lists.specs.declared.groups.Group.{Group}
 use Rattle.np_active.specs.Active.{JobKind, SessionKind, ending_ones, is_prompt, job_group, lacking_ones, live_ones, mute_ones, prompt_ones, releasing_ones, session_group, speakers, supplied_ones, waiting_ones}
 use Rattle.np_active.specs.Lines.{line_of}
 

@@ -1,7 +1,7 @@
 -- what is prepared for a change: the jobs and the sessions that it touches, with the groups that they are in before it
 use Rattle.std.specs.Prelude.{◌≡◌, ◌≤◌, ◌*◌, List, length, map}
 use Rattle.np_changes.specs.Prelude.{Configuration, JobId, SessionId, State}
-use Rattle.np_table.specs.Moves.{Placed}
+use Rattle.np_lists.specs.Moves.{Placed}
 use Rattle.np_classes.specs.Listed.{TouchedOf}
 use Rattle.np_active.specs.declared.past.PastJob.{PastJob}
 use Rattle.np_active.specs.declared.past.PastSession.{PastSession}

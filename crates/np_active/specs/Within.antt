@@ -1,7 +1,7 @@
 -- the groups of a node, of whose queue only the first sessions are read
 use Rattle.std.specs.Prelude.{ℕ, List, [], map, take, Option, Some}
 use Rattle.np_changes.specs.Prelude.{Configuration, NodeId, RequesterId, SessionId, State, node_in, node_queue, option_map_or}
-use Rattle.np_table.specs.declared.groups.Group.{Group}
+use Rattle.np_lists.specs.declared.groups.Group.{Group}
 use Rattle.np_active.specs.Given.{groups_by, locked_group}
 
 -- the groups of these sessions in a node's queue

@@ -3,7 +3,7 @@
 
 ghost use Rattle.std.specs.Prelude.{◌≡◌, None, find};
 ghost use Rattle.np_lists.specs.Rising.{Rises};
-ghost use Rattle.np_table.specs.Groups.{ids_in, is_member_before};
+ghost use Rattle.np_lists.specs.Groups.{ids_in, is_member_before};
 ghost use Rattle.np_look.specs.Keys.{is_job_before};
 ghost use Rattle.np_look.specs.Jobs.{job_to_acquire, job_to_begin};
 ghost use Rattle.np_active.specs.Active.{AreActive, prompt_group};
@@ -11,8 +11,8 @@ ghost use Rattle.np_active.specs.Begin.{IsBest, at_line, earlier_job, first_line
 
 use crate::active::Active;
 use crate::jobs::{lacking_group, prompt_group, waiting_group};
+use np_lists::{Group, Groups};
 use np_look::{ByJob, Rows, first_full};
-use np_table::{Group, Groups};
 use np_text::{JobId, RequesterId};
 
 // ## one job

@@ -8,7 +8,7 @@ ghost use Rattle.np_active.specs.Given.{AreGiven};
 
 use crate::given::Given;
 use crate::group::{given_group, locked_group};
-use np_table::{outside_at, outside_list_at};
+use np_lists::{outside_at, outside_list_at};
 use np_text::{NodeId, RequesterId, SessionId};
 
 impl Given {

@@ -3,7 +3,7 @@
 ghost use Rattle.std.specs.Prelude.{◌≡◌};
 ghost use Rattle.np_active.specs.Given.{given_group, locked_group};
 
-use np_table::Group;
+use np_lists::Group;
 use np_text::{RequesterId, SessionId};
 
 /// The nodes that were given to the requester.

@@ -2,7 +2,7 @@
 
 ghost use Rattle.std.specs.Prelude.{◌≡◌, ◌≤◌, [], Some, None, IfOk, OnOk, length, map};
 ghost use Rattle.np_look.specs.Keys.{is_job_before, same_job};
-ghost use Rattle.np_table.specs.Moves.{with_all_moved, with_groups};
+ghost use Rattle.np_lists.specs.Moves.{with_all_moved, with_groups};
 ghost use Rattle.np_active.specs.Active.{AreJobGroups, ending_group, is_prompt, job_group, lacking_group, prompt_group, releasing_group, supplied_group, waiting_group};
 ghost use Rattle.np_active.specs.Placed.{groups_of_job, kind_by, kind_of_job};
 ghost use Rattle.np_active.specs.Prepared.{job_before};
@@ -13,8 +13,8 @@ ghost use Rattle.np_text.specs.declared.word.RequestState.TheVariants as request
 use crate::lines::line_of;
 use crate::past::PastJob;
 use np_config::Job;
+use np_lists::{Group, Groups, move_id};
 use np_look::{ByJob, Rows, has_handles, is_supplied, request_state};
-use np_table::{Group, Groups, move_id};
 use np_text::{JobId, Phase, RequestState, RequesterId};
 use std::alloc::{AllocError, Global};
 

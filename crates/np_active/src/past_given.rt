@@ -6,8 +6,8 @@ ghost use Rattle.np_active.specs.GivenPrepared.{placed_node};
 ghost use Rattle.np_active.specs.Within.{groups_within, locked_groups};
 
 use crate::group::{given_group, locked_group};
+use np_lists::Group;
 use np_look::{Rows, given_to};
-use np_table::Group;
 use np_text::{NodeId, RequesterId};
 use std::alloc::{AllocError, Global};
 use std::marker::Model;
@@ -21,7 +21,7 @@ pub(crate) struct PastNode {
 
 impl Model for PastNode {
     ghost use Rattle.np_changes.specs.Prelude.{NodeId};
-    ghost use Rattle.np_table.specs.Moves.{Placed};
+    ghost use Rattle.np_lists.specs.Moves.{Placed};
 
     ghost Value = { Placed NodeId };
 

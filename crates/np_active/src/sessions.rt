@@ -3,15 +3,15 @@
 
 ghost use Rattle.std.specs.Prelude.{◌≡◌, ◌≤◌, ◌*◌, [], IfOk, OnOk, length, map};
 ghost use Rattle.np_look.specs.Keys.{is_session_before, same_session};
-ghost use Rattle.np_table.specs.Moves.{with_all_moved, with_groups};
+ghost use Rattle.np_lists.specs.Moves.{with_all_moved, with_groups};
 ghost use Rattle.np_active.specs.Active.{AreSessionGroups, live_group, mute_group, role_group, session_group};
 ghost use Rattle.np_active.specs.Placed.{groups_of_session, kind_of_role, live_kind};
 ghost use Rattle.np_active.specs.Prepared.{session_before};
 ghost use Rattle.std.specs.Option.{option_map};
 
 use crate::past::PastSession;
+use np_lists::{Group, Groups, move_id};
 use np_look::{BySession, Rows};
-use np_table::{Group, Groups, move_id};
 use np_text::{RequesterId, Role, SessionId};
 use std::alloc::{AllocError, Global};
 

@@ -18,10 +18,10 @@ use Rattle.np_board.specs.Planner.{TookWithTicket, launchers_before}
 use Rattle.np_board.specs.declared.batch.Batch.{Batch}
 use Rattle.np_board.specs.declared.batch.Stage.{Stage}
 use Rattle.np_board.specs.declared.batch.Stage.TheVariants as stage
-use Rattle.np_board.specs.declared.planned.plan.PlanAsk.{PlanAsk}
-use Rattle.np_board.specs.declared.planned.plan.PlanAsk.TheVariants as ask
-use Rattle.np_board.specs.declared.planned.plan.PlanTurn.{PlanTurn}
-use Rattle.np_board.specs.declared.planned.plan.PlanTurn.TheVariants as turn
+use Rattle.np_board.specs.declared.board.plan.PlanAsk.{PlanAsk}
+use Rattle.np_board.specs.declared.board.plan.PlanAsk.TheVariants as ask
+use Rattle.np_board.specs.declared.board.plan.PlanTurn.{PlanTurn}
+use Rattle.np_board.specs.declared.board.plan.PlanTurn.TheVariants as turn
 use Rattle.np_board.proofs.PlannerLemmas.{also}
 
 of-left : (b : Bool) (o : Option PlanAsk) (a : PlanAsk) → (if b then None else o) ≡ Some a → (b ≡ false) × (o ≡ Some a)

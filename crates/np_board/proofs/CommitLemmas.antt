@@ -1,4 +1,4 @@
--- what a turn at a board leaves at which launchers plan
+-- what a turn at a board leaves
 use Rattle.std.proofs.Common.{◌≡◌, ◌∙◌, ◌+◌, ℕ, true, List, [], ◌∷◌, ◌++◌, take, Option, Some, None, Result, Ok, Err, IfOk, OnErr, refl, sym, ap, subst, arith, append-nil}
 use Rattle.std.specs.Prelude.{find, is_ok, option_and_then, slice_get, MatchResult}
 use Rattle.np_changes.specs.Prelude.{Configuration, Done, Entry, Event, Launcher, NoMemory, PoolId, Refusal, Reply, Runs, State, after, is_some, judge, remove_first, reply_of}
@@ -19,10 +19,10 @@ use Rattle.np_board.specs.Outstanding.{AreOfSpots, FreshAreAccepted, IsOutstandi
 use Rattle.np_board.specs.PlanAnswers.{plan_answers, plan_recorded}
 use Rattle.np_board.specs.PlanTaken.{HasNoNews, IsAsBefore, IsCommitted, IsNews, IsPlanTaken, TakenNews}
 use Rattle.np_board.specs.PlanTested.{IsMayDo, fired_spot, told_by}
-use Rattle.np_board.specs.declared.planned.plan.PlanAsk.{PlanAsk}
-use Rattle.np_board.specs.declared.planned.plan.PlanAsk.TheVariants as ask
-use Rattle.np_board.specs.declared.planned.plan.PlanTurn.{PlanTurn}
-use Rattle.np_board.specs.declared.planned.plan.PlanTurn.TheVariants as turn
+use Rattle.np_board.specs.declared.board.plan.PlanAsk.{PlanAsk}
+use Rattle.np_board.specs.declared.board.plan.PlanAsk.TheVariants as ask
+use Rattle.np_board.specs.declared.board.plan.PlanTurn.{PlanTurn}
+use Rattle.np_board.specs.declared.board.plan.PlanTurn.TheVariants as turn
 use Rattle.np_board.proofs.PlanLemmas.{plan-there, with-none, with-same, with-twice}
 
 -- ## the spot of a path

@@ -4,13 +4,13 @@ use Rattle.std.specs.Prelude.{◌==◌, ◌&&◌, slice_get}
 use Rattle.np_changes.specs.Prelude.{Janitor, NodeId, NodeRecord, PoolId, SessionId, State, is_deleting, is_session_of, node_holder, node_in, node_queue, option_map_or}
 use Rattle.np_look.specs.Readers.{queued_nodes}
 use Rattle.np_useful.specs.Sessions.{is_current, has_current}
-use Rattle.np_roles.proofs.Places.{StandsIn}
-use Rattle.np_roles.proofs.Queues.{holder-queued, queued-node}
-use Rattle.np_roles.proofs.Currents.{one-current, current-has}
+use Rattle.np_useful.proofs.Places.{StandsIn}
+use Rattle.np_useful.proofs.Queues.{holder-queued, queued-node}
+use Rattle.np_useful.proofs.Currents.{one-current, current-has}
 use Rattle.np_worker.specs.Answers.{IsDue}
 use Rattle.np_board.specs.Due.{is_due}
 use Rattle.np_lists.proofs.Plain.{equal-itself, equal-numbers}
-use Rattle.np_laws.proofs.Pinned.{holder-waits}
+use Rattle.np_changes.proofs.Pinned.{holder-waits}
 use Rattle.std.proofs.lemmas.Bool.{and_parts, and_from}
 
 module _ (s : State) (p : PoolId) (session : SessionId) where

@@ -222,7 +222,7 @@ module _ (m n : Planning) (planning : IsPlanning m) (later : IsLater m.tree n.tr
   planning-same same plans commits =
       planning-later m n [] planning (ap (λ (r : Ran). r.configuration) same) (ap (λ (r : Ran). r.journal) same ∙ sym (append-nil m.journal)) later plans commits
 
-  -- a turn of any board
+  -- a turn without a plan
   pub planning-taken : (a : Ask) (r : Result Turn NoMemory) → IfOk r (λ t. IsTaken (ran_of m) a t (ran_of n)) → OnErr r (ran_of n ≡ ran_of m) → n.plans ≡ m.plans → n.commits ≡ m.commits → IsPlanning n
   planning-taken a (Ok t) taken same plans commits = planning-later m n (entries_of (recorded a t)) planning taken.configuration taken.journal later plans commits
   planning-taken a (Err e) taken same plans commits = planning-same same plans commits

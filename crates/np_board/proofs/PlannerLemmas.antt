@@ -1,4 +1,4 @@
--- turns at the desk of a board at which launchers plan, as those of any board
+-- turns at the desk of a board, as those of parties that plan nothing
 use Rattle.std.proofs.Common.{◌≡◌, ◌∙◌, inl, inr, ℕ, List, [], ◌∷◌, ◌++◌, length, Option, Some, None, Result, Ok, Err, ap}
 use Rattle.np_changes.specs.Prelude.{Configuration, Entry, Event, NoMemory, Role}
 use Rattle.np_text.specs.declared.id.Role.TheVariants as role
@@ -22,7 +22,7 @@ module _ {F E A T : Type 0} (says : F → List E → A → T → Type 0) (record
   pub answered-on : (v u w : Sight E) (a : A) (t : T) → Unturned v u → Answered says records f u a t w → Answered says records f v a t w
   answered-on v u w a t saw h = (h.0, starts_on h.0 u.seen v.seen h.1 saw.0, h.2, records-on (records a t) h.0 v u w saw.1 h.3)
 
--- ## answers of any board
+-- ## answers without a plan
 
 -- a role may have recorded more
 pub also : (c : Configuration) (journal : List Entry) (more : Also) (a : Ask) (t : Turn) → answers c journal a t → answers_also more c journal a t

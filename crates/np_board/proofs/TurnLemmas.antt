@@ -1,10 +1,10 @@
 -- what a turn leaves
-use Rattle.std.proofs.Common.{◌≡◌, ◌∙◌, ◌<◌, length, arith, ◌∷◌, [], ℕ, true, false, List, ◌++◌, Option, Some, None, Result, Ok, Err, IfOk, OnErr, refl, sym, ap, subst, append-nil}
+use Rattle.std.proofs.Common.{◌≡◌, ◌∙◌, ◌<◌, length, arith, ◌∷◌, [], ℕ, true, false, List, ◌++◌, Option, None, refl, sym, ap, subst, append-nil}
 use Rattle.std.proofs.lemmas.Bool.Decides.{nat_tests}
-use Rattle.np_changes.specs.Prelude.{Configuration, Entry, Event, Janitor, NoMemory, NodeId, PoolId, Reply, Role, Runs, SessionId, State, after, is_swept, judge, reply_of}
+use Rattle.np_changes.specs.Prelude.{Configuration, Entry, Event, Janitor, NodeId, PoolId, Reply, Role, Runs, SessionId, State, after, is_swept, judge, reply_of}
 use Rattle.np_event.specs.declared.event.Event.TheVariants as ev
 use Rattle.np_rules.specs.Ran.{Ran, answer_of, applied, has_room}
-use Rattle.np_worker.specs.Prelude.{IsUseful, entries_of, is_legal, recorded}
+use Rattle.np_worker.specs.Prelude.{IsUseful, entries_of, recorded}
 use Rattle.np_useful.specs.Sessions.{is_current}
 use Rattle.np_worker.specs.declared.ask.Ask.{Ask}
 use Rattle.np_worker.specs.declared.ask.Ask.TheVariants as asks
@@ -12,8 +12,6 @@ use Rattle.np_worker.specs.declared.ask.Turn.{Turn}
 use Rattle.np_worker.specs.declared.ask.Turn.TheVariants as turn
 use Rattle.np_worker.specs.Answers.{IsKept, IsNotKept, answers, answers_act, answers_do, answers_due, answers_sweep}
 use Rattle.np_board.specs.Taken.{IsTaken}
-use Rattle.np_worker.proofs.LegalLemmas.{legal-next}
-use Rattle.np_worker.proofs.Recorded.{turn-replied}
 
 -- ## a turn that records nothing
 
@@ -111,18 +109,3 @@ unrecorded c journal p turn.Full answer = refl
 
 pub due-taken : (m : Ran) (p : PoolId) (t : Turn) → answers_due m.configuration m.journal p t → IsTaken m (asks.Due p) t m
 due-taken m p t answer = none-taken m (asks.Due p) t (unrecorded m.configuration m.journal p t answer) answer
-
--- ## the journal of a turn
-
-legal-by : (c : Configuration) (journal : List Entry) (ask : Ask) (t : Turn) (o : Option Entry) → recorded ask t ≡ o → is_legal c journal ≡ true → answers c journal ask t → is_legal c (journal ++ entries_of o) ≡ true
-legal-by c journal ask t None none legal answer = subst (λ (j : List Entry). is_legal c j ≡ true) (sym (append-nil journal)) legal
-legal-by c journal ask t (Some e) is legal answer = legal-next c journal e legal (turn-replied c journal ask t e answer is)
-
-taken-legal : (old new : Ran) (ask : Ask) (t : Turn) → is_legal old.configuration old.journal ≡ true → IsTaken old ask t new → is_legal old.configuration new.journal ≡ true
-taken-legal old new ask t legal taken =
-    subst (λ (j : List Entry). is_legal old.configuration j ≡ true) (sym taken.journal)
-    (legal-by old.configuration old.journal ask t (recorded ask t) refl legal taken.answer)
-
-pub turn-legal : (old new : Ran) (ask : Ask) (r : Result Turn NoMemory) → is_legal old.configuration old.journal ≡ true → IfOk r (λ t. IsTaken old ask t new) → OnErr r (new ≡ old) → is_legal old.configuration new.journal ≡ true
-turn-legal old new ask (Ok t) legal taken same = taken-legal old new ask t legal taken
-turn-legal old new ask (Err e) legal taken same = subst (λ (m : Ran). is_legal old.configuration m.journal ≡ true) (sym same) legal

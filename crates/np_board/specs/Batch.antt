@@ -10,10 +10,10 @@ use Rattle.np_board.specs.declared.batch.Batch.{Batch}
 use Rattle.np_board.specs.declared.batch.Stage.{Stage}
 use Rattle.np_board.specs.declared.batch.Stage.TheVariants as stage
 use Rattle.np_board.specs.declared.once.Once.{Once}
-use Rattle.np_board.specs.declared.planned.plan.PlanAsk.{PlanAsk}
-use Rattle.np_board.specs.declared.planned.plan.PlanAsk.TheVariants as ask
-use Rattle.np_board.specs.declared.planned.plan.PlanTurn.{PlanTurn}
-use Rattle.np_board.specs.declared.planned.plan.PlanTurn.TheVariants as turn
+use Rattle.np_board.specs.declared.board.plan.PlanAsk.{PlanAsk}
+use Rattle.np_board.specs.declared.board.plan.PlanAsk.TheVariants as ask
+use Rattle.np_board.specs.declared.board.plan.PlanTurn.{PlanTurn}
+use Rattle.np_board.specs.declared.board.plan.PlanTurn.TheVariants as turn
 
 -- what the pool's launcher asks for its next turn, unless its plan is for the next ticket
 abbrev pub launcher_ask : Stage → PoolId → Option PlanAsk
@@ -24,7 +24,7 @@ launcher_ask stage.Asking p = Some (ask.Plain (asks.Act (role.Launcher p)))
 launcher_ask (stage.PlanningNext q) p = None
 launcher_ask stage.Planned p = None
 
--- the same for any turn: others ask what is asked of any board
+-- the same for any turn: others ask without a plan
 abbrev pub turn_ask : Stage → Ask → Option PlanAsk
 turn_ask s (asks.Act (role.Launcher p)) = launcher_ask s p
 turn_ask s (asks.Act (role.Janitor p)) = Some (ask.Plain (asks.Act (role.Janitor p)))
@@ -53,7 +53,7 @@ after (stage.PlanningNext p) _ = stage.Planned
 after stage.Asking t = stage.Planned
 after stage.Planned t = stage.Planned
 
--- the stage after a turn that any board answers
+-- the stage after a turn without a plan
 abbrev pub after_plain : Stage → Stage
 after_plain stage.Asking = stage.Planning
 after_plain s = s

@@ -8,7 +8,7 @@ use Rattle.np_worker.specs.Prelude.{IsUseful, is_planned}
 use Rattle.np_planned.specs.Spots.{paths_at, spots_of}
 use Rattle.np_rules.specs.Ran.{Ran}
 use Rattle.np_rules.specs.Running.{Running}
-use Rattle.np_board.specs.declared.planned.plan.Plan.{Plan}
+use Rattle.np_board.specs.declared.board.plan.Plan.{Plan}
 
 -- a plan, the paths of its spots, and the watches on them that are left
 pub record Outstanding : Type 0 where
@@ -95,7 +95,7 @@ pub record IsOutstanding (c : Configuration) (journal : List Entry) (now : TreeS
   pub paths : x.paths ≡ paths_at x.plan.spots
   pub watches : AreOfSpots x
 
--- what is true of each board at which launchers plan: its plans are outstanding, each pool has room for one, and each commit
+-- what is true of each board: its plans are outstanding, each pool has room for one, and each commit
 -- recorded an entry (own)
 pub record IsPlanning (m : Planning) : Type 0 where
   pub plans : (p : ℕ) (x : Outstanding) → slice_get m.plans p ≡ Some (Some x) → IsOutstanding m.configuration m.journal m.tree p x

@@ -1,12 +1,12 @@
--- which answers an ask may have at a board at which launchers plan, after a journal
+-- which answers an ask may have at a board, after a journal
 use Rattle.std.specs.Prelude.{List, Option, Some, None}
 use Rattle.np_changes.specs.Prelude.{Configuration, Entry, Launcher, PoolId}
 use Rattle.np_worker.specs.Prelude.{IsFull, IsReplied, WasUseful, answers, recorded}
 use Rattle.np_worker.specs.declared.ask.Ask.{Ask}
-use Rattle.np_board.specs.declared.planned.plan.PlanAsk.{PlanAsk}
-use Rattle.np_board.specs.declared.planned.plan.PlanAsk.TheVariants as ask
-use Rattle.np_board.specs.declared.planned.plan.PlanTurn.{PlanTurn}
-use Rattle.np_board.specs.declared.planned.plan.PlanTurn.TheVariants as turn
+use Rattle.np_board.specs.declared.board.plan.PlanAsk.{PlanAsk}
+use Rattle.np_board.specs.declared.board.plan.PlanAsk.TheVariants as ask
+use Rattle.np_board.specs.declared.board.plan.PlanTurn.{PlanTurn}
+use Rattle.np_board.specs.declared.board.plan.PlanTurn.TheVariants as turn
 
 abbrev pub answers_plain : Configuration → List Entry → Ask → PlanTurn → Type 0
 answers_plain c journal plain (turn.Plain t) = answers c journal plain t

@@ -1,4 +1,4 @@
--- what a turn at a board leaves at which launchers plan
+-- what a turn at a board leaves
 use Rattle.std.specs.Prelude.{◌≡◌, ◌<◌, ◌+◌, ℕ, true, ◌++◌, ◌∷◌, [], length, Some, None, find, slice_get}
 use Rattle.np_changes.specs.Prelude.{Done, Entry, Event, Launcher, PoolId, remove_first}
 use Rattle.np_tree.specs.Dates.{IsLater}
@@ -13,11 +13,11 @@ use Rattle.np_worker.specs.declared.ask.Ask.{Ask}
 use Rattle.np_worker.specs.declared.ask.Turn.{Turn}
 use Rattle.np_board.specs.Outstanding.{IsNewPlan, Outstanding, Planning, plan_of, ran_of, with_plan}
 use Rattle.np_board.specs.Taken.{IsTaken}
-use Rattle.np_board.specs.declared.planned.plan.Plan.{Plan}
-use Rattle.np_board.specs.declared.planned.plan.PlanAsk.{PlanAsk}
-use Rattle.np_board.specs.declared.planned.plan.PlanAsk.TheVariants as ask
-use Rattle.np_board.specs.declared.planned.plan.PlanTurn.{PlanTurn}
-use Rattle.np_board.specs.declared.planned.plan.PlanTurn.TheVariants as turn
+use Rattle.np_board.specs.declared.board.plan.Plan.{Plan}
+use Rattle.np_board.specs.declared.board.plan.PlanAsk.{PlanAsk}
+use Rattle.np_board.specs.declared.board.plan.PlanAsk.TheVariants as ask
+use Rattle.np_board.specs.declared.board.plan.PlanTurn.{PlanTurn}
+use Rattle.np_board.specs.declared.board.plan.PlanTurn.TheVariants as turn
 
 -- ## memory ran out
 
@@ -30,7 +30,7 @@ pub record IsAsBefore (old new : Planning) : Type 0 where
 
 -- ## Plain
 
--- a turn of any board; no plan changes
+-- a turn without a plan; no plan changes
 pub record IsPlain (old : Planning) (plain : Ask) (t : Turn) (new : Planning) : Type 0 where
   pub taken : IsTaken (ran_of old) plain t (ran_of new)
   pub plans : new.plans ≡ old.plans

@@ -1,18 +1,18 @@
 -- what is tested of an outstanding plan
 use Rattle.std.specs.Prelude.{◌≡◌, ◌<◌, ℕ, Option, Some, None, length, find, option_and_then, slice_get}
 use Rattle.np_changes.specs.Prelude.{Event, PoolId}
-use Rattle.np_nodes.specs.TreeState.{TreeState}
+use Rattle.np_tree_nodes.specs.TreeState.{TreeState}
 use Rattle.np_watch.specs.Fresh.{AreFreshPaths}
 use Rattle.np_watch.specs.Watching.{is_fired}
 use Rattle.np_planned.specs.Stale.{IsFirstStale}
 use Rattle.np_planned.specs.declared.spot.Spot.{Spot}
 use Rattle.np_board.specs.Outstanding.{Outstanding, Planning, plan_of}
 use Rattle.np_board.specs.PlanTaken.{IsBarred}
-use Rattle.np_board.specs.declared.planned.board.Test.{Test}
-use Rattle.np_board.specs.declared.planned.board.Test.TheVariants as test
-use Rattle.np_board.specs.declared.planned.commit.StaleSpot.{StaleSpot}
-use Rattle.np_board.specs.declared.planned.plan.PlanTurn.{PlanTurn}
-use Rattle.np_board.specs.declared.planned.plan.PlanTurn.TheVariants as turn
+use Rattle.np_board.specs.declared.board.Test.{Test}
+use Rattle.np_board.specs.declared.board.Test.TheVariants as test
+use Rattle.np_board.specs.declared.board.commit.StaleSpot.{StaleSpot}
+use Rattle.np_board.specs.declared.board.plan.PlanTurn.{PlanTurn}
+use Rattle.np_board.specs.declared.board.plan.PlanTurn.TheVariants as turn
 
 -- the first spot that isn't fresh, with its last change, which is later
 pub record IsStaleSpot (t : TreeState) (x : Outstanding) (stale : StaleSpot) : Type 0 where

@@ -1,4 +1,4 @@
--- what a turn at a board leaves
+-- what a turn without a plan leaves
 use Rattle.std.specs.Prelude.{◌≡◌, ◌++◌}
 use Rattle.np_worker.specs.Prelude.{answers, entries_of, recorded}
 use Rattle.np_rules.specs.Ran.{Ran}

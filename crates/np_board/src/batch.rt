@@ -1,9 +1,9 @@
-//! What a worker asks with one ticket at the desk of a board at which launchers plan.
+//! What a worker asks with one ticket at the desk of a board.
 
 ghost use Rattle.std.specs.Prelude.{◌≡◌};
 ghost use Rattle.np_board.specs.Batch.{HearsWithTicket, after, after_commit, after_plain, asks_with_ticket, launcher_ask, turn_ask};
 
-use crate::planned::{PlanAsk, PlanTurn};
+use crate::board::{PlanAsk, PlanTurn};
 use np_desk::Series;
 use np_text::{PoolId, Role};
 use np_worker::{Ask, Turn};
@@ -19,8 +19,7 @@ pub(crate) enum Stage {
     Planning,
     /// The plan of this pool was committed, and it plans its next event.
     PlanningNext(PoolId),
-    /// It has no event that can be planned, or the journal is full, and asks what is asked of any
-    /// board.
+    /// It has no event that can be planned, or the journal is full, and asks without a plan.
     Asking,
     /// It has a plan for its next ticket.
     Planned,
@@ -80,7 +79,7 @@ fn after_commit(asked: Option<Ask>) -> Stage
     }
 }
 
-/// The stage after a turn that any board answers.
+/// The stage after a turn without a plan.
 fn after_plain(stage: Stage) -> Stage
     ensures { result ≡ after_plain stage }
 {

@@ -1,4 +1,4 @@
-//! Turns at the desk of a board at which launchers plan.
+//! Turns at the desk of a board, of launchers that plan and of others.
 
 ghost use Rattle.std.specs.Prelude.{◌≡◌, IfOk, Some};
 ghost use Rattle.np_worker.specs.Prelude.{IsOf, Turned, WasUseful, answers_also, recorded, sight_of};
@@ -6,8 +6,8 @@ ghost use Rattle.np_desk.specs.Series.{Took};
 ghost use Rattle.np_board.specs.Planner.{HasEnded, TookWithTicket, TookWithTickets, launchers_before};
 
 use crate::batch::{Batch, Stage};
+use crate::board::Board;
 use crate::once::Once;
-use crate::planned::PlannedBoard;
 use np_config::Config;
 use np_desk::{Desk, Pass, Series, Turns};
 use np_event::Entry;
@@ -15,18 +15,18 @@ use np_text::NoMemory;
 use np_worker::{Ask, Turn};
 use std::sync::Wait;
 
-/// A pass beside the desk of a board at which launchers plan. A turn may wait for the turns of others.
+/// A pass beside the desk of a board. A turn may wait for the turns of others.
 /// Whoever asks need not know of plans: the turn of a launcher is several at the desk.
 #[derive(Drop)]
 pub struct Planner<'a, R: Wait> {
     pub rt: &'a R,
-    pub desk: &'a Desk<PlannedBoard>,
-    pub pass: Pass<PlannedBoard>,
+    pub desk: &'a Desk<Board>,
+    pub pass: Pass<Board>,
 }
 
 impl<'a, R: Wait> Planner<'a, R> {
     /// Takes the turns of the series that come with one ticket. After four tickets in which nothing
-    /// was committed the launcher asks what is asked of any board.
+    /// was committed the launcher asks without a plan.
     fn ticket<S: Series<Ask = Ask, Turn = Turn>>(
         &mut self,
         series: &mut S,

@@ -6,8 +6,7 @@ ghost use Rattle.np_keeper.specs.Keeper.{IsHeld};
 ghost use Rattle.np_rules.specs.RunsOn.{RunsOn};
 
 use np_config::Config;
-use np_keeper::TreeStore;
-use np_restore::tables_of_tree;
+use np_keeper::{TreeStore, tables_of_tree};
 use np_rules::Machine;
 use np_tree::Tree;
 use std::alloc::Global;
@@ -48,7 +47,7 @@ pub fn machine_of_tree(
     }) }
     ensures err { IfErr result (λ not_read. not_read.tree ≡ tree) }
 {
-    config.soundness();
+    config.know_soundness();
     let Ok(tables) = tables_of_tree(alloc, config, &tree) else {
         return Err(NotRead { tree });
     };

@@ -12,16 +12,16 @@ use crate::due::{due_node, is_wanted, node, was_swept};
 use np_event::{Entry, Event};
 use np_jobs::{choose, is_settled};
 use np_keeper::TreeStore;
-use np_roles::current_session;
 use np_rules::Machine;
 use np_text::{JOURNAL_ENTRIES, NoMemory, NodeId, PoolId, Role};
+use np_useful::current_session;
 use np_worker::{Ask, Turn};
 
 /// Whether no role has a useful event.
 pub(crate) fn has_settled(machine: &Machine<TreeStore>) -> bool
     ensures { (result ≡ true) ↔ IsSettled machine.now.configuration machine.now.state }
 {
-    machine.soundness();
+    machine.know_soundness();
     is_settled(machine)
 }
 
@@ -34,7 +34,7 @@ fn record(machine: &mut Machine<TreeStore>, event: Event) -> Result<Turn, NoMemo
     ensures later { IsLater machine.old.store machine.new.store }
     ensures earlier { machine.new.earlier ≡ machine.old.earlier }
 {
-    machine.soundness();
+    machine.know_soundness();
     if machine.journal().len() >= JOURNAL_ENTRIES {
         return Ok(Turn::Full);
     }
@@ -43,7 +43,7 @@ fn record(machine: &mut Machine<TreeStore>, event: Event) -> Result<Turn, NoMemo
 }
 
 /// Records one useful event of the role, if it has one.
-pub(crate) fn act(machine: &mut Machine<TreeStore>, role: Role) -> Result<Turn, NoMemory>
+fn act(machine: &mut Machine<TreeStore>, role: Role) -> Result<Turn, NoMemory>
     requires { machine.old.earlier ≡ 0 }
     ensures turn { IfOk result
         (λ t. IsTaken (ran_of machine.old) (asks.Act role) t (ran_of machine.new)) }
@@ -51,7 +51,7 @@ pub(crate) fn act(machine: &mut Machine<TreeStore>, role: Role) -> Result<Turn, 
     ensures later { IsLater machine.old.store machine.new.store }
     ensures earlier { machine.new.earlier ≡ machine.old.earlier }
 {
-    machine.soundness();
+    machine.know_soundness();
     match choose(machine, role) {
         None => Ok(Turn::Idle),
         Some(event) => record(machine, event),
@@ -65,7 +65,7 @@ fn due(machine: &Machine<TreeStore>, pool: PoolId) -> Turn
     requires { machine.now.earlier ≡ 0 }
     ensures { answers_due machine.now.configuration machine.now.journal pool result }
 {
-    machine.soundness();
+    machine.know_soundness();
     let Some(session) = current_session(machine, Role::Janitor(pool)) else {
         return Turn::Idle;
     };
@@ -96,7 +96,7 @@ fn sweep(
     ensures later { IsLater machine.old.store machine.new.store }
     ensures earlier { machine.new.earlier ≡ machine.old.earlier }
 {
-    machine.soundness();
+    machine.know_soundness();
     let Some(session) = current_session(machine, Role::Janitor(pool)) else {
         return Ok(Turn::Idle);
     };

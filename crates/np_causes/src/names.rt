@@ -137,7 +137,7 @@ fn offer_at<R: Rows>(rows: &R, request: RequestId, at: u32) -> Option<Place>
     ensures { result ≡ slice_get (offers_for (R.site rows.now) request) at }
 {
     let config = rows.config();
-    config.soundness();
+    config.know_soundness();
     if at >= u32::from(u16::MAX) {
         return None;
     }

@@ -7,8 +7,8 @@ ghost use Rattle.np_causes.specs.declared.fact.Thing.TheVariants as thing;
 
 use crate::fact::{Fact, Thing};
 use np_look::{Look, Rows};
-use np_roles::is_stopped;
 use np_text::{Role, SessionId};
+use np_useful::is_stopped;
 
 /// Who is behind the session.
 pub(crate) fn fact_of_session<R: Rows>(rows: &R, session: SessionId) -> Fact

@@ -6,3 +6,6 @@ pub mod Planned
 pub mod Premises
 pub mod Fits
 pub mod Prelude
+pub mod Parts
+pub mod Steps
+pub mod Holders

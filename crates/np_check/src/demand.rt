@@ -17,7 +17,7 @@ pub(crate) fn count_pools(config: &Config) -> u16
     ensures count { result ≡ length config.now.pools }
     ensures few { result ≤ 64 }
 {
-    config.soundness();
+    config.know_soundness();
     config.pools().len() as u16
 }
 
@@ -53,7 +53,7 @@ fn never_fits(config: &Config, job: JobId, row: &Job, pool: PoolId) -> bool
     requires { slice_get config.now.jobs job.0 ≡ Some row.now }
     ensures { result ≡ never_fits config.now pool (request_of job row.now) }
 {
-    config.soundness();
+    config.know_soundness();
     is_too_much(config, pool, row.labels.items())
 }
 
@@ -62,7 +62,7 @@ fn tenant_never_fits(config: &Config, job: JobId, row: &Job, pool: PoolId) -> bo
     requires { slice_get config.now.jobs job.0 ≡ Some row.now }
     ensures { result ≡ tenant_never_fits config.now pool (request_of job row.now) }
 {
-    config.soundness();
+    config.know_soundness();
     match tenant_of_job(config, Some(job)) {
         None => false,
         Some(tenant) => {

@@ -39,7 +39,7 @@ fn add_labels(config: &Config, out: &mut Vec<Finding>) -> Result<(), NoMemory>
     ensures { OnOk result (out.new.items ≡ out.old.items
         ++ filter (is_true config.now) (places of_label (length config.now.labels))) }
 {
-    config.soundness();
+    config.know_soundness();
     for at in 0..config.labels().len() as u16 {
         add_label(config, at, out)?;
     }
@@ -93,7 +93,7 @@ fn add_semaphores(config: &Config, out: &mut Vec<Finding>) -> Result<(), NoMemor
     ensures { OnOk result (out.new.items ≡ out.old.items
         ++ filter (is_true config.now) (places of_semaphore (length config.now.semaphores))) }
 {
-    config.soundness();
+    config.know_soundness();
     for at in 0..config.semaphores().len() as u16 {
         add(config, Finding::SemaphoreUnnamed(SemId(at)), out)?;
     }
@@ -105,7 +105,7 @@ fn add_tenants(config: &Config, out: &mut Vec<Finding>) -> Result<(), NoMemory>
     ensures { OnOk result (out.new.items ≡ out.old.items
         ++ filter (is_true config.now) (places of_tenant (length config.now.tenants))) }
 {
-    config.soundness();
+    config.know_soundness();
     for at in 0..config.tenants().len() as u16 {
         add(config, Finding::TenantUnnamed(TenantId(at + 1)), out)?;
     }
@@ -127,7 +127,7 @@ fn add_jobs(config: &Config, out: &mut Vec<Finding>) -> Result<(), NoMemory>
     ensures { OnOk result (out.new.items ≡ out.old.items
         ++ filter (is_true config.now) (places of_job (length config.now.jobs))) }
 {
-    config.soundness();
+    config.know_soundness();
     for at in 0..config.jobs().len() as u32 {
         add_job(config, at, out)?;
     }

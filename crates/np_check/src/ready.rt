@@ -78,7 +78,7 @@ fn keeps_another(config: &Config, label: LabelId, pool: PoolId) -> bool
 fn keeps_ready(config: &Config, label: LabelId, pool: PoolId) -> bool
     ensures { result ≡ keeps_ready config.now label pool }
 {
-    config.soundness();
+    config.know_soundness();
     let all = many(amount(config, pool, label), min_ready(config, label));
     is_offered(config, pool, label)
         && !keeps_another(config, label, pool)

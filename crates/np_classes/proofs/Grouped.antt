@@ -6,10 +6,10 @@ use Rattle.std.specs.Option.{option_map}
 use Rattle.std.proofs.lemmas.Bool.Decides.{nat_tests}
 use Rattle.np_changes.specs.Prelude.{is_id_before, same_request}
 use Rattle.np_lists.proofs.Plain.{map-push, take-all}
-use Rattle.np_table.specs.declared.groups.Group.{Group}
-use Rattle.np_table.specs.declared.groups.Member.{Member}
-use Rattle.np_table.specs.Moves.{Placed, is_among, with_all_moved, with_groups, with_moved}
-use Rattle.np_table.proofs.MoveLemmas.{each-moved, rises-all_moved}
+use Rattle.np_lists.specs.declared.groups.Group.{Group}
+use Rattle.np_lists.specs.declared.groups.Member.{Member}
+use Rattle.np_lists.specs.Moves.{Placed, is_among, with_all_moved, with_groups, with_moved}
+use Rattle.np_lists.proofs.MoveLemmas.{each-moved, rises-all_moved}
 use Rattle.np_look.specs.Keys.{is_job_before, is_node_before, is_session_before, job_equal, job_one_way, job_some_way, job_transitive, node_equal, node_one_way, node_some_way, node_transitive, request_equal, request_one_way, request_some_way, request_transitive, same_job, same_node, same_session, session_equal, session_one_way, session_some_way, session_transitive}
 use Rattle.np_look.proofs.Walks.{take_there}
 use Rattle.np_classes.specs.Grouped.{AreGrouped, IsOrder, placed_all}

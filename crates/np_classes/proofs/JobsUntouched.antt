@@ -20,11 +20,11 @@ use Rattle.np_lists.proofs.ChangeLemmas.{kept-change_at, slice_get-change_at_oth
 use Rattle.np_lists.proofs.FilterLemmas.{list_any-insert_before}
 use Rattle.np_lists.proofs.Plain.{or_false, set-other}
 use Rattle.np_look.specs.Keys.{job_equal, request_equal, same_job}
-use Rattle.np_laws.specs.Parts.{Invariant, IsAsking, JobIn}
-use Rattle.np_laws.proofs.After.{made-look}
-use Rattle.np_laws.proofs.JobsLater.{jobs-grown}
-use Rattle.np_laws.proofs.Lookups.{request_in-below}
-use Rattle.np_laws.proofs.Runs.{invariant-Runs}
+use Rattle.np_changes.specs.Parts.{Invariant, IsAsking, JobIn}
+use Rattle.np_changes.proofs.After.{made-look}
+use Rattle.np_changes.proofs.JobsLater.{jobs-grown}
+use Rattle.np_changes.proofs.Lookups.{request_in-below}
+use Rattle.np_changes.proofs.Runs.{invariant-Runs}
 use Rattle.np_classes.specs.Touched.{asker_of, changed_job, changes_request, grows_request, job_of_request, releasing, taking, touches_job, touches_request}
 use Rattle.np_classes.proofs.Untouched.{request-untouched}
 

@@ -19,8 +19,8 @@ use Rattle.np_changes.specs.declared.changes.NodesChange.TheVariants as nodes
 use Rattle.np_changes.specs.declared.changes.SessionsChange.TheVariants as sessions
 use Rattle.np_changes.specs.Premises.{Premises, NodesPremise, RequestsPremise, EditPremise, GoesWithdrawn, EmptiesRequest, IsTaken, IsMade}
 use Rattle.np_changes.proofs.PremisesOf.{premises}
-use Rattle.np_laws.specs.Parts.{AllocationsListed, Invariant, IsAsking, JobIn, JobsStand}
-use Rattle.np_laws.proofs.Runs.{invariant-Runs}
+use Rattle.np_changes.specs.Parts.{AllocationsListed, Invariant, IsAsking, JobIn, JobsStand}
+use Rattle.np_changes.proofs.Runs.{invariant-Runs}
 use Rattle.np_classes.specs.Touched.{touched_jobs, touched_sessions, grows_node, changes_node, ends_at_node, unclaims_node, touches_node, grows_request, changes_request, touches_request, grows_request_queue, leaves_request_queue, ends_at_request, touches_request_queue}
 use Rattle.np_classes.specs.Listed.{IsTouched, TouchedOf, ended, grown_nodes, changed_nodes, unclaimed_nodes, touched_nodes, grown_requests, changed_requests, touched_requests, grown_queues, left_queues, touched_queues}
 use Rattle.np_lists.proofs.Plain.{or_false, or_true}

@@ -4,16 +4,16 @@ use Rattle.std.specs.Prelude.{map, is_none}
 use Rattle.np_changes.specs.Prelude.{Configuration, IsReached, NodeId, NodeRecord, RequestId, RequestRecord, Rises, SessionId, State, changed, holder, is_id_before, list_any, node_holder, node_in, option_map_or, request_holder, request_in, same_request}
 use Rattle.std.proofs.lemmas.Simd.{map-map}
 use Rattle.np_changes.specs.declared.changes.Changes.{Changes}
-use Rattle.np_laws.specs.Parts.{IsNumbered}
+use Rattle.np_changes.specs.Parts.{IsNumbered}
 use Rattle.np_look.specs.Readers.{is_unclaimed}
-use Rattle.np_table.specs.declared.groups.Group.{Group}
-use Rattle.np_table.specs.declared.groups.Member.{Member}
-use Rattle.np_table.specs.Groups.{has_member, is_member_before}
-use Rattle.np_table.specs.Moves.{Placed, is_among, shift, with_all_moved}
-use Rattle.np_table.proofs.MoveLemmas.{all-moved, rises-all_moved}
+use Rattle.np_lists.specs.declared.groups.Group.{Group}
+use Rattle.np_lists.specs.declared.groups.Member.{Member}
+use Rattle.np_lists.specs.Groups.{has_member, is_member_before}
+use Rattle.np_lists.specs.Moves.{Placed, is_among, shift, with_all_moved}
+use Rattle.np_lists.proofs.MoveLemmas.{all-moved, rises-all_moved}
 use Rattle.np_look.specs.Keys.{is_node_before, same_node, request_transitive, request_one_way, request_some_way, request_equal}
-use Rattle.np_laws.proofs.Numbered.{numbered}
-use Rattle.np_laws.proofs.Runs.{invariant-Runs}
+use Rattle.np_changes.proofs.Numbered.{numbered}
+use Rattle.np_changes.proofs.Runs.{invariant-Runs}
 use Rattle.np_classes.specs.Classes.{ClassesOf, AreClasses, AreNodeGroups, AreRequestGroups, node_groups, node_is_in, request_groups, request_is_in}
 use Rattle.np_classes.specs.Placed.{groups_of_node, groups_of_request, no_node_groups, no_request_groups, node_before, past_node, past_queue, past_request, queue_before, request_before, unheld_groups}
 use Rattle.np_classes.specs.Prepared.{IsPast, PastOf}

@@ -2,11 +2,11 @@
 use Rattle.std.proofs.Common.{◌≡◌, ◌∙◌, ℕ, false, List, length, Option, ap, sym}
 use Rattle.std.specs.Prelude.{is_none, map}
 use Rattle.np_changes.specs.Prelude.{Configuration, IsReached, NodeEntry, NodeId, RequestEntry, RequestId, State, is_id_before, list_any, node_holder, option_map, option_map_or, request_holder, same_request}
-use Rattle.np_laws.specs.Parts.{IsNumbered}
-use Rattle.np_laws.proofs.Runs.{invariant-Runs}
+use Rattle.np_changes.specs.Parts.{IsNumbered}
+use Rattle.np_changes.proofs.Runs.{invariant-Runs}
 use Rattle.np_look.specs.Readers.{is_unclaimed}
-use Rattle.np_table.specs.declared.groups.Group.{Group}
-use Rattle.np_table.specs.declared.groups.Member.{Member}
+use Rattle.np_lists.specs.declared.groups.Group.{Group}
+use Rattle.np_lists.specs.declared.groups.Member.{Member}
 use Rattle.np_look.specs.Keys.{is_node_before, same_node}
 use Rattle.np_classes.specs.Grouped.{AreGrouped}
 use Rattle.np_classes.proofs.Grouped.{made, made-all, nodes-in_order, none-found, requests-in_order}

@@ -13,8 +13,8 @@ use Rattle.np_lists.proofs.ChangeLemmas.{slice_get-change_at_other}
 use Rattle.np_look.specs.Keys.{same_session}
 use Rattle.np_changes.specs.declared.changes.Growth.TheVariants as grow
 use Rattle.np_changes.specs.declared.changes.SessionsChange.TheVariants as sessions
-use Rattle.np_laws.proofs.After.{made-look}
-use Rattle.np_laws.proofs.Sessions.{facts_in}
+use Rattle.np_changes.proofs.After.{made-look}
+use Rattle.np_changes.proofs.Sessions.{facts_in}
 use Rattle.np_classes.specs.Touched.{beginning, stopping, touches_session}
 
 -- a place other than the new one

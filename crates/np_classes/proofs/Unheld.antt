@@ -2,10 +2,10 @@
 use Rattle.std.proofs.Common.{◌≡◌, ◌∙◌, Bool, true, false, cond, List, [], ◌∷◌, Option, None, Some, refl, sym, ap, subst}
 use Rattle.std.specs.Prelude.{◌&&◌, ◌||◌, if◌then◌else◌, is_none, is_some, option_and_then, slice_get}
 use Rattle.np_changes.specs.Prelude.{PoolId, RequestRecord, is_failed, is_pending, is_requested, next_label, option_map, option_map_or}
-use Rattle.np_table.specs.declared.groups.Group.{Group}
-use Rattle.np_table.specs.Groups.{same_group}
-use Rattle.np_table.specs.Moves.{is_among, shift}
-use Rattle.np_table.proofs.MemberOrder.{group-equal}
+use Rattle.np_lists.specs.declared.groups.Group.{Group}
+use Rattle.np_lists.specs.Groups.{same_group}
+use Rattle.np_lists.specs.Moves.{is_among, shift}
+use Rattle.np_lists.proofs.MemberOrder.{group-equal}
 use Rattle.np_classes.specs.Classes.{is_still_requested, decline_set, pending_group, unheld_pending_group, coming_group, spent_group, declined_group, next_label_group, pinned_label_group, pending_group_of, unheld_pending_group_of, coming_group_of, spent_group_of, declined_group_of, next_label_group_of, pinned_label_group_of, request_groups}
 use Rattle.np_classes.specs.Placed.{no_request_groups}
 use Rattle.np_lists.proofs.Plain.{or_false}

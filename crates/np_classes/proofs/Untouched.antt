@@ -15,9 +15,9 @@ use Rattle.np_changes.specs.declared.changes.Growth.TheVariants as grow
 use Rattle.np_changes.specs.declared.changes.RequestsChange.TheVariants as requests
 use Rattle.np_changes.specs.declared.changes.NodesChange.TheVariants as nodes
 use Rattle.np_changes.specs.declared.changes.SessionsChange.TheVariants as sessions
-use Rattle.np_laws.specs.Parts.{AllocationsListed}
-use Rattle.np_laws.proofs.Lookups.{request_in-edit, request_in-insert, request_in-queue, request_in-remove, request_queue-edit, request_queue-insert, request_queue-left, request_queue-nowhere, request_queue-queue, request_queue-remove, used_from, node_in-put, node_in-allocated, node_in-queue, node_in-left, node_in-freed, node_in-in_use, node_in-other, node_in-remove, node_queue-put, node_queue-freed, node_queue-in_use, node_queue-allocated, node_queue-queue, node_queue-nowhere, node_queue-left, node_queue-other, node_queue-remove}
-use Rattle.np_laws.proofs.After.{found-grown, grown-request, calm-request, left-request}
+use Rattle.np_changes.specs.Parts.{AllocationsListed}
+use Rattle.np_changes.proofs.Lookups.{request_in-edit, request_in-insert, request_in-queue, request_in-remove, request_queue-edit, request_queue-insert, request_queue-left, request_queue-nowhere, request_queue-queue, request_queue-remove, used_from, node_in-put, node_in-allocated, node_in-queue, node_in-left, node_in-freed, node_in-in_use, node_in-other, node_in-remove, node_queue-put, node_queue-freed, node_queue-in_use, node_queue-allocated, node_queue-queue, node_queue-nowhere, node_queue-left, node_queue-other, node_queue-remove}
+use Rattle.np_changes.proofs.After.{found-grown, grown-request, calm-request, left-request}
 use Rattle.np_classes.specs.Touched.{grows_node, changes_node, ends_at_node, unclaims_node, touches_node, grows_request, changes_request, touches_request, grows_request_queue, leaves_request_queue, ends_at_request, touches_request_queue}
 use Rattle.std.proofs.lemmas.Bool.{or_parts}
 use Rattle.np_lists.proofs.Plain.{contrapositive}

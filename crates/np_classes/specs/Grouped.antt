@@ -1,10 +1,10 @@
 -- ids in groups, by the groups of each id
 use Rattle.std.specs.Prelude.{◌≡◌, Bool, true, false, List, map, Option}
 use Rattle.np_lists.specs.Rising.{Rises}
-use Rattle.np_table.specs.declared.groups.Group.{Group}
-use Rattle.np_table.specs.declared.groups.Member.{Member}
-use Rattle.np_table.specs.Groups.{has_member, is_member_before}
-use Rattle.np_table.specs.Moves.{Placed, is_among}
+use Rattle.np_lists.specs.declared.groups.Group.{Group}
+use Rattle.np_lists.specs.declared.groups.Member.{Member}
+use Rattle.np_lists.specs.Groups.{has_member, is_member_before}
+use Rattle.np_lists.specs.Moves.{Placed, is_among}
 
 -- ids are in an order, and equal if they are the same
 pub record IsOrder {K : Type 0} (before same : K → K → Bool) : Type 0 where

@@ -2,8 +2,8 @@
 use Rattle.std.specs.Prelude.{Bool, List, [], ◌∷◌, Option, None, is_none, option_and_then}
 use Rattle.np_changes.specs.Prelude.{Configuration, NodeId, RequestId, State, node_holder, node_in, option_map_or, request_holder, request_in}
 use Rattle.np_look.specs.Readers.{is_unclaimed}
-use Rattle.np_table.specs.declared.groups.Group.{Group}
-use Rattle.np_table.specs.Moves.{Placed}
+use Rattle.np_lists.specs.declared.groups.Group.{Group}
+use Rattle.np_lists.specs.Moves.{Placed}
 use Rattle.np_classes.specs.declared.past.PastNode.{PastNode}
 use Rattle.np_classes.specs.declared.past.PastQueue.{PastQueue}
 use Rattle.np_classes.specs.declared.past.PastRequest.{PastRequest}

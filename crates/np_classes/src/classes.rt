@@ -3,7 +3,7 @@
 ghost use Rattle.std.specs.Prelude.{◌≡◌, IfOk, length, slice_get};
 ghost use Rattle.np_changes.specs.declared.changes.Changes.{Changes};
 ghost use Rattle.np_changes.specs.Prelude.{Configuration, IsReached, State, changed};
-ghost use Rattle.np_table.specs.Groups.{group_after, group_from, ids_in};
+ghost use Rattle.np_lists.specs.Groups.{group_after, group_from, ids_in};
 ghost use Rattle.np_classes.specs.Classes.{AreClasses};
 ghost use Rattle.np_classes.specs.Prepared.{HasRoom, IsPast};
 ghost use Rattle.np_classes.specs.Listed.{IsTouched, TouchedOf};
@@ -11,8 +11,8 @@ ghost use Rattle.np_classes.specs.Listed.{IsTouched, TouchedOf};
 use crate::Touched;
 use crate::members::{all_nodes, all_requests, move_nodes, move_queues, move_requests};
 use crate::past::{Past, past_of};
+use np_lists::{Group, Groups};
 use np_look::{ByNode, ByRequest, Rows};
-use np_table::{Group, Groups};
 use np_text::{NodeId, RequestId};
 use std::alloc::{AllocError, Global};
 use std::marker::Model;

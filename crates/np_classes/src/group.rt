@@ -5,9 +5,9 @@ ghost use Rattle.np_changes.specs.Prelude.{is_declined_by, is_pending, option_ma
 ghost use Rattle.np_classes.specs.Classes.{coming_group, coming_group_of, decline_set, declined_group, declined_group_of, free_group, group_if, kind_group, next_label_group, next_label_group_of, node_groups, pending_group, pending_group_of, pinned_label_group, pinned_label_group_of, request_groups, spare_group, spent_group, spent_group_of, tenant_group, unheld_class, unheld_group, unheld_group_of, unheld_pending_group};
 
 use np_config::Config;
+use np_lists::Group;
 use np_look::{UnheldKind, due_of, is_declined_by, unheld_kind};
 use np_record::{Declined, NodeRecord, RequestRecord};
-use np_table::Group;
 use np_text::{LabelId, NodeState, POOLS, PoolId, RequestState, TenantId};
 
 /// All nodes of the pool with the label.

@@ -4,14 +4,14 @@ ghost use Rattle.std.specs.Prelude.{◌≡◌, ◌≤◌, ◌+◌, ◌*◌, [], 
 ghost use Rattle.np_look.specs.Keys.{is_node_before, same_node};
 ghost use Rattle.np_changes.specs.Prelude.{IsReached, is_id_before, same_request};
 ghost use Rattle.np_classes.specs.Classes.{AreNodeGroups, AreRequestGroups};
-ghost use Rattle.np_table.specs.Moves.{with_all_moved, with_groups};
+ghost use Rattle.np_lists.specs.Moves.{with_all_moved, with_groups};
 ghost use Rattle.np_classes.specs.Placed.{groups_of_node, groups_of_request, node_before, queue_before, request_before, unheld_groups};
 
 use crate::past::{
     PastNode, PastQueue, PastRequest, groups_of_node, groups_of_request, unheld_group_of_request,
 };
+use np_lists::{Groups, move_id};
 use np_look::{ByNode, ByRequest, Rows};
-use np_table::{Groups, move_id};
 use np_text::{NodeId, RequestId};
 use std::alloc::{AllocError, Global};
 

@@ -7,8 +7,8 @@ ghost use Rattle.np_classes.specs.Prepared.{IsPast};
 
 use crate::Touched;
 use crate::group::{node_groups, request_groups, unheld_pending_group_of};
+use np_lists::Group;
 use np_look::{Rows, is_unclaimed, node_holder, request_holder};
-use np_table::Group;
 use np_text::{NodeId, RequestId};
 use std::alloc::{AllocError, Global};
 use std::marker::Model;

@@ -14,7 +14,7 @@ pub fn simulated_clouds(alloc: Global, config: &Config) -> Result<Vec<SimDriver>
     ensures count { IfOk result (λ v. length v.items ≡ length config.now.pools) }
     ensures clouds { IfOk result (λ v. v.items ≡ simulations config.now (length config.now.pools)) }
 {
-    config.soundness();
+    config.know_soundness();
     let mut clouds = Vec::new(alloc);
     while config.pool(PoolId(clouds.len() as u16)).is_some() {
         let pool = PoolId(clouds.len() as u16);

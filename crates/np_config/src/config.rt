@@ -82,7 +82,7 @@ impl Config {
     }
 
     /// Every configuration is sound. The call does nothing: a caller's proof takes the fact from it.
-    pub fn soundness(&self)
+    pub fn know_soundness(&self)
         ensures { IsSound self.now }
     {
         let _labels = &self.labels;

@@ -19,7 +19,7 @@ pub(crate) fn label_name(config: &Config, id: LabelId) -> &[u8]
     ensures name { result.now ≡ label_name config.now id }
     ensures ascii { IsAscii result.now }
 {
-    config.soundness();
+    config.know_soundness();
     match config.label(id) {
         Some(label) => label.name.items(),
         None => b"",
@@ -31,7 +31,7 @@ pub(crate) fn semaphore_name(config: &Config, id: SemId) -> &[u8]
     ensures name { result.now ≡ semaphore_name config.now id }
     ensures ascii { IsAscii result.now }
 {
-    config.soundness();
+    config.know_soundness();
     match config.semaphore(id) {
         Some(semaphore) => semaphore.name.items(),
         None => b"",
@@ -43,7 +43,7 @@ fn tenant_name(config: &Config, id: TenantId) -> &[u8]
     ensures name { result.now ≡ tenant_name config.now id }
     ensures ascii { IsAscii result.now }
 {
-    config.soundness();
+    config.know_soundness();
     match config.tenant(id) {
         Some(tenant) => tenant.name.items(),
         None => b"",
@@ -69,7 +69,7 @@ pub(crate) fn requester_name(config: &Config, id: RequesterId) -> &[u8]
     ensures name { result.now ≡ requester_name config.now id }
     ensures ascii { IsAscii result.now }
 {
-    config.soundness();
+    config.know_soundness();
     match config.requester(id) {
         Some(requester) => requester.name.items(),
         None => b"",
@@ -84,7 +84,7 @@ pub(crate) fn pool_name_value(
 ) -> Result<Value, AllocError>
     ensures { IfOk result (λ v. view v ≡ string (full_name config.now id)) }
 {
-    config.soundness();
+    config.know_soundness();
     match config.pool(id) {
         Some(pool) => {
             let name = full_name(alloc, config.providers(), pool)?;

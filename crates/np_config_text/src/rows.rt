@@ -187,7 +187,7 @@ impl Placed for Provider {
 
     fn value_at(&self, alloc: Global, config: &Config, place: u16) -> Result<Value, AllocError> {
         let name = text_value(alloc, self.name.items())?;
-        config.soundness();
+        config.know_soundness();
         let pools = owned_value(alloc, config, place, config.pools())?;
         let mut members = Map::new(alloc);
         let retries = Value::from(self.retries);
@@ -207,7 +207,7 @@ impl Placed for Requester {
 
     fn value_at(&self, alloc: Global, config: &Config, place: u16) -> Result<Value, AllocError> {
         let name = text_value(alloc, self.name.items())?;
-        config.soundness();
+        config.know_soundness();
         let jobs = owned_value(alloc, config, place, config.jobs())?;
         json!(in alloc; {"jobs": jobs, "name": name, "window": self.window})
     }

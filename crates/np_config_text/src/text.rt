@@ -14,7 +14,7 @@ use std::alloc::{AllocError, Global};
 fn config_value(alloc: Global, config: &Config) -> Result<Value, AllocError>
     ensures { IfOk result (λ v. view v ≡ configuration_data config.now) }
 {
-    config.soundness();
+    config.know_soundness();
     let faults = list_value(alloc, config, config.faults())?;
     let labels = list_value(alloc, config, config.labels())?;
     let providers = placed_value(alloc, config, config.providers())?;
@@ -44,6 +44,6 @@ pub fn config_text(alloc: Global, config: &Config) -> Result<Vec<u8>, NoMemory>
     ensures text { IfOk result (λ b. b.items ≡ canonical config.now) }
     ensures again { IfOk result (λ b. reads b.items ≡ Ok config.now) }
 {
-    config.soundness();
+    config.know_soundness();
     Ok(config_value(alloc, config)?.to_vec(alloc)?)
 }

@@ -1,7 +1,6 @@
 -- what is true of a state is true of one that is equal
 use Rattle.std.proofs.Common.{◌≡◌, sym, subst}
-use Rattle.np_changes.specs.Prelude.{Configuration, Fits, IsPlanned, IsReached, State}
-use Rattle.np_changes.specs.declared.changes.Changes.{Changes}
+use Rattle.np_changes.specs.Prelude.{Configuration, Fits, IsReached, State}
 
 moved : (P : Configuration → State → Type 0) (c d : Configuration) (s t : State) → c ≡ d → s ≡ t → P d t → P c s
 moved P c d s t same is here = subst (λ (x : Configuration). P x s) (sym same) (subst (λ (y : State). P d y) (sym is) here)
@@ -11,6 +10,3 @@ reached-same = moved IsReached
 
 pub fits-same : (c d : Configuration) (s t : State) → c ≡ d → s ≡ t → Fits d t → Fits c s
 fits-same = moved Fits
-
-pub planned-same : (changes : Changes) (c d : Configuration) (s t : State) → c ≡ d → s ≡ t → IsPlanned d t changes → IsPlanned c s changes
-planned-same changes = moved (λ x y. IsPlanned x y changes)

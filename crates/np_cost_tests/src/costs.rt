@@ -6,7 +6,7 @@ ghost use Rattle.np_index.specs.Index.{IsIndexOf};
 ghost use Rattle.np_index.specs.Prepared.{HasRoomFor};
 
 use crate::counted::{CountedLook, CountedRows};
-use crate::scenes::{REQUESTER, SCENES, Scene, choice_of, scene_with, soundness};
+use crate::scenes::{REQUESTER, SCENES, Scene, choice_of, know_soundness, scene_with};
 use np_changes::Changes;
 use np_decision::decide;
 use np_event::{Event, Outcome};
@@ -171,32 +171,32 @@ fn put_looks(costs: &mut [u32], call: usize, looks: &Cell<u32>) {
 }
 
 /// What these searches see is reached by a run, and its numbers leave room. The call does nothing.
-fn look_soundness<L: Look>(machine: &Plain, look: &L)
+fn know_look_soundness<L: Look>(machine: &Plain, look: &L)
     requires site { L.site look.now ≡ machine.now.configuration }
     requires state { L.state look.now ≡ machine.now.state }
     ensures reached { IsReached (L.site look.now) (L.state look.now) }
     ensures fits { Fits (L.site look.now) (L.state look.now) }
 {
     let _look = look;
-    soundness(machine);
+    know_soundness(machine);
 }
 
 /// The same of rows.
-fn rows_soundness<R: Rows>(machine: &Plain, rows: &R)
+fn know_rows_soundness<R: Rows>(machine: &Plain, rows: &R)
     requires site { R.site rows.now ≡ machine.now.configuration }
     requires state { R.state rows.now ≡ machine.now.state }
     ensures reached { IsReached (R.site rows.now) (R.state rows.now) }
     ensures fits { Fits (R.site rows.now) (R.state rows.now) }
 {
     let _rows = rows;
-    soundness(machine);
+    know_soundness(machine);
 }
 
 /// Notes the looks of the choice of each of these roles.
 fn put_choices(costs: &mut [u32], machine: &Plain, roles: &[Role]) {
     let looks = Cell::new(0);
     let look = CountedLook::over(machine, &looks);
-    look_soundness(machine, &look);
+    know_look_soundness(machine, &look);
     for at in 0..roles.len() {
         choose(&look, roles[at]);
         put_looks(costs, at, &looks);
@@ -242,7 +242,7 @@ fn names_of(machine: &Plain, session: u32, is_last: bool) -> Named {
 fn put_decisions(costs: &mut [u32], machine: &Plain, named: Named) {
     let looks = Cell::new(0);
     let look = CountedLook::over(machine, &looks);
-    look_soundness(machine, &look);
+    know_look_soundness(machine, &look);
     for kind in 0..KINDS {
         let _decided = decide(&look, event_of(kind, named));
         put_looks(costs, DECISIONS + kind as usize, &looks);
@@ -287,7 +287,7 @@ fn put_answers_of<R: Rows>(costs: &mut [u32], looks: &Cell<u32>, index: &Index, 
 fn put_answers(alloc: Global, costs: &mut [u32], machine: &Plain) -> Option<()> {
     let looks = Cell::new(0);
     let rows = CountedRows::over(machine.rows(), &looks);
-    rows_soundness(machine, &rows);
+    know_rows_soundness(machine, &rows);
     let Ok(index) = Index::rebuild(alloc, &rows) else {
         return None;
     };
@@ -301,7 +301,7 @@ fn changes_of(machine: &Plain, event: Event) -> Option<Changes>
     ensures { IfSome result (λ changes.
         IsPlanned machine.now.configuration machine.now.state changes) }
 {
-    soundness(machine);
+    know_soundness(machine);
     match decide(machine, event) {
         Ok(verdict) => Some(verdict.changes),
         Err(_) => None,
@@ -354,7 +354,7 @@ fn readied_for(
         HasRoomFor machine.now.configuration readied.prepared readied.index) }
 {
     let rows = CountedRows::over(machine.rows(), looks);
-    rows_soundness(machine, &rows);
+    know_rows_soundness(machine, &rows);
     prepare(alloc, looks, &rows, changes)
 }
 

@@ -195,16 +195,16 @@ fn config_with(alloc: Global, scene: &Scene, jobs: u32) -> Option<Config> {
 }
 
 /// A run leads to the machine's state, whose numbers leave room. The call does nothing.
-pub fn soundness(machine: &Plain)
+pub fn know_soundness(machine: &Plain)
     ensures reached { IsReached machine.now.configuration machine.now.state }
     ensures fits { Fits machine.now.configuration machine.now.state }
 {
-    machine.soundness();
+    machine.know_soundness();
 }
 
 /// The event that the role chooses.
 pub fn choice_of(machine: &Plain, role: Role) -> Option<Event> {
-    soundness(machine);
+    know_soundness(machine);
     choose(machine, role)
 }
 
@@ -235,7 +235,7 @@ fn queue_for_nodes(machine: &mut Plain) -> Option<()> {
 
 /// The first request that the launcher of the second pool may take up.
 fn first_open(machine: &Plain) -> Option<RequestId> {
-    soundness(machine);
+    know_soundness(machine);
     machine.first_of(PoolId(1))
 }
 

@@ -7,7 +7,7 @@ use Rattle.np_rules.specs.Ran.{Ran}
 use Rattle.np_rules.specs.Running.{Running, ran_of}
 use Rattle.np_rules.specs.RunsOn.{RunsOn, answer_after, applied_after, has_room_after}
 use Rattle.np_rules.proofs.First.{Runs-first}
-use Rattle.np_tally.specs.Tally.{Counted, counted}
+use Rattle.np_listing.specs.Tally.{Counted, counted}
 use Rattle.np_explain.specs.Run.{GoesOn, IsPlayed}
 
 -- the entry that an event adds

@@ -2,7 +2,7 @@
 use Rattle.std.proofs.Common.{◌≡◌, ◌<◌, ◌+◌, ℕ, List, length, take, get_or, sym, subst}
 use Rattle.std.proofs.lemmas.List.{take_more}
 use Rattle.np_changes.specs.Prelude.{AllByRecursion, Entry}
-use Rattle.np_event_lines.specs.Line.{HasEventLine}
+use Rattle.np_event.specs.Line.{HasEventLine}
 use Rattle.np_lists.proofs.Each.{all-push}
 
 pub all_next : (journal : List Entry) (i : ℕ) (e : Entry) → i < length journal → HasEventLine (get_or journal i e).event

@@ -4,7 +4,7 @@ use Rattle.np_changes.specs.Prelude.{Configuration, Entry, JobRecord, State, fla
 use Rattle.np_explain_lines.specs.Chains.{ExplainsAll, facts_of}
 use Rattle.np_explain_lines.specs.declared.chain.Link.{Link}
 use Rattle.np_explain_lines.specs.Line.{line_of}
-use Rattle.np_tally.specs.Summary.{summary_of}
+use Rattle.np_listing.specs.Summary.{summary_of}
 use Rattle.np_explain.specs.Failed.{failure_lines, is_failed}
 
 -- ## the lines of the facts

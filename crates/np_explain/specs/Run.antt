@@ -2,7 +2,7 @@
 use Rattle.std.specs.Prelude.{◌≡◌, ℕ, List, ◌++◌, length}
 use Rattle.np_changes.specs.Prelude.{Configuration, Entry}
 use Rattle.np_rules.specs.Running.{Running}
-use Rattle.np_tally.specs.Tally.{Counted, counted}
+use Rattle.np_listing.specs.Tally.{Counted, counted}
 
 -- the machine began before the first event, and this was counted of its journal
 pub record IsPlayed {S : Type 0} (m : Running S) (tally : Counted) : Type 0 where

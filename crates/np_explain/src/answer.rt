@@ -28,14 +28,15 @@ fn explain_run<P: Progress>(
     alloc: Global,
     bytes: &[u8],
     run: &mut Run,
+    events: &[Event],
     progress: &mut P,
 ) -> Result<Ending, NoMemory>
     requires played { IsPlayed run.old.machine run.old.tally }
     requires none { run.old.machine.journal ≡ [] }
+    requires room { length events.now ≤ 262144 }
     ensures { IfOk result (Answered (the.Text query.Explanation) bytes.now) }
 {
-    let events = events_of(alloc, bytes)?;
-    play(run, events.as_slice(), progress)?;
+    play(run, events, progress)?;
     match fault_of(alloc, bytes, &run.machine)? {
         Some(line) => Ok(Ending::Says { line, status: 3 }),
         None => {
@@ -88,7 +89,7 @@ fn tables_of(alloc: Global, machine: &Plain) -> Result<Vec<u8>, NoMemory>
     ensures { IfOk result (λ text.
         AreTables machine.now.configuration machine.now.journal text.items) }
 {
-    machine.soundness();
+    machine.know_soundness();
     let text = listing(alloc, machine.rows())?;
     Ok(text)
 }
@@ -121,17 +122,18 @@ fn list_run<P: Progress>(
     alloc: Global,
     bytes: &[u8],
     run: &mut Run,
+    events: &[Event],
     entries: u32,
     progress: &mut P,
 ) -> Result<Ending, NoMemory>
     requires played { IsPlayed run.old.machine run.old.tally }
     requires none { run.old.machine.journal ≡ [] }
+    requires room { length events.now ≤ 262144 }
     ensures { IfOk result (Answered (the.Text (query.State entries)) bytes.now) }
 {
-    let events = events_of(alloc, bytes)?;
-    match events.as_slice().split_at_checked(entries as usize) {
+    match events.split_at_checked(entries as usize) {
         Some((before, later)) => list_after(alloc, bytes, run, before, later, progress),
-        None => list_none(alloc, bytes, run, events.as_slice(), entries, progress),
+        None => list_none(alloc, bytes, run, events, entries, progress),
     }
 }
 
@@ -147,9 +149,12 @@ fn answer_run<P: Progress>(
     requires none { run.old.machine.journal ≡ [] }
     ensures { IfOk result (Answered (the.Text asked) bytes.now) }
 {
+    let events = events_of(alloc, bytes)?;
     match asked {
-        Query::Explanation => explain_run(alloc, bytes, run, progress),
-        Query::State { entries } => list_run(alloc, bytes, run, entries, progress),
+        Query::Explanation => explain_run(alloc, bytes, run, events.as_slice(), progress),
+        Query::State { entries } => {
+            list_run(alloc, bytes, run, events.as_slice(), entries, progress)
+        }
     }
 }
 

@@ -41,23 +41,40 @@ pub enum Words {
     Nothing,
 }
 
-fn application<'a>(alloc: Global) -> Result<clap::Command<'a>, AllocError> {
-    let first = Arg::new(alloc, "first")
+/// The first word.
+fn first_word<'a>(alloc: Global) -> Arg<'a> {
+    Arg::new(alloc, "first")
         .value_name("FILE | state N [FILE] | check [FILE]")
         .help(
             "a Text that poolsim printed, or - for the standard input; the word `state`, and after how many entries; or the word `check`, before a configuration",
-        );
-    let second = Arg::new(alloc, "second").hide(true);
-    let third = Arg::new(alloc, "third").hide(true);
+        )
+}
+
+/// A word after the first.
+fn later_word<'a>(alloc: Global, name: &'a str) -> Arg<'a> {
+    Arg::new(alloc, name).hide(true)
+}
+
+/// The program, before it has words.
+fn program<'a>(alloc: Global) -> clap::Command<'a> {
     clap::Command::new(alloc, "poolsim-explain")
         .version("0.1.0")
         .about(
             "Says why the jobs of a Text wait or failed, shows a state, or checks a configuration.",
         )
         .no_binary_name(true)
-        .arg(first)?
-        .arg(second)?
-        .arg(third)
+}
+
+fn application<'a>(alloc: Global) -> Result<clap::Command<'a>, AllocError> {
+    program(alloc)
+        .arg(first_word(alloc))?
+        .arg(later_word(alloc, "second"))?
+        .arg(later_word(alloc, "third"))
+}
+
+/// What `clap` finds in the words.
+fn found_in(alloc: Global, words: &[String]) -> Result<ArgMatches<'_>, Error> {
+    application(alloc)?.try_get_matches_from(words)
 }
 
 /// What the words are, if `clap` took them for no command.
@@ -123,7 +140,7 @@ fn words_given(alloc: Global, matches: &ArgMatches) -> Result<Words, NoMemory> {
 
 /// What the words after the program's name are. It fails only if memory runs out.
 pub fn words_of(alloc: Global, words: &[String]) -> Result<Words, NoMemory> {
-    match application(alloc)?.try_get_matches_from(words) {
+    match found_in(alloc, words) {
         Ok(matches) => words_given(alloc, &matches),
         Err(error) => refused(alloc, &error),
     }

@@ -2,8 +2,7 @@
 
 ghost use Rattle.std.specs.Prelude.{◌≤◌, length, IfOk};
 
-use np_event::Event;
-use np_event_lines::read_entry;
+use np_event::{Event, read_entry};
 use np_report::split_line;
 use np_text::{JOURNAL_ENTRIES, NoMemory};
 use std::alloc::Global;

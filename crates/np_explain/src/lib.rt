@@ -2,7 +2,7 @@
 //!
 //! A Text is played again (`run`) and compared (`text`), so that what is printed is of a run of the
 //! machine. Then the chains of np_explain_lines are printed, a line for each fact (`waits`), why the
-//! requests of other jobs failed (`fails`), and what the run took (np_tally); or the tables of the
+//! requests of other jobs failed (`fails`), and what the run took (np_listing); or the tables of the
 //! state after some entries (np_listing). A configuration alone is checked by np_check.
 //!
 //! `specs/Answers` says what is printed and which status belongs to it, and `specs/Explains` what

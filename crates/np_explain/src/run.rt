@@ -6,13 +6,12 @@ ghost use Rattle.np_explain.specs.Run.{GoesOn, IsPlayed};
 use crate::progress::Progress;
 use np_config::Config;
 use np_event::{Entry, Event};
+use np_listing::Tally;
 use np_rules::{Plain, new_plain};
-use np_tally::Tally;
 use np_text::NoMemory;
 use std::alloc::Global;
 
-/// A machine that has played events, and what they took.
-#[derive(Drop)]
+/// A machine that has played events, and what they took. `close` gives it up.
 pub(crate) struct Run {
     pub(crate) machine: Plain,
     pub(crate) tally: Tally,
@@ -20,7 +19,9 @@ pub(crate) struct Run {
 
 /// Gives up the run, with the memory that it has.
 pub(crate) fn close(run: Run) {
-    let _run = run;
+    let Run { machine, tally } = run;
+    let (_config, _store) = machine.into_parts();
+    let _tally = tally;
 }
 
 /// The run before the first event.
@@ -41,7 +42,7 @@ fn step(run: &mut Run, event: Event) -> Result<(), NoMemory>
     ensures goes_on { OnOk result (GoesOn run.old.machine run.new.machine 1) }
 {
     let reply = run.machine.apply(event)?;
-    run.machine.soundness();
+    run.machine.know_soundness();
     run.tally.note(&run.machine, &Entry { event, reply });
     Ok(())
 }

@@ -2,12 +2,11 @@
 
 ghost use Rattle.std.specs.Prelude.{◌≡◌, IfOk, MatchOption, true};
 ghost use Rattle.std.specs.List.{AllByRecursion};
-ghost use Rattle.np_event_lines.specs.Line.{HasEventLine};
+ghost use Rattle.np_event.specs.Line.{HasEventLine};
 ghost use Rattle.np_explain.specs.Text.{IsFaultOf, IsTextOf};
 
 use crate::fault::{fault_text, shown_fault, shown_lines};
-use np_event::Entry;
-use np_event_lines::event_has_line;
+use np_event::{Entry, event_has_line};
 use np_json::ConfigFault;
 use np_look::Look;
 use np_report::{Finding, audit, text};
@@ -71,7 +70,7 @@ fn text_of(alloc: Global, machine: &Plain) -> Result<Vec<u8>, NoMemory>
     ensures { IfOk result (λ text. IsTextOf machine.now.configuration machine.now.journal
         machine.now.state text.items) }
 {
-    machine.soundness();
+    machine.know_soundness();
     let journal = machine.journal();
     if have_lines(journal) {
         let made = text(alloc, machine.rows(), journal)?;

@@ -1,7 +1,7 @@
 //! The explanation of a run.
 
 ghost use Rattle.std.specs.Prelude.{◌≡◌, ◌++◌, IfOk, OnOk};
-ghost use Rattle.np_tally.specs.Summary.{summary_of};
+ghost use Rattle.np_listing.specs.Summary.{summary_of};
 ghost use Rattle.np_explain.specs.Explained.{AreChains, IsExplanation, part};
 ghost use Rattle.np_explain.specs.Run.{IsPlayed};
 
@@ -19,7 +19,7 @@ fn waits(alloc: Global, machine: &Plain) -> Result<Vec<u8>, NoMemory>
     ensures { IfOk result (λ lines. AreChains machine.now.configuration machine.now.state
         lines.items) }
 {
-    machine.soundness();
+    machine.know_soundness();
     let links = chains(alloc, machine)?;
     let mut out = Vec::new(alloc);
     put_links(&mut out, machine.rows().config(), links.as_slice())?;
@@ -43,9 +43,21 @@ fn summary_of(alloc: Global, run: &Run) -> Result<Vec<u8>, NoMemory>
     ensures { IfOk result (λ text. text.items
         ≡ summary_of run.now.machine.configuration run.now.machine.journal) }
 {
-    run.machine.soundness();
+    run.machine.know_soundness();
     let text = run.tally.summary(alloc, run.machine.rows())?;
     Ok(text)
+}
+
+/// The parts, joined.
+fn joined(alloc: Global, waits: &[u8], failed: &[u8], summary: &[u8]) -> Result<Vec<u8>, NoMemory>
+    ensures { IfOk result (λ text. text.items
+        ≡ part waits.now ++ part failed.now ++ summary.now) }
+{
+    let mut out = Vec::new(alloc);
+    put_part(&mut out, waits)?;
+    put_part(&mut out, failed)?;
+    put(&mut out, summary)?;
+    Ok(out)
 }
 
 /// Why the jobs of the run wait or failed, and what the run took.
@@ -58,9 +70,10 @@ pub(crate) fn explanation(alloc: Global, run: &Run) -> Result<Vec<u8>, NoMemory>
     let waits = waits(alloc, &run.machine)?;
     let failed = failures(alloc, rows)?;
     let summary = summary_of(alloc, run)?;
-    let mut out = Vec::new(alloc);
-    put_part(&mut out, waits.as_slice())?;
-    put_part(&mut out, failed.as_slice())?;
-    put(&mut out, summary.as_slice())?;
-    Ok(out)
+    joined(
+        alloc,
+        waits.as_slice(),
+        failed.as_slice(),
+        summary.as_slice(),
+    )
 }

@@ -1,10 +1,5 @@
 -- one draw more
-use Rattle.std.proofs.Common.{◌≡◌, ℕ, zero, suc, ◌+◌, ◌-◌, ◌%◌, ◌<◌, ◌≤◌, Bool, true, false, cond, List, [], ◌∷◌, ◌++◌, add-one, append-nil, append_assoc, refl, sym, ap, ◌∙◌, arith}
-use Rattle.std.specs.Prelude.{◌==◌}
-use Rattle.np_text.specs.declared.id.LabelId.{LabelId}
-use Rattle.np_config.specs.declared.row.Job.{Job}
-use Rattle.np_gen.specs.Draw.{next_state, draw, after_draws}
-use Rattle.np_gen.specs.Site.{label_at, drawn_labels, drill_job, after_job, jobs_from, drawn_jobs, jobs_of}
+use Rattle.np_gen.proofs.Prelude.{Bool, Job, LabelId, List, [], add-one, after_draws, after_job, ap, append-nil, append_assoc, arith, cond, draw, drawn_jobs, drawn_labels, drill_job, false, jobs_from, jobs_of, label_at, next_state, refl, suc, sym, true, zero, ℕ, ◌%◌, ◌++◌, ◌+◌, ◌-◌, ◌<◌, ◌==◌, ◌∙◌, ◌∷◌, ◌≡◌, ◌≤◌}
 
 after_draws-suc : (k s : ℕ) → after_draws (suc k) s ≡ next_state (after_draws k s)
 after_draws-suc zero s = refl

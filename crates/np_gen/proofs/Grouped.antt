@@ -1,13 +1,5 @@
 -- rows in four groups, one for each owner
-use Rattle.std.proofs.Common.{◌≡◌, ℕ, ◌+◌, ◌<◌, ◌≤◌, List, [], ◌∷◌, ◌++◌, length, subst, append-nil, arith, length-append}
-use Rattle.std.specs.Prelude.{All, filter, ◌==◌}
-use Rattle.std.proofs.lemmas.Bool.Decides.{nat_tests}
-use Rattle.std.proofs.lemmas.List.Elements.{All-append, All-weaker, All-nil}
-use Rattle.np_lists.proofs.EachAfterLemmas.{EachAfter-append}
-use Rattle.np_lists.proofs.KeptLemmas.{All-filter_number}
-use Rattle.np_lists.specs.EachAfter.{EachAfter}
-use Rattle.np_config.specs.Sound.{StandsByOwner}
-use Rattle.np_config.proofs.Owners.{after_earlier}
+use Rattle.np_gen.proofs.Prelude.{All, All-append, All-filter_number, All-nil, All-weaker, EachAfter, EachAfter-append, List, StandsByOwner, [], after_earlier, append-nil, arith, filter, length, length-append, nat_tests, subst, ℕ, ◌++◌, ◌+◌, ◌<◌, ◌==◌, ◌∷◌, ◌≡◌, ◌≤◌}
 
 module _ {T : Type 0} (owner : T → ℕ) where
   abbrev pub group : ℕ → List T → List T

@@ -1,18 +1,5 @@
 -- names of jobs: each is a name, and no two jobs have the same one
-use Rattle.std.proofs.Common.{◌≡◌, ℕ, ◌+◌, ◌<◌, ◌≤◌, true, false, List, [], ◌∷◌, length, refl, ap, ◌∙◌, arith}
-use Rattle.std.specs.Prelude.{nat_le, drop}
-use Rattle.std.specs.Char.{is_ascii_digit}
-use Rattle.std.specs.Fmt.{decimal}
-use Rattle.std.specs.List.{AllByRecursion, list_all, list_any}
-use Rattle.std.specs.Str.{all_ascii_digits, bytes_eq}
-use Rattle.std.proofs.lemmas.Bool.Decides.{nat_tests}
-use Rattle.std.proofs.lemmas.Fmt.{decimal_injective, digits_decimal, length-decimal-le}
-use Rattle.np_text.specs.Name.{is_name_byte, is_name_text}
-use Rattle.np_text.proofs.SpellingLemmas.{model}
-use Rattle.np_config.specs.declared.row.Job.{Job}
-use Rattle.np_gen.specs.Site.{job_name}
-use Rattle.np_lists.proofs.Plain.{bytes_eq-apart}
-use Rattle.std.proofs.lemmas.Bool.{and_parts}
+use Rattle.np_gen.proofs.Prelude.{AllByRecursion, Job, List, [], all_ascii_digits, and_parts, ap, arith, bytes_eq, bytes_eq-apart, decimal, decimal_injective, digits_decimal, drop, false, is_ascii_digit, is_name_byte, is_name_text, job_name, length, length-decimal-le, list_all, list_any, model, nat_le, nat_tests, refl, true, ℕ, ◌+◌, ◌<◌, ◌∙◌, ◌∷◌, ◌≡◌, ◌≤◌}
 
 digit_named : (b : ℕ) → is_ascii_digit b ≡ true → is_name_byte b ≡ true
 digit_named b digit = grind (arith, nat_tests)

@@ -1,11 +1,5 @@
 -- how many jobs of the site are large
-use Rattle.std.proofs.Common.{◌≡◌, ◌≢◌, ℕ, zero, suc, ◌+◌, ◌/◌, ◌%◌, ◌<◌, ◌≤◌, Bool, true, false, cond, List, [], ◌∷◌, length, replicate, refl, ap, ◌∙◌, arith, length-append}
-use Rattle.std.specs.Prelude.{All, filter, ◌==◌}
-use Rattle.std.proofs.lemmas.Bool.Decides.{nat_tests}
-use Rattle.std.proofs.lemmas.List.Elements.{All-nil, All-cons, All-head, All-tail, All-filter, filter-append}
-use Rattle.np_config.specs.declared.row.Job.{Job}
-use Rattle.np_gen.specs.Draw.{next_state}
-use Rattle.np_gen.specs.Site.{label_at, label_count, drawn_labels, job_labels, asks_for_nine, drill_job, after_job, jobs_from, drawn_jobs, drill_jobs, drill_site}
+use Rattle.np_gen.proofs.Prelude.{All, All-cons, All-filter, All-head, All-nil, All-tail, Bool, Job, List, [], after_job, ap, arith, asks_for_nine, cond, drawn_jobs, drawn_labels, drill_job, drill_jobs, drill_site, false, filter, filter-append, job_labels, jobs_from, label_at, label_count, length, length-append, nat_tests, next_state, refl, replicate, suc, true, zero, ℕ, ◌%◌, ◌+◌, ◌/◌, ◌<◌, ◌==◌, ◌∙◌, ◌∷◌, ◌≡◌, ◌≢◌, ◌≤◌}
 use Rattle.np_gen.proofs.Grouped.{group, groups}
 use Rattle.np_gen.proofs.SoundSite.{length-drawn}
 

@@ -1,28 +1,5 @@
 -- the drill site is a configuration that a text can have
-use Rattle.std.proofs.Common.{◌≡◌, ℕ, zero, suc, ◌+◌, ◌%◌, ◌<◌, ◌≤◌, inl, inr, Bool, true, false, cond, List, [], ◌∷◌, ◌++◌, length, replicate, refl, arith, lit≤, lit<}
-use Rattle.std.specs.Prelude.{All, filter, codes, ◌==◌}
-use Rattle.std.specs.List.{AllByRecursion, list_any}
-use Rattle.std.specs.Str.{bytes_eq}
-use Rattle.std.proofs.lemmas.List.Elements.{All-nil, All-cons, All-append, All-replicate}
-use Rattle.np_text.specs.declared.id.LabelId.{LabelId}
-use Rattle.np_text.specs.declared.id.SemId.{SemId}
-use Rattle.np_text.specs.Name.{is_name_text}
-use Rattle.np_lists.specs.EachAfter.{EachAfter}
-use Rattle.np_lists.proofs.Each.{all-push, all-weaker}
-use Rattle.np_config.specs.declared.row.Label.{Label}
-use Rattle.np_config.specs.declared.row.Provider.{Provider}
-use Rattle.np_config.specs.declared.row.Pool.{Pool}
-use Rattle.np_config.specs.declared.row.Offer.{Offer}
-use Rattle.np_config.specs.declared.row.Sem.{Sem}
-use Rattle.np_config.specs.declared.row.Requester.{Requester}
-use Rattle.np_config.specs.declared.row.Job.{Job}
-use Rattle.np_config.specs.declared.row.Tenant.{Tenant}
-use Rattle.np_config.specs.declared.row.Fault.{Fault}
-use Rattle.np_config.specs.Configuration.{configuration}
-use Rattle.np_config.specs.Sound.{IsSound, AreProviders, AreRequesters, StandsByOwner, IsLabel, IsProvider, IsOffer, is_unoffered, IsPool, IsSem, IsRequester, IsJob, IsWanted, IsTaken, IsPriority, IsFault}
-use Rattle.np_gen.specs.Draw.{next_state, draw, after_draws}
-use Rattle.np_gen.specs.Site.{drill_label, drill_labels, label_at, drill_provider, drill_providers, drill_offer, drill_pool, drill_pools, drill_semaphores, deploy, stage, drill_requester, drill_requesters}
-use Rattle.np_gen.specs.Site.{is_large, label_count, drawn_labels, job_labels, job_priority, job_semaphores, drill_job, after_job, jobs_from, drawn_jobs, jobs_of, drill_jobs, drill_site}
+use Rattle.np_gen.proofs.Prelude.{All, All-cons, All-nil, All-push, All-replicate, AllByRecursion, AreProviders, AreRequesters, Bool, EachAfter, Fault, IsFault, IsJob, IsLabel, IsOffer, IsPool, IsPriority, IsProvider, IsRequester, IsSem, IsSound, IsTaken, IsWanted, Job, Label, LabelId, List, Offer, Pool, Provider, Requester, Sem, SemId, StandsByOwner, Tenant, [], after_draws, after_job, all-push, all-weaker, arith, bytes_eq, codes, cond, configuration, deploy, draw, drawn_jobs, drawn_labels, drill_job, drill_jobs, drill_label, drill_labels, drill_offer, drill_pool, drill_pools, drill_provider, drill_providers, drill_requester, drill_requesters, drill_semaphores, drill_site, false, filter, inl, inr, is_large, is_name_text, is_unoffered, job_labels, job_priority, job_semaphores, jobs_from, jobs_of, label_at, label_count, length, list_any, lit<, lit≤, next_state, refl, replicate, rules, stage, suc, true, zero, ℕ, ◌%◌, ◌++◌, ◌+◌, ◌<◌, ◌==◌, ◌∷◌, ◌≡◌, ◌≤◌}
 use Rattle.np_gen.proofs.JobNames.{IsBefore, IsBefore-later, job_name_named, new_name}
 use Rattle.np_gen.proofs.Grouped.{groups_below, groups_stand, length-groups}
 
@@ -98,17 +75,15 @@ job_stands : (earlier : List Job) (i s : ℕ) → i < 4000 → AllByRecursion (I
 job_stands earlier i s small before =
     let asked : IsAsked (job_labels i s) = labels_asked i s in
     let taken : IsTakenOf (job_semaphores i s) = semaphores_taken i s in
-    let few_labels : length (job_labels i s) ≤ 32 = omega (arith, asked.few) in
-    let few_semaphores : length (job_semaphores i s) ≤ 8 = omega (arith, taken.few) in
     record {
       name = record { named = job_name_named i small; new = new_name i earlier small before };
       wanted = asked.wanted;
       some_label = asked.some;
-      few_labels = few_labels;
+      few_labels = omega (arith, asked.few);
       priority = priority_stands i s;
       relative = lit≤ tt;
       taken = taken.taken;
-      few_taken = few_semaphores;
+      few_taken = omega (arith, taken.few);
       tenant = lit≤ tt;
     }
 
@@ -141,16 +116,7 @@ label_stands earlier name named new = record { name = record { named = named; ne
 
 labels_stand : EachAfter IsLabel [] drill_labels
 unfolding is_name_text
-labels_stand =
-    let l0 : Label = drill_label (codes "l0") in
-    let l1 : Label = drill_label (codes "l1") in
-    let l2 : Label = drill_label (codes "l2") in (
-      label_stands [] (codes "l0") refl refl,
-      (
-        label_stands (l0 ∷ []) (codes "l1") refl refl,
-        (label_stands (l0 ∷ l1 ∷ []) (codes "l2") refl refl, (label_stands (l0 ∷ l1 ∷ l2 ∷ []) (codes "l3") refl refl, tt)),
-      ),
-    )
+labels_stand = (label_stands _ _ refl refl, (label_stands _ _ refl refl, (label_stands _ _ refl refl, (label_stands _ _ refl refl, tt))))
 
 provider_stands : (earlier : List Provider) (name : List ℕ) → is_name_text name ≡ true → list_any (λ (row : Provider). bytes_eq name row.name) earlier ≡ false → IsProvider earlier (drill_provider name)
 provider_stands earlier name named new = record {
@@ -162,7 +128,7 @@ provider_stands earlier name named new = record {
 
 providers_stand : EachAfter IsProvider [] drill_providers
 unfolding is_name_text
-providers_stand = (provider_stands [] (codes "c0") refl refl, (provider_stands (drill_provider (codes "c0") ∷ []) (codes "c1") refl refl, tt))
+providers_stand = (provider_stands _ _ refl refl, (provider_stands _ _ refl refl, tt))
 
 offer_stands : (earlier : List Offer) (k : ℕ) → k < 4 → is_unoffered earlier (label_at k) ≡ true → IsOffer 4 earlier (drill_offer k)
 offer_stands earlier k there new = record {
@@ -174,13 +140,7 @@ offer_stands earlier k there new = record {
 }
 
 offers_stand : EachAfter (IsOffer 4) [] (drill_offer 0 ∷ drill_offer 1 ∷ drill_offer 2 ∷ drill_offer 3 ∷ [])
-offers_stand = (
-  offer_stands [] 0 (lit< tt) refl,
-  (
-    offer_stands (drill_offer 0 ∷ []) 1 (lit< tt) refl,
-    (offer_stands (drill_offer 0 ∷ drill_offer 1 ∷ []) 2 (lit< tt) refl, (offer_stands (drill_offer 0 ∷ drill_offer 1 ∷ drill_offer 2 ∷ []) 3 (lit< tt) refl, tt)),
-  ),
-)
+offers_stand = (offer_stands _ 0 (lit< tt) refl, (offer_stands _ 1 (lit< tt) refl, (offer_stands _ 2 (lit< tt) refl, (offer_stands _ 3 (lit< tt) refl, tt))))
 
 pool_stands : (earlier : List Pool) (provider : ℕ) (name : List ℕ) → All (λ (y : Pool). y.provider ≤ provider) earlier → is_name_text name ≡ true
     → list_any (λ (row : Pool). bytes_eq name row.name) (filter (λ (y : Pool). y.provider == provider) earlier) ≡ false
@@ -200,30 +160,17 @@ pool_stands earlier provider name before named new = record {
 pools_stand : EachAfter (StandsByOwner (λ (p : Pool). p.provider) (IsPool 4)) [] drill_pools
 unfolding is_name_text
 pools_stand =
+    let P : ℕ → Pool → Type 0 = λ k y. y.provider ≤ k in
     let p0 : Pool = drill_pool 0 (codes "m0") in
     let p1 : Pool = drill_pool 0 (codes "m1") in
     let p2 : Pool = drill_pool 1 (codes "m0") in
-    let none : (k : ℕ) → All (λ (y : Pool). y.provider ≤ k) [] = λ k. All-nil (λ (y : Pool). y.provider ≤ k) in
-    let one : (k : ℕ) → 0 ≤ k → All (λ (y : Pool). y.provider ≤ k) (p0 ∷ []) = λ k h. All-cons (λ (y : Pool). y.provider ≤ k) p0 [] h (none k) in
-    let two : All (λ (y : Pool). y.provider ≤ 1) (p0 ∷ p1 ∷ []) =
-    All-cons (λ (y : Pool). y.provider ≤ 1) p0 (p1 ∷ []) (lit≤ tt) (All-cons (λ (y : Pool). y.provider ≤ 1) p1 [] (lit≤ tt) (none 1)) in
-    let three : All (λ (y : Pool). y.provider ≤ 1) (p0 ∷ p1 ∷ p2 ∷ []) =
-    All-append (λ (y : Pool). y.provider ≤ 1) (p0 ∷ p1 ∷ []) (p2 ∷ []) two (All-cons (λ (y : Pool). y.provider ≤ 1) p2 [] (lit≤ tt) (none 1)) in (
-      pool_stands [] 0 (codes "m0") (none 0) refl refl,
-      (
-        pool_stands (p0 ∷ []) 0 (codes "m1") (one 0 (lit≤ tt)) refl refl,
-        (pool_stands (p0 ∷ p1 ∷ []) 1 (codes "m0") two refl refl, (pool_stands (p0 ∷ p1 ∷ p2 ∷ []) 1 (codes "m1") three refl refl, tt)),
-      ),
-    )
+    let one : (k : ℕ) → All (P k) (p0 ∷ []) = λ k. All-cons (P k) p0 [] (omega arith) (All-nil (P k)) in
+    let two : All (P 1) (p0 ∷ p1 ∷ []) = All-push (P 1) (p0 ∷ []) p1 (one 1) (lit≤ tt) in
+    let three : All (P 1) (p0 ∷ p1 ∷ p2 ∷ []) = All-push (P 1) (p0 ∷ p1 ∷ []) p2 two (lit≤ tt) in
+    (pool_stands _ 0 _ (All-nil (P 0)) refl refl, (pool_stands _ 0 _ (one 0) refl refl, (pool_stands _ 1 _ two refl refl, (pool_stands _ 1 _ three refl refl, tt))))
 
 pools_owned : All (λ (p : Pool). p.provider < 2) drill_pools
-pools_owned =
-    let Q : Pool → Type 0 = λ p. p.provider < 2 in
-    let p0 : Pool = drill_pool 0 (codes "m0") in
-    let p1 : Pool = drill_pool 0 (codes "m1") in
-    let p2 : Pool = drill_pool 1 (codes "m0") in
-    let p3 : Pool = drill_pool 1 (codes "m1") in
-    All-cons Q p0 (p1 ∷ p2 ∷ p3 ∷ []) (lit< tt) (All-cons Q p1 (p2 ∷ p3 ∷ []) (lit< tt) (All-cons Q p2 (p3 ∷ []) (lit< tt) (All-cons Q p3 [] (lit< tt) (All-nil Q))))
+pools_owned = search (rules, All-cons {X = Pool}, All-nil {X = Pool}, lit<)
 
 has_pool : (k : ℕ) → k < 2 → 1 ≤ length (filter (λ (p : Pool). p.provider == k) drill_pools)
 has_pool zero there = lit≤ tt
@@ -242,15 +189,11 @@ supply_stands = record {
 semaphore_stands : (earlier : List Sem) (name : List ℕ) (most : ℕ) → 1 ≤ most → most ≤ 2 → is_name_text name ≡ true
     → list_any (λ (row : Sem). bytes_eq name row.name) earlier ≡ false → IsSem earlier (record { name = name; max = most })
 semaphore_stands earlier name most some few named new =
-    let within : most ≤ 4096 = omega arith in
-    record { name = record { named = named; new = new }; some = some; max = within }
+    record { name = record { named = named; new = new }; some = some; max = omega arith }
 
 semaphores_stand : EachAfter IsSem [] drill_semaphores
 unfolding is_name_text
-semaphores_stand = (
-  semaphore_stands [] (codes "deploy") 1 (lit≤ tt) (lit≤ tt) refl refl,
-  (semaphore_stands (record { name = codes "deploy"; max = 1 } ∷ []) (codes "stage") 2 (lit≤ tt) (lit≤ tt) refl refl, tt),
-)
+semaphores_stand = (semaphore_stands _ _ 1 (lit≤ tt) (lit≤ tt) refl refl, (semaphore_stands _ _ 2 (lit≤ tt) (lit≤ tt) refl refl, tt))
 
 -- ## the requesters
 
@@ -259,16 +202,7 @@ requester_stands earlier name named new = record { name = record { named = named
 
 requesters_stand : EachAfter IsRequester [] drill_requesters
 unfolding is_name_text
-requesters_stand =
-    let z0 : Requester = drill_requester (codes "z0") in
-    let z1 : Requester = drill_requester (codes "z1") in
-    let z2 : Requester = drill_requester (codes "z2") in (
-      requester_stands [] (codes "z0") refl refl,
-      (
-        requester_stands (z0 ∷ []) (codes "z1") refl refl,
-        (requester_stands (z0 ∷ z1 ∷ []) (codes "z2") refl refl, (requester_stands (z0 ∷ z1 ∷ z2 ∷ []) (codes "z3") refl refl, tt)),
-      ),
-    )
+requesters_stand = (requester_stands _ _ refl refl, (requester_stands _ _ refl refl, (requester_stands _ _ refl refl, (requester_stands _ _ refl refl, tt))))
 
 demand_stands : (n : ℕ) → n ≤ 4000 → AreRequesters 4 2 0 drill_requesters (drill_jobs n)
 demand_stands n small =

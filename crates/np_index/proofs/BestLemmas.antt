@@ -4,12 +4,12 @@ use Rattle.std.specs.Prelude.{◌==◌, ◌&&◌, find, nat_lt, slice_get}
 use Rattle.np_changes.specs.Prelude.{Configuration, PoolId, Rises, State, option_map_or}
 use Rattle.std.proofs.lemmas.Bool.Decides.{nat_tests}
 use Rattle.np_lists.proofs.FoundLemmas.{find-passes}
-use Rattle.np_table.specs.declared.groups.Member.{Member}
-use Rattle.np_open.specs.declared.ranks.Rank.{Rank}
-use Rattle.np_open.specs.Open.{AreOpen, IsLineFrom, OpenOf, first_line, line_after, ranks_of}
-use Rattle.np_open.specs.Ranks.{is_rank_before}
-use Rattle.np_open.proofs.LineLemmas.{first-line, next-line}
-use Rattle.np_open.proofs.OpenLemmas.{ranks-are}
+use Rattle.np_lists.specs.declared.groups.Member.{Member}
+use Rattle.np_lookups.specs.declared.ranks.Rank.{Rank}
+use Rattle.np_lookups.specs.Open.{AreOpen, IsLineFrom, OpenOf, first_line, line_after, ranks_of}
+use Rattle.np_lookups.specs.Ranks.{is_rank_before}
+use Rattle.np_lookups.proofs.LineLemmas.{first-line, next-line}
+use Rattle.np_lookups.proofs.OpenLemmas.{ranks-are}
 use Rattle.np_index.specs.Candidates.{candidate_ranks, earlier_rank, is_past, next_among}
 use Rattle.np_index.proofs.CandidateLemmas.{candidate-line, candidates-rise, line-candidate}
 use Rattle.np_index.proofs.WalkLemmas.{passes, takes}

@@ -8,18 +8,18 @@ use Rattle.std.proofs.lemmas.Option.{slice_get-map}
 use Rattle.np_lists.proofs.Each.{all-weaker, all-insert_before}
 use Rattle.np_lists.proofs.FilterLemmas.{list_any-insert_before}
 use Rattle.np_lists.proofs.RisingLemmas.{Rises-filter}
-use Rattle.np_laws.proofs.Rising.{rises-insert_before}
-use Rattle.np_open.specs.declared.ranks.Rank.{Rank}
-use Rattle.np_open.specs.Lines.{line_of}
-use Rattle.np_open.specs.Moves.{rank_of}
-use Rattle.np_open.specs.Open.{AreOpen, OpenOf, is_requested_at, ranks_of}
-use Rattle.np_open.proofs.OpenLemmas.{ranks-are, waits-there}
-use Rattle.np_open.specs.Ranks.{is_rank_before, same_rank, rank_transitive, rank_one_way, rank_equal}
+use Rattle.np_changes.proofs.Rising.{rises-insert_before}
+use Rattle.np_lookups.specs.declared.ranks.Rank.{Rank}
+use Rattle.np_lookups.specs.Lines.{line_of}
+use Rattle.np_lookups.specs.Moves.{rank_of}
+use Rattle.np_lookups.specs.Open.{AreOpen, OpenOf, is_requested_at, ranks_of}
+use Rattle.np_lookups.proofs.OpenLemmas.{ranks-are, waits-there}
+use Rattle.np_lookups.specs.Ranks.{is_rank_before, same_rank, rank_transitive, rank_one_way, rank_equal}
 use Rattle.np_classes.proofs.Rows.{ids-in_order, row-passes}
 use Rattle.np_index.proofs.Firsts.{has}
 use Rattle.np_index.specs.Candidates.{in_order, candidate_of, candidate_ranks, may_take_up}
 use Rattle.np_machine.proofs.Ids.{request-equal}
-use Rattle.np_laws.proofs.Lookups.{request-apart}
+use Rattle.np_changes.proofs.Lookups.{request-apart}
 
 -- ## entries in order
 

@@ -6,9 +6,9 @@ use Rattle.std.proofs.lemmas.Bool.{false_from_ne_true}
 use Rattle.std.proofs.lemmas.Bool.Decides.{nat_tests}
 use Rattle.std.proofs.lemmas.List.Sums.{length-filter}
 use Rattle.np_lists.proofs.Each.{all-weaker}
-use Rattle.np_open.specs.declared.ranks.Rank.{Rank}
-use Rattle.np_open.specs.Ranks.{is_rank_before, rank_equal, rank_one_way, rank_transitive, same_rank}
-use Rattle.np_open.proofs.RunLemmas.{same_rank-itself}
+use Rattle.np_lookups.specs.declared.ranks.Rank.{Rank}
+use Rattle.np_lookups.specs.Ranks.{is_rank_before, rank_equal, rank_one_way, rank_transitive, same_rank}
+use Rattle.np_lookups.proofs.RunLemmas.{same_rank-itself}
 use Rattle.np_index.specs.Candidates.{earlier_rank}
 
 -- ## any list

@@ -3,10 +3,10 @@ use Rattle.std.proofs.Common.{◌≡◌, List, subst, sym}
 use Rattle.np_changes.specs.declared.changes.Changes.{Changes}
 use Rattle.np_changes.specs.Prelude.{Configuration, JobId, State, changed}
 use Rattle.np_changes.specs.declared.changes.SessionsChange.TheVariants as sessions
-use Rattle.np_counts.specs.Awaited.{OthersStay}
+use Rattle.np_index.specs.Awaited.{OthersStay}
 use Rattle.np_classes.specs.Listed.{IsTouched, TouchedOf}
 use Rattle.np_classes.proofs.Untouched.{record-stays}
-use Rattle.np_open.specs.Open.{AreOpen, OpenOf}
+use Rattle.np_lookups.specs.Open.{AreOpen, OpenOf}
 use Rattle.np_active.specs.Prepared.{IsPast, PastOf}
 use Rattle.np_active.specs.Active.{ActiveOf, AreActive, AreJobGroups, AreSessionGroups}
 

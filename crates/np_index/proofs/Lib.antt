@@ -3,3 +3,26 @@ pub mod CandidateLemmas
 pub mod WalkLemmas
 pub mod BestLemmas
 pub mod Kept
+pub mod Tests
+pub mod Grouped
+pub mod Numbers
+pub mod ByIds
+pub mod Sums
+pub mod Any
+pub mod Labels
+pub mod Flat
+pub mod Waiting
+pub mod Thirds
+pub mod DueLemmas
+pub mod DeclinedLemmas
+pub mod Totals
+pub mod TenantLemmas
+pub mod Rows
+pub mod Changed
+pub mod Shares
+pub mod Few
+pub mod Made
+pub mod Moved
+mod Small
+pub mod Noted
+pub mod Prelude

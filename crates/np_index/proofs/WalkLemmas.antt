@@ -5,12 +5,12 @@ use Rattle.np_changes.specs.Prelude.{AllByRecursion, Configuration, PoolId, Requ
 use Rattle.np_changes.specs.declared.asked.Asked.{Asked}
 use Rattle.np_lists.proofs.Each.{all-at, all-filter, all-from_at, all-weaker}
 use Rattle.np_lists.proofs.FilterLemmas.{filter-nothing}
-use Rattle.np_table.specs.declared.groups.Member.{Member}
-use Rattle.np_open.specs.declared.ranks.Rank.{Rank}
-use Rattle.np_open.specs.Open.{AreOpen, IsOpenFrom, IsWaiting, OpenOf, is_closed_rank, ranks_of}
-use Rattle.np_open.specs.Ranks.{is_rank_before}
-use Rattle.np_open.proofs.LineLemmas.{line-blocks}
-use Rattle.np_open.proofs.OpenLemmas.{closed-shut, filter-open_from, rank-waits, ranks-are}
+use Rattle.np_lists.specs.declared.groups.Member.{Member}
+use Rattle.np_lookups.specs.declared.ranks.Rank.{Rank}
+use Rattle.np_lookups.specs.Open.{AreOpen, IsOpenFrom, IsWaiting, OpenOf, is_closed_rank, ranks_of}
+use Rattle.np_lookups.specs.Ranks.{is_rank_before}
+use Rattle.np_lookups.proofs.LineLemmas.{line-blocks}
+use Rattle.np_lookups.proofs.OpenLemmas.{closed-shut, filter-open_from, rank-waits, ranks-are}
 use Rattle.np_index.specs.Candidates.{earlier_rank, is_past, may_take_up, next_among, open_record}
 use Rattle.np_index.proofs.Firsts.{after-from, beats, beats-later, earlier-first, earlier-none, earlier-stays, filter-after, find-filtered, rises-drop}
 use Rattle.np_lists.proofs.Plain.{drop-there as there, drop-past}

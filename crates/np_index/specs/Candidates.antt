@@ -1,9 +1,9 @@
 -- the requests that a pool's launcher may take up, in the order in which launchers take them up
 use Rattle.std.specs.Prelude.{ℕ, Bool, true, false, ◌&&◌, if◌then◌else◌, List, [], ◌∷◌, Option, Some, None, filter, find, map, option_and_then, slice_get}
 use Rattle.np_changes.specs.Prelude.{Configuration, PoolId, RequestEntry, RequestId, RequestRecord, State, comes_before, insert_before, is_candidate, is_open_to, option_map, option_map_or, request_entry}
-use Rattle.np_open.specs.declared.ranks.Rank.{Rank}
-use Rattle.np_open.specs.Moves.{rank_of}
-use Rattle.np_open.specs.Ranks.{is_rank_before}
+use Rattle.np_lookups.specs.declared.ranks.Rank.{Rank}
+use Rattle.np_lookups.specs.Moves.{rank_of}
+use Rattle.np_lookups.specs.Ranks.{is_rank_before}
 
 -- entries in the order in which launchers take them up
 abbrev pub in_order : List RequestEntry → List RequestEntry

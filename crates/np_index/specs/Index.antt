@@ -3,8 +3,8 @@ use Rattle.std.specs.Prelude.{List}
 use Rattle.np_changes.specs.Prelude.{Amount, Configuration, State}
 use Rattle.np_lookups.specs.Lookups.{AreLookupsOf, LookupsOf}
 use Rattle.np_classes.specs.Classes.{AreClasses, ClassesOf}
-use Rattle.np_counts.specs.Awaited.{AreAwaited}
-use Rattle.np_open.specs.Open.{AreOpen, OpenOf}
+use Rattle.np_index.specs.Awaited.{AreAwaited}
+use Rattle.np_lookups.specs.Open.{AreOpen, OpenOf}
 use Rattle.np_active.specs.Active.{ActiveOf, AreActive}
 use Rattle.np_active.specs.Given.{AreGiven, GivenOf}
 

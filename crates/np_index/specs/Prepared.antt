@@ -8,11 +8,11 @@ use Rattle.np_lookups.specs.Prepared.{PreparedOf as LookupsPrepared, IsPrepared 
 use Rattle.np_classes.specs.Classes.{AreClasses}
 use Rattle.np_classes.specs.Listed.{IsTouched, TouchedOf}
 use Rattle.np_classes.specs.Prepared.{IsPast, PastOf, HasRoom as HasRoomForPast}
-use Rattle.np_counts.specs.Awaited.{AreAwaited, first_rest}
-use Rattle.np_counts.specs.declared.awaited.Rest.{Rest}
-use Rattle.np_open.specs.Open.{AreOpen}
-use Rattle.np_open.specs.Prepared.{IsPrepared as AreMovedOf, HasRoom as HasRoomForMoved}
-use Rattle.np_open.specs.declared.moves.Past.{Past}
+use Rattle.np_index.specs.Awaited.{AreAwaited, first_rest}
+use Rattle.np_index.specs.declared.awaited.Rest.{Rest}
+use Rattle.np_lookups.specs.Open.{AreOpen}
+use Rattle.np_lookups.specs.Pasts.{IsPrepared as AreMovedOf, HasRoom as HasRoomForMoved}
+use Rattle.np_lookups.specs.declared.moves.Past.{Past}
 use Rattle.np_active.specs.Active.{AreActive}
 use Rattle.np_active.specs.Prepared.{IsPast as IsActivePast, PastOf as ActivePast, HasRoom as HasRoomForActive}
 use Rattle.np_active.specs.Given.{AreGiven}

@@ -2,19 +2,19 @@
 
 ghost use Rattle.std.specs.Prelude.{◌≡◌};
 ghost use Rattle.np_changes.specs.Prelude.{Fits, first_of};
-ghost use Rattle.np_counts.specs.Awaited.{AreAwaited};
+ghost use Rattle.np_index.specs.Awaited.{AreAwaited};
 ghost use Rattle.np_classes.specs.Classes.{AreClasses};
-ghost use Rattle.np_open.specs.Open.{AreOpen, ranks_of};
+ghost use Rattle.np_lookups.specs.Open.{AreOpen, ranks_of};
 ghost use Rattle.np_index.specs.Candidates.{candidate_of, earlier_rank, next_among, open_record};
 ghost use Rattle.np_index.specs.Index.{IsIndexOf};
 
 use crate::index::Index;
+use crate::{Awaited, blocking};
 use np_classes::Classes;
-use np_counts::{Awaited, blocking};
+use np_lists::Order;
 use np_look::{Rows, asked_of, is_open_to, request_holder};
-use np_open::{ByRank, Open, Rank};
+use np_lookups::{ByRank, Open, Rank};
 use np_record::RequestRecord;
-use np_table::Order;
 use np_text::{PoolId, RequestId};
 
 /// The record of the request, if it is open to the pool. Of a request that is held, only its holder

@@ -7,11 +7,11 @@ ghost use Rattle.np_index.specs.Index.{IsIndexOf};
 ghost use Rattle.np_index.specs.Prepared.{HasRoomFor, IsPreparedFor};
 
 use crate::index::Index;
+use crate::{Rest, first_rest};
 use np_changes::{Changes, SessionsChange};
 use np_classes::{Touched, touched_by};
-use np_counts::{Rest, first_rest};
 use np_look::Rows;
-use np_open::Moved;
+use np_lookups::Moved;
 use np_text::SessionId;
 use std::alloc::{AllocError, Global};
 use std::marker::Model;

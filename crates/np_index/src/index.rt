@@ -7,14 +7,13 @@ ghost use Rattle.np_look.specs.Given.{node_to_leave, node_to_lock};
 ghost use Rattle.np_look.specs.Readers.{current_of, first_declined_by_all, first_due, first_mute, first_unheld_pending, free_ready_of, has_request_under_way, pending_requests, queued_nodes, queued_requests, unfinished_of};
 ghost use Rattle.np_index.specs.Index.{IsIndexOf};
 
+use crate::Awaited;
 use np_active::{Active, Given};
 use np_amount::Amount;
 use np_changes::Asked;
 use np_classes::Classes;
-use np_counts::Awaited;
 use np_look::{Rows, UnheldKind};
-use np_lookups::Lookups;
-use np_open::Open;
+use np_lookups::{Lookups, Open};
 use np_text::{
     JobId, LabelId, NoMemory, NodeId, PoolId, RequestId, RequesterId, Role, SessionId, TenantId,
 };
@@ -215,7 +214,7 @@ impl Index {
         ensures { result ≡
             blocking (R.site rows.now) (R.state rows.now) pool (new_record asked.now) }
     {
-        np_counts::blocking(&self.classes, &self.awaited, rows, pool, asked)
+        crate::blocking(&self.classes, &self.awaited, rows, pool, asked)
     }
 
     /// What the pool uses. It costs a lookup for each label that the pool offers.
@@ -227,7 +226,7 @@ impl Index {
         ensures cores { result.cores < 2 ^ 63 }
         ensures ram { result.ram < 2 ^ 63 }
     {
-        np_counts::used(&self.classes, rows, pool)
+        crate::used(&self.classes, rows, pool)
     }
 
     /// What the tenant uses: its nodes, and what its pending requests still wait for. It costs a few
@@ -241,7 +240,7 @@ impl Index {
         ensures cores { result.cores < 2 ^ 63 }
         ensures ram { result.ram < 2 ^ 63 }
     {
-        np_counts::used_by(&self.classes, &self.awaited, rows, tenant)
+        crate::used_by(&self.classes, &self.awaited, rows, tenant)
     }
 
     /// Whether a ready, free and unlocked node of the pool has the label. It costs one lookup.
@@ -249,7 +248,7 @@ impl Index {
         ensures { (c : Configuration) (s : State) → IsIndexOf c s self.now
             → result ≡ list_any (is_spare pool label) s.nodes }
     {
-        np_counts::has_spare(&self.classes, pool, label)
+        crate::has_spare(&self.classes, pool, label)
     }
 
     /// The node at a place among the ready, free and unlocked nodes of the pool with the label, in
@@ -258,7 +257,7 @@ impl Index {
         ensures { (c : Configuration) (s : State) → IsIndexOf c s self.now
             → result ≡ free_ready_of pool label at s }
     {
-        np_counts::free_ready(&self.classes, pool, label, at)
+        crate::free_ready(&self.classes, pool, label, at)
     }
 
     /// The free ready nodes of the label in all pools, and those that are coming. It costs two
@@ -268,7 +267,7 @@ impl Index {
         requires index { IsIndexOf (R.site rows.now) (R.state rows.now) self.now }
         ensures { result ≡ ready_count label (R.state rows.now) }
     {
-        np_counts::ready_count(&self.classes, rows, label)
+        crate::ready_count(&self.classes, rows, label)
     }
 
     /// Whether a min-ready request of the pool for the label has failed. It costs one lookup.
@@ -276,7 +275,7 @@ impl Index {
         ensures { (c : Configuration) (s : State) → IsIndexOf c s self.now
             → result ≡ list_any (is_spent_min_ready pool label) s.requests }
     {
-        np_counts::has_spent_min_ready(&self.classes, pool, label)
+        crate::has_spent_min_ready(&self.classes, pool, label)
     }
 
     /// Whether a request that is pending by the pool waits for room. It costs what `used` does, and a
@@ -286,7 +285,7 @@ impl Index {
         requires index { IsIndexOf (R.site rows.now) (R.state rows.now) self.now }
         ensures { result ≡ is_paused (R.site rows.now) (R.state rows.now) pool }
     {
-        np_counts::is_paused(&self.classes, rows, pool)
+        crate::is_paused(&self.classes, rows, pool)
     }
 
     /// How many requests are pending by the pool. It costs one lookup.
@@ -294,7 +293,7 @@ impl Index {
         ensures { (c : Configuration) (s : State) → IsIndexOf c s self.now
             → result ≡ length (pending_requests pool s) }
     {
-        np_counts::pending_requests(&self.classes, pool)
+        crate::pending_requests(&self.classes, pool)
     }
 
     /// The first request, by priority and then sequence, that is pending by the pool and that nobody
@@ -303,7 +302,7 @@ impl Index {
         ensures { (c : Configuration) (s : State) → IsIndexOf c s self.now
             → result ≡ first_unheld_pending pool s }
     {
-        np_counts::first_unheld_pending(&self.classes, pool)
+        crate::first_unheld_pending(&self.classes, pool)
     }
 
     /// Whether a request is pending by the pool that lacks a node for one of its labels. It costs two
@@ -312,7 +311,7 @@ impl Index {
         ensures { (c : Configuration) (s : State) → IsIndexOf c s self.now
             → result ≡ has_request_under_way pool s }
     {
-        np_counts::has_request_under_way(&self.classes, pool)
+        crate::has_request_under_way(&self.classes, pool)
     }
 
     /// The first request, by priority and then sequence, that is requested and that every registered
@@ -323,7 +322,7 @@ impl Index {
         requires index { IsIndexOf (R.site rows.now) (R.state rows.now) self.now }
         ensures { result ≡ first_declined_by_all (R.state rows.now) }
     {
-        np_counts::first_declined_by_all(&self.classes, rows)
+        crate::first_declined_by_all(&self.classes, rows)
     }
 
     /// The node of the pool that nobody holds and that is of this kind which is due first, and of
@@ -332,6 +331,6 @@ impl Index {
         ensures { (c : Configuration) (s : State) → IsIndexOf c s self.now
             → result ≡ first_due c pool kind s }
     {
-        np_counts::first_due(&self.classes, pool, kind)
+        crate::first_due(&self.classes, pool, kind)
     }
 }

@@ -7,7 +7,7 @@ use Rattle.std.proofs.lemmas.Bool.Decides.{nat_tests}
 use Rattle.np_text.specs.declared.word.NodeState.TheVariants as node_state
 use Rattle.np_lists.proofs.Each.{all-filter_to}
 use Rattle.np_machine.specs.Reasons.{ready_age, is_past, is_old_ready, is_old_hold, is_paused}
-use Rattle.np_laws.proofs.Ids.{same_pool}
+use Rattle.np_changes.proofs.Ids.{same_pool}
 use Rattle.np_look.specs.Readers.{due_after, due_of, first_due, is_unclaimed, is_unheld, is_unheld_as, same_kind, unheld_kind, unheld_kind_as}
 use Rattle.np_look.specs.declared.asked.UnheldKind.{UnheldKind}
 use Rattle.np_look.specs.declared.asked.UnheldKind.TheVariants as unheld

@@ -3,8 +3,8 @@ use Rattle.std.proofs.Common.{◌≡◌, ◌∙◌, true, false, Option, Some, N
 use Rattle.np_changes.specs.Prelude.{Configuration, Event, RequestId, Role, SessionId, State, maker_of}
 use Rattle.np_useful.specs.Sessions.{is_current}
 use Rattle.np_useful.specs.Useful.{IsUseful, is_maker_of}
-use Rattle.np_roles.specs.Passing.{passes}
-use Rattle.np_roles.proofs.Searches.{made-by, passes-useful}
+use Rattle.np_useful.specs.Passing.{passes}
+use Rattle.np_useful.proofs.Searches.{made-by, passes-useful}
 
 -- the event that names the first such request passes
 pub record IsFirstPassing (c : Configuration) (s : State) (role : Role) (event : RequestId → Event) (first : Option RequestId) : Type 0 where

@@ -5,14 +5,14 @@ use Rattle.np_changes.specs.Prelude.{Configuration, Done, IsReached, Janitor, Po
 use Rattle.std.proofs.lemmas.Bool.{and_from, and_parts}
 use Rattle.np_event.specs.declared.event.Event.TheVariants as ev
 use Rattle.np_changes.proofs.Tested.{ok-is, on-given, on-found, on-need, on-not}
-use Rattle.np_laws.proofs.Ids.{row-of, kept-is}
+use Rattle.np_changes.proofs.Ids.{row-of, kept-is}
 use Rattle.np_look.specs.Readers.{first_declined_by_all, is_declined_by_all}
 use Rattle.np_useful.specs.Sessions.{is_current}
 use Rattle.np_useful.specs.Useful.{IsUseful}
-use Rattle.np_roles.specs.declared.kind.EventKind.TheVariants as kind_of
-use Rattle.np_roles.specs.declared.kind.RequestKind.TheVariants as of_request
-use Rattle.np_roles.specs.Choices.{NoneOf}
-use Rattle.np_roles.specs.Passing.{passes}
+use Rattle.np_useful.specs.declared.kind.EventKind.TheVariants as kind_of
+use Rattle.np_useful.specs.declared.kind.RequestKind.TheVariants as of_request
+use Rattle.np_useful.specs.Choices.{NoneOf}
+use Rattle.np_useful.specs.Passing.{passes}
 use Rattle.np_janitor.proofs.Deciding.{IsFirstPassing, none-named, none-passes, passing-useful}
 use Rattle.np_janitor.proofs.Found.{first-request}
 

@@ -11,12 +11,12 @@ use Rattle.np_look.specs.Jobs.{is_job_to_finish, job_to_finish}
 use Rattle.np_useful.specs.Rows.{job_is}
 use Rattle.np_useful.specs.Sessions.{is_current, is_stopped}
 use Rattle.np_useful.specs.Useful.{IsUseful}
-use Rattle.np_roles.specs.declared.kind.EventKind.TheVariants as kind_of
-use Rattle.np_roles.specs.declared.kind.JobKind.TheVariants as of_job
-use Rattle.np_roles.specs.Choices.{NoneOf}
-use Rattle.np_roles.specs.Passing.{passes}
-use Rattle.np_roles.proofs.Searches.{made-by, useful-passes}
-use Rattle.np_roles.proofs.Among.{among}
+use Rattle.np_useful.specs.declared.kind.EventKind.TheVariants as kind_of
+use Rattle.np_useful.specs.declared.kind.JobKind.TheVariants as of_job
+use Rattle.np_useful.specs.Choices.{NoneOf}
+use Rattle.np_useful.specs.Passing.{passes}
+use Rattle.np_useful.proofs.Searches.{made-by, useful-passes}
+use Rattle.np_useful.proofs.Among.{among}
 use Rattle.np_janitor.specs.Finishes.{NoneFinished, ChoosesFinish}
 use Rattle.np_janitor.proofs.OwnJobs.{none-of}
 

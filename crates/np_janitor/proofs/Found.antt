@@ -5,8 +5,8 @@ use Rattle.np_changes.specs.Prelude.{AllByRecursion, Configuration, IsReached, N
 use Rattle.std.proofs.lemmas.Bool.{eq-eqb}
 use Rattle.np_lists.proofs.Each.{all-at, all-find, all-from_at}
 use Rattle.np_lists.proofs.FoundLemmas.{find-passes}
-use Rattle.np_laws.specs.Parts.{IsNumbered}
-use Rattle.np_laws.proofs.Runs.{invariant-Runs}
+use Rattle.np_changes.specs.Parts.{IsNumbered}
+use Rattle.np_changes.proofs.Runs.{invariant-Runs}
 use Rattle.np_changes.proofs.Facts.{node-apart, request-apart}
 use Rattle.np_machine.proofs.Ids.{request-itself}
 

@@ -5,13 +5,13 @@ use Rattle.np_changes.specs.Prelude.{AllByRecursion, Configuration, Event, Janit
 use Rattle.np_event.specs.declared.event.Event.TheVariants as ev
 use Rattle.np_useful.specs.Useful.{IsUseful}
 use Rattle.np_useful.specs.Sessions.{is_current}
-use Rattle.np_roles.specs.declared.kind.EventKind.{EventKind}
-use Rattle.np_roles.specs.declared.kind.EventKind.TheVariants as kind_of
-use Rattle.np_roles.specs.declared.kind.JobKind.TheVariants as of_job
-use Rattle.np_roles.specs.declared.kind.NodeKind.TheVariants as of_node
-use Rattle.np_roles.specs.declared.kind.RequestKind.TheVariants as of_request
-use Rattle.np_roles.specs.Choices.{Chooses, NoneOpens, NoneOf, ChoosesOf, ChoosesOfAny}
-use Rattle.np_roles.proofs.Wholes.{kinds-choose}
+use Rattle.np_useful.specs.declared.kind.EventKind.{EventKind}
+use Rattle.np_useful.specs.declared.kind.EventKind.TheVariants as kind_of
+use Rattle.np_useful.specs.declared.kind.JobKind.TheVariants as of_job
+use Rattle.np_useful.specs.declared.kind.NodeKind.TheVariants as of_node
+use Rattle.np_useful.specs.declared.kind.RequestKind.TheVariants as of_request
+use Rattle.np_useful.specs.Choices.{Chooses, NoneOpens, NoneOf, ChoosesOf, ChoosesOfAny}
+use Rattle.np_useful.proofs.Wholes.{kinds-choose}
 use Rattle.np_janitor.specs.Order.{janitor_order, before_fail, after_release}
 use Rattle.np_lists.proofs.Plain.{false-apart}
 

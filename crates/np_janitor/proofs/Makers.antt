@@ -4,8 +4,8 @@ use Rattle.std.specs.Prelude.{◌&&◌, not}
 use Rattle.std.proofs.lemmas.Bool.{and_parts}
 use Rattle.np_changes.specs.Prelude.{Role, SessionFacts, SessionId, State, maker, same_role, session_of}
 use Rattle.np_useful.specs.Sessions.{is_current}
-use Rattle.np_roles.proofs.Currents.{current-speaks}
-use Rattle.np_roles.proofs.Openings.{same-role}
+use Rattle.np_useful.proofs.Currents.{current-speaks}
+use Rattle.np_useful.proofs.Openings.{same-role}
 use Rattle.np_lists.proofs.Plain.{not-zero}
 
 module _ (s : State) (role : Role) (session : SessionId) where

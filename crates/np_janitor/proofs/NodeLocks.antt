@@ -11,12 +11,12 @@ use Rattle.np_useful.specs.Cleanable.{is_cleanable}
 use Rattle.np_useful.specs.Rows.{is_node_of}
 use Rattle.np_useful.specs.Sessions.{is_current}
 use Rattle.np_useful.specs.Useful.{IsUseful, is_maker_of, row_holds}
-use Rattle.np_roles.specs.declared.kind.EventKind.TheVariants as kind_of
-use Rattle.np_roles.specs.declared.kind.NodeKind.TheVariants as of_node
-use Rattle.np_roles.specs.Choices.{ChoosesOf}
-use Rattle.np_roles.specs.Passing.{passes, passing, IsFirst, IsFirstThatPasses}
-use Rattle.np_roles.proofs.Places.{StandsIn}
-use Rattle.np_roles.proofs.Searches.{made-by, passing-is, passing-none, passes-useful}
+use Rattle.np_useful.specs.declared.kind.EventKind.TheVariants as kind_of
+use Rattle.np_useful.specs.declared.kind.NodeKind.TheVariants as of_node
+use Rattle.np_useful.specs.Choices.{ChoosesOf}
+use Rattle.np_useful.specs.Passing.{passes, passing, IsFirst, IsFirstThatPasses}
+use Rattle.np_useful.proofs.Places.{StandsIn}
+use Rattle.np_useful.proofs.Searches.{made-by, passing-is, passing-none, passes-useful}
 use Rattle.np_janitor.specs.Candidates.{tried_kinds, due_at, lock_due_at}
 use Rattle.np_janitor.proofs.Cleaning.{IsToClean, first-to_clean}
 use Rattle.np_janitor.proofs.Makers.{maker-is}

@@ -7,10 +7,10 @@ use Rattle.std.proofs.lemmas.List.Elements.{All-get_or}
 use Rattle.std.proofs.lemmas.Option.{slice_get_within, get_or_from_slice_get}
 use Rattle.np_useful.specs.Rows.{job_is}
 use Rattle.np_useful.specs.Useful.{IsUseful}
-use Rattle.np_roles.specs.declared.kind.EventKind.TheVariants as kind_of
-use Rattle.np_roles.specs.declared.kind.JobKind.{JobKind}
-use Rattle.np_roles.specs.Kinds.{job_event}
-use Rattle.np_roles.specs.Choices.{NoneOf}
+use Rattle.np_useful.specs.declared.kind.EventKind.TheVariants as kind_of
+use Rattle.np_useful.specs.declared.kind.JobKind.{JobKind}
+use Rattle.np_useful.specs.Kinds.{job_event}
+use Rattle.np_useful.specs.Choices.{NoneOf}
 
 module _ (c : Configuration) where
   row-by : (such : Job → Bool) (o : Option Job) → option_map_or such o false ≡ true → (job : Job) × (o ≡ Some job)

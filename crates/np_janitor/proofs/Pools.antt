@@ -6,7 +6,7 @@ use Rattle.std.proofs.lemmas.Bool.Decides.{nat_tests}
 use Rattle.std.proofs.lemmas.Bool.{cond-true}
 use Rattle.std.proofs.lemmas.List.Sums.{sum_by-cons}
 use Rattle.np_lists.proofs.Each.{all-weaker}
-use Rattle.np_laws.proofs.Ids.{same_pool}
+use Rattle.np_changes.proofs.Ids.{same_pool}
 
 -- ## members of a list
 

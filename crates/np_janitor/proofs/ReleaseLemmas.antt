@@ -3,9 +3,9 @@ use Rattle.std.proofs.Common.{◌≡◌, ◌<◌, ℕ, false, Option, Some, None
 use Rattle.std.specs.Prelude.{is_some}
 use Rattle.np_changes.specs.Prelude.{Configuration, Event, IsSound, Janitor, PoolId, REQUESTERS, RequesterId, State}
 use Rattle.np_useful.specs.Rows.{has_some_handle}
-use Rattle.np_roles.specs.declared.kind.EventKind.TheVariants as kind_of
-use Rattle.np_roles.specs.declared.kind.JobKind.TheVariants as of_job
-use Rattle.np_roles.specs.Choices.{NoneOf, NoneReleased, ChoosesRelease}
+use Rattle.np_useful.specs.declared.kind.EventKind.TheVariants as kind_of
+use Rattle.np_useful.specs.declared.kind.JobKind.TheVariants as of_job
+use Rattle.np_useful.specs.Choices.{NoneOf, NoneReleased, ChoosesRelease}
 use Rattle.np_janitor.proofs.OwnJobs.{none-of}
 
 module _ (c : Configuration) (s : State) (p : PoolId) where

@@ -10,10 +10,10 @@ use Rattle.np_changes.proofs.Tested.{ok-is, on-found, on-need, on-vacant}
 use Rattle.np_look.specs.Readers.{first_unheld_pending, is_unheld_pending}
 use Rattle.np_useful.specs.Sessions.{is_current}
 use Rattle.np_useful.specs.Useful.{IsUseful, row_holds}
-use Rattle.np_roles.specs.declared.kind.EventKind.TheVariants as kind_of
-use Rattle.np_roles.specs.declared.kind.RequestKind.TheVariants as of_request
-use Rattle.np_roles.specs.Choices.{NoneOf}
-use Rattle.np_roles.specs.Passing.{passes}
+use Rattle.np_useful.specs.declared.kind.EventKind.TheVariants as kind_of
+use Rattle.np_useful.specs.declared.kind.RequestKind.TheVariants as of_request
+use Rattle.np_useful.specs.Choices.{NoneOf}
+use Rattle.np_useful.specs.Passing.{passes}
 use Rattle.np_janitor.proofs.Deciding.{IsFirstPassing, none-named, none-passes, passing-useful}
 use Rattle.np_janitor.proofs.Found.{first-request}
 use Rattle.np_janitor.proofs.Makers.{maker-is}

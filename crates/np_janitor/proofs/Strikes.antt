@@ -11,10 +11,10 @@ use Rattle.np_look.specs.Readers.{current_of, first_mute, mute_from}
 use Rattle.np_useful.specs.Reaper.{is_mute}
 use Rattle.np_useful.specs.Sessions.{is_current, has_current, strikes_of, next_fault, is_due, has_due, is_expire, is_struck_by}
 use Rattle.np_useful.specs.Useful.{IsUseful}
-use Rattle.np_roles.specs.Choices.{Chooses, NamesCurrent}
-use Rattle.np_roles.proofs.Currents.{current-has, current-names}
-use Rattle.np_roles.proofs.Openings.{same-role}
-use Rattle.np_roles.proofs.Places.{StandsIn}
+use Rattle.np_useful.specs.Choices.{Chooses, NamesCurrent}
+use Rattle.np_useful.proofs.Currents.{current-has, current-names}
+use Rattle.np_useful.proofs.Openings.{same-role}
+use Rattle.np_useful.proofs.Places.{StandsIn}
 use Rattle.np_janitor.specs.Struck.{due_kind, strike_on, strike_of, strike_by, ChoosesStrike}
 use Rattle.np_janitor.proofs.Makers.{IsOf, is-of}
 use Rattle.np_lists.proofs.Plain.{and_true}

@@ -23,16 +23,16 @@ use Rattle.np_changes.specs.declared.changes.SessionsChange.TheVariants as sessi
 use Rattle.np_changes.proofs.PlanLaws.{plan-next}
 use Rattle.np_changes.proofs.PremisesOf.{premises}
 use Rattle.np_changes.proofs.Tested.{on-given, on-found, on-need, on-not, ok-is}
-use Rattle.np_laws.specs.Parts.{IsLauncher, IsRegistered}
-use Rattle.np_laws.proofs.Ids.{row-of, kept-is}
-use Rattle.np_laws.proofs.Registered.{registered-still}
-use Rattle.np_roles.specs.declared.kind.EventKind.TheVariants as kind_of
-use Rattle.np_roles.specs.declared.kind.RequestKind.TheVariants as of_request
-use Rattle.np_roles.specs.Choices.{NoneOf}
+use Rattle.np_changes.specs.Parts.{IsLauncher, IsRegistered}
+use Rattle.np_changes.proofs.Ids.{row-of, kept-is}
+use Rattle.np_changes.proofs.Registered.{registered-still}
+use Rattle.np_useful.specs.declared.kind.EventKind.TheVariants as kind_of
+use Rattle.np_useful.specs.declared.kind.RequestKind.TheVariants as of_request
+use Rattle.np_useful.specs.Choices.{NoneOf}
 use Rattle.np_janitor.specs.Candidates.{lacks_registration}
 use Rattle.np_janitor.proofs.Pools.{some-fails, all-pass, all-pools}
 use Rattle.np_lists.proofs.Plain.{not-below, some-of}
-use Rattle.np_laws.proofs.Pinned.{requested-open, pending-open}
+use Rattle.np_changes.proofs.Pinned.{requested-open, pending-open}
 
 -- ## what a run keeps
 

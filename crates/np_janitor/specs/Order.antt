@@ -1,10 +1,10 @@
 -- in which order a janitor's kinds of events are tried
 use Rattle.std.specs.Prelude.{List, [], ◌∷◌, ◌++◌}
-use Rattle.np_roles.specs.declared.kind.EventKind.{EventKind}
-use Rattle.np_roles.specs.declared.kind.EventKind.TheVariants.{Request, Node, Job}
-use Rattle.np_roles.specs.declared.kind.RequestKind.TheVariants as of_request
-use Rattle.np_roles.specs.declared.kind.NodeKind.TheVariants as of_node
-use Rattle.np_roles.specs.declared.kind.JobKind.TheVariants as of_job
+use Rattle.np_useful.specs.declared.kind.EventKind.{EventKind}
+use Rattle.np_useful.specs.declared.kind.EventKind.TheVariants.{Request, Node, Job}
+use Rattle.np_useful.specs.declared.kind.RequestKind.TheVariants as of_request
+use Rattle.np_useful.specs.declared.kind.NodeKind.TheVariants as of_node
+use Rattle.np_useful.specs.declared.kind.JobKind.TheVariants as of_job
 
 -- the kinds before fail-declined: what it holds first, then what it gives back (own)
 abbrev pub before_fail : List EventKind

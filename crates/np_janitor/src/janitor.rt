@@ -5,11 +5,11 @@ ghost use Rattle.np_changes.specs.Prelude.{Fits, IsReached, Janitor, Requester, 
 ghost use Rattle.np_useful.specs.Cleanable.{is_cleanable};
 ghost use Rattle.np_useful.specs.Rows.{request_is, node_is, job_is, is_node_of, has_some_handle};
 ghost use Rattle.np_useful.specs.Sessions.{is_current, is_stopped};
-ghost use Rattle.np_roles.specs.declared.kind.EventKind.TheVariants.{Request, Node, Job};
-ghost use Rattle.np_roles.specs.declared.kind.RequestKind.TheVariants as of_request;
-ghost use Rattle.np_roles.specs.declared.kind.NodeKind.TheVariants as of_node;
-ghost use Rattle.np_roles.specs.declared.kind.JobKind.TheVariants as of_job;
-ghost use Rattle.np_roles.specs.Choices.{Chooses, ChoosesOf};
+ghost use Rattle.np_useful.specs.declared.kind.EventKind.TheVariants.{Request, Node, Job};
+ghost use Rattle.np_useful.specs.declared.kind.RequestKind.TheVariants as of_request;
+ghost use Rattle.np_useful.specs.declared.kind.NodeKind.TheVariants as of_node;
+ghost use Rattle.np_useful.specs.declared.kind.JobKind.TheVariants as of_job;
+ghost use Rattle.np_useful.specs.Choices.{Chooses, ChoosesOf};
 ghost use Rattle.np_janitor.specs.Candidates.{lacks_registration};
 ghost use Rattle.np_janitor.specs.Finishes.{ChoosesFinish};
 
@@ -17,12 +17,12 @@ use crate::cleanable::{PoolPause, is_cleanable};
 use crate::listed::LocksOfDue;
 use np_event::Event;
 use np_look::{Look, Rows, has_handles, is_same_role, node_holder};
-use np_roles::{
-    EventKind, NodeKind, RequestKind, RoleRows, choose_opening, current_session, first_of_kinds,
-    first_release, first_that_passes, is_stopped, may_open, passes,
-};
 use np_text::{
     JobId, NodeId, POOLS, PoolId, REQUESTERS, RequestId, RequestState, RequesterId, Role, SessionId,
+};
+use np_useful::{
+    EventKind, NodeKind, RequestKind, RoleRows, choose_opening, current_session, first_of_kinds,
+    first_release, first_that_passes, is_stopped, may_open, passes,
 };
 
 /// The kinds that are tried before fail-declined, in the order of the crate's table. The machine
@@ -202,7 +202,7 @@ fn first_finish<L: Look>(look: &L, rows: &JanitorRows, session: SessionId) -> Op
     ensures { ChoosesOf (L.site look.now) (L.state look.now) (Janitor rows.now.known.pool)
         (Job of_job.Finish) result }
 {
-    look.rows().config().soundness();
+    look.rows().config().know_soundness();
     for at in 0..REQUESTERS as u16 {
         let found = finish_for(look, rows, session, RequesterId(at));
         if found.is_some() {
@@ -223,7 +223,7 @@ fn first_release_of_all<L: Look>(look: &L, rows: &JanitorRows, session: SessionI
     ensures { ChoosesOf (L.site look.now) (L.state look.now) (Janitor rows.now.known.pool)
         (Job of_job.Release) result }
 {
-    look.rows().config().soundness();
+    look.rows().config().know_soundness();
     for at in 0..REQUESTERS as u16 {
         let found = first_release(look, rows, session, RequesterId(at));
         if found.is_some() {
@@ -239,7 +239,7 @@ fn lacks_registration<R: Rows>(rows: &R) -> bool
     ensures { result ≡ lacks_registration (R.site rows.now) (R.state rows.now) }
 {
     let config = rows.config();
-    config.soundness();
+    config.know_soundness();
     let registrations = rows.registrations();
     registrations < POOLS as u32 && config.pool(PoolId(registrations as u16)).is_some()
 }

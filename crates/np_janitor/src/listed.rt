@@ -5,8 +5,8 @@ ghost use Rattle.np_janitor.specs.Candidates.{tried_kinds, lock_due_at};
 
 use np_event::Event;
 use np_look::{Look, UnheldKind};
-use np_roles::Candidates;
 use np_text::{PoolId, SessionId};
+use np_useful::Candidates;
 
 /// The kinds of nodes that nobody holds, in the order in which they are tried.
 const TRIED: [UnheldKind; 4] = [

@@ -3,14 +3,14 @@
 ghost use Rattle.std.specs.Prelude.{◌≡◌};
 ghost use Rattle.np_text.specs.declared.id.Role.TheVariants.{Reaper};
 ghost use Rattle.np_useful.specs.Sessions.{is_due};
-ghost use Rattle.np_roles.specs.Choices.{Chooses};
+ghost use Rattle.np_useful.specs.Choices.{Chooses};
 ghost use Rattle.np_janitor.specs.Struck.{due_kind, strike_on, strike_of, strike_by, ChoosesStrike};
 
 use np_config::{Fault, FaultKind};
 use np_event::Event;
 use np_look::{Look, Rows};
-use np_roles::{fault_of, strikes_of};
 use np_text::{Role, SessionId};
+use np_useful::{fault_of, strikes_of};
 
 /// Whether the role has as many accepted events as the fault waits for.
 fn is_due<R: Rows>(rows: &R, role: Role, fault: &Fault) -> bool
@@ -73,7 +73,7 @@ fn first_strike<L: Look>(look: &L) -> Option<Event>
     ensures { ChoosesStrike (L.site look.now) (L.state look.now) result }
 {
     let config = look.rows().config();
-    config.soundness();
+    config.know_soundness();
     let mut at = 0;
     while let Some(fault) = config.fault(at) {
         let found = strike_by(look, fault);

@@ -9,9 +9,9 @@ use Rattle.np_look.specs.Readers.{jobs_from}
 use Rattle.np_useful.specs.Sessions.{is_current}
 use Rattle.np_useful.specs.Useful.{row_holds}
 use Rattle.np_useful.specs.Window.{is_in_window}
-use Rattle.np_roles.specs.Passing.{passes}
-use Rattle.np_roles.proofs.Among.{among, before-end}
-use Rattle.np_roles.proofs.Searches.{and-parts}
+use Rattle.np_useful.specs.Passing.{passes}
+use Rattle.np_useful.proofs.Among.{among, before-end}
+use Rattle.np_useful.proofs.Searches.{and-parts}
 use Rattle.np_jobs.specs.Steps.{phase_is, NoNewStep, ChoosesOfNew, ChoosesInWindow}
 use Rattle.np_jobs.proofs.Accepted.{acquire-begins, submit-begins}
 use Rattle.np_jobs.proofs.Rising.{IsListed, listed, apart}

@@ -5,9 +5,9 @@ use Rattle.np_changes.specs.Prelude.{Configuration, IsReached, Job, JobId, JobRe
 use Rattle.std.proofs.lemmas.Option.{slice_get_within}
 use Rattle.np_lists.proofs.EditLemmas.{list_any-there}
 use Rattle.np_machine.specs.Safe.{OwnsItsLabels, IsGiven}
-use Rattle.np_laws.specs.Parts.{Invariant}
-use Rattle.np_laws.proofs.Runs.{invariant-Runs, fulfilled-Runs}
-use Rattle.np_laws.proofs.Places.{PassesAt, any-place, node-place}
+use Rattle.np_changes.specs.Parts.{Invariant}
+use Rattle.np_changes.proofs.Runs.{invariant-Runs, fulfilled-Runs}
+use Rattle.np_changes.proofs.Places.{PassesAt, any-place, node-place}
 use Rattle.np_look.specs.Given.{asker, handed_to, is_given_to}
 use Rattle.np_useful.specs.Rows.{is_listed}
 use Rattle.np_useful.specs.Requester.{is_asked_by, is_handed_over, is_for}

@@ -4,7 +4,7 @@ use Rattle.std.specs.Prelude.{find, slice_get, nat_lt}
 use Rattle.std.proofs.lemmas.Bool.Decides.{nat_tests}
 use Rattle.np_changes.specs.Prelude.{NodeEntry, NodeId, RequestEntry, Rises, is_id_before, node_entry, request_entry, same_request}
 use Rattle.np_lists.proofs.Each.{all-at}
-use Rattle.np_laws.proofs.Lookups.{same_node}
+use Rattle.np_changes.proofs.Lookups.{same_node}
 use Rattle.np_changes.proofs.Facts.{request-apart}
 use Rattle.np_machine.proofs.Ids.{request-itself}
 

@@ -10,22 +10,22 @@ use Rattle.np_lists.proofs.Each.{length-filter_at_most}
 use Rattle.np_lists.proofs.FoundLemmas.{find-passes}
 use Rattle.np_event.specs.declared.event.Event.TheVariants as ev
 use Rattle.np_changes.proofs.Tested.{ok-is, on-given, on-found, on-check, on-need}
-use Rattle.np_laws.proofs.Lookups.{same_node, same_node-is}
+use Rattle.np_changes.proofs.Lookups.{same_node, same_node-is}
 use Rattle.np_look.specs.Given.{is_given_to, is_to_leave, node_to_leave}
 use Rattle.np_useful.specs.Requester.{is_for}
 use Rattle.np_useful.specs.Rows.{node_is}
 use Rattle.np_useful.specs.Sessions.{is_current}
 use Rattle.np_useful.specs.Useful.{IsUseful}
-use Rattle.np_roles.specs.declared.kind.EventKind.TheVariants as kind_of
-use Rattle.np_roles.specs.declared.kind.NodeKind.{NodeKind}
-use Rattle.np_roles.specs.declared.kind.NodeKind.TheVariants as of_node
-use Rattle.np_roles.specs.Candidates.{is_from_node_queue}
-use Rattle.np_roles.specs.Choices.{NoneOf}
-use Rattle.np_roles.specs.Kinds.{node_event}
-use Rattle.np_roles.specs.Passing.{passes}
-use Rattle.np_roles.proofs.Accepts.{node-maker, node-queued}
-use Rattle.np_roles.proofs.Places.{StandsIn, named-place}
-use Rattle.np_roles.proofs.Searches.{made-by, useful-passes}
+use Rattle.np_useful.specs.declared.kind.EventKind.TheVariants as kind_of
+use Rattle.np_useful.specs.declared.kind.NodeKind.{NodeKind}
+use Rattle.np_useful.specs.declared.kind.NodeKind.TheVariants as of_node
+use Rattle.np_useful.specs.Candidates.{is_from_node_queue}
+use Rattle.np_useful.specs.Choices.{NoneOf}
+use Rattle.np_useful.specs.Kinds.{node_event}
+use Rattle.np_useful.specs.Passing.{passes}
+use Rattle.np_useful.proofs.Accepts.{node-maker, node-queued}
+use Rattle.np_useful.proofs.Places.{StandsIn, named-place}
+use Rattle.np_useful.proofs.Searches.{made-by, useful-passes}
 use Rattle.np_jobs.specs.Steps.{leaving, NoLeave, ChoosesToLeave}
 use Rattle.np_jobs.proofs.ForLemmas.{for-is, for-ready}
 use Rattle.np_lists.proofs.Plain.{and-second}

@@ -5,18 +5,18 @@ use Rattle.std.specs.Prelude.{not, find}
 use Rattle.np_changes.specs.Prelude.{Configuration, IsReached, NodeEntry, NodeId, Requester, RequesterId, SessionId, State, is_queued, node_entry, node_in, node_queue, option_map}
 use Rattle.np_lists.proofs.FoundLemmas.{find-passes}
 use Rattle.np_event.specs.declared.event.Event.TheVariants as ev
-use Rattle.np_laws.proofs.Lookups.{same_node, same_node-is}
-use Rattle.np_laws.proofs.Runs.{invariant-Runs}
+use Rattle.np_changes.proofs.Lookups.{same_node, same_node-is}
+use Rattle.np_changes.proofs.Runs.{invariant-Runs}
 use Rattle.np_look.specs.Given.{is_given_to, is_to_lock, node_to_lock}
 use Rattle.np_useful.specs.Requester.{is_for}
 use Rattle.np_useful.specs.Sessions.{is_current}
 use Rattle.np_useful.specs.Useful.{IsUseful}
-use Rattle.np_roles.specs.declared.kind.EventKind.TheVariants as kind_of
-use Rattle.np_roles.specs.declared.kind.NodeKind.TheVariants as of_node
-use Rattle.np_roles.specs.Choices.{NoneOf, ChoosesOf}
-use Rattle.np_roles.specs.Passing.{passes}
-use Rattle.np_roles.proofs.Places.{StandsIn, find-place}
-use Rattle.np_roles.proofs.Searches.{made-by, passes-useful}
+use Rattle.np_useful.specs.declared.kind.EventKind.TheVariants as kind_of
+use Rattle.np_useful.specs.declared.kind.NodeKind.TheVariants as of_node
+use Rattle.np_useful.specs.Choices.{NoneOf, ChoosesOf}
+use Rattle.np_useful.specs.Passing.{passes}
+use Rattle.np_useful.proofs.Places.{StandsIn, find-place}
+use Rattle.np_useful.proofs.Searches.{made-by, passes-useful}
 use Rattle.np_jobs.proofs.Found.{none-passes, node-found}
 use Rattle.np_jobs.proofs.ForLemmas.{found-for, for-is}
 use Rattle.np_jobs.proofs.Makers.{current-maker}

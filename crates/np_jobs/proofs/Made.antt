@@ -6,11 +6,11 @@ use Rattle.np_text.specs.declared.word.EndAs.TheVariants as end
 use Rattle.np_event.specs.declared.event.Event.TheVariants as ev
 use Rattle.np_useful.specs.Useful.{IsUseful}
 use Rattle.np_useful.specs.Sessions.{is_current}
-use Rattle.np_roles.specs.declared.kind.EventKind.TheVariants as kind_of
-use Rattle.np_roles.specs.declared.kind.NodeKind.TheVariants as of_node
-use Rattle.np_roles.specs.declared.kind.JobKind.TheVariants as of_job
-use Rattle.np_roles.specs.Choices.{Chooses, ChoosesOf, ChoosesOfAny, ChoosesRelease, NoneOpens, NoneOf, NoneReleased}
-use Rattle.np_roles.proofs.Wholes.{kinds-choose}
+use Rattle.np_useful.specs.declared.kind.EventKind.TheVariants as kind_of
+use Rattle.np_useful.specs.declared.kind.NodeKind.TheVariants as of_node
+use Rattle.np_useful.specs.declared.kind.JobKind.TheVariants as of_job
+use Rattle.np_useful.specs.Choices.{Chooses, ChoosesOf, ChoosesOfAny, ChoosesRelease, NoneOpens, NoneOf, NoneReleased}
+use Rattle.np_useful.proofs.Wholes.{kinds-choose}
 use Rattle.np_jobs.specs.Steps.{leaving, requester_kinds, NoneUnderWay, ChoosesToTake, ChoosesToAcquire, ChoosesUnderWay, ChoosesInWindow}
 use Rattle.np_jobs.proofs.StepLemmas.{takes-none, acquires-fail, acquires-none, releases-none, submits-none}
 use Rattle.np_lists.proofs.Plain.{false-apart}

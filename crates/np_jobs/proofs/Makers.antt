@@ -3,8 +3,8 @@ use Rattle.std.proofs.Common.{◌≡◌, ℕ, refl, ap, Ok, Bool, true, false}
 use Rattle.std.specs.Prelude.{◌&&◌, ◌==◌, not}
 use Rattle.np_changes.specs.Prelude.{Requester, RequesterId, Role, SessionFacts, SessionId, State, maker, same_role, speaks_for}
 use Rattle.np_useful.specs.Sessions.{is_current}
-use Rattle.np_roles.proofs.Currents.{current-speaks}
-use Rattle.np_roles.proofs.Openings.{same-role}
+use Rattle.np_useful.proofs.Currents.{current-speaks}
+use Rattle.np_useful.proofs.Openings.{same-role}
 use Rattle.np_lists.proofs.Plain.{not-zero}
 
 -- a session that speaks for the requester is live, not mute and the requester's

@@ -6,8 +6,8 @@ use Rattle.np_event.specs.declared.event.Event.TheVariants as ev
 use Rattle.np_useful.specs.Sessions.{is_current}
 use Rattle.np_useful.specs.Settled.{takes_part}
 use Rattle.np_useful.specs.Useful.{IsUseful, is_maker_of, row_holds}
-use Rattle.np_roles.proofs.Currents.{current-speaks}
-use Rattle.np_roles.proofs.Openings.{same-role}
+use Rattle.np_useful.proofs.Currents.{current-speaks}
+use Rattle.np_useful.proofs.Openings.{same-role}
 use Rattle.np_jobs.specs.Idle.{IsIdle}
 use Rattle.np_jobs.proofs.OfSite.{role-at}
 use Rattle.np_lists.proofs.Plain.{and-first}

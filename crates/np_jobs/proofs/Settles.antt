@@ -3,7 +3,7 @@ use Rattle.std.proofs.Common.{◌≡◌, ◌<◌, ℕ, length, refl, arith, Bool
 use Rattle.std.specs.Prelude.{◌↔◌, not, is_some, slice_get}
 use Rattle.np_changes.specs.Prelude.{Configuration, Event, IsReached, IsSound, Janitor, Launcher, Reaper, Requester, Role, State}
 use Rattle.np_useful.specs.Settled.{takes_part, IsSettled}
-use Rattle.np_roles.specs.Choices.{Chooses}
+use Rattle.np_useful.specs.Choices.{Chooses}
 use Rattle.np_jobs.specs.Idle.{IsIdle, ArePoolsIdle, AreRequestersIdle}
 use Rattle.np_jobs.proofs.Outside.{outside-idle}
 use Rattle.np_lists.proofs.Plain.{some-within}

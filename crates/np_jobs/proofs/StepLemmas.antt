@@ -11,15 +11,15 @@ use Rattle.np_useful.specs.Requester.{has_fulfilled_request, waits_for_handles}
 use Rattle.np_useful.specs.Sessions.{is_current}
 use Rattle.np_useful.specs.Useful.{IsUseful, row_holds}
 use Rattle.np_useful.specs.Window.{is_in_window}
-use Rattle.np_roles.specs.Choices.{NoneOf, NoneReleased}
-use Rattle.np_roles.specs.Passing.{passes}
-use Rattle.np_roles.specs.Kinds.{job_event}
-use Rattle.np_roles.specs.declared.kind.EventKind.TheVariants as kind_of
-use Rattle.np_roles.specs.declared.kind.JobKind.{JobKind}
-use Rattle.np_roles.specs.declared.kind.JobKind.TheVariants as of_job
-use Rattle.np_roles.proofs.Accepts.{job-maker}
-use Rattle.np_roles.proofs.Among.{among, before-end}
-use Rattle.np_roles.proofs.Searches.{made-by, useful-passes, and-parts, passes-useful}
+use Rattle.np_useful.specs.Choices.{NoneOf, NoneReleased}
+use Rattle.np_useful.specs.Passing.{passes}
+use Rattle.np_useful.specs.Kinds.{job_event}
+use Rattle.np_useful.specs.declared.kind.EventKind.TheVariants as kind_of
+use Rattle.np_useful.specs.declared.kind.JobKind.{JobKind}
+use Rattle.np_useful.specs.declared.kind.JobKind.TheVariants as of_job
+use Rattle.np_useful.proofs.Accepts.{job-maker}
+use Rattle.np_useful.proofs.Among.{among, before-end}
+use Rattle.np_useful.proofs.Searches.{made-by, useful-passes, and-parts, passes-useful}
 use Rattle.np_jobs.specs.Steps.{phase_is, NoTake, NoneUnderWay, NoNewStep, ChoosesToFinish, ChoosesToTakeOne}
 use Rattle.np_jobs.proofs.Accepted.{IsNewInWindow, acquire-either, take-given, finish-listed, submit-new, release-own}
 use Rattle.np_jobs.proofs.Given.{WasGiven, IsToAcquire, all-supplied, unsupplied-missing, take-listed, acquire-listed, listed-acquire}

@@ -7,7 +7,7 @@ use Rattle.std.proofs.lemmas.List.Sums.{sum_by-cons}
 use Rattle.std.proofs.lemmas.Bool.Decides.{nat_tests}
 use Rattle.np_text.specs.declared.word.Phase.TheVariants as phase
 use Rattle.np_look.specs.Readers.{is_unfinished_job, unfinished_from}
-use Rattle.np_roles.proofs.Among.{IsAmong, among, before-end}
+use Rattle.np_useful.proofs.Among.{IsAmong, among, before-end}
 use Rattle.np_useful.specs.Window.{is_unfinished, jobs_of, window_of, is_in_window}
 use Rattle.np_jobs.proofs.Rising.{apart, in-order}
 use Rattle.np_lists.proofs.Plain.{and-first}

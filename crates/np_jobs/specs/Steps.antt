@@ -6,12 +6,12 @@ use Rattle.np_event.specs.declared.event.Event.TheVariants as ev
 use Rattle.np_look.specs.Jobs.{job_to_take, job_to_acquire}
 use Rattle.np_useful.specs.Useful.{IsUseful}
 use Rattle.np_useful.specs.Window.{is_in_window}
-use Rattle.np_roles.specs.declared.kind.EventKind.{EventKind}
-use Rattle.np_roles.specs.declared.kind.EventKind.TheVariants.{Node, Job}
-use Rattle.np_roles.specs.declared.kind.NodeKind.TheVariants as of_node
-use Rattle.np_roles.specs.declared.kind.JobKind.TheVariants as of_job
-use Rattle.np_roles.specs.Choices.{NoneOf}
-use Rattle.np_roles.specs.Passing.{passes}
+use Rattle.np_useful.specs.declared.kind.EventKind.{EventKind}
+use Rattle.np_useful.specs.declared.kind.EventKind.TheVariants.{Node, Job}
+use Rattle.np_useful.specs.declared.kind.NodeKind.TheVariants as of_node
+use Rattle.np_useful.specs.declared.kind.JobKind.TheVariants as of_job
+use Rattle.np_useful.specs.Choices.{NoneOf}
+use Rattle.np_useful.specs.Passing.{passes}
 
 -- the kinds that are tried on each node to leave (own)
 abbrev pub leaving : List EventKind

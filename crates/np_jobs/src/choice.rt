@@ -2,7 +2,7 @@
 
 ghost use Rattle.std.specs.Prelude.{◌≡◌};
 ghost use Rattle.np_changes.specs.Prelude.{Fits, IsReached};
-ghost use Rattle.np_roles.specs.Choices.{Chooses};
+ghost use Rattle.np_useful.specs.Choices.{Chooses};
 ghost use Rattle.np_useful.specs.Settled.{takes_part};
 
 use crate::choose_requester;

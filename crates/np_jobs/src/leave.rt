@@ -4,14 +4,14 @@ ghost use Rattle.std.specs.Prelude.{◌≡◌, IfSome, true};
 ghost use Rattle.np_changes.specs.Prelude.{Fits, IsReached, Requester};
 ghost use Rattle.np_useful.specs.Sessions.{is_current};
 ghost use Rattle.np_useful.specs.Useful.{IsUseful};
-ghost use Rattle.np_roles.specs.Choices.{ChoosesOfAny};
+ghost use Rattle.np_useful.specs.Choices.{ChoosesOfAny};
 ghost use Rattle.np_jobs.specs.Steps.{leaving, ChoosesToLeave};
 
 use crate::rows::RequesterRows;
 use np_event::Event;
 use np_look::{Look, Rows};
-use np_roles::passes;
 use np_text::{EndAs, JobId, NodeId, Phase, SessionId};
+use np_useful::passes;
 
 /// The first useful end-node or unlock-node of a node that the job uses, or `None` if there is none
 /// or the job does not use its nodes. It judges two events for each of these nodes. That it is

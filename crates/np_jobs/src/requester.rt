@@ -2,15 +2,15 @@
 
 ghost use Rattle.std.specs.Prelude.{◌≡◌, true};
 ghost use Rattle.np_changes.specs.Prelude.{Fits, IsReached, Requester, is_role};
-ghost use Rattle.np_roles.specs.Choices.{Chooses};
+ghost use Rattle.np_useful.specs.Choices.{Chooses};
 
 use crate::leave::first_step_to_leave;
 use crate::rows::RequesterRows;
 use crate::step::{first_step_in_window, first_step_under_way};
 use np_event::Event;
 use np_look::Look;
-use np_roles::{choose_opening, current_session, first_release};
 use np_text::{RequesterId, Role};
+use np_useful::{choose_opening, current_session, first_release};
 
 /// A useful event of the requester, or `None` if and only if there is none. It takes no memory. It
 /// tries the kinds of events in the order of the crate's table, and stops at the first useful

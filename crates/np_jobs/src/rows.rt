@@ -9,8 +9,8 @@ use crate::node::{is_for, is_idle, is_left_as};
 use crate::window::{is_in_window, is_to_acquire};
 use np_event::Event;
 use np_look::{Look, Rows, is_same_role, waits_at_node};
-use np_roles::{RoleRows, may_open};
 use np_text::{JobId, RequesterId, Role};
+use np_useful::{RoleRows, may_open};
 
 /// The rows of this requester.
 #[derive(Clone, Copy)]

@@ -62,6 +62,6 @@ pub fn is_settled<L: Look>(look: &L) -> bool
     requires fits { Fits (L.site look.now) (L.state look.now) }
     ensures { (result ≡ true) ↔ IsSettled (L.site look.now) (L.state look.now) }
 {
-    look.rows().config().soundness();
+    look.rows().config().know_soundness();
     are_pools_idle(look) && are_requesters_idle(look) && is_idle(look, Role::Reaper)
 }

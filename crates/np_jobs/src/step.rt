@@ -3,10 +3,10 @@
 ghost use Rattle.std.specs.Prelude.{◌≡◌, true};
 ghost use Rattle.np_changes.specs.Prelude.{Fits, IsReached, Requester};
 ghost use Rattle.np_useful.specs.Sessions.{is_current};
-ghost use Rattle.np_roles.specs.declared.kind.EventKind.TheVariants.{Node, Job};
-ghost use Rattle.np_roles.specs.declared.kind.NodeKind.TheVariants as of_node;
-ghost use Rattle.np_roles.specs.declared.kind.JobKind.TheVariants as of_job;
-ghost use Rattle.np_roles.specs.Choices.{ChoosesOf};
+ghost use Rattle.np_useful.specs.declared.kind.EventKind.TheVariants.{Node, Job};
+ghost use Rattle.np_useful.specs.declared.kind.NodeKind.TheVariants as of_node;
+ghost use Rattle.np_useful.specs.declared.kind.JobKind.TheVariants as of_job;
+ghost use Rattle.np_useful.specs.Choices.{ChoosesOf};
 ghost use Rattle.np_jobs.specs.Steps.{ChoosesToFinish, ChoosesToTakeOne, ChoosesToTake, ChoosesToAcquire, ChoosesUnderWay, ChoosesOfNew, ChoosesInWindow};
 
 use crate::leave::first_to_leave;
@@ -14,8 +14,8 @@ use crate::rows::RequesterRows;
 use crate::window::is_in_window;
 use np_event::Event;
 use np_look::{Look, Rows};
-use np_roles::passes;
 use np_text::{JobId, SessionId};
+use np_useful::passes;
 
 /// The first useful event of these on a job: end-node and unlock-node of its nodes if it uses them,
 /// and then finish. It judges at most two events for each of these nodes, and one more.

@@ -2,8 +2,7 @@
 
 ghost use Rattle.std.specs.Prelude.{◌≤◌};
 
-use np_event::Event;
-use np_event_lines::{event_has_line, put_event};
+use np_event::{Event, event_has_line, put_event};
 use np_io::MemDisk;
 use np_log::{AppendFault, CreateFault, LoadFault, Loaded, Log};
 use np_text::{JobId, SessionId};

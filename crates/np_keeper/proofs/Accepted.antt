@@ -3,13 +3,13 @@ use Rattle.std.proofs.Common.{sym, subst, ap, arith, ◌∙◌}
 use Rattle.np_changes.specs.Prelude.{Configuration, Fits, IsPlanned, IsReached, IsSound, State, changed}
 use Rattle.np_changes.specs.declared.changes.Changes.{Changes}
 use Rattle.np_changes.proofs.PlanLaws.{plan-next}
-use Rattle.np_laws.proofs.Runs.{invariant-Runs}
+use Rattle.np_changes.proofs.Runs.{invariant-Runs}
 use Rattle.np_layout.specs.Carried.{IsCarried}
-use Rattle.np_enact.specs.Events.{IsReady}
-use Rattle.np_enact.specs.Ready.{IsAccepted, IsTyped}
-use Rattle.np_enact.proofs.Carried.{steps-are-carried}
-use Rattle.np_enact.proofs.Readies.{events-are-ready}
-use Rattle.np_enact.proofs.Spelled.{records-are-spelled}
+use Rattle.np_layout.specs.Events.{IsReady}
+use Rattle.np_layout.specs.Ready.{IsAccepted, IsTyped}
+use Rattle.np_layout.proofs.Carried.{steps-are-carried}
+use Rattle.np_layout.proofs.Readies.{events-are-ready}
+use Rattle.np_layout.proofs.Spelled.{records-are-spelled}
 use Rattle.np_keeper.specs.Keeper.{MayChange}
 
 -- the plan of an accepted event may be made in a state that a run reaches

@@ -10,11 +10,11 @@ use Rattle.np_changes.specs.declared.changes.Growth.{Growth}
 use Rattle.np_changes.specs.declared.changes.Growth.TheVariants as grow
 use Rattle.np_changes.specs.declared.changes.SessionsChange.{SessionsChange}
 use Rattle.np_changes.specs.declared.changes.SessionsChange.TheVariants as sessions
-use Rattle.np_enact.specs.Events.{EventsEnact, IsEnacted}
-use Rattle.np_enact.specs.Parts.{enacted, parts_of, with_begin, with_end, writer}
-use Rattle.np_enact.specs.Stands.{Stands}
-use Rattle.np_enact.proofs.Calls.{changes-after, number-of}
-use Rattle.np_enact.proofs.StandsLemmas.{room-less}
+use Rattle.np_layout.specs.Events.{EventsEnact, IsEnacted}
+use Rattle.np_layout.specs.Parts.{enacted, parts_of, with_begin, with_end, writer}
+use Rattle.np_layout.specs.Stands.{Stands}
+use Rattle.np_layout.proofs.Calls.{changes-after, number-of}
+use Rattle.np_layout.proofs.StandsLemmas.{room-less}
 use Rattle.np_layout.specs.Decoded.{TreesHaveOneState, decoded}
 use Rattle.np_keeper.specs.Keeper.{CanBegin, CanEnd, CanMake, HasSpare, Holds, IsHeld, MayChange, made, most_changes, room_left}
 use Rattle.np_keeper.proofs.Lives.{live-session, writer-lives, writer-low}

@@ -7,16 +7,16 @@ use Rattle.std.proofs.lemmas.List.{length-append}
 use Rattle.std.proofs.lemmas.List.Folds.{list_all-append}
 use Rattle.std.proofs.lemmas.List.FromFn.{length-map-range_with_len}
 use Rattle.np_layout.specs.Prelude.{AtPart, Goes, HasRoomFor, IsStored, IsWhole, Op, TreeState, after_begin, after_multi, after_parts, answers_from, decoded, is_check, is_numbered, job_text, new_tree, role_text, with_next_number, with_spare}
-use Rattle.np_nodes.specs.declared.op.OpDone.{OpDone}
+use Rattle.np_tree_nodes.specs.declared.op.OpDone.{OpDone}
 use Rattle.np_tree.proofs.SeveralLemmas.{answered-goes, goes-under-one-number}
 use Rattle.np_layout.specs.declared.place.Place.{Place}
 use Rattle.np_layout.specs.declared.place.Place.TheVariants.{Semaphore, Job, LauncherRole, JanitorRole, RequesterRole, Tick}
 use Rattle.np_layout.specs.First.{first_directories, first_parts, first_tree, make, make_each}
 use Rattle.np_layout.proofs.FirstTrees.{first-goes, first-lays}
-use Rattle.np_enact.proofs.StandsLemmas.{room-after}
-use Rattle.np_enact.proofs.Calls.{changes-after}
-use Rattle.np_enact.proofs.StandsLemmas.{room-less}
-use Rattle.np_enact.proofs.Starts.{starts-are-carried}
+use Rattle.np_layout.proofs.StandsLemmas.{room-after}
+use Rattle.np_layout.proofs.Calls.{changes-after}
+use Rattle.np_layout.proofs.StandsLemmas.{room-less}
+use Rattle.np_layout.proofs.Starts.{starts-are-carried}
 use Rattle.np_layout.proofs.OneState.{trees-have-one_state}
 use Rattle.np_keeper.specs.Keeper.{IsHeld, room_left}
 use Rattle.np_keeper.proofs.Made.{zero-text}

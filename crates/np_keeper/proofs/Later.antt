@@ -6,7 +6,7 @@ use Rattle.np_changes.specs.declared.changes.Growth.{Growth}
 use Rattle.np_changes.specs.declared.changes.Growth.TheVariants as grow
 use Rattle.np_changes.specs.declared.changes.SessionsChange.{SessionsChange}
 use Rattle.np_changes.specs.declared.changes.SessionsChange.TheVariants as sessions
-use Rattle.np_enact.specs.Parts.{with_begin, with_end}
+use Rattle.np_layout.specs.Parts.{with_begin, with_end}
 
 -- another spare
 pub later-spared : (t u : TreeState) → u ≡ with_spare t u.spare → IsLater t u

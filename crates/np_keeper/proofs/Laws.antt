@@ -1,11 +1,11 @@
 -- the law of a whole event
-use Rattle.np_enact.specs.Events.{EventsEnact}
-use Rattle.np_enact.proofs.Events.{events-enact}
-use Rattle.np_enact.proofs.GrowthParts.{growths-enact}
-use Rattle.np_enact.proofs.HandleParts.{handles-enact}
-use Rattle.np_enact.proofs.NodeParts.{nodes-enact}
-use Rattle.np_enact.proofs.RecordParts.{deeds-enact, jobs-enact, sessions-enact, ticks-enact}
-use Rattle.np_enact.proofs.RequestParts.{requests-enact}
+use Rattle.np_layout.specs.Events.{EventsEnact}
+use Rattle.np_layout.proofs.Events.{events-enact}
+use Rattle.np_layout.proofs.GrowthParts.{growths-enact}
+use Rattle.np_layout.proofs.HandleParts.{handles-enact}
+use Rattle.np_layout.proofs.NodeParts.{nodes-enact}
+use Rattle.np_layout.proofs.RecordParts.{deeds-enact, jobs-enact, sessions-enact, ticks-enact}
+use Rattle.np_layout.proofs.RequestParts.{requests-enact}
 
 -- the changes of an accepted event are enacted
 pub enact : EventsEnact

@@ -7,3 +7,11 @@ pub mod Made
 pub mod FirstParts
 pub mod Later
 pub mod Laid
+pub mod Copying
+pub mod Ends
+pub mod Queued
+pub mod PutLemmas
+pub mod SweptRows
+pub mod Ten
+pub mod RestoreHolders
+pub mod Countable

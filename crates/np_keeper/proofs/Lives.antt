@@ -6,7 +6,7 @@ use Rattle.np_layout.specs.Prelude.{Row, TreeState, is_in, tree_session, under}
 use Rattle.np_changes.specs.Prelude.{Configuration, MakerPremise, SessionFacts, SessionId, State, session_of}
 use Rattle.np_changes.specs.declared.changes.Maker.{Maker}
 use Rattle.np_layout.specs.declared.place.Place.TheVariants.{Sessions}
-use Rattle.np_enact.specs.Parts.{writer}
+use Rattle.np_layout.specs.Parts.{writer}
 use Rattle.np_layout.specs.Decoded.{decoded, session_at, sessions_from}
 use Rattle.np_keeper.specs.Keeper.{IsHeld}
 use Rattle.np_changes.proofs.Facts.{session-low}

@@ -2,8 +2,8 @@
 use Rattle.std.proofs.Common.{◌≡◌, ℕ, ◌+◌, List, [], ◌∷◌, Bool, true, false, cond, not, Option, Some, None, Result, Ok, Err, OnErr, OnOk, refl, sym, ap, subst, ◌∙◌}
 use Rattle.np_changes.specs.Prelude.{Configuration, State, list_any}
 use Rattle.np_layout.specs.Prelude.{AtPart, HasGoodIds, HasRoomFor, IsStored, LaysOut, Mode, Node, Op, TreeRefusal, TreeState, after_create_under, after_multi, after_part, after_parts, and_then, answers_from, at_path, decoded, is_check, name_of, next_change, parent_of, part_answer, where_found, with_new_child, with_next_number, with_spare}
-use Rattle.np_nodes.specs.declared.op.Op.TheVariants as op
-use Rattle.np_nodes.specs.declared.op.OpDone.{OpDone}
+use Rattle.np_tree_nodes.specs.declared.op.Op.TheVariants as op
+use Rattle.np_tree_nodes.specs.declared.op.OpDone.{OpDone}
 use Rattle.np_layout.proofs.Elsewhere.{Stays, frame-stays, jobs-stay, launchers-stay, live-stays, node_locks-stay, nodes-stay, request_locks-stay, requests-stay, roles-stay, semaphores-stay, sessions-stay, swept-stay}
 use Rattle.np_keeper.specs.Keeper.{Holds, IsHeld}
 

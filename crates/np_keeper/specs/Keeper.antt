@@ -7,8 +7,8 @@ use Rattle.np_changes.specs.declared.changes.Growth.{Growth}
 use Rattle.np_changes.specs.declared.changes.Growth.TheVariants as grow
 use Rattle.np_changes.specs.declared.changes.SessionsChange.{SessionsChange}
 use Rattle.np_changes.specs.declared.changes.SessionsChange.TheVariants as sessions
-use Rattle.np_enact.specs.Events.{IsReady}
-use Rattle.np_enact.specs.Parts.{with_begin, with_end, writer}
+use Rattle.np_layout.specs.Events.{IsReady}
+use Rattle.np_layout.specs.Parts.{with_begin, with_end, writer}
 
 -- the change numbers that a tree may take (own)
 abbrev pub most_changes : ℕ

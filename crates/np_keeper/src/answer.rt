@@ -10,8 +10,8 @@ use np_config::Config;
 use np_decision::{Verdict, decide};
 use np_event::{Event, Refusal, Reply};
 use np_look::Scan;
-use np_readers::TreeRows;
 use np_tree::Tree;
+use np_tree_rows::TreeRows;
 
 /// The decision on an event, over the state that the tree stores.
 pub(crate) fn verdict_on(tree: &Tree, config: &Config, event: Event) -> Result<Verdict, Refusal>
@@ -27,7 +27,7 @@ pub(crate) fn verdict_on(tree: &Tree, config: &Config, event: Event) -> Result<V
 }
 
 /// What the machine answers to an event in the state that the tree stores. It takes no memory. It
-/// reads the tree's rows (np_readers), and searches by walking them.
+/// reads the tree's rows (np_tree_rows), and searches by walking them.
 pub fn judge(tree: &Tree, config: &Config, event: Event) -> Reply
     requires held { IsHeld config.now tree.now }
     requires fits { Fits config.now (decoded config.now tree.now) }

@@ -3,18 +3,18 @@
 ghost use Rattle.std.specs.Prelude.{◌≡◌, ◌<◌, ◌≤◌, true, length, OnOk, OnErr};
 ghost use Rattle.np_changes.specs.Prelude.{changed, list_all};
 ghost use Rattle.np_layout.specs.Prelude.{Goes, IsLater, after_multi, after_parts, decoded, is_numbered, with_spare};
-ghost use Rattle.np_enact.specs.Parts.{with_begin, with_end, writer};
+ghost use Rattle.np_layout.specs.Parts.{with_begin, with_end, writer};
 ghost use Rattle.np_keeper.specs.Keeper.{CanBegin, CanEnd, CanMake, HasSpare, Holds, IsHeld, MayChange, made};
 
 use crate::range::parts_are_proper;
 use np_changes::{Changes, Growth, Maker, SessionsChange};
 use np_config::Config;
 use np_look::Rows;
-use np_nodes::{MultiFault, Op};
-use np_readers::TreeRows;
 use np_steps::parts;
 use np_text::NoMemory;
 use np_tree::Tree;
+use np_tree_nodes::{MultiFault, Op};
+use np_tree_rows::TreeRows;
 use std::alloc::Global;
 
 /// The tree's session that makes the changes: the maker's, or the first one if nobody makes them.
@@ -128,7 +128,7 @@ pub(crate) fn write<R: Rows>(
 /// Makes the changes of an event in a tree that the caller has: one call of the tree, and then a
 /// session begins or ends. Fewer than 16,777,214 changes were made before. An error says that memory
 /// ran out, and then only the memory for a session may be there that was not. The cost is that of
-/// reading what the parts need from the tree (np_readers), and of the call.
+/// reading what the parts need from the tree (np_tree_rows), and of the call.
 pub(crate) fn enact_changes(
     alloc: Global,
     tree: &mut Tree,

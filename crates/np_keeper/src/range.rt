@@ -3,10 +3,10 @@
 
 ghost use Rattle.std.specs.Prelude.{◌≡◌, true};
 ghost use Rattle.np_layout.specs.Prelude.{AllByRecursion, IsPart, is_numbered, list_all};
-ghost use Rattle.np_enact.specs.Ready.{IsTyped, IsTypedEdit, IsTypedGrowth, IsTypedNodes, IsTypedRequests};
+ghost use Rattle.np_layout.specs.Ready.{IsTyped, IsTypedEdit, IsTypedGrowth, IsTypedNodes, IsTypedRequests};
 
 use np_changes::{Changes, Growth, NodesChange, RequestEdit, RequestsChange};
-use np_nodes::Op;
+use np_tree_nodes::Op;
 
 /// The number in an edit is within its type.
 fn edit_is_in_range(change: RequestEdit)

@@ -9,11 +9,11 @@ ghost use Rattle.np_keeper.specs.Keeper.{IsHeld};
 use crate::change::call;
 use np_config::Config;
 use np_layout::{Place, to_path};
-use np_nodes::{Bytes, Mode, Op};
 use np_record::{JobRecord, MarkRow, RoleRecord};
 use np_spelling::Record;
 use np_text::{JobId, NoMemory, Phase, PoolId, RequesterId, SemId};
 use np_tree::Tree;
+use np_tree_nodes::{Bytes, Mode, Op};
 use std::alloc::Global;
 
 /// A create of a place's node, which no session owns.

@@ -31,7 +31,7 @@ pub fn enact(alloc: Global, tree: &mut Tree, config: &Config, event: Event) -> R
     ensures laid { (s : State) → IsStored config.now s tree.old →
         OnOk result (IsStored config.now (next config.now s event) tree.new) }
 {
-    config.soundness();
+    config.know_soundness();
     match verdict_on(tree, config, event) {
         Ok(verdict) => enact_changes(alloc, tree, config, &verdict.changes),
         Err(_) => unreachable!(),

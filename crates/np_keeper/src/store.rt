@@ -29,7 +29,7 @@ pub struct TreeStore {
 }
 
 impl Model for TreeStore {
-    ghost use Rattle.np_nodes.specs.TreeState.{TreeState};
+    ghost use Rattle.np_tree_nodes.specs.TreeState.{TreeState};
 
     ghost Value = { TreeState };
 
@@ -42,7 +42,7 @@ impl TreeStore {
     pub fn new(alloc: Global, config: &Config) -> Result<TreeStore, NoMemory>
         ensures { IfOk result (λ store. Holds config.now (start config.now) store) }
     {
-        config.soundness();
+        config.know_soundness();
         let tree = first_tree(alloc, config)?;
         Ok(TreeStore { alloc, tree })
     }
@@ -77,7 +77,7 @@ impl Store for TreeStore {
     ghost same = { later-than-itself };
 
     fn write<R: Rows>(&mut self, rows: &R, changes: &Changes) -> Result<(), NoMemory> {
-        rows.config().soundness();
+        rows.config().know_soundness();
         changes_are_in_range(changes);
         if self.tree.changes() >= MOST_CHANGES {
             return Err(NoMemory);

@@ -10,12 +10,12 @@ use Rattle.std.proofs.lemmas.Bool.Decides.{nat_tests}
 use Rattle.std.proofs.lemmas.Option.{slice_get_within}
 use Rattle.np_text.specs.declared.word.RequestState.TheVariants as request_state
 use Rattle.np_lists.proofs.EditLemmas.{list_any-there}
-use Rattle.np_laws.specs.Parts.{IsServed, StandsIn, Invariant}
-use Rattle.np_laws.proofs.Places.{any-place, node-place}
-use Rattle.np_laws.proofs.Runs.{invariant-Runs}
+use Rattle.np_changes.specs.Parts.{IsServed, StandsIn, Invariant}
+use Rattle.np_changes.proofs.Places.{any-place, node-place}
+use Rattle.np_changes.proofs.Runs.{invariant-Runs}
 use Rattle.np_useful.specs.Launcher.{is_wanted_by, is_to_launch}
 use Rattle.np_useful.specs.Rows.{node_is, is_listed, has_failed_node}
-use Rattle.np_roles.proofs.Places.{find-place}
+use Rattle.np_useful.proofs.Places.{find-place}
 use Rattle.np_launch.specs.Allocated.{served_request}
 use Rattle.np_launch.proofs.Finds.{find-there}
 use Rattle.np_changes.proofs.Facts.{request-apart}

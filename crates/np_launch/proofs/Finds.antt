@@ -6,7 +6,7 @@ use Rattle.std.specs.List.{AllByRecursion, list_any, remove}
 use Rattle.np_lists.proofs.EditLemmas.{insert-remove}
 use Rattle.np_lists.proofs.FoundLemmas.{find-insert}
 use Rattle.np_lists.proofs.RisingLemmas.{none-remove}
-use Rattle.np_roles.proofs.Places.{any-here, drop-past}
+use Rattle.np_useful.proofs.Places.{any-here, drop-past}
 
 -- some member passes if there is a first one
 any-by : {X : Type 0} (q : X → Bool) (x : X) (xs : List X) (b : Bool) → q x ≡ b → list_any q xs ≡ is_some (find q xs) → list_any q (x ∷ xs) ≡ is_some (find q (x ∷ xs))

@@ -9,8 +9,8 @@ use Rattle.np_changes.specs.declared.changes.Changes.{Changes}
 use Rattle.np_changes.specs.declared.changes.Growth.{Growth}
 use Rattle.np_changes.specs.declared.changes.Growth.TheVariants as grow
 use Rattle.np_changes.proofs.Tested.{ok-is, on-given, on-found, on-need}
-use Rattle.np_laws.proofs.Through.{plan-found, plan-given, plan-made}
-use Rattle.np_laws.proofs.Pinned.{holder-waits}
+use Rattle.np_changes.proofs.Through.{plan-found, plan-given, plan-made}
+use Rattle.np_changes.proofs.Pinned.{holder-waits}
 
 -- a launcher that joins the queue of a request is registered for its pool
 pub record JoinsRegistered (s : State) (ch : Changes) : Type 0 where

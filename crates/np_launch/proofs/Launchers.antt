@@ -6,9 +6,9 @@ use Rattle.np_event.specs.declared.event.Event.TheVariants as ev
 use Rattle.np_useful.specs.Launcher.{is_by_registrant}
 use Rattle.np_useful.specs.Sessions.{has_current, is_current}
 use Rattle.np_useful.specs.Useful.{IsUseful}
-use Rattle.np_roles.specs.Choices.{Chooses, NoneOpens, ChoosesOpening}
-use Rattle.np_roles.proofs.Openings.{current-opens}
-use Rattle.np_roles.proofs.Wholes.{no-maker}
+use Rattle.np_useful.specs.Choices.{Chooses, NoneOpens, ChoosesOpening}
+use Rattle.np_useful.proofs.Openings.{current-opens}
+use Rattle.np_useful.proofs.Wholes.{no-maker}
 use Rattle.np_launch.specs.Choices.{launcher_order, NoneLaunched, ChoosesOfAnyKind}
 
 module _ (c : Configuration) (s : State) (p : PoolId) where

@@ -7,11 +7,11 @@ use Rattle.np_event.specs.declared.reply.Refusal.TheVariants as no
 use Rattle.np_changes.proofs.Tested.{ok-is, on-given, on-need, on-not, on-vacant}
 use Rattle.np_useful.specs.Sessions.{is_current}
 use Rattle.np_useful.specs.Useful.{IsUseful}
-use Rattle.np_roles.specs.declared.kind.EventKind.TheVariants.{Request}
-use Rattle.np_roles.specs.declared.kind.RequestKind.TheVariants.{Lock}
-use Rattle.np_roles.specs.Choices.{NoneOf, ChoosesOf}
-use Rattle.np_roles.specs.Passing.{passes}
-use Rattle.np_roles.proofs.Searches.{passes-useful, useful-passes, made-by}
+use Rattle.np_useful.specs.declared.kind.EventKind.TheVariants.{Request}
+use Rattle.np_useful.specs.declared.kind.RequestKind.TheVariants.{Lock}
+use Rattle.np_useful.specs.Choices.{NoneOf, ChoosesOf}
+use Rattle.np_useful.specs.Passing.{passes}
+use Rattle.np_useful.proofs.Searches.{passes-useful, useful-passes, made-by}
 use Rattle.np_launch.specs.declared.launcher.LaunchKind.{LaunchKind}
 use Rattle.np_launch.specs.declared.launcher.LaunchKind.TheVariants.{Plain}
 use Rattle.np_launch.specs.Choices.{ChoosesLaunched}

@@ -4,10 +4,10 @@ use Rattle.std.specs.Prelude.{◌&&◌, not, slice_get}
 use Rattle.np_changes.specs.Prelude.{Configuration, IsReached, PoolId, RequestEntry, SessionId, State, holder, is_declined_by, is_queued, is_requested, is_session_of, list_any, request_entry}
 use Rattle.std.proofs.lemmas.Bool.{and_parts}
 use Rattle.np_lists.proofs.Each.{all-from_at}
-use Rattle.np_laws.proofs.Runs.{invariant-Runs}
+use Rattle.np_changes.proofs.Runs.{invariant-Runs}
 use Rattle.np_look.specs.Readers.{queued_requests}
 use Rattle.np_useful.specs.Launcher.{is_in_hand}
-use Rattle.np_roles.proofs.Queues.{holder-queued}
+use Rattle.np_useful.proofs.Queues.{holder-queued}
 use Rattle.np_launch.specs.Hands.{is_in_hand_at}
 use Rattle.np_launch.proofs.Allocated.{entry-there}
 use Rattle.np_launch.proofs.Finds.{any-named}

@@ -7,12 +7,12 @@ use Rattle.np_look.specs.Readers.{queued_requests, queued_nodes}
 use Rattle.np_useful.specs.Planned.{is_planned}
 use Rattle.np_useful.specs.Sessions.{has_current, is_current}
 use Rattle.np_useful.specs.Useful.{IsUseful}
-use Rattle.np_roles.specs.declared.kind.EventKind.TheVariants.{Request, Node}
-use Rattle.np_roles.specs.declared.kind.RequestKind.TheVariants as of_request
-use Rattle.np_roles.specs.declared.kind.NodeKind.TheVariants as of_node
-use Rattle.np_roles.specs.Passing.{IsFirstThatPasses, IsFirst}
-use Rattle.np_roles.proofs.Searches.{first-chooses, passing-is}
-use Rattle.np_roles.proofs.Wholes.{no-maker}
+use Rattle.np_useful.specs.declared.kind.EventKind.TheVariants.{Request, Node}
+use Rattle.np_useful.specs.declared.kind.RequestKind.TheVariants as of_request
+use Rattle.np_useful.specs.declared.kind.NodeKind.TheVariants as of_node
+use Rattle.np_useful.specs.Passing.{IsFirstThatPasses, IsFirst}
+use Rattle.np_useful.proofs.Searches.{first-chooses, passing-is}
+use Rattle.np_useful.proofs.Wholes.{no-maker}
 use Rattle.np_launch.specs.Computed.{first_reason, first_takable}
 use Rattle.np_launch.specs.declared.computed.ComputedKind.TheVariants as computed
 use Rattle.np_launch.specs.declared.planned.PlannedKind.{PlannedKind}

@@ -15,9 +15,9 @@ use Rattle.np_changes.specs.declared.changes.SessionsChange.{SessionsChange}
 use Rattle.np_changes.specs.declared.changes.SessionsChange.TheVariants as sessions
 use Rattle.np_changes.proofs.PlanLaws.{plan-next}
 use Rattle.np_changes.proofs.PremisesOf.{premises}
-use Rattle.np_laws.proofs.Ids.{same_pool, row-of, kept-is}
-use Rattle.np_laws.proofs.LiveQueues.{all-joined, all-left}
-use Rattle.np_laws.proofs.Sessions.{IsNotOver, facts-stay}
+use Rattle.np_changes.proofs.Ids.{same_pool, row-of, kept-is}
+use Rattle.np_changes.proofs.LiveQueues.{all-joined, all-left}
+use Rattle.np_changes.proofs.Sessions.{IsNotOver, facts-stay}
 use Rattle.np_launch.proofs.Joins.{JoinsRegistered, joins-registered}
 
 -- begun, and registered for its pool if it is a launcher

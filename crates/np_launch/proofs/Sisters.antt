@@ -11,20 +11,20 @@ use Rattle.std.proofs.lemmas.List.Sums.{length-filter, count_by-le-length}
 use Rattle.std.proofs.lemmas.Option.{slice_get_within}
 use Rattle.np_lists.proofs.Each.{all-find, all-at, all-from_at, length-filter_at_most}
 use Rattle.np_lists.proofs.FoundLemmas.{find-passes}
-use Rattle.np_laws.specs.Parts.{IsLauncher, Invariant}
-use Rattle.np_laws.proofs.Ids.{same_pool, row-of, kept-is}
-use Rattle.np_laws.proofs.Runs.{invariant-Runs}
+use Rattle.np_changes.specs.Parts.{IsLauncher, Invariant}
+use Rattle.np_changes.proofs.Ids.{same_pool, row-of, kept-is}
+use Rattle.np_changes.proofs.Runs.{invariant-Runs}
 use Rattle.np_look.specs.Readers.{queued_requests, pending_requests}
 use Rattle.np_useful.specs.Launcher.{provider_of, is_sister, is_sister_launcher, is_served_near, is_held_near, requests_near}
 use Rattle.np_useful.specs.Rows.{request_is}
-use Rattle.np_roles.proofs.Queues.{holder-queued}
+use Rattle.np_useful.proofs.Queues.{holder-queued}
 use Rattle.np_launch.specs.Computed.{pool_of_role}
 use Rattle.np_launch.specs.Sisters.{is_served_by_sister, unserved_requests, launcher_requests, sister_requests, near_pool, is_near_below}
 use Rattle.np_launch.proofs.Counts.{one, count-same, count-none, count-either, count-named}
 use Rattle.np_launch.proofs.Named.{row-there}
 use Rattle.np_launch.proofs.Registrants.{IsRegistrant, queues-registered}
 use Rattle.np_lists.proofs.Plain.{or_true}
-use Rattle.np_laws.proofs.Waits.{served-by}
+use Rattle.np_changes.proofs.Waits.{served-by}
 use Rattle.np_machine.proofs.Ids.{session-equal}
 
 -- ## the session in a queue of one

@@ -10,7 +10,7 @@ use Rattle.np_event.specs.declared.reply.Refusal.TheVariants as no
 use Rattle.np_lists.proofs.Each.{all-from_at}
 use Rattle.np_changes.proofs.Tested.{ok-is, on-found, on-need, on-not}
 use Rattle.np_look.specs.Readers.{free_ready_of}
-use Rattle.np_laws.proofs.Runs.{invariant-Runs}
+use Rattle.np_changes.proofs.Runs.{invariant-Runs}
 use Rattle.np_useful.specs.Launcher.{may_take_ready}
 use Rattle.np_launch.specs.Computed.{pool_of_role, pool_of, first_free, is_takable, first_takable}
 use Rattle.np_launch.proofs.Finds.{any-find, find-none, find-there, first-tested}

@@ -7,19 +7,19 @@ use Rattle.std.proofs.lemmas.Bool.Decides.{nat_tests}
 use Rattle.np_event.specs.declared.event.Event.TheVariants as ev
 use Rattle.np_event.specs.declared.event.Outcome.TheVariants as outcome
 use Rattle.np_lists.proofs.FoundLemmas.{find-passes}
-use Rattle.np_laws.proofs.Lookups.{same_node-is}
+use Rattle.np_changes.proofs.Lookups.{same_node-is}
 use Rattle.np_look.specs.Readers.{queued_requests, queued_nodes}
 use Rattle.np_useful.specs.Launcher.{is_by_registrant, same_outcome, is_as_planned, is_first_reason}
 use Rattle.np_useful.specs.Rows.{request_is, node_is}
 use Rattle.np_useful.specs.Sessions.{is_current}
 use Rattle.np_useful.specs.Useful.{IsUseful, is_maker_of}
-use Rattle.np_roles.specs.Passing.{passing, IsFirst, IsFirstThatPasses}
-use Rattle.np_roles.proofs.Currents.{current-speaks}
-use Rattle.np_roles.proofs.Openings.{same-role}
-use Rattle.np_roles.proofs.Places.{StandsIn, find-place}
-use Rattle.np_roles.proofs.Queues.{holder-queued, queued-request, queued-node}
+use Rattle.np_useful.specs.Passing.{passing, IsFirst, IsFirstThatPasses}
+use Rattle.np_useful.proofs.Currents.{current-speaks}
+use Rattle.np_useful.proofs.Openings.{same-role}
+use Rattle.np_useful.proofs.Places.{StandsIn, find-place}
+use Rattle.np_useful.proofs.Queues.{holder-queued, queued-request, queued-node}
 use Rattle.np_changes.proofs.Tested.{ok-is}
-use Rattle.np_roles.proofs.Searches.{passes-useful, useful-passes, passing-is, passing-none, made-by}
+use Rattle.np_useful.proofs.Searches.{passes-useful, useful-passes, passing-is, passing-none, made-by}
 use Rattle.np_launch.specs.declared.computed.ComputedKind.{ComputedKind}
 use Rattle.np_launch.specs.declared.computed.ComputedKind.TheVariants as computed
 use Rattle.np_launch.specs.Computed.{first_reason, is_takable, first_takable, done_at, take_ready_at, decline_at, computed_places, computed_at}

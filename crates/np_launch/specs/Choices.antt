@@ -3,10 +3,10 @@ use Rattle.std.specs.Prelude.{List, [], ◌∷◌, ℕ, Option, Some, None}
 use Rattle.np_changes.specs.Prelude.{AllByRecursion, Configuration, Event, LabelId, Launcher, NodeId, Outcome, PoolId, Reason, RequestId, SessionId, State}
 use Rattle.np_event.specs.declared.event.Event.TheVariants as ev
 use Rattle.np_useful.specs.Useful.{IsUseful}
-use Rattle.np_roles.specs.declared.kind.EventKind.TheVariants.{Request, Node}
-use Rattle.np_roles.specs.declared.kind.RequestKind.TheVariants as of_request
-use Rattle.np_roles.specs.declared.kind.NodeKind.TheVariants as of_node
-use Rattle.np_roles.specs.Choices.{NoneOf}
+use Rattle.np_useful.specs.declared.kind.EventKind.TheVariants.{Request, Node}
+use Rattle.np_useful.specs.declared.kind.RequestKind.TheVariants as of_request
+use Rattle.np_useful.specs.declared.kind.NodeKind.TheVariants as of_node
+use Rattle.np_useful.specs.Choices.{NoneOf}
 use Rattle.np_launch.specs.declared.computed.ComputedKind.{ComputedKind}
 use Rattle.np_launch.specs.declared.computed.ComputedKind.TheVariants as computed
 use Rattle.np_launch.specs.declared.launcher.LaunchKind.{LaunchKind}

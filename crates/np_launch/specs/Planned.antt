@@ -4,11 +4,11 @@ use Rattle.np_changes.specs.Prelude.{AllByRecursion, Configuration, Event, Launc
 use Rattle.np_event.specs.declared.event.Event.TheVariants as ev
 use Rattle.np_useful.specs.Planned.{is_planned}
 use Rattle.np_useful.specs.Useful.{IsUseful}
-use Rattle.np_roles.specs.declared.kind.EventKind.TheVariants.{Request, Node}
-use Rattle.np_roles.specs.declared.kind.RequestKind.TheVariants as of_request
-use Rattle.np_roles.specs.declared.kind.NodeKind.TheVariants as of_node
-use Rattle.np_roles.specs.Candidates.{candidate, places}
-use Rattle.np_roles.specs.Choices.{NoneOf}
+use Rattle.np_useful.specs.declared.kind.EventKind.TheVariants.{Request, Node}
+use Rattle.np_useful.specs.declared.kind.RequestKind.TheVariants as of_request
+use Rattle.np_useful.specs.declared.kind.NodeKind.TheVariants as of_node
+use Rattle.np_useful.specs.Candidates.{candidate, places}
+use Rattle.np_useful.specs.Choices.{NoneOf}
 use Rattle.np_launch.specs.Choices.{NoneComputed}
 use Rattle.np_launch.specs.Computed.{computed_at, computed_places}
 use Rattle.np_launch.specs.declared.computed.ComputedKind.TheVariants as computed

@@ -12,8 +12,8 @@ use np_config::Config;
 use np_decision::decide;
 use np_event::Event;
 use np_look::{Look, Rows, first_unoffered, is_too_much, tenant_never_fits};
-use np_roles::Candidates;
 use np_text::{LabelId, NodeId, PoolId, Reason, RequestId, Role, SessionId};
+use np_useful::Candidates;
 
 /// A kind of event of a launcher that names something computed, or a label, or nothing.
 #[derive(Clone, Copy)]
@@ -260,7 +260,7 @@ fn is_same_reason(one: Reason, other: Reason) -> bool
 fn label_count(config: &Config) -> u32
     ensures { result ≡ length config.now.labels }
 {
-    config.soundness();
+    config.know_soundness();
     let mut at: u32 = 0;
     while at < 65536 {
         if config.label(LabelId(at as u16)).is_none() {
@@ -275,7 +275,7 @@ fn label_count(config: &Config) -> u32
 fn min_ready_at(config: &Config, session: SessionId, at: u32) -> Option<Event>
     ensures { result ≡ min_ready_at config.now session at }
 {
-    config.soundness();
+    config.know_soundness();
     if at >= 65536 {
         return None;
     }

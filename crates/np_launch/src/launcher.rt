@@ -5,9 +5,9 @@ ghost use Rattle.np_changes.specs.Prelude.{Fits, IsReached, Launcher, is_role};
 ghost use Rattle.np_useful.specs.Sessions.{is_current};
 ghost use Rattle.np_useful.specs.Launcher.{may_take_ready, is_by_registrant, registered_row};
 ghost use Rattle.np_useful.specs.Rows.{request_is, has_failed_node};
-ghost use Rattle.np_roles.specs.declared.kind.EventKind.TheVariants.{Request};
-ghost use Rattle.np_roles.specs.declared.kind.RequestKind.TheVariants.{Lock};
-ghost use Rattle.np_roles.specs.Choices.{Chooses, ChoosesOf};
+ghost use Rattle.np_useful.specs.declared.kind.EventKind.TheVariants.{Request};
+ghost use Rattle.np_useful.specs.declared.kind.RequestKind.TheVariants.{Lock};
+ghost use Rattle.np_useful.specs.Choices.{Chooses, ChoosesOf};
 ghost use Rattle.np_launch.specs.Choices.{launcher_order, ChoosesComputed, ChoosesLaunched, ChoosesOfAnyKind};
 
 use crate::computed::{ComputedKind, OfComputed, is_first_reason, may_take_ready};
@@ -16,11 +16,11 @@ use crate::requests::is_to_launch;
 use crate::rows::{is_node_done_with, is_planned_report, is_registrant, is_unfailed, may_take_up};
 use np_event::Event;
 use np_look::{Look, is_same_role};
-use np_roles::{
+use np_text::{PoolId, RequestId, Role, SessionId};
+use np_useful::{
     EventKind, NodeKind, RequestKind, RoleRows, choose_opening, current_session, first_of_kind,
     first_that_passes, may_open, passes,
 };
-use np_text::{PoolId, RequestId, Role, SessionId};
 
 /// A kind of event of a launcher.
 #[derive(Clone, Copy)]

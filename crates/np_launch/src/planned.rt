@@ -9,8 +9,8 @@ use crate::computed::{decline_at, take_ready_at};
 use crate::launcher::LauncherRows;
 use np_event::Event;
 use np_look::Look;
-use np_roles::{Candidates, current_session, first_that_passes};
 use np_text::{NodeId, PoolId, RequestId, Role, SessionId};
+use np_useful::{Candidates, current_session, first_that_passes};
 
 /// A kind of event that can be planned.
 #[derive(Clone, Copy)]

@@ -70,7 +70,7 @@ fn requests_near<L: Look>(look: &L, pool: PoolId) -> u32
     ensures { result ≡ requests_near (L.site look.now) (L.state look.now) pool }
 {
     let config = look.rows().config();
-    config.soundness();
+    config.know_soundness();
     let mut count = 0;
     let mut at = 0;
     while let Some(_) = config.pool(PoolId(at)) {

@@ -1,14 +1,6 @@
 -- each path is that of the place above it, and the name below it
-use Rattle.std.proofs.Common.{◌≡◌, ℕ, zero, suc, ◌<◌, true, List, [], ◌∷◌, ◌++◌, length, Option, Some, None, refl, sym, ap, ◌∙◌, subst, arith, append_assoc, length-append}
-use Rattle.std.proofs.lemmas.Str.{IsAscii-append}
-use Rattle.std.proofs.lemmas.Str.Ascii.{IsAscii-cons, IsAscii-nil}
-use Rattle.np_tree.specs.Prelude.{below, is_element, is_path, is_some, name_of, option_map, parent_of, request_text_of, root, ten_digits_of}
-use Rattle.std.specs.Prelude.{codes}
-use Rattle.std.specs.Str.{IsAscii}
-use Rattle.np_path.proofs.PartsLemmas.{is_path-below}
-use Rattle.np_path.proofs.PathLaws.{HasParts-below}
-use Rattle.np_layout.specs.Place.{IsGood, above, path_of, place_name}
-use Rattle.np_layout.proofs.Prelude.{Handle, NodeLock, NodeWait, Place, RequestWait, Root}
+use Rattle.np_layout.proofs.Prelude.{Handle, HasParts-below, IsAscii, IsAscii-append, IsAscii-cons, IsAscii-nil, IsGood, List, NodeLock, NodeWait, None, Option, Place, RequestWait, Root, Some, [], above, ap, append_assoc, arith, below, codes, is_element, is_path, is_path-below, is_some, length, length-append, name_of, option_map, parent_of, place_name, refl, request_text_of, root, subst, suc, sym, ten_digits_of, true, zero, ℕ, ◌++◌, ◌<◌, ◌∙◌, ◌∷◌, ◌≡◌}
+use Rattle.np_layout.specs.Place.{path_of}
 use Rattle.np_layout.proofs.NameLemmas.{IsAscii-plain, is_element-plain, is_plain_name, plain_name-of}
 
 -- ## joined

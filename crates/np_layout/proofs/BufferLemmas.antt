@@ -1,8 +1,6 @@
 -- digits that are written from the right
-use Rattle.std.proofs.Common.{◌≡◌, ℕ, zero, suc, ◌+◌, ◌-◌, ◌/◌, ◌%◌, ◌^◌, ◌<◌, ◌≤◌, List, [], ◌∷◌, ◌++◌, length, drop, set, sym, ap, ◌∙◌, arith, append_assoc}
-use Rattle.std.proofs.lemmas.Fmt.{decimal_digit, decimal_step}
-use Rattle.std.proofs.lemmas.List.{drop-set}
-use Rattle.std.specs.Fmt.{decimal}
+use Rattle.np_layout.proofs.Prelude.{List, [], ap, append_assoc, arith, decimal, decimal_digit, decimal_step, drop, drop-set, length, suc, sym, zero, ℕ, ◌%◌, ◌++◌, ◌+◌, ◌-◌, ◌/◌, ◌<◌, ◌^◌, ◌∙◌, ◌∷◌, ◌≡◌, ◌≤◌}
+use Rattle.std.proofs.Common.{set}
 
 -- the last digit in front of those that are there
 pub decimal-more : (n at : ℕ) (out : List ℕ) → 10 ≤ n → n < 2 ^ 64 → at < length out

@@ -1,14 +1,6 @@
 -- a directory and a name in it are those of one place
-use Rattle.std.proofs.Common.{◌≡◌, ℕ, ◌^◌, ◌<◌, ◌==◌, List, [], ◌∷◌, ◌++◌, length, take, drop, get_or, Option, Some, None, refl, sym, ap, ◌∙◌, arith, append_assoc, length-append}
-use Rattle.std.proofs.lemmas.List.{drop_at, take_at}
-use Rattle.std.specs.Fmt.{decimal}
-use Rattle.np_tree.specs.Prelude.{name_of, number_of, option_map, parent_of, request_of, sequence_of, ten_digits_of}
-use Rattle.std.specs.Prelude.{codes, if◌then◌else◌}
-use Rattle.std.specs.Str.{bytes_eq}
-use Rattle.np_text.proofs.OrderLemmas.{length-ten}
-use Rattle.np_text.proofs.RequestLemmas.{request_of-text}
-use Rattle.np_text.proofs.SpellingLemmas.{number_of-decimal, sequence_of-ten_digits_of, some_injective}
-use Rattle.np_layout.proofs.Prelude.{Handle, IsGood, JanitorRole, Job, Jobs, Launcher, LauncherRole, Launchers, Node, NodeLock, NodeWait, Nodepool, Nodes, Place, Poolsim, Request, RequestLock, RequestLocks, RequestWait, RequesterRole, Requests, Roles, Root, Semaphore, Semaphores, Session, Sessions, Swept, SweptPairs, Tick, Zuul, above, path_of, place_name}
+use Rattle.np_layout.proofs.Prelude.{Handle, IsGood, JanitorRole, Job, Jobs, Launcher, LauncherRole, Launchers, List, Node, NodeLock, NodeWait, Nodepool, Nodes, None, Option, Place, Poolsim, Request, RequestLock, RequestLocks, RequestWait, RequesterRole, Requests, Roles, Root, Semaphore, Semaphores, Session, Sessions, Some, SweptPairs, Tick, Zuul, [], above, ap, append_assoc, arith, bytes_eq, codes, decimal, drop, drop_at, get_or, if◌then◌else◌, length, length-append, length-ten, name_of, number_of, number_of-decimal, option_map, parent_of, path_of, place_name, refl, request_of, request_of-text, sequence_of, sequence_of-ten_digits_of, some_injective, sym, take, take_at, ten_digits_of, ℕ, ◌++◌, ◌<◌, ◌==◌, ◌^◌, ◌∙◌, ◌∷◌, ◌≡◌}
+use Rattle.np_layout.specs.declared.place.Place.TheVariants.{Swept}
 use Rattle.np_layout.proofs.AboveLemmas.{Above, above-is_good, each_place, parts-of}
 
 -- ## the place of a name

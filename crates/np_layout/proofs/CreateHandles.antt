@@ -1,15 +1,5 @@
 -- a create of a semaphore's handle
-use Rattle.std.proofs.Common.{◌≡◌, ℕ, zero, suc, ◌+◌, ◌<◌, ◌≤◌, ◌^◌, eqb, Bool, true, false, cond, ◌||◌, List, [], ◌∷◌, length, map, unwrap_or, Option, Some, None, refl, sym, ap, ◌∙◌, subst, arith}
-use Rattle.std.specs.Prelude.{◌==◌, slice_get, nat_lt}
-use Rattle.np_machine.specs.Prelude.{AllByRecursion, JobId, NonePass, SemId, State, change_at, handles_of, has_handle, insert_before, list_any, option_map, range_with_len, with_handle}
-use Rattle.std.proofs.lemmas.Bool.{eqb-false, eqb-true, or_right, or_left}
-use Rattle.std.proofs.lemmas.Bool.Decides.{nat_tests}
-use Rattle.np_lists.proofs.ChangeLemmas.{length-change_at, slice_get-change_at, slice_get-change_at_other}
-use Rattle.np_lists.proofs.Each.{all-at, all-map, all-weaker}
-use Rattle.np_lists.proofs.FilterLemmas.{none-list_any}
-use Rattle.np_tree.specs.Prelude.{HasRoomFor, IsWhole, Persistent, Row, TreeState, after_part, is_in, is_named, owner_at, with_row}
-use Rattle.np_tree.proofs.ViewRoomLemmas.{room-gives}
-use Rattle.np_layout.proofs.Prelude.{Handle, HandlesLayOut, HasGoodIds, HasHandles, IsGood, Job, LaysOut, Place, Semaphore, Semaphores, by_name, handle_row, make, path_of, place_name, places, semaphore_row}
+use Rattle.np_layout.proofs.Prelude.{AllByRecursion, Bool, Handle, HandlesLayOut, HasGoodIds, HasHandles, HasRoomFor, IsGood, IsWhole, Job, JobId, LaysOut, List, None, NonePass, Option, Persistent, Place, Row, SemId, Semaphore, Semaphores, Some, State, TreeState, [], after_part, all-at, all-map, all-weaker, ap, arith, by_name, change_at, cond, eqb, eqb-false, eqb-true, false, handle_row, handles_of, has_handle, insert_before, is_in, is_named, length, length-change_at, list_any, make, map, member-there, nat_lt, nat_tests, none-list_any, option_map, or_left, or_right, owner_at, path_of, place_name, places, range_with_len, refl, room-gives, semaphore_row, slice_get, slice_get-change_at, slice_get-change_at_other, subst, suc, sym, true, unwrap_or, with_handle, with_row, zero, ℕ, ◌+◌, ◌<◌, ◌==◌, ◌^◌, ◌||◌, ◌∙◌, ◌∷◌, ◌≡◌, ◌≤◌}
 use Rattle.np_layout.proofs.CreateLists.{none-mapped, by_name-insert}
 use Rattle.np_layout.proofs.CreateSteps.{Step, make-new, owner-there}
 use Rattle.np_layout.proofs.EachTable.{Says, Table, all-tables, each-table, of_semaphores, table-stays}
@@ -17,7 +7,6 @@ use Rattle.np_layout.proofs.Elsewhere.{Stays, handles-stay, rows-stay}
 use Rattle.np_layout.proofs.FirstLists.{all-put}
 use Rattle.np_layout.proofs.SetLists.{any-by_name, at-range}
 use Rattle.np_layout.proofs.SetSteps.{named-here, named-other}
-use Rattle.np_lists.proofs.Plain.{member-there}
 
 range-by : (test : Row → Bool) (row : ℕ → Row) (k at : ℕ) (rest b : Bool) → eqb k at ≡ b → test (row k) ≡ true → ((k ≡ at → ⊥) → rest ≡ true) → (test (row at) || rest) ≡ true
 range-by test row k at rest true is passes later = or_left (test (row at)) rest (subst (λ (n : ℕ). test (row n) ≡ true) (eqb-true k at is) passes)

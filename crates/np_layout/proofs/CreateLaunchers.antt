@@ -1,13 +1,6 @@
 -- a create of a launcher's registration
-use Rattle.std.proofs.Common.{◌≡◌, ℕ, true, false, [], ◌∷◌, map, Option, Some, None, refl, sym, ap, ◌∙◌, arith}
-use Rattle.std.specs.Prelude.{◌==◌, find, nat_lt}
-use Rattle.np_machine.specs.Prelude.{NonePass, PoolId, SessionId, State, option_map, registered, registers}
-use Rattle.std.proofs.lemmas.Bool.Decides.{nat_tests}
-use Rattle.np_lists.proofs.Halves.{none-find}
-use Rattle.np_tree.specs.Prelude.{Ephemeral, HasRoomFor, IsWhole, Op, Row, TreeState, after_part, is_in, is_named, owner_at, with_row}
-use Rattle.np_nodes.specs.declared.op.Op.TheVariants as op
-use Rattle.np_tree.proofs.ViewRoomLemmas.{room-gives}
-use Rattle.np_layout.proofs.Prelude.{HasGoodIds, IsGood, Launcher, Launchers, LaysOut, Nodepool, Place, Registration, RegistrationsLayOut, launcher_row, path_of, place_name, tree_session}
+use Rattle.np_layout.proofs.Prelude.{Ephemeral, HasGoodIds, HasRoomFor, IsGood, IsWhole, Launcher, Launchers, LaysOut, Nodepool, None, NonePass, Op, Option, Place, PoolId, Registration, RegistrationsLayOut, Row, SessionId, Some, State, TreeState, [], after_part, ap, arith, false, find, is_in, is_named, launcher_row, map, nat_lt, nat_tests, none-find, option_map, owner_at, path_of, place_name, refl, registered, registers, room-gives, sym, tree_session, true, with_row, ℕ, ◌==◌, ◌∙◌, ◌∷◌, ◌≡◌}
+use Rattle.np_tree_nodes.specs.declared.op.Op.TheVariants as op
 use Rattle.np_layout.proofs.CreateLists.{none-mapped, by_name-insert}
 use Rattle.np_layout.proofs.CreateSteps.{Step, make-new, owner-there}
 use Rattle.np_layout.proofs.EachTable.{Says, Table, all-tables, each-table, of_launchers, table-stays}

@@ -1,12 +1,5 @@
 -- the rows of a list with one member more, in the order of their names
-use Rattle.std.proofs.Common.{◌≡◌, ℕ, Bool, true, false, cond, List, [], ◌∷◌, map, Option, Some, None, refl, sym, ap, ◌∙◌}
-use Rattle.np_tree.specs.Prelude.{AllByRecursion, NonePass, Row, Seen, find_named, insert_before, is_named, list_any, option_map, row_before, seen_in, with_row}
-use Rattle.std.proofs.lemmas.Cmp.{nat_list_cmp_total}
-use Rattle.std.proofs.lemmas.Map.Lookups.{exact_bytes}
-use Rattle.np_lists.proofs.Each.{all-find}
-use Rattle.np_nodes.proofs.OrderLemmas.{lt-neither, lt-one_way, lt-trans}
-use Rattle.np_nodes.proofs.PlaceLemmas.{bytes_eq-from}
-use Rattle.np_layout.specs.Rows.{by_name}
+use Rattle.np_layout.proofs.Prelude.{AllByRecursion, Bool, List, None, NonePass, Option, Row, Seen, Some, [], all-find, ap, by_name, bytes_eq-from, cond, exact_bytes, false, find_named, insert_before, is_named, list_any, lt-neither, lt-one_way, lt-trans, map, nat_list_cmp_total, option_map, refl, row_before, seen_in, sym, true, with_row, ℕ, ◌∙◌, ◌∷◌, ◌≡◌}
 use Rattle.np_layout.proofs.FirstKinds.{rows_put}
 use Rattle.np_layout.proofs.SetLists.{any-found}
 

@@ -1,9 +1,5 @@
 -- a wait at a node's lock
-use Rattle.std.proofs.Common.{◌≡◌, Bool, true, false, List, [], ◌∷◌, Option, Some, None, refl, sym, ap, ◌∙◌}
-use Rattle.np_machine.specs.Prelude.{AllByRecursion, AllZip, NodeEntry, NodeId, Rises, SessionId, State, is_queued, joined, node_entry, node_queue, option_map_or}
-use Rattle.np_tree.specs.Prelude.{HasRoomFor, IsWhole, Row, TreeState, after_part, is_in, owner_at, row_before}
-use Rattle.np_tree.proofs.ViewRoomLemmas.{room-gives}
-use Rattle.np_layout.proofs.Prelude.{HasGoodIds, IsGood, IsNodeRow, IsQueue, LaysOut, Node, NodeLock, NodeWait, NodeWaitsLayOut, path_of, persistent, tree_session, wait_at}
+use Rattle.np_layout.proofs.Prelude.{AllByRecursion, AllZip, Bool, HasGoodIds, HasRoomFor, IsGood, IsNodeRow, HasQueue, IsWhole, LaysOut, List, Node, NodeEntry, NodeId, NodeLock, NodeWait, NodeWaitsLayOut, None, Option, Rises, Row, SessionId, Some, State, TreeState, [], after_part, ap, false, is_in, is_queued, joined, node_entry, node_queue, option_map_or, owner_at, path_of, persistent, refl, room-gives, row_before, sym, tree_session, true, wait_at, ◌∙◌, ◌∷◌, ◌≡◌}
 use Rattle.np_layout.proofs.CreateSteps.{owner-there}
 use Rattle.np_layout.proofs.CreateWaits.{IsLock, Waits, waits}
 use Rattle.np_layout.proofs.DeleteNodeWaits.{node-good, node-lock, node-queue, node_queue-lays}
@@ -37,7 +33,7 @@ module _ (s : State) (t : TreeState) (session : SessionId) (n : NodeId) (e : Nod
   owner : owner_at t (path_of (NodeLock n)) ≡ Some None
   owner = owner-there t (Node n) (NodeLock n) _ whole n-good refl (node-lock s t n e lays there).rows refl (refl, tt)
 
-  abbrev old : IsQueue (NodeLock n) (node_queue n s.nodes) t
+  abbrev old : HasQueue (NodeLock n) (node_queue n s.nodes) t
   old = node-queue s t n e lays there
 
   one : Waits (NodeLock n) (NodeWait n) (node_queue n s.nodes) t session old.next

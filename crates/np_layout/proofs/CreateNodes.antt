@@ -1,16 +1,6 @@
 -- a create of a node's record, then of its lock, and then of its maker's wait
-use Rattle.std.proofs.Common.{◌≡◌, ℕ, ◌+◌, ◌<◌, ◌≤◌, ◌^◌, true, false, List, [], ◌∷◌, ◌++◌, length, Some, None, refl, sym, ap, ◌∙◌, subst, arith}
-use Rattle.std.specs.Ordering.{is_lt}
-use Rattle.np_machine.specs.Prelude.{AllByRecursion, AllZip, NodeEntry, NodeId, NodeRecord, NonePass, SessionId, State, option_map}
-use Rattle.np_text.proofs.OrderLemmas.{nat_cmp-less, nat_cmp-more, slice_cmp-ten}
-use Rattle.np_lists.proofs.ChangeLemmas.{insert_before-end}
-use Rattle.np_lists.proofs.Each.{all-push}
-use Rattle.np_tree.specs.Prelude.{HasRoomFor, IsWhole, Op, Persistent, PersistentSequential, Row, Seen, TreeState, after_part, counter_after, is_in, is_named, owner_at, row_before, with_row}
-use Rattle.np_nodes.specs.declared.op.Op.TheVariants as op
-use Rattle.np_tree.proofs.ViewRoomLemmas.{room-falls, room-gives}
-use Rattle.np_tree.proofs.SiblingLemmas.{other-name}
-use Rattle.np_spelling.specs.Spelling.{SpellsNode}
-use Rattle.np_layout.proofs.Prelude.{GrownNodesLayOut, HasGoodIds, HasNodeLock, IsGood, IsNodeRow, IsQueue, IsWait, LaysOut, Node, NodeLock, NodeWait, Nodepool, Nodes, Place, make, path_of, persistent, place_name, tree_session, under, wait_at}
+use Rattle.np_layout.proofs.Prelude.{AllByRecursion, AllZip, GrownNodesLayOut, HasGoodIds, HasNodeLock, HasRoomFor, IsGood, IsNodeRow, HasQueue, IsWait, IsWhole, LaysOut, List, Node, NodeEntry, NodeId, NodeLock, NodeRecord, NodeWait, Nodepool, Nodes, None, NonePass, Op, Persistent, PersistentSequential, Place, Row, Seen, SessionId, Some, SpellsNode, State, TreeState, [], after_part, all-push, ap, arith, counter_after, false, insert_before-end, is_in, is_lt, is_named, length, make, nat_cmp-less, nat_cmp-more, option_map, other-name, owner_at, path_of, persistent, place_name, refl, room-falls, room-gives, row_before, slice_cmp-ten, subst, sym, tree_session, true, under, wait_at, with_row, ℕ, ◌++◌, ◌+◌, ◌<◌, ◌^◌, ◌∙◌, ◌∷◌, ◌≡◌, ◌≤◌}
+use Rattle.np_tree_nodes.specs.declared.op.Op.TheVariants as op
 use Rattle.np_layout.proofs.CreateNodeWaits.{is-lock}
 use Rattle.np_layout.proofs.CreateSteps.{Step, create_under-step, free-named, make-step, owner-there}
 use Rattle.np_layout.proofs.CreateWaits.{Waits, waits}
@@ -115,7 +105,7 @@ module _ (s : State) (t : TreeState) (session : SessionId) (kept : NodeRecord) (
   abbrev locked : TreeState
   locked = after_part v w (make [] (NodeLock n))
 
-  no-queue : IsQueue (NodeLock n) [] locked
+  no-queue : HasQueue (NodeLock n) [] locked
   no-queue = record { next = 0; gives = second.creates.new; waits = subst (λ (rows : List Row). AllZip (IsWait 0) rows []) (sym second.creates.empty) tt }
 
   third : Waits (NodeLock n) (NodeWait n) [] locked session no-queue.next

@@ -1,10 +1,5 @@
 -- a wait at a request's lock
-use Rattle.std.proofs.Common.{◌≡◌, true, false, [], Option, Some, None, refl, ap, ◌∙◌}
-use Rattle.np_machine.specs.Prelude.{RequestEntry, RequestId, SessionId, State, is_queued, joined, option_map_or, request_entry, request_queue}
-use Rattle.np_lists.proofs.Each.{all-map}
-use Rattle.np_tree.specs.Prelude.{HasRoomFor, IsWhole, Row, TreeState, after_part, is_in, owner_at}
-use Rattle.np_tree.proofs.ViewRoomLemmas.{room-gives}
-use Rattle.np_layout.proofs.Prelude.{HasGoodIds, IsGood, IsQueue, LaysOut, RequestLock, RequestLocks, RequestWait, RequestWaitsLayOut, path_of, request_lock_row, tree_session, wait_at}
+use Rattle.np_layout.proofs.Prelude.{HasGoodIds, HasRoomFor, IsGood, HasQueue, IsWhole, LaysOut, None, Option, RequestEntry, RequestId, RequestLock, RequestLocks, RequestWait, RequestWaitsLayOut, Row, SessionId, Some, State, TreeState, [], after_part, all-map, ap, false, is_in, is_queued, joined, option_map_or, owner_at, path_of, refl, request_entry, request_lock_row, request_queue, room-gives, tree_session, true, wait_at, ◌∙◌, ◌≡◌}
 use Rattle.np_layout.proofs.CreateSteps.{owner-there}
 use Rattle.np_layout.proofs.CreateWaits.{IsLock, Waits, waits}
 use Rattle.np_layout.proofs.DeleteRequestWaits.{lock-any, request-good, request-queue, request_queue-lays}
@@ -20,7 +15,7 @@ module _ (s : State) (t : TreeState) (session : SessionId) (r : RequestId) (e : 
   owner : owner_at t (path_of (RequestLock r)) ≡ Some None
   owner = owner-there t RequestLocks (RequestLock r) _ whole r-good refl lays.request_locks.rows (lock-any s r e good there) (all-map (λ (row : Row). row.owner ≡ None) request_lock_row s.requests (λ x. refl))
 
-  abbrev old : IsQueue (RequestLock r) (request_queue r s.requests) t
+  abbrev old : HasQueue (RequestLock r) (request_queue r s.requests) t
   old = request-queue s t r e lays there
 
   one : Waits (RequestLock r) (RequestWait r) (request_queue r s.requests) t session old.next

@@ -1,22 +1,7 @@
 -- a create of a request's record, and then of its lock
-use Rattle.std.proofs.Common.{◌≡◌, ℕ, ◌+◌, ◌≤◌, Bool, true, false, cond, ◌&&◌, Less, Equal, Greater, List, [], ◌∷◌, ◌++◌, length, map, Some, None, refl, sym, ap, ◌∙◌, subst, arith, append_assoc}
-use Rattle.std.specs.Prelude.{◌==◌, nat_lt}
-use Rattle.std.specs.Fmt.{decimal}
-use Rattle.std.specs.Ordering.{nat_cmp, is_lt, ordering_then}
-use Rattle.std.specs.Cmp.Lexicographic.{slice_cmp}
-use Rattle.np_machine.specs.Prelude.{AllByRecursion, AllZip, NonePass, RequestEntry, RequestId, RequestRecord, State, insert_request, is_id_before, list_all, next_id, option_map, request_entry, same_request, ten_digits_of}
-use Rattle.std.specs.Str.{bytes_eq}
-use Rattle.std.proofs.lemmas.List.Folds.{list_all-append}
-use Rattle.std.proofs.lemmas.Bool.Decides.{nat_tests}
-use Rattle.np_lists.proofs.Each.{all-insert_before}
-use Rattle.np_lists.proofs.Halves.{none-find}
-use Rattle.np_tree.specs.Prelude.{HasRoomFor, IsWhole, Op, Persistent, PersistentSequential, Row, Seen, TreeState, after_part, below, counter_after, is_element, is_in, is_named, owner_at, row_before, with_row}
-use Rattle.np_path.proofs.PartsLemmas.{is_path-below}
-use Rattle.np_path.proofs.PathLaws.{HasParts-below}
-use Rattle.np_nodes.specs.declared.op.Op.TheVariants as op
-use Rattle.np_tree.proofs.ViewRoomLemmas.{room-falls, room-gives}
-use Rattle.np_layout.specs.Prelude.{HasGoodIds, IsGood, IsQueue, IsWait, LaysOut, make, path_of, place_name, request_record_text}
-use Rattle.np_layout.proofs.Prelude.{GrownRequestsLayOut, Nodepool, Place, Request, RequestLock, RequestLocks, Requests, persistent, request_lock_row, request_prefix, request_row}
+use Rattle.np_layout.proofs.Prelude.{AllByRecursion, AllZip, Bool, Equal, Greater, GrownRequestsLayOut, HasGoodIds, HasParts-below, HasRoomFor, IsGood, HasQueue, IsWait, IsWhole, LaysOut, Less, List, Nodepool, None, NonePass, Op, Persistent, PersistentSequential, Place, Request, RequestEntry, RequestId, RequestLock, RequestLocks, RequestRecord, Requests, Row, Seen, Some, State, TreeState, [], after_part, all-insert_before, ap, append_assoc, arith, below, bytes_eq, cond, counter_after, decimal, false, insert_request, is_element, is_id_before, is_in, is_lt, is_named, is_path-below, length, list_all, list_all-append, make, map, nat_cmp, nat_lt, nat_tests, next_id, none-find, option_map, ordering_then, owner_at, path_of, persistent, place_name, refl, request_entry, request_lock_row, request_prefix, request_record_text, request_row, room-falls, room-gives, row_before, same_request, slice_cmp, subst, sym, ten_digits_of, true, with_row, ℕ, ◌&&◌, ◌++◌, ◌+◌, ◌==◌, ◌∙◌, ◌∷◌, ◌≡◌, ◌≤◌}
+use Rattle.np_text.specs.Request.{request_text_of}
+use Rattle.np_tree_nodes.specs.declared.op.Op.TheVariants as op
 use Rattle.np_layout.proofs.AboveLemmas.{is_path-of}
 use Rattle.np_layout.proofs.NameLemmas.{is_element-plain, is_plain, is_plain_name, plain_name-decimal}
 use Rattle.np_layout.proofs.OrderLemmas.{requests-rise}
@@ -24,8 +9,7 @@ use Rattle.np_layout.proofs.CreateLists.{none-mapped}
 use Rattle.np_layout.proofs.CreateSteps.{Step, make-new, create-step, free-named, owner-there}
 use Rattle.np_layout.proofs.EachTable.{Says, Table, all-tables, each-table, of_request_locks, of_requests, table-stays}
 use Rattle.np_layout.proofs.Elsewhere.{Stays, all-true, beside-apart, request_queues-stay, stays-more, IsApart}
-use Rattle.np_layout.proofs.SetRequests.{named-by}
-use Rattle.np_text.specs.Request.{request_text_of}
+use Rattle.np_layout.proofs.EntryNames.{request-named}
 
 -- ## rows in the order of requests
 
@@ -88,7 +72,7 @@ module _ (s : State) (t : TreeState) (w priority : ℕ) (kept : RequestRecord) (
       NonePass (is_named (place_name (Request r))) (map row list)
   others row names list all_good none =
       none-mapped (λ (e : RequestEntry). IsGood (Request e.id)) row (is_named (place_name (Request r))) (λ e. same_request e.id r)
-      (λ e e_good other. ap (λ (name : List ℕ). bytes_eq name (place_name (Request r))) (names e) ∙ named-by r e.id false other r_good e_good) list all_good none
+      (λ e e_good other. ap (λ (name : List ℕ). bytes_eq name (place_name (Request r))) (names e) ∙ request-named r e.id false other r_good e_good) list all_good none
 
   none : NonePass (λ (e : RequestEntry). same_request e.id r) s.requests
   none = none-find (λ (e : RequestEntry). same_request e.id r) s.requests new
@@ -129,7 +113,7 @@ module _ (s : State) (t : TreeState) (w priority : ℕ) (kept : RequestRecord) (
   stays : Stays (Requests ∷ RequestLocks ∷ []) t u
   stays = stays-more Requests (RequestLocks ∷ []) t v u first.creates.stays second.creates.stays
 
-  lock-queue : IsQueue (RequestLock r) [] u
+  lock-queue : HasQueue (RequestLock r) [] u
   lock-queue = record { next = 0; gives = second.creates.new; waits = subst (λ (rows : List Row). AllZip (IsWait 0) rows []) (sym second.creates.empty) tt }
 
   request-lays : LaysOut (record s { requests = insert_request entry s.requests; next_request = s.next_request + 1 }) u
@@ -152,7 +136,7 @@ module _ (s : State) (t : TreeState) (w priority : ℕ) (kept : RequestRecord) (
       rows =
           second.creates.rows ∙ ap (with_row (request_lock_row entry)) (first.creates.stays.rows RequestLocks tt (beside-apart RequestLocks (Requests ∷ []) refl) ∙ lays.request_locks.rows)
           ∙ insert-rows request_lock_row (λ e. refl) entry s.requests r_good good.requests;
-      queues = all-insert_before (λ (e : RequestEntry). IsQueue (RequestLock e.id) e.queue u) (λ (e : RequestEntry). is_id_before r e.id) entry s.requests lock-queue
+      queues = all-insert_before (λ (e : RequestEntry). HasQueue (RequestLock e.id) e.queue u) (λ (e : RequestEntry). is_id_before r e.id) entry s.requests lock-queue
           (request_queues-stay dirs t u stays s.requests good.requests (all-true (λ (e : RequestEntry). IsApart (RequestLock e.id) dirs) (λ e. beside-apart (RequestLock e.id) dirs refl) s.requests) lays.request_locks.queues);
     }
     each k = table-stays s dirs t u good stays (second.creates.live ∙ first.creates.live) (second.creates.begun ∙ first.creates.begun) k refl (each-table s t lays k)

@@ -1,20 +1,8 @@
 -- a session begins, and the tree's first session makes its record
-use Rattle.std.proofs.Common.{◌≡◌, ℕ, zero, suc, ◌+◌, ◌<◌, ◌≤◌, ◌^◌, Bool, true, false, ◌||◌, List, [], ◌∷◌, ◌++◌, length, map, Some, None, refl, sym, ap, ◌∙◌, arith}
-use Rattle.std.specs.Prelude.{◌==◌}
-use Rattle.std.specs.Ordering.{is_lt}
-use Rattle.np_machine.specs.Prelude.{NonePass, Role, State, list_any, range_with_len}
-use Rattle.std.proofs.lemmas.Bool.Decides.{nat_tests}
-use Rattle.np_text.proofs.OrderLemmas.{nat_cmp-less, nat_cmp-more, slice_cmp-ten}
-use Rattle.np_lists.proofs.ChangeLemmas.{insert_before-end}
-use Rattle.np_tree.specs.Prelude.{HasRoomFor, IsWhole, Persistent, Row, TreeState, after_begin, after_part, is_in, is_named, owner_at, row_before, with_row}
-use Rattle.np_tree.proofs.ViewRoomLemmas.{room-gives}
-use Rattle.np_tree.proofs.SiblingLemmas.{other-name}
-use Rattle.np_layout.specs.Prelude.{HasGoodIds, make, path_of, session_text}
-use Rattle.np_layout.proofs.Prelude.{AreLive, LaysOut, Place, Poolsim, Session, SessionFacts, Sessions, SessionsLayOut, rows_from, session_row}
+use Rattle.np_layout.proofs.Prelude.{AreLive, Bool, HasGoodIds, HasRoomFor, IsWhole, LaysOut, List, None, NonePass, Persistent, Place, Poolsim, Role, Row, Session, SessionFacts, Sessions, SessionsLayOut, Some, State, TreeState, [], after_begin, after_part, ap, arith, false, insert_before-end, is_in, is_lt, is_named, length, list_any, make, map, map-push, nat_cmp-less, nat_cmp-more, nat_tests, or_false, or_true, other-name, owner_at, path_of, range_with_len, refl, room-gives, row_before, rows_from, session_row, session_text, slice_cmp-ten, suc, sym, true, with_row, zero, ℕ, ◌++◌, ◌+◌, ◌<◌, ◌==◌, ◌^◌, ◌||◌, ◌∙◌, ◌∷◌, ◌≡◌, ◌≤◌}
 use Rattle.np_layout.proofs.CreateSteps.{Step, make-new, owner-there}
 use Rattle.np_layout.proofs.EachTable.{Says, Table, all-tables, each-table, of_live, of_sessions, table-beside}
 use Rattle.np_layout.proofs.Elsewhere.{Stays}
-use Rattle.np_lists.proofs.Plain.{or_false, map-push, or_true}
 
 -- ## one member more at the end
 

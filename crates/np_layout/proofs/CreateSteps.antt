@@ -1,27 +1,12 @@
 -- one create of a good place
-use Rattle.std.proofs.Common.{◌≡◌, ℕ, ◌≤◌, Bool, true, false, not, List, [], ◌∷◌, length, Option, Some, None, Ok, refl, sym, ap, ◌∙◌, subst}
-use Rattle.std.specs.Prelude.{IsOk, filter, nat_le}
-use Rattle.np_tree.specs.Prelude.{AllByRecursion, IsPart, IsWhole, Mode, Node, NonePass, Op, TreeState, after_part, at_path, below, counter_at, create_answer, create_under_answer, is_child, is_in, is_path, is_sequential, list_any, name_of, option_map, parent_of, part_answer}
-use Rattle.std.proofs.lemmas.Bool.{le-leb, or_right}
-use Rattle.np_lists.proofs.Each.{all-filter_to, all-insert_before, all-mapped}
-use Rattle.np_lists.proofs.Halves.{find-none}
-use Rattle.np_path.proofs.PathLaws.{IsChild-of}
-use Rattle.np_nodes.specs.declared.op.Op.TheVariants as op
-use Rattle.np_nodes.specs.declared.op.OpDone.TheVariants as done
-use Rattle.np_tree.proofs.WholeLemmas.{IsWhole-after_part}
-use Rattle.np_tree.specs.Goes.{CanCreate, owner_at}
-use Rattle.np_tree.specs.Relations.{Creates, counter_after}
-use Rattle.np_tree.specs.Several.{HasRoom}
-use Rattle.np_tree.specs.Views.{Row, Seen, find_named, is_named, name_given, row_before, row_given, row_of, rows_at, seen_at, seen_in, seen_of, with_row}
-use Rattle.np_tree.proofs.GoesLemmas.{creates-go, creates-under-go}
-use Rattle.np_tree.proofs.RelationLemmas.{apart-below, creates-show, creates-under-show, parts-change_nodes_alone, seen-is-row, seen-none}
-use Rattle.np_tree.proofs.SiblingLemmas.{child-above}
-use Rattle.np_layout.proofs.Prelude.{HasLeaves, IsGood, Place, above, next_under, path_of, place_name, under}
+use Rattle.np_layout.proofs.Prelude.{AllByRecursion, Bool, CanCreate, Creates, Err, HasLeaves, HasRoom, IsChild-of, IsGood, IsOk, IsPart, IsWhole, IsWhole-after_part, List, Mode, None, NonePass, Ok, Op, Option, Place, Result, Row, Seen, Some, TreeRefusal, TreeState, [], above, after_part, all-filter_to, all-insert_before, all-mapped, ap, apart-below, at_path, below, child-above, counter_after, counter_at, create_answer, create_under_answer, creates-go, creates-show, creates-under-go, creates-under-show, false, filter, find-none, find_named, is_child, is_in, is_named, is_path, is_sequential, le-leb, length, list_any, name_given, name_of, nat_le, next_under, not, option_map, or_right, owner_at, parent_of, part_answer, parts-change_nodes_alone, path_of, place_name, refl, row_before, row_given, row_of, rows_at, seen-is-row, seen-none, seen_at, seen_in, seen_of, subst, sym, true, under, with_row, ℕ, ◌>>=◌, ◌∙◌, ◌∷◌, ◌≡◌, ◌≤◌}
+use Rattle.np_tree.specs.Prelude.{Node}
+use Rattle.np_tree_nodes.specs.declared.op.Op.TheVariants as op
+use Rattle.np_tree_nodes.specs.declared.op.OpDone.TheVariants as done
 use Rattle.np_layout.proofs.AboveLemmas.{Above, IsGood-above, above-is_good, is_path-of, parts-of, path_of-joined}
 use Rattle.np_layout.proofs.ChildLemmas.{same_paths}
 use Rattle.np_layout.proofs.CreateLists.{owner-none}
 use Rattle.np_layout.proofs.Elsewhere.{IsApart, Stays, has_leaves}
-use Rattle.np_layout.proofs.FirstSteps.{done-part, ok-part}
 
 -- ## what is created
 
@@ -69,6 +54,13 @@ over-is q (Some over) good o_good same none has =
 no-counter : (o : Option Node) (next : ℕ) → o ≡ None → option_map (λ (n : Node). n.facts.counter) o ≡ Some next → ⊥
 no-counter None next none is = absurd cc
 no-counter (Some n) next none is = absurd cc
+
+ok-part : (r : Result (List ℕ) TreeRefusal) (made : List ℕ) → r ≡ Ok made → IsOk (r >>= λ path. Ok (done.Created path))
+ok-part (Ok path) made is = refl
+ok-part (Err refusal) made is = absurd cc
+
+done-part : (r : Result (List ℕ) TreeRefusal) (made : List ℕ) → r ≡ Ok made → (r >>= λ path. Ok (done.Created path)) ≡ Ok (done.Created made)
+done-part r made is = ap (λ (x : Result (List ℕ) TreeRefusal). x >>= λ path. Ok (done.Created path)) is
 
 -- a create that is accepted creates the row of its place
 created : (t : TreeState) (w : ℕ) (part : Op) (dir p : Place) (mode : Mode) (row : Row) (made : List ℕ) → IsGood p → above p ≡ Some dir → over_leaves (above dir) ≡ false → row.name ≡ place_name p → IsWhole t.nodes → IsPart part → seen_at t (path_of p) ≡ None →

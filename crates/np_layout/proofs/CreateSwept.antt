@@ -1,13 +1,6 @@
 -- a create of a swept pair
-use Rattle.std.proofs.Common.{◌≡◌, ℕ, Bool, true, false, cond, [], ◌∷◌, map, Some, None, refl, sym, ap, ◌∙◌, arith}
-use Rattle.np_machine.specs.Prelude.{NodeId, NonePass, State, insert_before, is_pair, is_pair_after, is_swept, with_pair}
-use Rattle.std.proofs.lemmas.Bool.Decides.{nat_tests}
-use Rattle.np_lists.proofs.FilterLemmas.{none-list_any}
-use Rattle.np_tree.specs.Prelude.{HasRoomFor, IsWhole, Persistent, Row, TreeState, after_part, is_in, is_named, owner_at, with_row}
-use Rattle.np_tree.proofs.ViewRoomLemmas.{room-gives}
-use Rattle.np_machine.specs.declared.state.Swept.{Swept}
-use Rattle.np_layout.proofs.Prelude.{HasGoodIds, IsGood, LaysOut, Place, SweptPairsLayOut, by_name, make, path_of, place_name, swept_row}
-use Rattle.np_layout.specs.declared.place.Place.TheVariants.{Poolsim, SweptPairs, Swept as SweptPlace}
+use Rattle.np_layout.proofs.Prelude.{Bool, HasGoodIds, HasRoomFor, IsGood, IsWhole, LaysOut, NodeId, None, NonePass, Persistent, Place, Poolsim, Row, Some, State, Swept, SweptPairs, SweptPairsLayOut, TreeState, [], after_part, ap, arith, by_name, cond, false, insert_before, is_in, is_named, is_pair, is_pair_after, is_swept, make, map, nat_tests, none-list_any, owner_at, path_of, place_name, refl, room-gives, swept_row, sym, true, with_pair, with_row, ℕ, ◌∙◌, ◌∷◌, ◌≡◌}
+use Rattle.np_layout.specs.declared.place.Place.TheVariants.{Swept as SweptPlace}
 use Rattle.np_layout.proofs.CreateLists.{none-mapped, by_name-insert}
 use Rattle.np_layout.proofs.CreateSteps.{Step, make-new, owner-there}
 use Rattle.np_layout.proofs.EachTable.{Says, Table, all-tables, each-table, of_swept, table-stays}

@@ -1,16 +1,5 @@
 -- a wait at a lock
-use Rattle.std.proofs.Common.{◌≡◌, ℕ, ◌+◌, ◌<◌, ◌^◌, Bool, true, false, cond, List, [], ◌∷◌, ◌++◌, Some, None, refl, sym, ap, ◌∙◌, subst, arith}
-use Rattle.std.specs.Prelude.{codes}
-use Rattle.std.specs.Ordering.{is_lt}
-use Rattle.np_tree.specs.Prelude.{AllZip, EphemeralSequential, IsWhole, NonePass, Row, SessionId, TreeState, after_part, below, counter_after, is_in, is_named, option_map, owner_at, row_before, ten_digits_of}
-use Rattle.np_text.proofs.OrderLemmas.{nat_cmp-less, nat_cmp-more, slice_cmp-ten}
-use Rattle.np_lists.proofs.ChangeLemmas.{insert_before-end}
-use Rattle.np_path.proofs.PartsLemmas.{is_path-below}
-use Rattle.np_path.proofs.PathLaws.{HasParts-below}
-use Rattle.np_machine.specs.Prelude.{is_queued, joined}
-use Rattle.np_tree.specs.Several.{HasRoom}
-use Rattle.np_tree.proofs.SiblingLemmas.{other-name}
-use Rattle.np_layout.proofs.Prelude.{IsGood, IsQueue, IsWait, Place, above, path_of, place_name, tree_session, under, wait_at, wait_row}
+use Rattle.np_layout.proofs.Prelude.{AllZip, Bool, EphemeralSequential, HasParts-below, HasRoom, IsGood, HasQueue, IsWait, IsWhole, List, None, NonePass, Place, Row, SessionId, Some, TreeState, [], above, after_part, ap, arith, below, codes, cond, counter_after, false, insert_before-end, is_in, is_lt, is_named, is_path-below, is_queued, joined, nat_cmp-less, nat_cmp-more, option_map, other-name, owner_at, path_of, place_name, refl, row_before, slice_cmp-ten, subst, sym, ten_digits_of, tree_session, true, under, wait_at, wait_row, ℕ, ◌++◌, ◌+◌, ◌<◌, ◌^◌, ◌∙◌, ◌∷◌, ◌≡◌}
 use Rattle.np_layout.proofs.AboveLemmas.{IsGood-above, is_path-of}
 use Rattle.np_layout.proofs.CreateSteps.{Step, create-step, free-named, over_leaves}
 
@@ -56,9 +45,9 @@ zip-push next session _ _ waits = absurd waits
 -- a wait is accepted, and is the last of the queue
 pub record Waits (lock : Place) (wait : ℕ → Place) (queue : List SessionId) (t : TreeState) (session : SessionId) (next : ℕ) : Type 0 where
   pub step : Step lock (wait next) EphemeralSequential (wait_row next session) t (tree_session session) (wait_at lock)
-  pub joins : IsQueue lock (joined session queue) (after_part t (tree_session session) (wait_at lock))
+  pub joins : HasQueue lock (joined session queue) (after_part t (tree_session session) (wait_at lock))
 
-pub waits : (lock : Place) (wait : ℕ → Place) (queue : List SessionId) (t : TreeState) (session : SessionId) → IsLock lock wait → (is : IsQueue lock queue t) → IsWhole t.nodes → is_in t.live (tree_session session) ≡ true → HasRoom t → owner_at t (path_of lock) ≡ Some None → is_queued session queue ≡ false →
+pub waits : (lock : Place) (wait : ℕ → Place) (queue : List SessionId) (t : TreeState) (session : SessionId) → IsLock lock wait → (is : HasQueue lock queue t) → IsWhole t.nodes → is_in t.live (tree_session session) ≡ true → HasRoom t → owner_at t (path_of lock) ≡ Some None → is_queued session queue ≡ false →
     Waits lock wait queue t session is.next
 waits lock wait queue t session is_lock is whole live room owner new =
     let next : ℕ = is.next in
@@ -81,7 +70,7 @@ waits lock wait queue t session is_lock is whole live room owner new =
     }) in
     record {
       step = step;
-      joins = subst (λ (list : List SessionId). IsQueue lock list (after_part t (tree_session session) (wait_at lock))) (sym (ap (λ (b : Bool). cond b queue (queue ++ session ∷ [])) new)) (record {
+      joins = subst (λ (list : List SessionId). HasQueue lock list (after_part t (tree_session session) (wait_at lock))) (sym (ap (λ (b : Bool). cond b queue (queue ++ session ∷ [])) new)) (record {
         next = next + 1;
         gives = step.creates.counter ∙ ap (option_map (counter_after EphemeralSequential)) is.gives;
         waits = subst (λ (rows : List Row). AllZip (IsWait (next + 1)) rows (queue ++ session ∷ []))

@@ -1,15 +1,7 @@
 -- a session ends
-use Rattle.std.proofs.Common.{◌≡◌, ℕ, zero, suc, ◌+◌, ◌-◌, ◌<◌, ◌≤◌, Bool, true, false, not, ◌||◌, cond, List, [], ◌∷◌, ◌++◌, length, map, Option, Some, None, refl, sym, ap, ◌∙◌, subst, arith}
-use Rattle.std.specs.Prelude.{◌==◌, filter}
-use Rattle.np_machine.specs.Prelude.{AllByRecursion, AllZip, NodeEntry, RequestEntry, Rises, SessionId, State, change_at, ended, handles_of, is_session, left, node_left, option_map, range_with_len, request_left}
-use Rattle.std.proofs.lemmas.Bool.Decides.{nat_tests}
-use Rattle.np_lists.proofs.ChangeLemmas.{length-change_at}
-use Rattle.np_lists.proofs.Each.{all-find, all-weaker}
-use Rattle.np_tree.specs.Prelude.{IsWhole, Node, Row, Seen, TreeState, after_end, at_path, below, find_named, is_in, is_named, is_owner, name_of, parent_of, row_before, rows_at, seen_at, seen_in, seen_of, without}
-use Rattle.np_tree.specs.Relations.{Ends, is_kept}
-use Rattle.np_tree.proofs.RelationLemmas.{ends-show, rows-rise, seen-is-row}
-use Rattle.np_layout.proofs.Prelude.{AreLive, HasGoodIds, HasHandles, HasLeaves, HasNodeLock, IsGood, IsNodeRow, IsQueue, IsWait, LaysOut, Place, Registration, SessionEndsLayOut, SessionFacts, above, by_name, handle_row, janitor_role_row, job_row, launcher_role_row, launcher_row, next_under, path_of, places, request_lock_row, request_row, requester_role_row, rows_from, semaphore_row, session_row, swept_row, tree_session, under, without_session}
-use Rattle.np_layout.specs.declared.place.Place.TheVariants.{Root, Nodepool, Requests, RequestLocks, Request, RequestLock, Nodes, Node as NodePlace, NodeLock, Launchers, Zuul, Semaphores, Semaphore, Poolsim, Jobs, Roles, Sessions, SweptPairs, Tick}
+use Rattle.np_layout.proofs.Prelude.{AllByRecursion, AllZip, AreLive, Bool, Ends, HasGoodIds, HasHandles, HasLeaves, HasNodeLock, IsGood, IsNodeRow, HasQueue, IsWait, IsWhole, Jobs, Launchers, LaysOut, List, NodeEntry, NodeLock, Nodepool, Nodes, None, Option, Place, Poolsim, Registration, Request, RequestEntry, RequestLock, RequestLocks, Requests, Rises, Roles, Root, Row, Seen, Semaphore, Semaphores, SessionEndsLayOut, SessionFacts, SessionId, Sessions, Some, State, SweptPairs, Tick, TreeState, Zuul, [], above, after_end, all-find, all-weaker, ap, arith, at_path, below, by_name, change_at, cond, ended, ends-show, false, filter, find_named, handle_row, handles_of, is_in, is_kept, is_named, is_owner, is_session, janitor_role_row, job_row, launcher_role_row, launcher_row, left, length, length-change_at, map, name_of, nat_tests, next_under, node_left, not, option_map, parent_of, path_of, places, range_with_len, refl, request_left, request_lock_row, request_row, requester_role_row, row_before, rows-rise, rows_at, rows_from, seen-is-row, seen_at, seen_in, seen_of, semaphore_row, session_row, subst, suc, swept_row, sym, tree_session, true, under, without, without_session, zero, ℕ, ◌++◌, ◌+◌, ◌-◌, ◌<◌, ◌==◌, ◌||◌, ◌∙◌, ◌∷◌, ◌≡◌, ◌≤◌}
+use Rattle.np_tree.specs.Prelude.{Node}
+use Rattle.np_layout.specs.declared.place.Place.TheVariants.{Node as NodePlace}
 use Rattle.np_layout.proofs.AboveLemmas.{is_path-of, parts-of}
 use Rattle.np_layout.proofs.DeleteLists.{by_name-kept, filter-mapped}
 use Rattle.np_layout.proofs.DeleteOnce.{zip-filter}
@@ -159,7 +151,7 @@ module _ (s : State) (t : TreeState) (session : SessionId) (whole : IsWhole t.no
     one_more a b = grind (arith, nat_tests)
 
   -- a queue loses the session
-  queue-ends : (lock dir : Place) (queue : List SessionId) → IsGood lock → above lock ≡ Some dir → ArePlain (under dir t) → IsQueue lock queue t → IsQueue lock (left session queue) u
+  queue-ends : (lock dir : Place) (queue : List SessionId) → IsGood lock → above lock ≡ Some dir → ArePlain (under dir t) → HasQueue lock queue t → HasQueue lock (left session queue) u
   queue-ends lock dir queue lock_good over plain is = record {
     next = is.next;
     gives = counter-stays lock dir is.next lock_good over plain is.gives;
@@ -175,7 +167,7 @@ module _ (s : State) (t : TreeState) (session : SessionId) (whole : IsWhole t.no
   locks-plain : ArePlain (map request_lock_row s.requests)
   locks-plain = plain-map request_lock_row (λ e. refl) s.requests
 
-  request-queues : (entries : List RequestEntry) → AllByRecursion (λ e. IsGood (Request e.id)) entries → AllByRecursion (λ e. IsQueue (RequestLock e.id) e.queue t) entries → AllByRecursion (λ e. IsQueue (RequestLock e.id) e.queue u) (map (request_left session) entries)
+  request-queues : (entries : List RequestEntry) → AllByRecursion (λ e. IsGood (Request e.id)) entries → AllByRecursion (λ e. HasQueue (RequestLock e.id) e.queue t) entries → AllByRecursion (λ e. HasQueue (RequestLock e.id) e.queue u) (map (request_left session) entries)
   request-queues [] all_good all = tt
   request-queues (e ∷ entries) all_good all =
       (queue-ends (RequestLock e.id) RequestLocks e.queue all_good.0 refl (plain-at RequestLocks (map request_lock_row s.requests) lays.request_locks.rows locks-plain) all.0, request-queues entries all_good.1 all.1)

@@ -1,20 +1,10 @@
 -- a job gives its handle of a semaphore back
-use Rattle.std.proofs.Common.{◌≡◌, ℕ, zero, suc, ◌<◌, Bool, true, false, not, ◌||◌, List, [], ◌∷◌, length, map, Option, Some, None, unwrap_or, refl, sym, ap, ◌∙◌, subst, arith}
-use Rattle.std.specs.Prelude.{◌==◌, filter, find, slice_get}
-use Rattle.np_machine.specs.Prelude.{AllByRecursion, JobId, Rises, SemId, State, change_at, handles_of, has_handle, is_among, list_any, option_map, without_handle}
-use Rattle.std.specs.Str.{bytes_eq}
-use Rattle.std.proofs.lemmas.Bool.Decides.{nat_tests}
-use Rattle.np_lists.proofs.ChangeLemmas.{slice_get-change_at}
-use Rattle.np_lists.proofs.Each.{all-weaker}
-use Rattle.np_layout.specs.Prelude.{IsGood, Row, TreeState, after_part, is_named, path_of, place_name, row_before}
-use Rattle.np_nodes.proofs.PlaceLemmas.{bytes_eq-from}
-use Rattle.np_tree.proofs.RelationLemmas.{rows-rise}
-use Rattle.np_layout.proofs.Prelude.{Handle, HandlesGoLayOut, HasHandles, MayDelete, Place, Semaphore, by_name, delete, handle_row, under}
+use Rattle.np_layout.proofs.Prelude.{AllByRecursion, Bool, Handle, HandlesGoLayOut, HasHandles, IsGood, JobId, List, MayDelete, None, Option, Place, Rises, Row, SemId, Semaphore, Some, State, TreeState, [], after_part, all-weaker, ap, arith, by_name, bytes_eq, change_at, delete, false, filter, find, handle_row, handles_of, has_handle, is_among, is_named, length, list_any, map, nat_tests, not, option_map, path_of, place_name, refl, row_before, rows-rise, slice_get, slice_get-change_at, subst, suc, sym, true, under, unwrap_or, without_handle, zero, ℕ, ◌<◌, ◌==◌, ◌||◌, ◌∙◌, ◌∷◌, ◌≡◌}
 use Rattle.np_layout.proofs.CreateHandles.{changed-lays, handles-good}
 use Rattle.np_layout.proofs.DeleteLists.{any-mapped, by_name-kept, filter-mapped}
 use Rattle.np_layout.proofs.DeleteSteps.{DeleteGoes, bare-leaf, delete-goes, is_other}
 use Rattle.np_layout.proofs.SetLists.{any-by_name, any-found, at-range}
-use Rattle.np_layout.proofs.SetSteps.{named-other}
+use Rattle.np_layout.proofs.EntryNames.{named-as}
 
 -- ## a handle's name is its own
 
@@ -29,11 +19,7 @@ job_of (Handle x j) = j
 job_of other = record { 0 = 0 }
 
 pub named-by : (x : SemId) (j other : JobId) (b : Bool) → (other.0 == j.0) ≡ b → IsGood (Handle x j) → IsGood (Handle x other) → bytes_eq (place_name (Handle x other)) (place_name (Handle x j)) ≡ b
-named-by x j other true same j_good other_good = bytes_eq-from (place_name (Handle x other)) (place_name (Handle x j)) (ap (λ (k : JobId). place_name (Handle x k)) (same-is other j same))
-named-by x j other false same j_good other_good =
-    named-other (Handle x j) (Handle x other) j_good other_good refl (λ equal.
-    let itself = subst (λ (k : JobId). (other.0 == k.0) ≡ true) (ap job_of equal) (same-self other) in
-    absurd cc)
+named-by x j other = named-as (Handle x) job_of (λ a b. a.0 == b.0) (λ k. refl) (λ a b. refl) same-is same-self other j
 
 -- the job is one of those in the list
 good-by : (x : SemId) (j other : JobId) (jobs : List JobId) (b : Bool) → (other.0 == j.0) ≡ b → (b || is_among j jobs) ≡ true → IsGood (Handle x other) → (is_among j jobs ≡ true → IsGood (Handle x j)) → IsGood (Handle x j)

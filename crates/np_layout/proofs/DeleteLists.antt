@@ -1,9 +1,5 @@
 -- the rows of a directory of which some are left out
-use Rattle.std.proofs.Common.{◌≡◌, Bool, true, false, ◌||◌, cond, List, [], ◌∷◌, map, Some, refl, sym, ap, ◌∙◌}
-use Rattle.std.specs.Prelude.{filter, find}
-use Rattle.np_tree.specs.Prelude.{AllByRecursion, Rises, Row, list_any, row_before, with_row}
-use Rattle.np_lists.proofs.Each.{all-filter}
-use Rattle.np_layout.specs.Rows.{by_name}
+use Rattle.np_layout.proofs.Prelude.{AllByRecursion, Bool, List, Rises, Row, Some, [], all-filter, ap, by_name, cond, false, filter, find, list_any, map, refl, row_before, sym, true, with_row, ◌||◌, ◌∙◌, ◌∷◌, ◌≡◌}
 use Rattle.np_layout.proofs.FirstKinds.{rows_put}
 
 -- ## rows in the order of their names

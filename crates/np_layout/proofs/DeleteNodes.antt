@@ -1,20 +1,13 @@
 -- a node goes
-use Rattle.std.proofs.Common.{◌≡◌, ℕ, Bool, true, false, not, List, [], ◌∷◌, Some, refl, sym, ap, ◌∙◌, subst}
-use Rattle.std.specs.Prelude.{◌==◌, filter, find}
-use Rattle.np_machine.specs.Prelude.{AllByRecursion, AllZip, NodeEntry, NodeId, State, node_entry, node_queue, remove_first, remove_node}
-use Rattle.np_lists.proofs.Each.{all-filter_to}
-use Rattle.np_layout.specs.Prelude.{IsGood, Row, TreeState, find_named, is_named, place_name}
-use Rattle.np_layout.proofs.Prelude.{HasNodeLock, IsNodeRow, LaysOut, MayDelete, Node, NodeLock, NodeWait, Nodes, NodesGoLayOut, node_deletes, persistent, under}
+use Rattle.np_layout.proofs.Prelude.{AllByRecursion, AllZip, Bool, HasNodeLock, IsGood, IsNodeRow, LaysOut, List, MayDelete, Node, NodeEntry, NodeId, NodeLock, NodeWait, Nodes, NodesGoLayOut, Row, Some, State, TreeState, [], all-filter_to, ap, false, filter, find, find_named, is_named, node-itself, node_deletes, node_entry, node_queue, not, not-true, persistent, place_name, refl, remove_first, remove_node, subst, sym, true, under, ℕ, ◌==◌, ◌∙◌, ◌∷◌, ◌≡◌}
 use Rattle.np_layout.proofs.DeleteNodeWaits.{is_node_it, node-good, node-lock, node-once, node-queue, node-tells, node_lock-apart}
-use Rattle.np_layout.proofs.DeleteOnce.{IsOnce, Tells, filter-removed, zip-filter}
+use Rattle.np_layout.proofs.DeleteOnce.{IsOnce, Tells, any-told, filter-removed, zip-filter}
 use Rattle.np_layout.proofs.DeleteLists.{found-any}
-use Rattle.np_layout.proofs.DeleteParts.{AreWaits, LockGoes, RecordGoes, all-pair, any-told, lock-goes, parts-after, record-goes}
+use Rattle.np_layout.proofs.DeleteParts.{AreWaits, LockGoes, RecordGoes, all-pair, lock-goes, parts-after, record-goes}
 use Rattle.np_layout.proofs.DeleteSteps.{is_other}
 use Rattle.np_layout.proofs.EachTable.{Says, Table, all-tables, each-table, of_node_locks, of_nodes, table-stays}
 use Rattle.np_layout.proofs.Elsewhere.{node_lock-stays}
 use Rattle.np_layout.proofs.SetLists.{any-found}
-use Rattle.std.proofs.lemmas.Bool.{not-true}
-use Rattle.np_machine.proofs.Ids.{node-itself}
 
 -- the waits of a node's lock
 node-waits : (n : NodeId) → IsGood (Node n) → AreWaits (NodeLock n) (NodeWait n)

@@ -1,10 +1,5 @@
 -- lists in which at most one member passes a test: it is changed or left out, and the others stay
-use Rattle.std.proofs.Common.{◌≡◌, ℕ, Bool, true, false, not, cond, List, [], ◌∷◌, map, refl, sym, ap, ◌∙◌, subst}
-use Rattle.std.specs.Prelude.{filter}
-use Rattle.np_tree.specs.Prelude.{AllByRecursion, AllZip, NonePass, Rises, Row, change_first, is_named, remove_first, row_before}
-use Rattle.np_lists.proofs.FilterLemmas.{filter-not_none}
-use Rattle.np_nodes.proofs.PlaceLemmas.{bytes_eq-is}
-use Rattle.np_tree.proofs.SiblingLemmas.{other-name_back}
+use Rattle.np_layout.proofs.Prelude.{AllByRecursion, AllZip, Bool, List, NonePass, Rises, Row, Some, [], ap, bytes_eq-is, change_first, cond, false, filter, filter-not_none, find, is_named, list_any, map, not, other-name_back, refl, remove_first, row_before, subst, sym, true, ℕ, ◌∙◌, ◌∷◌, ◌≡◌}
 
 -- no member after one that passes does
 abbrev pub IsOnce : {A : Type 0} → (A → Bool) → List A → Type 0
@@ -15,12 +10,28 @@ IsOnce p (a ∷ list) = (p a ≡ true → NonePass p list) × IsOnce p list
 abbrev pub Tells : {A : Type 0} → List ℕ → (A → Bool) → List Row → List A → Type 0
 Tells name p rows list = AllZip (λ row a. is_named name row ≡ p a) rows list
 
+-- the rows of members, one by one
+pub zip-mapped : {A : Type 0} (row : A → Row) (list : List A) → AllZip (λ r a. r ≡ row a) (map row list) list
+zip-mapped row [] = tt
+zip-mapped row (a ∷ list) = (refl, zip-mapped row list)
+
+pub mapped-zip : {A : Type 0} (row : A → Row) (rows : List Row) (list : List A) → AllZip (λ r a. r ≡ row a) rows list → rows ≡ map row list
+mapped-zip row [] [] all = refl
+mapped-zip row (r ∷ rows) (a ∷ list) all = rw (all.0, mapped-zip row rows list all.1) refl
+mapped-zip row _ _ all = absurd all
+
 -- ## from rows in order
 
 -- the rows of members have the name as these tell
 pub tells-mapped : {A : Type 0} (name : List ℕ) (p : A → Bool) (row : A → Row) (list : List A) → AllByRecursion (λ a. is_named name (row a) ≡ p a) list → Tells name p (map row list) list
 tells-mapped name p row [] all = tt
 tells-mapped name p row (a ∷ list) all = (all.0, tells-mapped name p row list all.1)
+
+-- a row of the name is there if a member passes
+pub any-told : {A : Type 0} (name : List ℕ) (p : A → Bool) (rows : List Row) (list : List A) → Tells name p rows list → list_any (is_named name) rows ≡ list_any p list
+any-told name p [] [] tells = refl
+any-told name p (row ∷ rows) (a ∷ list) tells = rw (tells.0, any-told name p rows list tells.1) refl
+any-told name p _ _ tells = absurd tells
 
 module _ {A : Type 0} (name : List ℕ) (p : A → Bool) where
   none-after : (row : Row) (rows : List Row) (list : List A) → is_named name row ≡ true → AllByRecursion (λ other. row_before row other ≡ true) rows → Tells name p rows list → NonePass p list
@@ -82,6 +93,19 @@ module _ {A : Type 0} (p : A → Bool) where
       zip-change_first [] [] all = tt
       zip-change_first (row ∷ rows) (a ∷ list) all = zip-by row rows a list (p a) all.0 all.1 (zip-change_first rows list all.1)
       zip-change_first _ _ all = absurd all
+
+  -- the row of a name and the member that is found are changed together
+  module _ (f : A → A) (g : Row → Row) (test : Row → Bool) (R : Row → A → Type 0) where
+    turn-by : (row : Row) (rows rest : List Row) (a : A) (list more : List A) (b c : Bool) → b ≡ c → R row a → AllZip R rows list → ((x : A) → cond c (Some a) (find p list) ≡ Some x → (r : Row) → R r x → R (g r) (f x)) →
+        (((x : A) → find p list ≡ Some x → (r : Row) → R r x → R (g r) (f x)) → AllZip R rest more) → AllZip R (cond b (g row ∷ rows) (row ∷ rest)) (cond c (f a ∷ list) (a ∷ more))
+    turn-by row rows rest a list more true true same is all turns later = (turns a refl row is, all)
+    turn-by row rows rest a list more false false same is all turns later = (is, later turns)
+    turn-by row rows rest a list more _ _ same is all turns later = absurd cc
+
+    pub zip-change_found : (rows : List Row) (list : List A) → AllZip (λ row a. test row ≡ p a) rows list → AllZip R rows list → ((x : A) → find p list ≡ Some x → (r : Row) → R r x → R (g r) (f x)) → AllZip R (change_first test g rows) (change_first p f list)
+    zip-change_found [] [] tells all turns = tt
+    zip-change_found (row ∷ rows) (a ∷ list) tells all turns = turn-by row rows (change_first test g rows) a list (change_first p f list) (test row) (p a) tells.0 all.0 all.1 turns (zip-change_found rows list tells.1 all.1)
+    zip-change_found _ _ tells all turns = absurd all
 
   -- rows and members are left out together
   module _ (R : Row → A → Type 0) (test : Row → Bool) where

@@ -1,30 +1,12 @@
 -- several deletes: a queue is cleared, and what stays of a layout when a request or a node goes
-use Rattle.std.proofs.Common.{◌≡◌, ℕ, ◌+◌, ◌<◌, ◌≤◌, ◌^◌, Bool, true, false, not, cond, List, [], ◌∷◌, ◌++◌, codes, Some, refl, sym, ap, ◌∙◌, subst, append_assoc, arith}
-use Rattle.std.specs.Prelude.{IsOk, filter, find}
-use Rattle.np_machine.specs.Prelude.{AllByRecursion, AllZip, Rises, SessionId, State, list_any, ten_digits_of}
-use Rattle.np_lists.proofs.Each.{all-weaker}
-use Rattle.np_lists.proofs.FilterLemmas.{filter-not_none}
-use Rattle.np_layout.specs.Prelude.{Any, Goes, IsGood, IsWhole, Op, Row, TreeState, above, after_part, below, delete_parts, find_named, is_in, is_named, part_answer, path_of, place_name, row_before, rows_at}
-use Rattle.np_nodes.specs.declared.op.Op.TheVariants as op
-use Rattle.np_nodes.proofs.PlaceLemmas.{bytes_eq-from}
-use Rattle.np_tree.proofs.RelationLemmas.{rows-rise}
-use Rattle.np_tree.proofs.SeveralLemmas.{goes-after, goes-joined}
-use Rattle.np_tree.proofs.ViewRoomLemmas.{room-gives}
-use Rattle.np_tree.proofs.SiblingLemmas.{other-name_back}
-use Rattle.np_layout.proofs.Prelude.{HasLeaves, IsQueue, IsWait, LaysOut, MayDelete, PartsLayOut, Place, delete, next_under, under}
+use Rattle.np_layout.proofs.Prelude.{AllByRecursion, AllZip, Any, Bool, Goes, HasLeaves, IsGood, IsOk, HasQueue, IsWait, IsWhole, LaysOut, List, MayDelete, Op, PartsLayOut, Place, Rises, Row, SessionId, Some, State, TreeState, [], above, after_part, all-weaker, ap, append_assoc, arith, below, bytes_eq-from, codes, cond, delete, delete_parts, false, filter, filter-not_none, find, find_named, goes-after, goes-joined, is_in, is_named, next_under, not, other-name_back, part_answer, path_of, place_name, refl, room-gives, row_before, rows-rise, rows_at, subst, sym, ten_digits_of, true, under, ℕ, ◌++◌, ◌+◌, ◌<◌, ◌^◌, ◌∙◌, ◌∷◌, ◌≡◌, ◌≤◌}
+use Rattle.np_tree_nodes.specs.declared.op.Op.TheVariants as op
 use Rattle.np_layout.proofs.AboveLemmas.{IsGood-above, path_of-joined}
-use Rattle.np_layout.proofs.DeleteOnce.{Tells}
 use Rattle.np_layout.proofs.DeleteQueues.{bare-owned}
 use Rattle.np_layout.proofs.DeleteSteps.{DeleteGoes, DeletesRow, delete-goes, is_other}
 use Rattle.np_layout.proofs.Elsewhere.{IsBeside, Stays, counter-stays, has_counter, has_leaves, leaves-stay, rows-stay, stays-both, stays-same, stays-wider}
 
 -- ## lists
-
--- a row of the name is there if a member passes
-pub any-told : {A : Type 0} (name : List ℕ) (p : A → Bool) (rows : List Row) (list : List A) → Tells name p rows list → list_any (is_named name) rows ≡ list_any p list
-any-told name p [] [] tells = refl
-any-told name p (row ∷ rows) (a ∷ list) tells = rw (tells.0, any-told name p rows list tells.1) refl
-any-told name p _ _ tells = absurd tells
 
 pub all-pair : {A : Type 0} (P Q : A → Type 0) (list : List A) → AllByRecursion P list → AllByRecursion Q list → AllByRecursion (λ a. P a × Q a) list
 all-pair P Q [] first last = tt
@@ -128,7 +110,7 @@ pub record LockGoes (t : TreeState) (w : ℕ) (over lock : Place) : Type 0 where
   pub rows : under over v ≡ filter (is_other (place_name lock)) (under over t)
 
 pub lock-goes : (s : State) (t : TreeState) (w : ℕ) (over lock : Place) (place : ℕ → Place) (row : Row) (queue : List SessionId) → MayDelete s t w → AreWaits lock place → IsGood lock → above lock ≡ Some over → has_counter lock ≡ true → IsBeside over (lock ∷ []) →
-    find_named (place_name lock) (under over t) ≡ Some row → IsQueue lock queue t → LockGoes t w over lock
+    find_named (place_name lock) (under over t) ≡ Some row → HasQueue lock queue t → LockGoes t w over lock
 lock-goes s t w over lock place row queue may are good top counts beside there is =
     let few : is.next ≤ 2 ^ 32 = let low = (room-gives t 0 may.room).counter (path_of lock) is.next is.gives in omega arith in
     let cleared : Cleared t w lock (under lock t) = clear w lock place are is.next few queue (under lock t) t may.whole may.live may.room.change refl is.waits in

@@ -1,20 +1,9 @@
 -- one wait of a queue is deleted
-use Rattle.std.proofs.Common.{◌≡◌, ℕ, zero, suc, ◌+◌, Bool, true, false, ◌||◌, cond, List, [], ◌∷◌, map, Some, refl, sym, ap, ◌∙◌, subst, arith}
-use Rattle.std.specs.Prelude.{filter, find, slice_get}
-use Rattle.np_machine.specs.Prelude.{AllByRecursion, AllZip, Rises, SessionId, State, is_queued, is_session, left, option_map}
-use Rattle.std.proofs.lemmas.Bool.Decides.{nat_tests}
-use Rattle.np_lists.proofs.Each.{all-at}
-use Rattle.np_layout.specs.Prelude.{IsGood, IsQueue, IsWait, IsWhole, Node, Row, Seen, TreeState, above, at_path, find_named, is_named, name_of, parent_of, path_of, place_name, row_before, row_of, rows_at, seen_at, seen_in, seen_of, under}
-use Rattle.np_nodes.proofs.PlaceLemmas.{bytes_eq-from}
-use Rattle.np_tree.proofs.StandingLemmas.{children_of-ephemeral}
-use Rattle.np_tree.proofs.GoesLemmas.{seen-node}
-use Rattle.np_tree.proofs.RelationLemmas.{rows-rise, seen-is-row}
-use Rattle.np_tree.proofs.SiblingLemmas.{other-name, other-name_back}
-use Rattle.np_layout.proofs.Prelude.{AreDistinct, MayDelete, Place, wait_row}
+use Rattle.np_layout.proofs.Prelude.{AllByRecursion, AllZip, AreDistinct, Bool, IsGood, HasQueue, IsWait, IsWhole, List, MayDelete, Place, Rises, Row, Seen, SessionId, Some, State, TreeState, [], above, all-at, ap, arith, at_path, bytes_eq-from, children_of-ephemeral, cond, false, filter, find, find_named, is_named, is_queued, is_session, left, map, name_of, nat_tests, option_map, other-name, other-name_back, parent_of, path_of, place_name, refl, row_before, row_of, rows-rise, rows_at, seen-is-row, seen-node, seen_at, seen_in, seen_of, session-equal, slice_get, subst, suc, sym, true, under, wait_row, zero, ℕ, ◌+◌, ◌||◌, ◌∙◌, ◌∷◌, ◌≡◌}
+use Rattle.np_layout.specs.Prelude.{Node}
 use Rattle.np_layout.proofs.AboveLemmas.{is_path-of, parts-of}
 use Rattle.np_layout.proofs.DeleteOnce.{zip-filter}
 use Rattle.np_layout.proofs.DeleteSteps.{DeleteGoes, DeletesRow, delete-goes, is_other}
-use Rattle.np_machine.proofs.Ids.{session-equal}
 
 -- ## sessions
 
@@ -130,7 +119,7 @@ wait-goes s t w lock p session number at may good over named there =
     delete-goes t w lock p row good over may.whole may.live may.room.change found (bare-owned t lock p row (session.0 + 1) good over may.whole found refl)
 
 -- and its queue is without the session
-pub queue-left : (s : State) (t u : TreeState) (w : ℕ) (lock p : Place) (session : SessionId) (number at : ℕ) (queue : List SessionId) → MayDelete s t w → place_name p ≡ (wait_row number session).name → AreDistinct queue → IsQueue lock queue t → slice_get (under lock t) at ≡ Some (wait_row number session) → DeletesRow lock p t u → IsQueue lock (left session queue) u
+pub queue-left : (s : State) (t u : TreeState) (w : ℕ) (lock p : Place) (session : SessionId) (number at : ℕ) (queue : List SessionId) → MayDelete s t w → place_name p ≡ (wait_row number session).name → AreDistinct queue → HasQueue lock queue t → slice_get (under lock t) at ≡ Some (wait_row number session) → DeletesRow lock p t u → HasQueue lock (left session queue) u
 queue-left s t u w lock p session number at queue may named distinct is there deletes = record {
   next = is.next;
   gives = deletes.counter ∙ is.gives;

@@ -1,18 +1,11 @@
 -- a session leaves a request's queue
-use Rattle.std.proofs.Common.{◌≡◌, Bool, true, false, List, [], ◌∷◌, map, Option, Some, refl, sym, ap, ◌∙◌, subst}
-use Rattle.np_machine.specs.Prelude.{AllByRecursion, RequestEntry, RequestId, Rises, SessionId, State, left, list_any, option_map_or, put_request_queue, request_entry, request_queue, same_request}
-use Rattle.np_lists.proofs.Each.{all-find, all-weaker}
-use Rattle.np_lists.proofs.FoundLemmas.{find-passes}
-use Rattle.np_layout.specs.Prelude.{HasGoodIds, IsGood, IsWhole, TreeState, after_part, is_named, path_of, place_name, row_before}
-use Rattle.np_tree.proofs.RelationLemmas.{rows-rise}
-use Rattle.np_layout.proofs.Prelude.{AreRequests, IsQueue, LaysOut, Place, Request, RequestLock, RequestLocks, RequestWait, RequestWaitsGoLayOut, delete, request_lock_row, request_row}
+use Rattle.np_layout.proofs.Prelude.{AllByRecursion, AreRequests, Bool, HasGoodIds, IsGood, HasQueue, IsWhole, LaysOut, List, Option, Place, Request, RequestEntry, RequestId, RequestLock, RequestLocks, RequestWait, RequestWaitsGoLayOut, Rises, SessionId, Some, State, TreeState, [], after_part, all-find, all-weaker, ap, delete, false, find-passes, is_named, left, list_any, map, option_map_or, path_of, place_name, put_request_queue, refl, request-equal, request-itself, request_entry, request_lock_row, request_queue, request_row, row_before, rows-rise, same_request, subst, sym, true, ◌∙◌, ◌∷◌, ◌≡◌}
 use Rattle.np_layout.proofs.DeleteLists.{any-mapped, found-any}
 use Rattle.np_layout.proofs.DeleteOnce.{IsOnce, change-one, map-change_first, once-told, tells-mapped}
 use Rattle.np_layout.proofs.DeleteQueues.{queue-left, wait-goes}
 use Rattle.np_layout.proofs.EachTable.{Says, Table, all-tables, each-table, is_touched, of_request_locks, of_requests, table-stays}
 use Rattle.np_layout.proofs.Elsewhere.{Stays, queue-stays, rows-stay}
-use Rattle.np_layout.proofs.SetRequests.{named-by}
-use Rattle.np_machine.proofs.Ids.{request-equal, request-itself}
+use Rattle.np_layout.proofs.EntryNames.{request-named}
 
 -- ## the request among others
 
@@ -30,7 +23,7 @@ module _ (r : RequestId) where
 
   -- the locks' names tell it
   pub lock-names : (entries : List RequestEntry) → IsGood (Request r) → AllByRecursion (λ x. IsGood (Request x.id)) entries → AllByRecursion (λ x. is_named (place_name (RequestLock r)) (request_lock_row x) ≡ is_request_it x) entries
-  lock-names entries r_good good = all-weaker (λ (x : RequestEntry). IsGood (Request x.id)) (λ (x : RequestEntry). is_named (place_name (RequestLock r)) (request_lock_row x) ≡ is_request_it x) (λ x x_good. named-by r x.id (is_request_it x) refl r_good x_good) entries good
+  lock-names entries r_good good = all-weaker (λ (x : RequestEntry). IsGood (Request x.id)) (λ (x : RequestEntry). is_named (place_name (RequestLock r)) (request_lock_row x) ≡ is_request_it x) (λ x x_good. request-named r x.id (is_request_it x) refl r_good x_good) entries good
 
   -- it is there once
   pub request-once : (s : State) (t : TreeState) → IsWhole t.nodes → HasGoodIds s → LaysOut s t → IsGood (Request r) → IsOnce is_request_it s.requests
@@ -49,7 +42,7 @@ module _ (r : RequestId) where
 -- ## it has another queue
 
 module _ (s : State) (t u : TreeState) (r : RequestId) (e : RequestEntry) (queue : List SessionId) (whole : IsWhole t.nodes) (good : HasGoodIds s) (lays : LaysOut s t) (there : request_entry r s.requests ≡ Some e)
-    (stays : Stays (RequestLock r ∷ []) t u) (live : u.live ≡ t.live) (begun : u.begun ≡ t.begun) (has : IsQueue (RequestLock r) queue u) where
+    (stays : Stays (RequestLock r ∷ []) t u) (live : u.live ≡ t.live) (begun : u.begun ≡ t.begun) (has : HasQueue (RequestLock r) queue u) where
   abbrev put : RequestEntry → RequestEntry
   put x = record x { queue = queue }
 
@@ -65,8 +58,8 @@ module _ (s : State) (t u : TreeState) (r : RequestId) (e : RequestEntry) (queue
     each of_requests = record { rows = requests.rows ∙ sym (map-change_first (is_request_it r) put request_row (λ x. refl) s.requests); leaves = requests.leaves; gives = requests.gives }
     each of_request_locks = record {
       rows = rows-stay (RequestLock r ∷ []) t u stays RequestLocks tt refl ∙ lays.request_locks.rows ∙ sym (map-change_first (is_request_it r) put request_lock_row (λ x. refl) s.requests);
-      queues = change-one (is_request_it r) put (λ (x : RequestEntry). IsGood (Request x.id)) (λ (x : RequestEntry). IsQueue (RequestLock x.id) x.queue t) (λ (x : RequestEntry). IsQueue (RequestLock x.id) x.queue u)
-          (λ x is x_good old. subst (λ (id : RequestId). IsQueue (RequestLock id) queue u) (sym (request-equal x.id r is)) has)
+      queues = change-one (is_request_it r) put (λ (x : RequestEntry). IsGood (Request x.id)) (λ (x : RequestEntry). HasQueue (RequestLock x.id) x.queue t) (λ (x : RequestEntry). HasQueue (RequestLock x.id) x.queue u)
+          (λ x is x_good old. subst (λ (id : RequestId). HasQueue (RequestLock id) queue u) (sym (request-equal x.id r is)) has)
           (λ x other x_good old. queue-stays (RequestLock r ∷ []) t u stays (RequestLock x.id) x.queue x_good refl (lock-apart r x.id other, tt) old)
           s.requests (request-once r s t whole good lays (request-good r s.requests e good.requests there)) good.requests lays.request_locks.queues;
     }
@@ -79,10 +72,10 @@ lock-any s r e good there =
     ∙ found-any (is_request_it r) e s.requests there
 
 -- the queue of the request in the tree
-pub request-queue : (s : State) (t : TreeState) (r : RequestId) (e : RequestEntry) → LaysOut s t → request_entry r s.requests ≡ Some e → IsQueue (RequestLock r) (request_queue r s.requests) t
+pub request-queue : (s : State) (t : TreeState) (r : RequestId) (e : RequestEntry) → LaysOut s t → request_entry r s.requests ≡ Some e → HasQueue (RequestLock r) (request_queue r s.requests) t
 request-queue s t r e lays there =
-    subst (λ (list : List SessionId). IsQueue (RequestLock r) list t) (sym (ap (λ (o : Option RequestEntry). option_map_or (λ x. x.queue) o []) there))
-    (subst (λ (id : RequestId). IsQueue (RequestLock id) e.queue t) (found-request r s.requests e there) (all-find (λ (x : RequestEntry). IsQueue (RequestLock x.id) x.queue t) (is_request_it r) s.requests e lays.request_locks.queues there))
+    subst (λ (list : List SessionId). HasQueue (RequestLock r) list t) (sym (ap (λ (o : Option RequestEntry). option_map_or (λ x. x.queue) o []) there))
+    (subst (λ (id : RequestId). HasQueue (RequestLock id) e.queue t) (found-request r s.requests e there) (all-find (λ (x : RequestEntry). HasQueue (RequestLock x.id) x.queue t) (is_request_it r) s.requests e lays.request_locks.queues there))
 
 -- the delete of a wait lays out the state in which the session is not in the queue
 pub request_waits-lay-out : RequestWaitsGoLayOut

@@ -1,10 +1,5 @@
 -- a request goes
-use Rattle.std.proofs.Common.{◌≡◌, ℕ, Bool, true, not, List, [], ◌∷◌, map, Some, refl, ap, ◌∙◌, subst}
-use Rattle.std.specs.Prelude.{filter, find}
-use Rattle.np_machine.specs.Prelude.{AllByRecursion, RequestEntry, RequestId, State, list_any, remove_first, remove_request, request_entry, request_queue}
-use Rattle.np_lists.proofs.Each.{all-filter_to, all-weaker}
-use Rattle.np_layout.specs.Prelude.{IsGood, IsQueue, LaysOut, Row, TreeState, find_named, is_named, place_name, under}
-use Rattle.np_layout.proofs.Prelude.{MayDelete, Request, RequestLock, RequestLocks, RequestWait, Requests, RequestsGoLayOut, request_deletes, request_lock_row, request_row}
+use Rattle.np_layout.proofs.Prelude.{AllByRecursion, Bool, IsGood, HasQueue, LaysOut, List, MayDelete, Request, RequestEntry, RequestId, RequestLock, RequestLocks, RequestWait, Requests, RequestsGoLayOut, Row, Some, State, TreeState, [], all-filter_to, all-weaker, ap, filter, find, find_named, is_named, list_any, map, not, not-true, place_name, refl, remove_first, remove_request, request_deletes, request_entry, request_lock_row, request_queue, request_row, subst, true, under, ℕ, ◌∙◌, ◌∷◌, ◌≡◌}
 use Rattle.np_layout.proofs.DeleteLists.{any-mapped, filter-mapped, found-any}
 use Rattle.np_layout.proofs.DeleteOnce.{IsOnce, filter-removed}
 use Rattle.np_layout.proofs.DeleteParts.{AreWaits, LockGoes, RecordGoes, all-pair, lock-goes, parts-after, record-goes}
@@ -13,7 +8,6 @@ use Rattle.np_layout.proofs.DeleteSteps.{bare-leaf, is_other}
 use Rattle.np_layout.proofs.EachTable.{Says, Table, all-tables, each-table, of_request_locks, of_requests, table-stays}
 use Rattle.np_layout.proofs.Elsewhere.{leaves-stay, queue-stays, rows-stay}
 use Rattle.np_layout.proofs.SetLists.{any-found}
-use Rattle.std.proofs.lemmas.Bool.{not-true}
 
 -- the waits of a request's lock
 request-waits : (r : RequestId) → IsGood (Request r) → AreWaits (RequestLock r) (RequestWait r)
@@ -52,7 +46,7 @@ module _ (s : State) (t : TreeState) (w : ℕ) (r : RequestId) (e : RequestEntry
       (bare-leaf gone.v Requests (Request r) record-row.0 refl (leaves-stay (RequestLocks ∷ RequestLock r ∷ []) t gone.v gone.stays Requests tt refl refl may.lays.requests.leaves) still)
 
   -- the queues of the others stay
-  queue-end : (x : RequestEntry) → not (it x) ≡ true → IsGood (Request x.id) × IsQueue (RequestLock x.id) x.queue t → IsQueue (RequestLock x.id) x.queue ends.end
+  queue-end : (x : RequestEntry) → not (it x) ≡ true → IsGood (Request x.id) × HasQueue (RequestLock x.id) x.queue t → HasQueue (RequestLock x.id) x.queue ends.end
   queue-end x kept has =
       queue-stays (Requests ∷ RequestLocks ∷ RequestLock r ∷ []) t ends.end ends.stays (RequestLock x.id) x.queue has.0 refl ((λ same. cc), ((λ same. cc), (lock-apart r x.id (not-true (it x) kept), tt))) has.1
 
@@ -75,9 +69,9 @@ module _ (s : State) (t : TreeState) (w : ℕ) (r : RequestId) (e : RequestEntry
       rows =
           rows-stay (Requests ∷ []) gone.v ends.end ends.last RequestLocks tt refl ∙ gone.rows ∙ ap (filter (is_other name)) may.lays.request_locks.rows
           ∙ rows-left request_lock_row (lock-names r s.requests r-good may.good.requests);
-      queues = subst (λ (list : List RequestEntry). AllByRecursion (λ x. IsQueue (RequestLock x.id) x.queue ends.end) list) (filter-removed it s.requests once)
-          (all-filter_to (λ (x : RequestEntry). IsGood (Request x.id) × IsQueue (RequestLock x.id) x.queue t) (λ (x : RequestEntry). IsQueue (RequestLock x.id) x.queue ends.end) (λ x. not (it x)) s.requests queue-end
-          (all-pair (λ (x : RequestEntry). IsGood (Request x.id)) (λ (x : RequestEntry). IsQueue (RequestLock x.id) x.queue t) s.requests may.good.requests may.lays.request_locks.queues));
+      queues = subst (λ (list : List RequestEntry). AllByRecursion (λ x. HasQueue (RequestLock x.id) x.queue ends.end) list) (filter-removed it s.requests once)
+          (all-filter_to (λ (x : RequestEntry). IsGood (Request x.id) × HasQueue (RequestLock x.id) x.queue t) (λ (x : RequestEntry). HasQueue (RequestLock x.id) x.queue ends.end) (λ x. not (it x)) s.requests queue-end
+          (all-pair (λ (x : RequestEntry). IsGood (Request x.id)) (λ (x : RequestEntry). HasQueue (RequestLock x.id) x.queue t) s.requests may.good.requests may.lays.request_locks.queues));
     }
     each k = table-stays s (Requests ∷ RequestLocks ∷ RequestLock r ∷ []) t ends.end may.good ends.stays ends.live ends.begun k refl (each-table s t may.lays k)
 

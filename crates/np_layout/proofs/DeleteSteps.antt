@@ -1,22 +1,10 @@
 -- one delete of the node of a good place
-use Rattle.std.proofs.Common.{◌≡◌, ℕ, ◌<◌, Bool, true, false, not, cond, List, [], ◌∷◌, Some, Result, Ok, refl, sym, ap, ◌∙◌, subst}
-use Rattle.std.specs.Prelude.{IsOk, filter}
-use Rattle.np_tree.specs.Prelude.{AllByRecursion, Any, IsWhole, Row, TreeRefusal, TreeState, after_part, below, delete_answer, find_named, is_in, is_named, name_of, option_map, parent_of, part_answer, rows_at, seen_at, seen_in, ◌>>◌}
-use Rattle.std.specs.Str.{bytes_eq}
-use Rattle.np_lists.proofs.Each.{all-filter_to, all-find, all-weaker}
-use Rattle.np_lists.proofs.FoundLemmas.{find-passes}
-use Rattle.np_nodes.specs.declared.op.OpDone.TheVariants as done
-use Rattle.np_nodes.proofs.PlaceLemmas.{bytes_eq-is}
-use Rattle.np_tree.proofs.WholeLemmas.{IsWhole-after_part}
-use Rattle.np_tree.specs.Relations.{Deletes}
-use Rattle.np_tree.proofs.GoesLemmas.{deletes-go}
-use Rattle.np_tree.proofs.RelationLemmas.{apart-below, deletes-show, seen-is-row}
-use Rattle.np_layout.proofs.Prelude.{HasLeaves, IsGood, Place, above, delete, next_under, path_of, place_name, under}
+use Rattle.np_layout.proofs.Prelude.{AllByRecursion, Any, Bool, Deletes, HasLeaves, IsGood, IsOk, IsWhole, IsWhole-after_part, List, Ok, Place, Result, Row, Some, TreeRefusal, TreeState, [], above, after_part, all-filter_to, all-find, all-weaker, ap, apart-below, below, bytes_eq, bytes_eq-is, cond, delete, delete_answer, deletes-go, deletes-show, false, filter, find-passes, find_named, is_in, is_named, name_of, next_under, not, ok-then, option_map, parent_of, part_answer, path_of, place_name, refl, rows_at, seen-is-row, seen_at, seen_in, subst, sym, true, under, ℕ, ◌<◌, ◌>>◌, ◌∙◌, ◌∷◌, ◌≡◌}
+use Rattle.np_tree_nodes.specs.declared.op.OpDone.TheVariants as done
 use Rattle.np_layout.proofs.AboveLemmas.{IsGood-above, is_path-of, parts-of, path_of-joined}
 use Rattle.np_layout.proofs.ChildLemmas.{same_paths}
 use Rattle.np_layout.proofs.Elsewhere.{IsApart, Stays, has_counter}
 use Rattle.np_layout.proofs.SetSteps.{empty-by}
-use Rattle.np_tree.proofs.ClearLemmas.{ok-then}
 
 -- the other rows than those of a name
 abbrev pub is_other : List ℕ → Row → Bool

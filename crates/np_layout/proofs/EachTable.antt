@@ -1,9 +1,5 @@
 -- what a tree says of each table of a state, so that what stays of all is said at once
-use Rattle.std.proofs.Common.{◌≡◌, ℕ, eqb, Bool, true, false, List, [], ◌∷◌, refl}
-use Rattle.np_machine.specs.Prelude.{NonePass, State, list_any}
-use Rattle.np_lists.proofs.FilterLemmas.{none-list_any}
-use Rattle.np_layout.specs.Prelude.{HasGoodIds, TreeState}
-use Rattle.np_layout.proofs.Prelude.{AreJobs, AreLaunchers, AreLive, AreNodeLocks, AreNodes, AreRequestLocks, AreRequests, AreRoles, AreSemaphores, AreSessions, AreSwept, IsFrame, LaysOut, Place}
+use Rattle.np_layout.proofs.Prelude.{AreJobs, AreLaunchers, AreLive, AreNodeLocks, AreNodes, AreRequestLocks, AreRequests, AreRoles, AreSemaphores, AreSessions, AreSwept, Bool, HasGoodIds, IsFrame, LaysOut, List, NonePass, Place, State, TreeState, [], eqb, false, list_any, none-list_any, refl, true, ℕ, ◌∷◌, ◌≡◌}
 use Rattle.np_layout.proofs.Elsewhere.{Stays, directory, frame-stays, jobs-stay, launchers-stay, live-stays, node_locks-stay, nodes-stay, request_locks-stay, requests-stay, roles-stay, semaphores-stay, sessions-stay, swept-stay}
 
 -- the fixed directories, the tables, and who is live
@@ -113,3 +109,13 @@ table-beside s dirs t u good stays k none rows says = by k (none-list_any (λ ki
 pub table-stays : (s : State) (dirs : List Place) (t u : TreeState) → HasGoodIds s → Stays dirs t u → u.live ≡ t.live → u.begun ≡ t.begun → (k : Table) → is_touched dirs k ≡ false → Says s t k → Says s u k
 table-stays s dirs t u good stays live begun of_live none says = live-stays t u live begun s.sessions says
 table-stays s dirs t u good stays live begun k none says = table-beside s dirs t u good stays k none refl says
+
+-- the same nodes and sessions lay out the same state
+pub same-lays : (s : State) (t u : TreeState) → HasGoodIds s → u.live ≡ t.live → u.begun ≡ t.begun → Stays [] t u → LaysOut s t → LaysOut s u
+same-lays s t u good live begun stays lays = all-tables s u each where
+  none : (k : Table) → is_touched [] k ≡ false
+  none of_live = refl
+  none other = refl
+
+  each : (k : Table) → Says s u k
+  each k = table-stays s [] t u good stays live begun k (none k) (each-table s t lays k)

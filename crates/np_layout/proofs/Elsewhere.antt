@@ -1,11 +1,5 @@
 -- what stays of a layout if only rows of some directories change
-use Rattle.std.proofs.Common.{◌≡◌, ℕ, zero, suc, ◌+◌, ◌≤◌, ◌^◌, eqb, eq-eqb, Bool, true, false, ◌||◌, map, List, [], ◌∷◌, ◌++◌, length, Some, refl, ap, ◌∙◌, sym, subst, arith}
-use Rattle.std.specs.Fmt.{decimal}
-use Rattle.np_machine.specs.Prelude.{AllByRecursion, AllZip, JobId, JobRecord, NodeEntry, RequestEntry, RoleRecord, SemId, SessionId, list_any, range_with_len}
-use Rattle.np_layout.specs.Prelude.{IsGood, Row, TreeState, is_in}
-use Rattle.np_layout.proofs.Prelude.{Jobs, Launchers, Node, NodeLock, Nodepool, Nodes, Place, Poolsim, Registration, Request, RequestLock, RequestLocks, Requests, Roles, Root, Semaphore, Semaphores, SessionFacts, Sessions, SweptPairs, Tick, Zuul, persistent}
-use Rattle.np_machine.specs.declared.state.Swept.{Swept}
-use Rattle.np_layout.specs.Layout.{AreJobs, AreLaunchers, AreLive, AreNodeLocks, AreNodes, AreRequestLocks, AreRequests, AreRoles, AreSemaphores, AreSessions, AreSwept, HasHandles, HasLeaves, HasNodeLock, IsFrame, IsNodeRow, IsQueue, IsWait, directories, next_under, under}
+use Rattle.np_layout.proofs.Prelude.{AllByRecursion, AllZip, AreJobs, AreLaunchers, AreLive, AreNodeLocks, AreNodes, AreRequestLocks, AreRequests, AreRoles, AreSemaphores, AreSessions, AreSwept, Bool, HasHandles, HasLeaves, HasNodeLock, IsFrame, IsGood, IsNodeRow, HasQueue, IsWait, JobId, JobRecord, Jobs, Launchers, List, Node, NodeEntry, NodeLock, Nodepool, Nodes, Place, Poolsim, Registration, Request, RequestEntry, RequestLock, RequestLocks, Requests, RoleRecord, Roles, Root, Row, SemId, Semaphore, Semaphores, SessionFacts, SessionId, Sessions, Some, Swept, SweptPairs, Tick, TreeState, Zuul, [], ap, arith, decimal, directories, eq-eqb, eqb, false, is_in, length, list_any, map, next_under, persistent, range_with_len, refl, subst, suc, sym, true, under, zero, ℕ, ◌++◌, ◌+◌, ◌^◌, ◌||◌, ◌∙◌, ◌∷◌, ◌≡◌, ◌≤◌}
 
 -- a number for each kind of place with something below it; zero for the others
 abbrev pub directory : Place → ℕ
@@ -130,7 +124,7 @@ module _ (dirs : List Place) (t u : TreeState) (stays : Stays dirs t u) where
   frame-stays tick root nodepool zuul leaf poolsim frame = tick-stays tick tick root nodepool zuul leaf (rows-stay Poolsim tt poolsim ∙ frame.poolsim) frame
 
   -- the queue of a lock
-  pub queue-stays : (lock : Place) (queue : List SessionId) → IsGood lock → has_counter lock ≡ true → IsApart lock dirs → IsQueue lock queue t → IsQueue lock queue u
+  pub queue-stays : (lock : Place) (queue : List SessionId) → IsGood lock → has_counter lock ≡ true → IsApart lock dirs → HasQueue lock queue t → HasQueue lock queue u
   queue-stays lock queue good has apart is = record {
     next = is.next;
     gives = stays.counters lock is.next good has apart is.gives;
@@ -142,8 +136,8 @@ module _ (dirs : List Place) (t u : TreeState) (stays : Stays dirs t u) where
   requests-stay entries next beside are = record { rows = rows-stay Requests tt beside ∙ are.rows; leaves = leaves-stay Requests tt refl beside are.leaves; gives = counter-stays Requests next tt refl beside are.gives }
 
   -- the queues of requests
-  pub request_queues-stay : (entries : List RequestEntry) → AllByRecursion (λ e. IsGood (Request e.id)) entries → AllByRecursion (λ e. IsApart (RequestLock e.id) dirs) entries → AllByRecursion (λ e. IsQueue (RequestLock e.id) e.queue t) entries →
-      AllByRecursion (λ e. IsQueue (RequestLock e.id) e.queue u) entries
+  pub request_queues-stay : (entries : List RequestEntry) → AllByRecursion (λ e. IsGood (Request e.id)) entries → AllByRecursion (λ e. IsApart (RequestLock e.id) dirs) entries → AllByRecursion (λ e. HasQueue (RequestLock e.id) e.queue t) entries →
+      AllByRecursion (λ e. HasQueue (RequestLock e.id) e.queue u) entries
   request_queues-stay [] good apart all = tt
   request_queues-stay (e ∷ entries) good apart all = (queue-stays (RequestLock e.id) e.queue good.0 refl apart.0 all.0, request_queues-stay entries good.1 apart.1 all.1)
 

@@ -1,11 +1,5 @@
 -- requests, nodes and sessions are read back
-use Rattle.std.proofs.Common.{◌≡◌, ℕ, ◌+◌, ◌-◌, Bool, List, [], ◌∷◌, length, map, unwrap_or, refl, ap, ◌∙◌, arith}
-use Rattle.np_machine.specs.Prelude.{AllByRecursion, AllZip, NodeEntry, NodeId, RequestEntry, RequestId, SessionId, SessionRecord, range_with_len}
-use Rattle.np_layout.specs.Prelude.{IsGood, IsRequest, IsSessionRole, Row, TreeState, is_in, place_name, request_record_text, session_text}
-use Rattle.np_spelling.specs.Reading.{node_in, request_record_in, session_in}
-use Rattle.np_machine.specs.declared.state.Locked.{Locked}
-use Rattle.np_layout.proofs.Prelude.{AreLive, AreNodeLocks, AreNodes, AreRequestLocks, AreRequests, AreSessions, HasNodeLock, IsNodeRow, IsQueue, IsWait, Node, NodeLock, Nodes, Place, Request, RequestLock, SessionFacts, request_row, rows_from, session_row, under}
-use Rattle.np_layout.specs.Decoded.{no_node, no_request, no_session, node_at, node_named, nodes_at, owner_of, queue_at, request_at, request_named, requests_at, session_at, sessions_at, sessions_from}
+use Rattle.np_layout.proofs.Prelude.{AllByRecursion, AllZip, AreLive, AreNodeLocks, AreNodes, AreRequestLocks, AreRequests, AreSessions, Bool, HasNodeLock, IsGood, IsNodeRow, HasQueue, IsRequest, IsSessionRole, IsWait, List, Locked, Node, NodeEntry, NodeId, NodeLock, Nodes, Place, Request, RequestEntry, RequestId, RequestLock, Row, SessionFacts, SessionId, SessionRecord, TreeState, [], ap, arith, is_in, length, map, no_node, no_request, no_session, node_at, node_in, node_named, nodes_at, owner_of, place_name, queue_at, range_with_len, refl, request_at, request_named, request_record_in, request_record_text, request_row, requests_at, rows_from, session_at, session_in, session_row, session_text, sessions_at, sessions_from, under, unwrap_or, ℕ, ◌+◌, ◌-◌, ◌∙◌, ◌∷◌, ◌≡◌}
 use Rattle.np_layout.proofs.Lists.{map-back}
 use Rattle.np_layout.proofs.Texts.{node-read, node_named-digits, request-read, request_named-text, session-read}
 
@@ -22,7 +16,7 @@ owners-same next (row ∷ rows) (session ∷ queue) waits =
 owners-same next _ _ waits = absurd waits
 
 -- the owners of a lock's rows are its queue
-pub queue-same : (lock : Place) (queue : List SessionId) (t : TreeState) → IsQueue lock queue t → queue_at lock t ≡ queue
+pub queue-same : (lock : Place) (queue : List SessionId) (t : TreeState) → HasQueue lock queue t → queue_at lock t ≡ queue
 queue-same lock queue t is = owners-same is.next (under lock t) queue is.waits
 
 entry-same : {I K : Type 0} (e : Locked I K) (id : I) (kept : K) (queue : List SessionId) → id ≡ e.id → kept ≡ e.kept → queue ≡ e.queue → record { id = id; kept = kept; queue = queue } ≡ e
@@ -33,7 +27,7 @@ entry-same e id kept queue ids keeps queues =
 
 -- ## requests
 
-request-same : (t : TreeState) (e : RequestEntry) → IsGood (Request e.id) → IsRequest e.kept → IsQueue (RequestLock e.id) e.queue t → request_at t (request_row e) ≡ e
+request-same : (t : TreeState) (e : RequestEntry) → IsGood (Request e.id) → IsRequest e.kept → HasQueue (RequestLock e.id) e.queue t → request_at t (request_row e) ≡ e
 request-same t e good spelled queue =
     let id = request_named-text e.id good in
     entry-same e (request_named (place_name (Request e.id))) (unwrap_or (request_record_in (request_record_text e.kept)).0 no_request) (queue_at (RequestLock (request_named (place_name (Request e.id)))) t)
@@ -43,7 +37,7 @@ request-same t e good spelled queue =
 pub requests-same : (t : TreeState) (entries : List RequestEntry) (next : ℕ) → AreRequests entries next t → AreRequestLocks entries t → AllByRecursion (λ e. IsGood (Request e.id)) entries → AllByRecursion (λ e. IsRequest e.kept) entries → requests_at t ≡ entries
 requests-same t entries next are locks good spelled =
     ap (λ (rows : List Row). map (request_at t) rows) are.rows ∙ map-back request_row (request_at t) entries (each entries good spelled locks.queues) where
-      each : (entries : List RequestEntry) → AllByRecursion (λ e. IsGood (Request e.id)) entries → AllByRecursion (λ e. IsRequest e.kept) entries → AllByRecursion (λ e. IsQueue (RequestLock e.id) e.queue t) entries → AllByRecursion (λ e. request_at t (request_row e) ≡ e) entries
+      each : (entries : List RequestEntry) → AllByRecursion (λ e. IsGood (Request e.id)) entries → AllByRecursion (λ e. IsRequest e.kept) entries → AllByRecursion (λ e. HasQueue (RequestLock e.id) e.queue t) entries → AllByRecursion (λ e. request_at t (request_row e) ≡ e) entries
       each [] good spelled queues = tt
       each (e ∷ entries) good spelled queues = (request-same t e good.0 spelled.0 queues.0, each entries good.1 spelled.1 queues.1)
 

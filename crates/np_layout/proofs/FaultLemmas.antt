@@ -1,11 +1,5 @@
 -- a place's path has no fault
-use Rattle.std.proofs.Common.{◌≡◌, ℕ, true, List, Option, Some, None, Err, refl, sym, ap, subst, ◌∙◌}
-use Rattle.std.specs.Option.{is_none}
-use Rattle.np_path.specs.Faults.{path_fault}
-use Rattle.np_path.specs.Makes.{Makes}
-use Rattle.np_path.specs.declared.fault.PathFault.TheVariants.{Bad}
-use Rattle.np_path.proofs.GrammarLemmas.{is_path-no_fault}
-use Rattle.np_layout.proofs.Prelude.{IsGood, Place, path_of}
+use Rattle.np_layout.proofs.Prelude.{Bad, Err, IsGood, List, Makes, None, Option, Place, Some, ap, is_none, is_path-no_fault, path_fault, path_of, refl, subst, sym, true, ℕ, ◌∙◌, ◌≡◌}
 use Rattle.np_layout.proofs.AboveLemmas.{is_path-of}
 
 none-of : (o : Option ℕ) → is_none o ≡ true → o ≡ None

@@ -1,45 +1,36 @@
 -- several parts of the first call make the nodes of one kind
-use Rattle.std.proofs.Common.{◌≡◌, ℕ, zero, suc, ◌+◌, ◌<◌, ◌≤◌, eqb, false, List, [], ◌∷◌, map, Some, None, refl, ap, ◌∙◌, subst, arith}
-use Rattle.np_layout.specs.Prelude.{HasRoomFor, IsGood, IsWhole, Row, Seen, TreeState, above, after_part, find_named, is_in, make, name_of, option_map, path_of, range_with_len, seen_at, seen_in, under}
-use Rattle.np_tree.proofs.RelationLemmas.{seen-is-row}
-use Rattle.np_tree.proofs.ViewRoomLemmas.{room-falls, room-gives}
-use Rattle.np_layout.proofs.Prelude.{Place, persistent}
+use Rattle.np_layout.proofs.Prelude.{Goes, HasLeaves, HasRoomFor, IsGood, IsWhole, List, None, Persistent, Place, Row, Seen, Some, TreeState, [], above, after_part, ap, arith, false, find_named, is_in, length, make, map, name_of, option_map, owner_at, path_of, persistent, range_with_len, refl, room-falls, room-gives, seen-is-row, seen_at, seen_in, subst, suc, sym, true, under, zero, ℕ, ◌+◌, ◌<◌, ◌∙◌, ◌∷◌, ◌≡◌, ◌≤◌}
 use Rattle.np_layout.proofs.AboveLemmas.{IsGood-above, is_path-of, parts-of}
-use Rattle.np_layout.proofs.FirstKinds.{Block, IsKind, Makes, Ready, kind, rows_put}
-use Rattle.np_layout.proofs.FirstSteps.{step}
+use Rattle.np_layout.proofs.CreateSteps.{Step, counter-there, make-step, over_leaves}
+use Rattle.np_layout.proofs.Elsewhere.{Stays, stays-both, stays-same}
+use Rattle.np_layout.proofs.FirstKinds.{rows_put}
+use Rattle.np_layout.proofs.SetTables.{IsTable}
 
--- nothing is made
-makes-none : (dir : Place) (k : ℕ) (t : TreeState) → IsWhole t.nodes → Makes dir k [] t t
-makes-none dir k t whole = record {
-  whole = whole;
-  live = refl;
-  begun = refl;
-  rows = refl;
-  other_rows = λ other good different. refl;
-  seen = λ other good different. refl;
-  counters = λ other good different. refl;
-}
+-- a directory in which the first session can make nodes
+pub record Ready (dir : Place) (t : TreeState) : Type 0 where
+  pub whole : IsWhole t.nodes
+  pub live : is_in t.live 1 ≡ true
+  pub owner : owner_at t (path_of dir) ≡ Some None
 
--- a row is made, and then others
-makes-more : (dir : Place) (k : ℕ) (row : Row) (rows : List Row) (t u v : TreeState) → Makes dir k (row ∷ []) t u → Makes dir k rows u v → Makes dir k (row ∷ rows) t v
-makes-more dir k row rows t u v one more = record {
-  whole = more.whole;
-  live = more.live ∙ one.live;
-  begun = more.begun ∙ one.begun;
-  rows = more.rows ∙ ap (λ (sorted : List Row). rows_put sorted rows) one.rows;
-  other_rows = λ other good different. more.other_rows other good different ∙ one.other_rows other good different;
-  seen = λ other good different. more.seen other good different ∙ one.seen other good different;
-  counters = λ other good different. more.counters other good different ∙ one.counters other good different;
-}
+-- the tree after so many places of one kind, from a number on: a directory has their rows more
+pub record Block (place : ℕ → Place) (dir : Place) (bytes : List ℕ) (at count more : ℕ) (t : TreeState) : Type 0 where
+  pub u : TreeState
+  pub goes : Goes t 1 (map (λ n. make bytes (place n)) (range_with_len at count)) u
+  pub whole : IsWhole u.nodes
+  pub live : u.live ≡ t.live
+  pub begun : u.begun ≡ t.begun
+  pub stays : Stays (dir ∷ []) t u
+  pub rows : under dir u ≡ rows_put (under dir t) (map (λ n. persistent (place n) bytes) (range_with_len at count))
+  pub leaves : HasLeaves dir t → HasLeaves dir u
+  pub seen : (other : Place) → IsGood other → ((n : ℕ) → other ≡ place n → ⊥) → seen_at u (path_of other) ≡ seen_at t (path_of other)
+  pub room : HasRoomFor more u
 
--- a directory that was ready for some nodes is so when others were made
-pub ready-after : (dir into : Place) (k more less : ℕ) (rows : List Row) (t u : TreeState) → IsGood dir → eqb (kind dir) k ≡ false → Makes into k rows t u → Ready dir more t → HasRoomFor less u → Ready dir less u
-ready-after dir into k more less rows t u good beside makes ready room = record {
-  whole = makes.whole;
-  live = ap (λ (list : List ℕ). is_in list 1) makes.live ∙ ready.live;
-  owner = ap (option_map (λ (seen : Seen). seen.owner)) (makes.seen dir good beside) ∙ ready.owner;
-  counter = makes.counters dir good beside ∙ ready.counter;
-  room = room;
+-- a directory that was ready is so when nodes of a kind were made
+pub ready-after : {place : ℕ → Place} {into : Place} {bytes : List ℕ} {at count more : ℕ} {t : TreeState} (b : Block place into bytes at count more t) (dir : Place) → IsGood dir → ((n : ℕ) → dir ≡ place n → ⊥) → Ready dir t → Ready dir b.u
+ready-after b dir good beside ready = record {
+  whole = b.whole;
+  live = ap (λ (list : List ℕ). is_in list 1) b.live ∙ ready.live;
+  owner = ap (option_map (λ (seen : Seen). seen.owner)) (b.seen dir good beside) ∙ ready.owner;
 }
 
 -- each good place below an empty directory is free
@@ -48,28 +39,46 @@ free-below t dir p whole empty good over =
     seen-is-row t (path_of p) (path_of dir) whole (is_path-of p good) ((parts-of p good).0 ∙ ap (option_map path_of) over)
     ∙ ap (λ (rows : List Row). option_map seen_in (find_named (name_of (path_of p)) rows)) empty
 
-module _ (place : ℕ → Place) (dir : Place) (k : ℕ) (bytes : List ℕ) (limit : ℕ) (is : IsKind place dir k bytes limit) where
+module _ {A : Type 0} (place : ℕ → Place) (number : Place → ℕ) (dir : Place) (bytes : List ℕ) (list : List A) (is : IsTable place number dir 0 list) (top : over_leaves (above dir) ≡ false) (beside : (n : ℕ) → dir ≡ place n → ⊥) (short : length bytes ≤ 65536) where
   -- the nodes of one kind are made, if none of them is there
-  pub block : (count at more : ℕ) (t : TreeState) → at + count ≤ limit → Ready dir (count + more) t → ((n : ℕ) → at ≤ n → n < limit → seen_at t (path_of (place n)) ≡ None) → Block place dir k bytes at count more t
-  block zero at more t within ready free = record {
+  pub block : (count at more : ℕ) (t : TreeState) → at + count ≤ length list → Ready dir t → HasRoomFor (count + more) t → ((n : ℕ) → at ≤ n → n < length list → seen_at t (path_of (place n)) ≡ None) → Block place dir bytes at count more t
+  block zero at more t within ready room free = record {
     u = t;
     goes = refl;
-    makes = makes-none dir k t ready.whole;
-    room = let same : 0 + more ≡ more = omega arith in subst (λ (n : ℕ). HasRoomFor n t) same ready.room;
+    whole = ready.whole;
+    live = refl;
+    begun = refl;
+    stays = stays-same (dir ∷ []) t;
+    rows = refl;
+    leaves = λ leaves. leaves;
+    seen = λ other good apart. refl;
+    room = let same : 0 + more ≡ more = omega arith in subst (λ (n : ℕ). HasRoomFor n t) same room;
   }
-  block (suc count) at more t within ready free =
+  block (suc count) at more t within ready room free =
       let same : suc count + more ≡ (count + more) + 1 = omega arith in
-      let room = subst (λ (n : ℕ). HasRoomFor n t) same ready.room in
+      let left = subst (λ (n : ℕ). HasRoomFor n t) same room in
       let good = is.good at (omega arith) in
-      let one = step t dir (place at) k bytes good (is.over at) (is.of at) ready.whole ready.live ready.owner ready.counter (room-gives t (count + more) room) (free at (omega arith) (omega arith)) is.short in
+      let counter = counter-there t dir ready.owner in
+      let one : Step dir (place at) Persistent (persistent (place at) bytes) t 1 (make bytes (place at)) =
+      make-step t 1 dir (place at) bytes Persistent counter.0 good (is.over at) top refl short
+      (record { whole = ready.whole; live = ready.live; owner = ready.owner; gives = counter.1; free = free at (omega arith) (omega arith); room = room-gives t (count + more) left }) in
       let u : TreeState = after_part t 1 (make bytes (place at)) in
-      let dir_good = IsGood-above (place at) dir good (is.over at) in
-      let later = block count (at + 1) more u (omega arith)
-      (ready-after dir dir k (suc count + more) (count + more) (persistent (place at) bytes ∷ []) t u dir_good is.beside one.makes ready (room-falls t 1 (make bytes (place at)) (count + more) room))
-      (λ n from below. one.seen (place n) (is.good n below) (λ same. let equal = is.apart n at same in absurd (omega arith)) ∙ free n (omega arith) below) in
+      let next : Ready dir u = record {
+        whole = one.creates.whole;
+        live = ap (λ (known : List ℕ). is_in known 1) one.creates.live ∙ ready.live;
+        owner = ap (option_map (λ (seen : Seen). seen.owner)) (one.creates.other_seen dir (IsGood-above (place at) dir good (is.over at)) (beside at)) ∙ ready.owner;
+      } in
+      let later = block count (at + 1) more u (omega arith) next (room-falls t 1 (make bytes (place at)) (count + more) left)
+      (λ n from below. one.creates.other_seen (place n) (is.good n (omega arith)) (λ equal. let numbers : n ≡ at = sym (is.numbers n) ∙ ap number equal ∙ is.numbers at in absurd (omega arith)) ∙ free n (omega arith) below) in
       record {
         u = later.u;
         goes = (one.ok, later.goes);
-        makes = makes-more dir k (persistent (place at) bytes) (map (λ (n : ℕ). persistent (place n) bytes) (range_with_len (at + 1) count)) t u later.u one.makes later.makes;
+        whole = later.whole;
+        live = later.live ∙ one.creates.live;
+        begun = later.begun ∙ one.creates.begun;
+        stays = stays-both (dir ∷ []) t u later.u one.creates.stays later.stays;
+        rows = later.rows ∙ ap (λ (sorted : List Row). rows_put sorted (map (λ (n : ℕ). persistent (place n) bytes) (range_with_len (at + 1) count))) one.creates.rows;
+        leaves = λ leaves. later.leaves (one.creates.leaves leaves);
+        seen = λ other other_good apart. later.seen other other_good apart ∙ one.creates.other_seen other other_good (apart at);
         room = later.room;
       }

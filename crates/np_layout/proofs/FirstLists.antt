@@ -1,9 +1,5 @@
 -- lists of rows that are put in order, and of equal records
-use Rattle.std.proofs.Common.{◌≡◌, ℕ, zero, suc, ◌+◌, ◌<◌, List, [], ◌∷◌, length, map, unwrap_or, refl, ap, arith}
-use Rattle.std.specs.Prelude.{slice_get}
-use Rattle.np_tree.specs.Prelude.{AllByRecursion, JobId, Row, range_with_len, row_before, with_row}
-use Rattle.np_lists.proofs.Each.{all-insert_before}
-use Rattle.np_layout.specs.Rows.{rows_from}
+use Rattle.np_layout.proofs.Prelude.{AllByRecursion, JobId, List, Row, [], all-insert_before, ap, arith, length, map, range_with_len, refl, row_before, rows_from, slice_get, suc, unwrap_or, with_row, zero, ℕ, ◌+◌, ◌<◌, ◌∷◌, ◌≡◌}
 use Rattle.np_layout.proofs.FirstKinds.{rows_put}
 
 -- what is true of some rows and of those put among them is true of all

@@ -1,14 +1,9 @@
 -- how long paths are
-use Rattle.std.proofs.Common.{◌≡◌, ℕ, ◌^◌, ◌<◌, ◌≤◌, length, ap, arith, length-append, lit≤}
-use Rattle.std.proofs.lemmas.Fmt.{length-decimal-le}
-use Rattle.std.specs.Fmt.{decimal}
-use Rattle.np_machine.specs.Prelude.{HasText, RequestId}
-use Rattle.np_text.proofs.OrderLemmas.{length-ten}
-use Rattle.np_text.proofs.RequestLemmas.{decimal_three}
-use Rattle.np_layout.specs.Place.{IsGood, path_of}
-use Rattle.np_layout.proofs.Prelude.{Handle, JanitorRole, Job, Launcher, LauncherRole, Node, NodeLock, NodeWait, Place, Request, RequestLock, RequestWait, RequesterRole, Semaphore, Session, Swept}
-use Rattle.np_lists.proofs.Plain.{decimal-short}
+use Rattle.np_layout.proofs.Prelude.{Handle, HasText, IsGood, JanitorRole, Job, Launcher, LauncherRole, Node, NodeLock, NodeWait, Place, Request, RequestId, RequestLock, RequestWait, RequesterRole, Semaphore, Session, ap, arith, decimal, decimal-short, decimal_three, length, length-append, length-decimal-le, length-ten, ℕ, ◌<◌, ◌^◌, ◌≡◌, ◌≤◌}
+use Rattle.std.proofs.Common.{lit≤}
 use Rattle.np_text.specs.Request.{request_text_of}
+use Rattle.np_layout.specs.Place.{path_of}
+use Rattle.np_layout.specs.declared.place.Place.TheVariants.{Swept}
 
 pub length-request : (id : RequestId) → HasText id → length (request_text_of id) ≡ 14
 unfolding request_text_of

@@ -1,12 +1,5 @@
 -- lists that are read back from a range of numbers
-use Rattle.std.proofs.Common.{◌≡◌, ℕ, zero, suc, ◌+◌, ◌<◌, ◌≤◌, Bool, true, false, cond, List, [], ◌∷◌, length, map, Option, Some, refl, ap, ◌∙◌, arith}
-use Rattle.std.specs.Prelude.{◌==◌, filter_map, find, nat_lt, slice_get}
-use Rattle.std.specs.List.{AllByRecursion, cons_option, range_with_len}
-use Rattle.std.proofs.lemmas.Bool.{eqb-false}
-use Rattle.std.proofs.lemmas.Bool.Decides.{nat_tests}
-use Rattle.np_lists.specs.Rising.{NonePass, Rises}
-use Rattle.np_lists.proofs.Each.{all-weaker}
-use Rattle.np_lists.proofs.Halves.{find-none}
+use Rattle.np_layout.proofs.Prelude.{AllByRecursion, Bool, List, NonePass, Option, Rises, Some, [], all-weaker, ap, arith, cond, cons_option, eqb-false, false, filter_map, find, find-none, length, map, nat_lt, nat_tests, range_with_len, refl, slice_get, suc, true, zero, ℕ, ◌+◌, ◌<◌, ◌==◌, ◌∙◌, ◌∷◌, ◌≡◌, ◌≤◌}
 
 -- what has an inverse on a list's members gives the list back
 pub map-back : {X Y : Type 0} (f : X → Y) (g : Y → X) (list : List X) → AllByRecursion (λ x. g (f x) ≡ x) list → map g (map f list) ≡ list

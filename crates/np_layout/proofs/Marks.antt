@@ -1,18 +1,7 @@
 -- registrations and handles are read back
-use Rattle.std.proofs.Common.{◌≡◌, ℕ, ◌+◌, ◌-◌, ◌<◌, ◌≤◌, ◌^◌, Bool, true, false, List, [], ◌∷◌, length, map, Option, Some, None, unwrap_or, refl, sym, ap, ◌∙◌, arith}
-use Rattle.std.specs.Prelude.{◌==◌, filter_map, find, nat_lt, slice_get}
-use Rattle.np_machine.specs.Prelude.{AllByRecursion, JobId, Rises, SemId, handles_of, option_map, range_with_len}
-use Rattle.std.proofs.lemmas.Bool.{eqb-false}
-use Rattle.std.proofs.lemmas.Bool.Decides.{nat_tests}
-use Rattle.std.proofs.lemmas.Option.{slice_get_within}
-use Rattle.np_lists.proofs.Each.{all-at, all-weaker}
-use Rattle.np_lists.proofs.FoundLemmas.{find-passes}
-use Rattle.np_layout.specs.Prelude.{AreHolders, IsGood, Row, TreeState, find_named, is_named, place_name}
-use Rattle.np_nodes.proofs.PlaceLemmas.{bytes_eq-from}
-use Rattle.np_layout.proofs.Prelude.{AreLaunchers, AreSemaphores, Handle, HasHandles, Launcher, Place, Registration, Semaphore, by_name, handle_row, launcher_row, under}
+use Rattle.np_layout.proofs.Prelude.{AllByRecursion, AreHolders, AreLaunchers, AreSemaphores, Bool, Handle, HasHandles, IsGood, JobId, Launcher, List, None, Option, Place, Registration, Rises, Row, SemId, Semaphore, Some, TreeState, [], all-at, all-weaker, ap, arith, by_name, bytes_eq-from, eqb-false, false, filter_map, find, find-passes, find_named, handle_at, handle_row, handles_of, is_named, launcher_row, length, map, nat_lt, nat_tests, option_map, owner_of, place_name, range_with_len, refl, registration_at, slice_get, slice_get_within, sym, true, under, unwrap_or, ℕ, ◌+◌, ◌-◌, ◌<◌, ◌==◌, ◌^◌, ◌∙◌, ◌∷◌, ◌≡◌, ◌≤◌}
 use Rattle.np_layout.proofs.SetLists.{at-range}
 use Rattle.np_layout.proofs.SetSteps.{named-other}
-use Rattle.np_layout.specs.Decoded.{handle_at, owner_of, registration_at}
 use Rattle.np_layout.proofs.Lists.{filter_map-range, map-places}
 use Rattle.np_layout.proofs.Named.{find-keyed}
 

@@ -1,19 +1,8 @@
 -- each name but the root's is one or more letters, digits and dashes
-use Rattle.std.proofs.Common.{◌≡◌, ℕ, ◌^◌, ◌<◌, Bool, true, false, not, ◌&&◌, ◌||◌, ◌==◌, List, [], ◌∷◌, ◌++◌, length, refl, ap, ◌∙◌, arith}
-use Rattle.std.proofs.lemmas.Bool.Decides.{nat_tests}
-use Rattle.std.proofs.lemmas.Fmt.{decimal_nonempty, digits_decimal}
-use Rattle.std.proofs.lemmas.List.Folds.{list_all-append}
-use Rattle.std.proofs.lemmas.Str.Ascii.{IsAscii-cons, IsAscii-nil}
-use Rattle.std.specs.Char.{is_ascii_alphanumeric, is_ascii_digit}
-use Rattle.std.specs.Fmt.{decimal}
-use Rattle.np_machine.specs.Prelude.{HasText, RequestId, is_some, list_all, ten_digits_of}
-use Rattle.std.specs.Str.{IsAscii, all_ascii_digits}
-use Rattle.np_text.proofs.OrderLemmas.{all_ascii_digits-ten, ten-le-length}
-use Rattle.np_text.proofs.SpellingLemmas.{model}
-use Rattle.np_path.specs.Grammar.{is_dots, is_element, is_kept}
-use Rattle.np_layout.proofs.Prelude.{Handle, IsGood, JanitorRole, Job, Launcher, LauncherRole, Node, NodeWait, Place, Request, RequestLock, RequestWait, RequesterRole, Semaphore, Session, Swept, above, place_name}
-use Rattle.std.proofs.lemmas.Bool.{and_parts, and_from}
+use Rattle.np_layout.proofs.Prelude.{Bool, Handle, HasText, IsAscii, IsAscii-cons, IsAscii-nil, IsGood, JanitorRole, Job, Launcher, LauncherRole, List, Node, NodeWait, Place, Request, RequestId, RequestLock, RequestWait, RequesterRole, Semaphore, Session, [], above, all_ascii_digits, all_ascii_digits-ten, and_from, and_parts, ap, arith, decimal, decimal_nonempty, digits_decimal, false, is_ascii_alphanumeric, is_ascii_digit, is_dots, is_element, is_some, length, list_all, list_all-append, model, nat_tests, not, place_name, refl, ten-le-length, ten_digits_of, true, ℕ, ◌&&◌, ◌++◌, ◌<◌, ◌==◌, ◌^◌, ◌||◌, ◌∙◌, ◌∷◌, ◌≡◌}
+use Rattle.np_layout.specs.declared.place.Place.TheVariants.{Swept}
 use Rattle.np_text.specs.Request.{request_text_of}
+use Rattle.np_path.specs.Grammar.{is_kept}
 
 -- a letter, a digit or a dash
 abbrev pub is_plain : ℕ → Bool

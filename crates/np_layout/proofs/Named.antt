@@ -1,21 +1,12 @@
 -- the row of a name among rows in the order of their names, and the bytes at its path
-use Rattle.std.proofs.Common.{◌≡◌, ℕ, zero, suc, ◌+◌, Bool, true, false, List, [], ◌∷◌, ◌++◌, map, Option, Some, None, unwrap_or, refl, sym, ap, ◌∙◌, arith}
-use Rattle.std.specs.Prelude.{◌==◌, find, slice_get}
-use Rattle.np_layout.specs.Prelude.{AllByRecursion, IsGood, IsWhole, Node, Rises, Row, Seen, TreeState, above, at_path, find_named, is_named, list_any, option_map, path_of, place_name, seen_in, seen_of, under}
-use Rattle.np_lists.proofs.Each.{all-find, all-mapped}
-use Rattle.np_lists.proofs.FilterLemmas.{list_any-none, none-list_any}
-use Rattle.np_lists.proofs.FoundLemmas.{find-passes}
-use Rattle.np_lists.proofs.Halves.{find-none, none-find}
-use Rattle.np_nodes.proofs.PlaceLemmas.{bytes_eq-is}
-use Rattle.np_tree.proofs.RelationLemmas.{seen-is-row}
-use Rattle.np_layout.proofs.Prelude.{Place, by_name, rows_from}
+use Rattle.np_layout.proofs.Prelude.{AllByRecursion, Bool, IsGood, IsWhole, List, None, Option, Place, Rises, Row, Seen, Some, TreeState, [], above, all-find, all-mapped, ap, arith, at_path, by_name, bytes_eq-is, false, find, find-none, find-passes, find_named, is_named, list_any, list_any-none, map, none-find, none-list_any, option_map, path_of, place_name, refl, rows_from, seen-is-row, seen_in, seen_of, slice_get, suc, sym, text_at, true, under, unwrap_or, zero, ℕ, ◌++◌, ◌+◌, ◌==◌, ◌∙◌, ◌∷◌, ◌≡◌}
+use Rattle.np_layout.specs.Prelude.{Node}
 use Rattle.np_layout.proofs.AboveLemmas.{is_path-of, parts-of}
 use Rattle.np_layout.proofs.ChildLemmas.{same_names}
 use Rattle.np_layout.proofs.DeleteLists.{any-mapped, found-any}
 use Rattle.np_layout.proofs.DeleteParts.{all-pair}
 use Rattle.np_layout.proofs.FirstLists.{all-put}
 use Rattle.np_layout.proofs.SetLists.{any-by_name, any-found}
-use Rattle.np_layout.specs.Decoded.{text_at}
 use Rattle.np_layout.proofs.Lists.{key_before, only-found}
 
 -- ## one name

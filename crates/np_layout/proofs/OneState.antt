@@ -1,10 +1,5 @@
 -- the state that is read from a tree is the one that it lays out
-use Rattle.std.proofs.Common.{◌≡◌, ℕ, ◌≤◌, ◌^◌, length, map, Option, unwrap_or, sym, ap, ◌∙◌, arith}
-use Rattle.std.specs.Prelude.{filter_map}
-use Rattle.np_machine.specs.Prelude.{Configuration, State, range_with_len}
-use Rattle.np_layout.specs.Prelude.{IsStored, TreeState}
-use Rattle.np_layout.specs.declared.place.Place.TheVariants.{LauncherRole, JanitorRole, RequesterRole}
-use Rattle.np_layout.specs.Decoded.{TreesHaveOneState, decoded, handle_at, handles_at, janitors_at, job_at, jobs_at, launchers_at, registrations_at, requesters_at, role_at}
+use Rattle.np_layout.proofs.Prelude.{Configuration, IsStored, JanitorRole, LauncherRole, Option, RequesterRole, State, TreeState, TreesHaveOneState, ap, arith, decoded, filter_map, handle_at, handles_at, janitors_at, job_at, jobs_at, launchers_at, length, map, range_with_len, registrations_at, requesters_at, role_at, sym, unwrap_or, ℕ, ◌^◌, ◌∙◌, ◌≡◌, ◌≤◌}
 use Rattle.np_layout.proofs.Entries.{nodes-same, requests-same, sessions-same}
 use Rattle.np_layout.proofs.Marks.{handles-same, registrations-same}
 use Rattle.np_layout.proofs.Swept.{swept-same}

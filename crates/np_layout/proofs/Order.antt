@@ -1,10 +1,5 @@
 -- the order of swept pairs, and lists whose members are put one after another at their places
-use Rattle.std.proofs.Common.{◌≡◌, ℕ, Bool, true, false, cond, List, [], ◌∷◌, map, refl, sym, ap, ◌∙◌, subst, arith}
-use Rattle.std.specs.Prelude.{◌==◌, fold, nat_lt}
-use Rattle.np_layout.specs.Prelude.{AllByRecursion, Rises, Row, insert_before, is_pair_before, row_before, with_row}
-use Rattle.std.proofs.lemmas.Bool.Decides.{nat_tests}
-use Rattle.np_machine.specs.declared.state.Swept.{Swept}
-use Rattle.np_layout.specs.Rows.{by_name}
+use Rattle.np_layout.proofs.Prelude.{AllByRecursion, Bool, List, Rises, Row, Swept, [], ap, arith, by_name, cond, false, fold, insert_before, is_pair_before, map, nat_lt, nat_tests, refl, row_before, subst, sym, true, with_row, ℕ, ◌==◌, ◌∙◌, ◌∷◌, ◌≡◌}
 use Rattle.np_layout.proofs.FirstKinds.{rows_put}
 
 -- ## pairs

@@ -1,6 +1,5 @@
 -- names are in order as their ids are
-use Rattle.np_text.proofs.OrderLemmas.{slice_cmp-request_text, slice_cmp-ten}
-use Rattle.np_layout.specs.PlaceLaws.{NodesRise, RequestLocksRise, RequestsRise, SessionsRise, WaitsForNodesRise, WaitsForRequestsRise}
+use Rattle.np_layout.proofs.Prelude.{NodesRise, RequestLocksRise, RequestsRise, SessionsRise, WaitsForNodesRise, WaitsForRequestsRise, slice_cmp-request_text, slice_cmp-ten}
 
 pub requests-rise : RequestsRise
 requests-rise = slice_cmp-request_text

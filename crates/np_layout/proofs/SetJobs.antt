@@ -1,11 +1,5 @@
 -- a set of a job's record
-use Rattle.std.proofs.Common.{◌≡◌, ℕ, ◌+◌, List, [], ◌∷◌, map, Some, refl, ap, ◌∙◌, subst, arith}
-use Rattle.std.proofs.lemmas.Option.{slice_get_within}
-use Rattle.std.specs.Prelude.{slice_get}
-use Rattle.np_machine.specs.Prelude.{JobId, JobRecord, State, change_at, list_any}
-use Rattle.np_lists.proofs.ChangeLemmas.{change_at-set}
-use Rattle.np_layout.specs.Prelude.{IsGood, IsWhole, LaysOut, Row, TreeState, after_part, is_named, job_text, place_name}
-use Rattle.np_layout.proofs.Prelude.{HasGoodIds, Job, JobChangesLayOut, Jobs, JobsLayOut, SetLaysOut, by_name, job_row, rows_from, set}
+use Rattle.np_layout.proofs.Prelude.{HasGoodIds, IsGood, IsWhole, Job, JobChangesLayOut, JobId, JobRecord, Jobs, JobsLayOut, LaysOut, List, Row, SetLaysOut, Some, State, TreeState, [], after_part, ap, arith, by_name, change_at, change_at-set, is_named, job_row, job_text, list_any, map, place_name, refl, rows_from, set, slice_get, slice_get_within, subst, ℕ, ◌+◌, ◌∙◌, ◌∷◌, ◌≡◌}
 use Rattle.np_layout.proofs.EachTable.{Says, Table, all-tables, each-table, of_jobs, table-stays}
 use Rattle.np_layout.proofs.SetLists.{any-by_name, by_name-each, put-name, put_bytes}
 use Rattle.np_layout.proofs.SetSteps.{SetsRow, set-goes, sets-row}

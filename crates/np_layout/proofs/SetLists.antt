@@ -1,15 +1,5 @@
 -- the rows of a directory when one of them gets other bytes
-use Rattle.std.proofs.Common.{◌≡◌, ◌⊎◌, inl, inr, ℕ, zero, suc, ◌+◌, ◌<◌, ◌≤◌, Bool, true, false, cond, ◌||◌, List, [], ◌∷◌, length, map, Some, refl, sym, ap, ◌∙◌, subst, arith}
-use Rattle.std.specs.Prelude.{◌==◌, find, slice_get, if◌then◌else◌}
-use Rattle.np_machine.specs.Prelude.{AllByRecursion, NonePass, Rises, change_at, change_first, list_any, range_with_len}
-use Rattle.std.proofs.lemmas.Bool.{eqb-false}
-use Rattle.std.proofs.lemmas.Bool.Decides.{nat_tests}
-use Rattle.np_lists.proofs.Each.{all-weaker}
-use Rattle.np_lists.proofs.FilterLemmas.{list_any-insert_before}
-use Rattle.np_nodes.proofs.PlaceLemmas.{bytes_eq-is}
-use Rattle.np_tree.specs.Views.{Row, is_named, name_before, row_before, row_with, with_row}
-use Rattle.np_tree.proofs.SiblingLemmas.{other-name_back}
-use Rattle.np_layout.specs.Rows.{by_name, rows_from}
+use Rattle.np_layout.proofs.Prelude.{AllByRecursion, Bool, List, NonePass, Rises, Row, Some, [], all-weaker, ap, arith, by_name, bytes_eq-is, change_at, change_first, cond, eqb-false, false, find, if◌then◌else◌, inl, inr, is_named, length, list_any, list_any-insert_before, map, name_before, nat_tests, other-name_back, range_with_len, refl, row_before, row_with, rows_from, slice_get, subst, suc, sym, true, with_row, zero, ℕ, ◌+◌, ◌<◌, ◌==◌, ◌||◌, ◌∙◌, ◌∷◌, ◌≡◌, ◌≤◌, ◌⊎◌}
 use Rattle.np_layout.proofs.FirstKinds.{rows_put}
 
 -- ## each row of a name gets other bytes

@@ -1,11 +1,6 @@
 -- a set of the record of a role
-use Rattle.std.proofs.Common.{◌≡◌, ℕ, true, List, [], ◌∷◌, ◌++◌, map, Some, refl, ap, ◌∙◌, subst, arith}
-use Rattle.std.specs.Prelude.{slice_get}
-use Rattle.np_machine.specs.Prelude.{PoolId, RequesterId, RoleRecord, State, change_at, change_role, list_any}
-use Rattle.std.proofs.lemmas.List.{map-append}
+use Rattle.np_layout.proofs.Prelude.{HasGoodIds, IsGood, IsWhole, JanitorRole, LauncherRole, LaysOut, List, Place, PoolId, RequesterId, RequesterRole, RoleRecord, Roles, RolesLayOut, Row, SetLaysOut, Some, State, TreeState, [], above, after_part, ap, arith, by_name, change_at, change_role, is_named, janitor_role_row, launcher_role_row, list_any, map, map-append, place_name, refl, requester_role_row, role_text, rows_from, set, slice_get, subst, true, ℕ, ◌++◌, ◌∙◌, ◌∷◌, ◌≡◌}
 use Rattle.np_text.specs.declared.id.Role.TheVariants as role
-use Rattle.np_layout.specs.Prelude.{IsGood, IsWhole, LaysOut, Row, TreeState, above, after_part, is_named, place_name, role_text}
-use Rattle.np_layout.proofs.Prelude.{HasGoodIds, JanitorRole, LauncherRole, Place, RequesterRole, Roles, RolesLayOut, SetLaysOut, by_name, janitor_role_row, launcher_role_row, requester_role_row, rows_from, set}
 use Rattle.np_layout.proofs.EachTable.{Says, Table, all-tables, each-table, of_roles, table-stays}
 use Rattle.np_layout.proofs.SetLists.{any-by_name, by_name-each, put-name, put_bytes}
 use Rattle.np_layout.proofs.SetSteps.{SetsRow, set-goes, sets-row}

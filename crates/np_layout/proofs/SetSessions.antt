@@ -1,11 +1,5 @@
 -- a set of a session's record
-use Rattle.std.proofs.Common.{◌≡◌, ℕ, zero, suc, ◌+◌, ◌-◌, Bool, true, false, cond, List, [], ◌∷◌, map, Option, Some, None, refl, sym, ap, ◌∙◌, arith}
-use Rattle.std.specs.Prelude.{◌==◌, slice_get}
-use Rattle.np_machine.specs.Prelude.{SessionId, State, change_at, change_session, list_any, muted, range_with_len, session_of}
-use Rattle.std.proofs.lemmas.Bool.{eqb-false}
-use Rattle.np_lists.proofs.ChangeLemmas.{length-change_at}
-use Rattle.np_layout.specs.Prelude.{IsGood, IsWhole, Row, TreeState, after_part, is_in, is_named, place_name, session_text}
-use Rattle.np_layout.proofs.Prelude.{AreLive, HasGoodIds, LaysOut, MutesLayOut, Place, Session, SessionFacts, Sessions, set}
+use Rattle.np_layout.proofs.Prelude.{AreLive, Bool, HasGoodIds, IsGood, IsWhole, LaysOut, List, MutesLayOut, None, Option, Place, Row, Session, SessionFacts, SessionId, Sessions, Some, State, TreeState, [], after_part, ap, arith, change_at, change_session, cond, eqb-false, false, is_in, is_named, length-change_at, list_any, map, muted, place_name, range_with_len, refl, session_of, session_text, set, slice_get, suc, sym, true, zero, ℕ, ◌+◌, ◌-◌, ◌==◌, ◌∙◌, ◌∷◌, ◌≡◌}
 use Rattle.np_layout.proofs.EachTable.{Says, Table, all-tables, each-table, is_touched, of_live, of_sessions, table-stays}
 use Rattle.np_layout.proofs.SetLists.{put_bytes}
 use Rattle.np_layout.proofs.SetSteps.{SetsRow, set-goes, sets-row}

@@ -1,22 +1,11 @@
 -- one set of the bytes of a good place
-use Rattle.std.proofs.Common.{◌≡◌, ℕ, ◌+◌, ◌≤◌, Bool, true, false, List, [], ◌∷◌, length, map, Some, Result, Ok, Err, refl, sym, ap, ◌∙◌, subst}
-use Rattle.std.specs.Prelude.{IsOk}
-use Rattle.np_tree.specs.Prelude.{AllByRecursion, Any, HasRoomFor, IsWhole, Node, Row, TreeRefusal, TreeState, after_part, at_path, below, change_first, counter_at, find_named, is_at, is_in, is_named, list_any, name_of, next_change, option_map, parent_of, part_answer, row_with, rows_at, seen_at, seen_in, set_answer, with_bytes, ◌>>=◌}
-use Rattle.std.specs.Str.{bytes_eq}
-use Rattle.np_lists.proofs.Each.{all-mapped, all-weaker}
-use Rattle.np_lists.proofs.FoundLemmas.{found-change_first}
-use Rattle.np_nodes.specs.declared.op.OpDone.TheVariants as done
-use Rattle.np_nodes.proofs.PlaceLemmas.{bytes_eq-from, bytes_eq-is}
-use Rattle.np_tree.proofs.GoesLemmas.{seen-node, sets-go}
-use Rattle.np_tree.proofs.RelationLemmas.{rows-rise, seen-is-row}
-use Rattle.np_tree.proofs.ViewRoomLemmas.{room-gives}
-use Rattle.np_tree.proofs.RowLemmas.{rows-changed, rows-changed_other}
-use Rattle.np_layout.proofs.Prelude.{HasLeaves, IsGood, Place, above, next_under, path_of, place_name, set, under}
+use Rattle.np_layout.proofs.Prelude.{AllByRecursion, Any, Bool, Err, HasLeaves, HasRoomFor, IsGood, IsOk, IsWhole, List, Ok, Place, Result, Row, Some, TreeRefusal, TreeState, [], above, after_part, all-mapped, all-weaker, ap, at_path, below, bytes_eq, bytes_eq-apart, bytes_eq-from, bytes_eq-is, change_first, counter_at, false, find_named, found-change_first, is_at, is_in, is_named, length, list_any, map, name_of, next_change, next_under, option_map, parent_of, part_answer, path_of, place_name, refl, room-gives, row_with, rows-changed, rows-changed_other, rows-rise, rows_at, seen-is-row, seen-node, seen_at, seen_in, set, set_answer, sets-go, subst, sym, true, under, with_bytes, ℕ, ◌+◌, ◌>>=◌, ◌∙◌, ◌∷◌, ◌≡◌, ◌≤◌}
+use Rattle.np_tree.specs.Prelude.{Node}
+use Rattle.np_tree_nodes.specs.declared.op.OpDone.TheVariants as done
 use Rattle.np_layout.proofs.AboveLemmas.{IsGood-above, is_path-of, parts-of}
 use Rattle.np_layout.proofs.ChildLemmas.{same_names, same_paths}
 use Rattle.np_layout.proofs.Elsewhere.{IsApart, Stays}
 use Rattle.np_layout.proofs.SetLists.{any-found, put-first, put-name, put_bytes}
-use Rattle.np_lists.proofs.Plain.{bytes_eq-apart}
 
 -- ## names
 

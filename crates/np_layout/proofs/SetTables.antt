@@ -1,11 +1,5 @@
 -- the rows of a list when the record of one member changes
-use Rattle.std.proofs.Common.{◌≡◌, ℕ, ◌+◌, ◌<◌, ◌≤◌, ◌^◌, Bool, true, cond, ◌||◌, List, ◌++◌, length, map, Some, refl, sym, ap, ◌∙◌, inr, arith}
-use Rattle.std.proofs.lemmas.Option.{slice_get_within}
-use Rattle.std.specs.Prelude.{slice_get}
-use Rattle.np_tree.specs.Prelude.{Row, change_at, is_named, list_any, row_with}
-use Rattle.np_layout.proofs.Prelude.{IsGood, JanitorRole, Job, Jobs, LauncherRole, Place, RequesterRole, Roles, Semaphore, above, persistent, place_name, rows_from}
-use Rattle.std.proofs.lemmas.List.Folds.{list_any-append}
-use Rattle.np_lists.proofs.Plain.{or_true}
+use Rattle.np_layout.proofs.Prelude.{Bool, IsGood, JanitorRole, Job, Jobs, LauncherRole, List, Place, RequesterRole, Roles, Row, Semaphore, Some, above, ap, arith, change_at, cond, inr, is_named, length, list_any, list_any-append, map, or_true, persistent, place_name, refl, row_with, rows_from, slice_get, slice_get_within, sym, true, ℕ, ◌++◌, ◌+◌, ◌<◌, ◌^◌, ◌||◌, ◌∙◌, ◌≡◌, ◌≤◌}
 use Rattle.np_layout.proofs.SetLists.{put_bytes, rows_from-any, rows_from-change, rows_from-others}
 use Rattle.np_layout.proofs.SetSteps.{named-here, named-other}
 

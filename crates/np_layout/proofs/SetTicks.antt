@@ -1,10 +1,5 @@
 -- a set of the tick
-use Rattle.std.proofs.Common.{ℕ, List, [], ◌∷◌, refl, ap, ◌∙◌}
-use Rattle.std.specs.Prelude.{map}
-use Rattle.std.specs.Fmt.{decimal}
-use Rattle.np_machine.specs.Prelude.{State, list_any}
-use Rattle.np_layout.specs.Prelude.{IsWhole, LaysOut, Row, TreeState, after_part, is_named, place_name}
-use Rattle.np_layout.proofs.Prelude.{HasGoodIds, Poolsim, Tick, TicksLayOut, set}
+use Rattle.np_layout.proofs.Prelude.{HasGoodIds, IsWhole, LaysOut, List, Poolsim, Row, State, Tick, TicksLayOut, TreeState, [], after_part, ap, decimal, is_named, list_any, map, place_name, refl, set, ℕ, ◌∙◌, ◌∷◌}
 use Rattle.np_layout.proofs.EachTable.{Says, Table, all-tables, each-table, of_frame, table-stays}
 use Rattle.np_layout.proofs.Elsewhere.{tick-stays}
 use Rattle.np_layout.proofs.SetLists.{put_bytes}

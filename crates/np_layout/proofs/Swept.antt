@@ -1,11 +1,6 @@
 -- the swept pairs are read back
-use Rattle.std.proofs.Common.{◌≡◌, List, [], map, ap, ◌∙◌}
-use Rattle.np_layout.specs.Prelude.{AllByRecursion, IsGood, Rises, Row, TreeState, is_pair_before}
-use Rattle.np_lists.proofs.Each.{all-weaker}
-use Rattle.np_machine.specs.declared.state.Swept.{Swept}
+use Rattle.np_layout.proofs.Prelude.{AllByRecursion, AreSwept, IsGood, List, Rises, Row, Swept, TreeState, [], all-weaker, ap, is_pair_before, map, pair_named, swept_at, swept_row, ◌∙◌, ◌≡◌}
 use Rattle.np_layout.specs.declared.place.Place.TheVariants.{Swept as SweptPlace}
-use Rattle.np_layout.proofs.Prelude.{AreSwept, swept_row}
-use Rattle.np_layout.specs.Decoded.{pair_named, swept_at}
 use Rattle.np_layout.proofs.Lists.{map-back}
 use Rattle.np_layout.proofs.Order.{put_all, put_all-by_name, put_all-rises}
 use Rattle.np_layout.proofs.Texts.{pair_named-place}

@@ -1,16 +1,6 @@
 -- the tick, the jobs and the roles are read back
-use Rattle.std.proofs.Common.{◌≡◌, ℕ, ◌+◌, ◌<◌, ◌≤◌, ◌^◌, true, List, ◌++◌, length, map, Option, Some, unwrap_or, refl, sym, ap, ◌∙◌, arith}
-use Rattle.std.specs.Prelude.{slice_get}
-use Rattle.std.specs.Fmt.{decimal}
-use Rattle.np_machine.specs.Prelude.{AllByRecursion, JobRecord, RoleRecord, list_any, new_job, no_deeds, number_of, range_with_len}
-use Rattle.std.proofs.lemmas.Option.{slice_get_within}
-use Rattle.np_text.proofs.SpellingLemmas.{number_of-decimal, some_injective}
-use Rattle.np_lists.proofs.Each.{all-at}
-use Rattle.np_layout.specs.Prelude.{IsGood, IsJob, IsRole, IsWhole, Row, TreeState, above, find_named, is_named, job_text, place_name, role_text}
-use Rattle.np_spelling.specs.Reading.{job_in, max_u32, role_in}
-use Rattle.np_layout.proofs.Prelude.{AreJobs, AreRoles, IsFrame, Jobs, Place, Poolsim, Roles, Tick, janitor_role_row, job_row, launcher_role_row, persistent, requester_role_row, rows_from}
+use Rattle.np_layout.proofs.Prelude.{AllByRecursion, AreJobs, AreRoles, IsFrame, IsGood, IsJob, IsRole, IsWhole, JobRecord, Jobs, List, Option, Place, Poolsim, RoleRecord, Roles, Row, Some, Tick, TreeState, above, all-at, ap, arith, decimal, find_named, is_named, janitor_role_row, job_at, job_in, job_row, job_text, launcher_role_row, length, list_any, map, max_u32, new_job, no_deeds, number_of, number_of-decimal, persistent, place_name, range_with_len, refl, requester_role_row, role_at, role_in, role_text, rows_from, slice_get, slice_get_within, some_injective, sym, tick_at, true, unwrap_or, ℕ, ◌++◌, ◌+◌, ◌<◌, ◌^◌, ◌∙◌, ◌≡◌, ◌≤◌}
 use Rattle.np_layout.proofs.SetTables.{IsTable, any-first, any-last, janitor-table, janitor_place, job-table, job_place, launcher-table, launcher_place, place_number, requester-table, requester_place, table-any}
-use Rattle.np_layout.specs.Decoded.{job_at, role_at, tick_at}
 use Rattle.np_layout.proofs.Lists.{map-places}
 use Rattle.np_layout.proofs.Named.{all-both, all-rows_from, find-by_name, named-same, text-at_row}
 use Rattle.np_layout.proofs.Texts.{job-read, role-read}

@@ -1,23 +1,6 @@
 -- what is read from the text of a record or a name is the record or the name's numbers
-use Rattle.std.proofs.Common.{◌≡◌, ℕ, ◌+◌, ◌^◌, ◌<◌, List, [], ◌∷◌, ◌++◌, length, length-append, take, drop, Option, Some, None, Ok, unwrap_or, refl, ap, ◌∙◌, arith}
-use Rattle.std.specs.Prelude.{codes}
-use Rattle.std.specs.Fmt.{decimal}
-use Rattle.std.proofs.lemmas.List.{append_assoc, drop_at, take_at}
-use Rattle.np_machine.specs.Prelude.{HasText, JobRecord, NodeId, NodeRecord, RequestId, RequestRecord, RoleRecord, SessionRecord, number_of, request_text_of, ten_digits_of}
-use Rattle.np_text.proofs.OrderLemmas.{length-ten}
-use Rattle.np_text.proofs.RequestLemmas.{request_of-text}
-use Rattle.np_text.proofs.SpellingLemmas.{number_of-decimal, sequence_of-ten_digits_of}
-use Rattle.np_spelling.specs.Reading.{answer, job_in, max_u64, node_in, request_record_in, role_in, session_in}
-use Rattle.np_spelling.specs.Spelling.{IsJob, IsRequest, IsRole, IsSession, SpellsNode, job_text, request_record_text, role_text, session_text}
-use Rattle.np_spelling.proofs.JobForm.{job_all}
-use Rattle.np_spelling.proofs.NodeForm.{node_all}
-use Rattle.np_spelling.proofs.RequestForm.{request_all}
-use Rattle.np_spelling.proofs.RoleForm.{role_all}
-use Rattle.np_spelling.proofs.SessionForm.{session_all}
-use Rattle.np_machine.specs.declared.state.Swept.{Swept}
-use Rattle.np_layout.specs.Place.{IsGood, place_name}
+use Rattle.np_layout.proofs.Prelude.{HasText, IsGood, IsJob, IsRequest, IsRole, IsSession, JobRecord, List, NodeId, NodeRecord, None, Ok, Option, RequestId, RequestRecord, RoleRecord, SessionRecord, Some, SpellsNode, Swept, [], answer, ap, append_assoc, arith, codes, decimal, drop, drop_at, job_all, job_in, job_text, length, length-append, length-ten, max_u64, node_all, node_in, node_named, number_of, number_of-decimal, pair_named, place_name, refl, request_all, request_named, request_of-text, request_record_in, request_record_text, request_text_of, role_all, role_in, role_text, sequence_of-ten_digits_of, session_all, session_in, session_text, take, take_at, ten_digits_of, unwrap_or, ℕ, ◌++◌, ◌+◌, ◌<◌, ◌^◌, ◌∙◌, ◌∷◌, ◌≡◌}
 use Rattle.np_layout.specs.declared.place.Place.TheVariants.{Swept as SweptPlace}
-use Rattle.np_layout.specs.Decoded.{node_named, pair_named, request_named}
 
 -- ## records
 

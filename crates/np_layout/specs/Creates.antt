@@ -4,7 +4,7 @@ use Rattle.std.specs.Prelude.{◌≡◌, ◌<◌, ◌≤◌, ◌+◌, ◌^◌, �
 use Rattle.std.specs.Fmt.{decimal}
 use Rattle.np_machine.specs.Prelude.{AllByRecursion, JobId, NodeEntry, NodeId, NodeRecord, PoolId, RequestEntry, RequestId, RequestRecord, Role, SemId, SessionId, State, change_at, has_handle, insert_request, is_queued, is_swept, joined, next_id, node_entry, node_queue, put_node_queue, put_request_queue, registered, registers, request_entry, request_queue, with_handle, with_pair}
 use Rattle.np_tree.specs.Prelude.{Ephemeral, EphemeralSequential, Goes, HasRoomFor, IsWhole, Op, PersistentSequential, TreeState, after_begin, after_parts, below, is_in}
-use Rattle.np_nodes.specs.declared.op.Op.TheVariants as op
+use Rattle.np_tree_nodes.specs.declared.op.Op.TheVariants as op
 use Rattle.np_spelling.specs.Spelling.{SpellsNode, request_record_text, session_text}
 use Rattle.np_layout.specs.Place.{IsGood, path_of}
 use Rattle.np_layout.specs.declared.place.Place.{Place}

@@ -3,7 +3,7 @@
 use Rattle.std.specs.Prelude.{◌≡◌, ◌≤◌, ℕ, true, false, not, List, [], ◌∷◌, ◌++◌, filter, map, slice_get, Some, IsOk}
 use Rattle.np_machine.specs.Prelude.{JobId, NodeEntry, NodeId, RequestEntry, RequestId, SemId, SessionId, State, change_at, change_session, ended, has_handle, is_queued, is_session, left, node_entry, node_left, node_queue, put_node_queue, put_request_queue, remove_node, remove_request, request_entry, request_left, request_queue, without_handle}
 use Rattle.np_tree.specs.Prelude.{Any, HasRoomFor, IsWhole, Op, TreeState, after_end, after_part, delete_parts, is_in, part_answer}
-use Rattle.np_nodes.specs.declared.op.Op.TheVariants as op
+use Rattle.np_tree_nodes.specs.declared.op.Op.TheVariants as op
 use Rattle.np_layout.specs.Place.{IsGood, path_of}
 use Rattle.np_layout.specs.declared.place.Place.{Place}
 use Rattle.np_layout.specs.declared.place.Place.TheVariants.{Handle, Node, NodeLock, NodeWait, Request, RequestLock, RequestWait}

@@ -7,7 +7,7 @@ use Rattle.np_tree.specs.TreeState.{TreeState, new_tree}
 use Rattle.np_tree.specs.Calls.{after_begin}
 use Rattle.np_tree.specs.Multi.{after_multi}
 use Rattle.np_tree.specs.Prelude.{Op, Persistent}
-use Rattle.np_nodes.specs.declared.op.Op.TheVariants as op
+use Rattle.np_tree_nodes.specs.declared.op.Op.TheVariants as op
 use Rattle.np_layout.specs.Place.{path_of}
 use Rattle.np_layout.specs.declared.place.Place.{Place}
 use Rattle.np_layout.specs.declared.place.Place.TheVariants.{Nodepool, Requests, RequestLocks, Nodes, Launchers, Zuul, Semaphores, Semaphore, Poolsim, Jobs, Job, Roles, LauncherRole, JanitorRole, RequesterRole, Sessions, SweptPairs, Tick}

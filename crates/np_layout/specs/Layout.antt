@@ -47,7 +47,7 @@ pub record IsWait (next : ℕ) (row : Row) (session : SessionId) : Type 0 where
   pub is : row ≡ wait_row number session
 
 -- the rows of a lock, in order, are its queue (ZooKeeper Recipes, Locks: the lowest number holds)
-pub record IsQueue (lock : Place) (queue : List SessionId) (t : TreeState) : Type 0 where
+pub record HasQueue (lock : Place) (queue : List SessionId) (t : TreeState) : Type 0 where
   pub next : ℕ
   pub gives : next_under lock t ≡ Some next
   pub waits : AllZip (IsWait next) (under lock t) queue
@@ -61,7 +61,7 @@ pub record AreRequests (entries : List RequestEntry) (next : ℕ) (t : TreeState
 
 pub record AreRequestLocks (entries : List RequestEntry) (t : TreeState) : Type 0 where
   pub rows : under RequestLocks t ≡ map request_lock_row entries
-  pub queues : AllByRecursion (λ e. IsQueue (RequestLock e.id) e.queue t) entries
+  pub queues : AllByRecursion (λ e. HasQueue (RequestLock e.id) e.queue t) entries
 
 -- one row of a node: its record may be spelled as before there were tenants
 pub record IsNodeRow (row : Row) (e : NodeEntry) : Type 0 where
@@ -75,7 +75,7 @@ pub record AreNodes (entries : List NodeEntry) (next : ℕ) (t : TreeState) : Ty
 -- a node's lock is below its record
 pub record HasNodeLock (t : TreeState) (e : NodeEntry) : Type 0 where
   pub rows : under (Node e.id) t ≡ directories (NodeLock e.id ∷ [])
-  pub queue : IsQueue (NodeLock e.id) e.queue t
+  pub queue : HasQueue (NodeLock e.id) e.queue t
 
 abbrev pub AreNodeLocks : List NodeEntry → TreeState → Type 0
 AreNodeLocks entries t = AllByRecursion (HasNodeLock t) entries

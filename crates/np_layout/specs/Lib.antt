@@ -11,3 +11,8 @@ pub mod Place
 pub mod Roles
 pub mod PlaceLaws
 pub mod Prelude
+pub mod Parts
+pub mod Stands
+pub mod Ways
+pub mod Events
+pub mod Ready

@@ -4,7 +4,7 @@ pub use Rattle.np_layout.specs.Creates.{node_parts, request_parts, wait_at}
 pub use Rattle.np_layout.specs.Decoded.{decoded}
 pub use Rattle.np_layout.specs.Deletes.{AreDistinct, delete, node_deletes, request_deletes}
 pub use Rattle.np_layout.specs.First.{make}
-pub use Rattle.np_layout.specs.Layout.{HasNodeLock, IsQueue, IsWait, LaysOut, under}
+pub use Rattle.np_layout.specs.Layout.{HasNodeLock, HasQueue, IsWait, LaysOut, under}
 pub use Rattle.np_layout.specs.Place.{IsGood, above, path_of, place_name}
 pub use Rattle.np_layout.specs.Roles.{place_of_role}
 pub use Rattle.np_layout.specs.Rows.{tree_session}

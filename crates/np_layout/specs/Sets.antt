@@ -4,7 +4,7 @@ use Rattle.std.specs.Prelude.{◌≡◌, ◌==◌, ◌<◌, ◌≤◌, ◌^◌, 
 use Rattle.std.specs.Fmt.{decimal}
 use Rattle.np_machine.specs.Prelude.{AllByRecursion, JobId, JobRecord, NodeId, NodeRecord, RequestId, RequestRecord, Role, RoleRecord, SessionId, State, change_at, change_first, change_role, change_session, muted, node_in, put_job, request_in, role_in, same_request, session_of}
 use Rattle.np_tree.specs.Prelude.{Any, HasRoomFor, IsWhole, Op, TreeState, after_part, is_in, part_answer}
-use Rattle.np_nodes.specs.declared.op.Op.TheVariants as op
+use Rattle.np_tree_nodes.specs.declared.op.Op.TheVariants as op
 use Rattle.np_spelling.specs.Spelling.{SpellsNode, job_text, request_record_text, role_text, session_text}
 use Rattle.np_machine.specs.declared.state.SessionFacts.{SessionFacts}
 use Rattle.np_layout.specs.Place.{IsGood, path_of}

@@ -1,4 +1,5 @@
-//! How the coordination tree lays a state of the machine out, and which state a tree has.
+//! How the coordination tree lays a state of the machine out, which state a tree has, and how the
+//! tree enacts the changes of an event.
 //!
 //! `specs/Layout` says when a tree lays a state out: the rows of each directory are those of one
 //! table of the state, with their bytes and owners, and nothing else is there. `specs/Rows` has the
@@ -23,16 +24,30 @@
 //! that change the tree. `specs/PlaceLaws` has what is true of all places, each a public function that
 //! does nothing: paths are in the grammar, a path is its directory's and its name, no two places have
 //! the same, names are in order as their ids are, and 64 bytes are room for each.
+//!
+//! `specs/Parts` says what the tree is asked to do for an event's changes: the parts of one call, in
+//! the order of the changes, and a session that begins or ends after it. `specs/Ways` says of each
+//! table that an event may change that the parts for it are accepted and leave a tree that lays the
+//! changed state out. `specs/Events` says the same of the changes of a whole event. `specs/Ready` says
+//! that each accepted event of a run has what these need of its changes and of the state, and that the
+//! state after it is one that a tree can carry again.
 #![tactic(auto)]
 
 mod buffer;
 mod decode;
+mod enacted;
 mod laws;
 mod path_text;
 mod place;
 mod place_laws;
+mod ready;
 
 pub use decode::a_tree_has_one_state;
+pub use enacted::{
+    changes_of_handles_are_enacted, changes_of_jobs_are_enacted, changes_of_nodes_are_enacted,
+    changes_of_requests_are_enacted, changes_of_roles_are_enacted, changes_of_sessions_are_enacted,
+    events_are_enacted, growths_are_enacted, ticks_are_enacted,
+};
 pub use laws::{
     begun_sessions_lay_out, creates_of_handles_lay_out, creates_of_registrations_lay_out,
     creates_of_swept_pairs_lay_out, deletes_of_handles_lay_out, deletes_of_node_waits_lay_out,
@@ -47,4 +62,8 @@ pub use place::Place;
 pub use place_laws::{
     names_stand_in_order, no_two_places_share_a_path, paths_are_in_the_grammar,
     paths_fit_in_64_bytes, places_stand_in_directories,
+};
+pub use ready::{
+    every_accepted_event_is_enacted, every_accepted_event_is_ready, every_record_is_spelled,
+    every_start_is_carried, every_step_is_carried,
 };

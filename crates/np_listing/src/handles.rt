@@ -77,7 +77,7 @@ fn semaphores<R: Rows>(rows: &R) -> u16
     ensures { result ≡ length (R.site rows.now).semaphores }
 {
     let config = rows.config();
-    config.soundness();
+    config.know_soundness();
     config.semaphores().len() as u16
 }
 

@@ -14,3 +14,13 @@ pub mod KeptLemmas
 pub mod Plain
 pub mod Places
 pub mod Splits
+pub mod KeyLemmas
+pub mod MemberOrder
+pub mod Kept
+pub mod MoveLemmas
+pub mod IdLemmas
+pub mod Search
+pub mod Walk
+mod RowLemmas
+pub mod RankLemmas
+pub mod MemberLemmas

@@ -4,3 +4,8 @@ pub mod Refusals
 pub mod EachAfter
 pub mod Items
 pub mod Falls
+pub mod Roomy
+pub mod Groups
+pub mod Rows
+pub mod Ranks
+pub mod Moves

@@ -5,7 +5,7 @@ use Rattle.np_tree.specs.Prelude.{AllByRecursion, Any, IsTree, Node, Row, TreeRe
 use Rattle.std.proofs.lemmas.Bool.{eqb-true}
 use Rattle.np_lists.proofs.Each.{all-filter}
 use Rattle.np_lists.proofs.RisingLemmas.{Rises-filter}
-use Rattle.np_nodes.specs.declared.op.OpDone.TheVariants as done
+use Rattle.np_tree_nodes.specs.declared.op.OpDone.TheVariants as done
 use Rattle.np_tree.proofs.StandingLemmas.{children_of-ephemeral}
 use Rattle.np_tree.specs.Relations.{is_kept}
 use Rattle.np_tree.proofs.GoesLemmas.{unspent-goes}

@@ -17,10 +17,10 @@ use Rattle.np_path.specs.Makes.{Makes}
 use Rattle.np_path.specs.declared.path.Path.{Path}
 use Rattle.np_path.proofs.PathLaws.{HasParts-below}
 use Rattle.np_path.proofs.PartsLemmas.{is_element-numbered, is_path-below}
-use Rattle.np_nodes.specs.declared.refusal.TreeFault.{TreeFault}
-use Rattle.np_nodes.specs.declared.refusal.TreeFault.TheVariants.{NoMemory, Refused}
-use Rattle.np_nodes.specs.declared.refusal.TreeRefusal.TheVariants as no
-use Rattle.np_nodes.proofs.PlaceLemmas.{bytes_eq-from}
+use Rattle.np_tree_nodes.specs.declared.refusal.TreeFault.{TreeFault}
+use Rattle.np_tree_nodes.specs.declared.refusal.TreeFault.TheVariants.{NoMemory, Refused}
+use Rattle.np_tree_nodes.specs.declared.refusal.TreeRefusal.TheVariants as no
+use Rattle.np_tree_nodes.proofs.PlaceLemmas.{bytes_eq-from}
 use Rattle.np_tree.specs.Inners.{Answers}
 use Rattle.np_tree.specs.Whole.{IsTree, IsWhole, OwnerLives}
 use Rattle.np_tree.proofs.StandingLemmas.{children_of-ephemeral}

@@ -3,7 +3,7 @@ use Rattle.std.proofs.Common.{◌≡◌, ℕ, zero, suc, List, [], ◌∷◌, le
 use Rattle.std.specs.Prelude.{filter_map, slice_get, option_and_then}
 use Rattle.np_tree.specs.Prelude.{IsTree, Node, Row, Stat, TreeState, at_path, children_of, is_at, option_map, row_of, stat_at, stat_of, stat_of_child, with_next_number}
 use Rattle.np_lists.proofs.FoundLemmas.{find-passes}
-use Rattle.np_nodes.proofs.PlaceLemmas.{bytes_eq-is}
+use Rattle.np_tree_nodes.proofs.PlaceLemmas.{bytes_eq-is}
 use Rattle.np_tree.proofs.RelationLemmas.{rows-nothing}
 use Rattle.np_lock.specs.Queue.{IsLock, IsQueue, Wait, queue_at, row_of_wait}
 use Rattle.std.proofs.lemmas.List.{length-map}

@@ -1,8 +1,8 @@
 -- what each call of a lock answers, and what it does to the tree
 use Rattle.std.specs.Prelude.{◌≡◌, ⊤, ℕ, zero, suc, ◌<◌, ◌==◌, Bool, true, false, List, [], ◌∷◌, ◌++◌, find, position, slice_get, Option, Some, None, Result, Ok, Err, IsOk, if◌then◌else◌}
 use Rattle.np_tree.specs.Prelude.{Any, EphemeralSequential, NoMemory, Op, Row, TreeRefusal, TreeState, after_create, after_delete, below, create_answer, is_in, is_none, is_owner, option_map, rows_at, where_found, with_next_number}
-use Rattle.np_nodes.specs.declared.op.Op.TheVariants as op
-use Rattle.np_nodes.specs.declared.refusal.TreeRefusal.TheVariants as no
+use Rattle.np_tree_nodes.specs.declared.op.Op.TheVariants as op
+use Rattle.np_tree_nodes.specs.declared.refusal.TreeRefusal.TheVariants as no
 use Rattle.np_lock.specs.Queue.{queue_at, wait_path}
 use Rattle.np_lock.specs.declared.answer.Place.{Place}
 use Rattle.np_lock.specs.declared.answer.Place.TheVariants.{Held, Queued}

@@ -1,6 +1,6 @@
 -- the tree's faults as those of a lock
-use Rattle.np_nodes.specs.declared.refusal.TreeFault.{TreeFault}
-use Rattle.np_nodes.specs.declared.refusal.TreeFault.TheVariants as tree
+use Rattle.np_tree_nodes.specs.declared.refusal.TreeFault.{TreeFault}
+use Rattle.np_tree_nodes.specs.declared.refusal.TreeFault.TheVariants as tree
 use Rattle.np_lock.specs.declared.answer.LockFault.{LockFault}
 use Rattle.np_lock.specs.declared.answer.LockFault.TheVariants as fault
 

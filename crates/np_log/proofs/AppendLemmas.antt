@@ -1,16 +1,5 @@
 -- What an append leaves, by what its writes leave.
-use Rattle.std.proofs.Common.{◌≡◌, ◌⊎◌, inl, ⊎_elim, ℕ, ◌+◌, ◌≤◌, List, length, Option, Some, None, IfSome, sym, ◌∙◌, ap, subst}
-use Rattle.std.specs.Option.{option_map}
-use Rattle.std.specs.List.{AllByRecursion}
-use Rattle.np_text.specs.declared.limit.TheConstants.{JOURNAL_ENTRIES}
-use Rattle.np_event.specs.declared.event.Event.{Event}
-use Rattle.np_event_lines.specs.Line.{HasEventLine}
-use Rattle.np_io.specs.Disk.{DiskFacts, LeavesOnly, Only, TornWrite, AfterTornWrite}
-use Rattle.np_io.proofs.Moments.{LeavesOnly-weaker}
-use Rattle.np_log.specs.Batch.{batch_text}
-use Rattle.np_log.specs.Log.{content_of, content_with}
-use Rattle.np_log.specs.Place.{IsSettledIn, Place, SaysAllOrNone}
-use Rattle.np_log.specs.Writing.{TornBehindOrAt, behind_gate, behind_open_gate, record_and_gate}
+use Rattle.np_log.proofs.Prelude.{AfterTornWrite, AllByRecursion, DiskFacts, Event, HasEventLine, IfSome, IsSettledIn, JOURNAL_ENTRIES, LeavesOnly, LeavesOnly-weaker, List, None, Only, Option, Place, SaysAllOrNone, Some, TornBehindOrAt, TornWrite, ap, batch_text, behind_gate, behind_open_gate, content_of, content_with, inl, length, option_map, record_and_gate, subst, sym, ℕ, ⊎_elim, ◌+◌, ◌∙◌, ◌≡◌, ◌≤◌, ◌⊎◌}
 use Rattle.np_log.proofs.BatchLemmas.{batch_of-text}
 use Rattle.np_log.proofs.LengthLemmas.{batch_fits}
 use Rattle.np_log.proofs.CrashLemmas.{Adds, content_of-after, settled_after, gate_within, torn_at, torn_behind}

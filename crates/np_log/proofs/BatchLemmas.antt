@@ -1,23 +1,5 @@
 -- The payload of events is read as these events.
-use Rattle.std.proofs.Common.{◌≡◌, ℕ, suc, ◌-◌, ◌≤◌, Bool, true, false, cond, ◌==◌, ◌&&◌, List, [], ◌∷◌, ◌++◌, length, map, Option, Some, None, Result, Ok, Err, refl, sym, ◌∙◌, ap, subst, arith, append_assoc, length-append}
-use Rattle.std.specs.Prelude.{nat_le, slice_get}
-use Rattle.std.specs.List.{AllByRecursion, flat_map, onto_first}
-use Rattle.std.specs.Option.{option_and_then, option_map}
-use Rattle.std.specs.Result.{result_ok}
-use Rattle.std.proofs.Math.Seq.{get_or-append_seam}
-use Rattle.std.proofs.lemmas.Bool.Decides.{nat_tests}
-use Rattle.std.proofs.lemmas.List.{append-nil}
-use Rattle.std.proofs.lemmas.Option.{slice_get-get_or}
-use Rattle.np_text.specs.Lines.{line, lines_of}
-use Rattle.np_text.proofs.LineLemmas.{lines_of-line}
-use Rattle.np_text.proofs.SpellingLemmas.{some_injective}
-use Rattle.np_event.specs.declared.event.Event.{Event}
-use Rattle.np_event_lines.specs.declared.fault.LineFault.{LineFault}
-use Rattle.np_event_lines.specs.Line.{HasEventLine, event_in, event_line}
-use Rattle.np_event_lines.specs.Words.{words_of}
-use Rattle.np_event_lines.proofs.EventLemmas.{event_in-spelled, event_in-words, inside-event_line}
-use Rattle.np_event_lines.proofs.SpellingLemmas.{is_line-inside}
-use Rattle.np_log.specs.Batch.{IsBatch, batch_of, batch_text, ends_in_newline, event_of_line, events_of, is_newline, within_batch}
+use Rattle.np_log.proofs.Prelude.{AllByRecursion, Bool, Err, Event, HasEventLine, IsBatch, LineFault, List, None, Ok, Option, Result, Some, [], ap, append-nil, append_assoc, arith, batch_of, batch_text, cond, ends_in_newline, event_in, event_in-spelled, event_in-words, event_line, event_of_line, events_of, false, flat_map, get_or-append_seam, inside-event_line, is_line-inside, is_newline, length, length-append, line, lines_of, lines_of-line, map, nat_le, nat_tests, onto_first, option_and_then, option_map, refl, result_ok, slice_get, slice_get-get_or, some_injective, subst, suc, sym, true, within_batch, words_of, ℕ, ◌&&◌, ◌++◌, ◌-◌, ◌==◌, ◌∙◌, ◌∷◌, ◌≡◌, ◌≤◌}
 
 -- ## Lines one by one
 

@@ -1,14 +1,5 @@
 -- What a crash leaves of a log while a record is content_with.
-use Rattle.std.proofs.Common.{◌≡◌, ◌⊎◌, inl, inr, ⊎_elim, ℕ, ◌+◌, ◌^◌, ◌<◌, ◌≤◌, List, [], ◌∷◌, ◌++◌, length, get_or, take, drop, Some, Ok, sym, ◌∙◌, ap, subst, arith, append_assoc, length-append, take-append-drop}
-use Rattle.std.proofs.lemmas.Bool.{cases_eq}
-use Rattle.std.proofs.lemmas.List.{drop_at, drop_more, take_at}
-use Rattle.np_text.specs.declared.limit.TheConstants.{JOURNAL_ENTRIES}
-use Rattle.np_event.specs.declared.event.Event.{Event}
-use Rattle.np_io.specs.Disk.{Only, TornWrite, AfterTornWrite, put_at}
-use Rattle.np_log.specs.Batch.{batch_of}
-use Rattle.np_log.specs.Log.{Walk, add_events, after_batch, after_record, content_of, content_with, go_on, map_ok, record_text, walk_of}
-use Rattle.np_log.specs.Place.{IsSettledIn, Place, SaysAllOrNone}
-use Rattle.np_log.specs.Writing.{record_and_gate}
+use Rattle.np_log.proofs.Prelude.{AfterTornWrite, Event, IsSettledIn, JOURNAL_ENTRIES, List, Ok, Only, Place, SaysAllOrNone, Some, TornWrite, Walk, [], add_events, after_batch, after_record, ap, append_assoc, arith, batch_of, cases_eq, content_of, content_with, drop, drop_at, drop_more, get_or, go_on, inl, inr, length, length-append, map_ok, put_at, record_and_gate, record_text, subst, sym, take, take-append-drop, take_at, walk_of, ℕ, ⊎_elim, ◌++◌, ◌+◌, ◌<◌, ◌^◌, ◌∙◌, ◌∷◌, ◌≡◌, ◌≤◌, ◌⊎◌}
 use Rattle.np_log.proofs.RecordLemmas.{record_in-text}
 use Rattle.np_log.proofs.WalkLemmas.{EndsAt, go_on-closed, go_on-open, after_record-batch, walk_of-EndsAt}
 
@@ -27,7 +18,7 @@ behind front gate more n is =
 same_front : (file c : List ℕ) (w : Walk) → walk_of file ≡ Ok w → take (w.gate + 1) c ≡ take (w.gate + 1) file → walk_of c ≡ Ok w
 same_front file c w is same =
     let e = walk_of-EndsAt file w is in
-    let front : take (w.gate + 1) c ≡ e.front ++ e.gate ∷ [] = same ∙ ap (take (w.gate + 1)) e.split ∙ upto e.front e.gate e.more w.gate e.place in
+    let front : take (w.gate + 1) c ≡ e.front ++ e.gate ∷ [] = same ∙ ap (take (w.gate + 1)) e.split ∙ upto e.front e.gate e.more w.gate (omega (arith, e.place)) in
     let whole : c ≡ e.front ++ e.gate ∷ drop (w.gate + 1) c =
     sym (take-append-drop (w.gate + 1) c) ∙ ap (λ (l : List ℕ). l ++ drop (w.gate + 1) c) front ∙ append_assoc e.front (e.gate ∷ []) (drop (w.gate + 1) c) in
     ap walk_of whole ∙ e.goes (e.gate ∷ drop (w.gate + 1) c) ∙ go_on-closed w e.gate (drop (w.gate + 1) c) e.closed
@@ -83,7 +74,7 @@ module _ (file : List ℕ) (images : List ℕ → Type 0) (place : Place) (settl
   ends = walk_of-EndsAt file settled.walk settled.is
 
   at_gate : place.gate ≡ length ends.front
-  at_gate = sym settled.gate ∙ ends.place
+  at_gate = omega (arith, settled.gate, ends.place)
 
   said : content_of file ≡ Ok settled.walk.content
   said = ap (map_ok (λ w. w.content)) settled.is

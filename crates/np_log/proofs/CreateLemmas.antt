@@ -1,13 +1,5 @@
 -- A new log in an empty file.
-use Rattle.std.proofs.Common.{◌≡◌, ◌⊎◌, inl, inr, ⊎_elim, ℕ, ◌+◌, ◌^◌, ◌<◌, List, [], ◌∷◌, ◌++◌, length, get_or, Option, Some, None, IfSome, Ok, Err, refl, ◌∙◌, ap, subst, arith}
-use Rattle.std.specs.Option.{option_map}
-use Rattle.std.proofs.lemmas.Bool.{cases_eq}
-use Rattle.std.proofs.lemmas.List.{append-nil, drop_all}
-use Rattle.np_io.specs.Disk.{DiskFacts, IsDisk, LeavesOnly, Only, Stays, TornWrite, put_at}
-use Rattle.np_io.proofs.Moments.{LeavesOnly-stays, LeavesOnly-then}
-use Rattle.np_log.specs.Log.{after_config, content_of, map_ok, walk_of}
-use Rattle.np_log.specs.Place.{IsSettledIn, SaysNewLog}
-use Rattle.np_log.specs.Writing.{TornFirst, behind_gate, behind_open_gate, record_and_gate}
+use Rattle.np_log.proofs.Prelude.{DiskFacts, Err, IfSome, IsDisk, IsSettledIn, LeavesOnly, LeavesOnly-stays, LeavesOnly-then, List, None, Ok, Only, Option, SaysNewLog, Some, Stays, TornFirst, TornWrite, [], after_config, ap, append-nil, arith, behind_gate, behind_open_gate, cases_eq, content_of, drop_all, get_or, inl, inr, length, map_ok, option_map, put_at, record_and_gate, refl, subst, walk_of, ℕ, ⊎_elim, ◌++◌, ◌+◌, ◌<◌, ◌^◌, ◌∙◌, ◌∷◌, ◌≡◌, ◌⊎◌}
 use Rattle.np_log.proofs.CrashLemmas.{TornWrite-gate}
 use Rattle.np_log.proofs.WalkLemmas.{go_on-closed, walk_of-closed, walk_of-first, walk_of-none, walk_of-one}
 

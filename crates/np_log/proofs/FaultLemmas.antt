@@ -1,9 +1,6 @@
 -- A walk that fails.
-use Rattle.std.proofs.Common.{◌≡◌, ℕ, List, ◌∷◌, Some, Result, ◌∙◌}
-use Rattle.np_log.specs.declared.fault.LoadFault.{LoadFault}
+use Rattle.np_log.proofs.Prelude.{Fails, List, LoadFault, Result, Some, Walk, after_record, go_on, record_in, ℕ, ◌∙◌, ◌∷◌, ◌≡◌}
 use Rattle.np_log.specs.declared.fault.LoadFault.TheVariants as why
-use Rattle.np_log.specs.Log.{Walk, go_on, after_record, record_in}
-use Rattle.np_log.specs.Walking.{Fails}
 use Rattle.np_log.proofs.WalkLemmas.{go_on-fault}
 
 pub fails_past : (fault : LoadFault) (w : Walk) (bytes payload more : List ℕ) (said : Result Walk ℕ) → record_in bytes ≡ Some (payload, more) → said ≡ go_on w (1 ∷ bytes)

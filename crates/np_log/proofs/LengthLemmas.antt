@@ -1,31 +1,12 @@
 -- How long an event's line can be.
-use Rattle.std.proofs.Common.{◌≡◌, ℕ, ◌*◌, ◌^◌, ◌<◌, ◌≤◌, true, List, [], ◌∷◌, ◌++◌, length, refl, arith, length-append}
-use Rattle.std.specs.Prelude.{codes, nat_le}
-use Rattle.std.specs.Fmt.{decimal}
-use Rattle.std.specs.List.{AllByRecursion, flat_map}
-use Rattle.std.proofs.lemmas.Bool.Decides.{nat_tests}
-use Rattle.std.proofs.lemmas.Fmt.{length-decimal-le}
-use Rattle.np_text.specs.Lines.{line}
-use Rattle.np_text.specs.Number.{ten_digits_of}
-use Rattle.np_text.specs.Request.{HasText, request_text_of}
-use Rattle.np_text.specs.declared.id.RequestId.{RequestId}
+use Rattle.np_log.proofs.Prelude.{AllByRecursion, EndAs, Event, HasEventLine, HasText, List, ReasonKind, RequestId, RoleKind, [], arith, batch_text, codes, decimal, decimal-short, end_as_word, event_line, flat_map, length, length-append, length-decimal-le, length-ten, lettered, line, nat_le, nat_tests, reason_kind_word, refl, request_text_of, role_kind_word, ten_digits_of, true, ℕ, ◌*◌, ◌++◌, ◌<◌, ◌^◌, ◌∷◌, ◌≡◌, ◌≤◌}
 use Rattle.np_text.specs.declared.id.Role.TheVariants as role
-use Rattle.np_text.specs.declared.word.EndAs.{EndAs}
 use Rattle.np_text.specs.declared.word.EndAs.TheVariants as end
 use Rattle.np_text.specs.declared.word.Reason.TheVariants as reason
-use Rattle.np_text.specs.declared.word.ReasonKind.{ReasonKind}
 use Rattle.np_text.specs.declared.word.ReasonKind.TheVariants as reason_kind
-use Rattle.np_text.specs.declared.word.RoleKind.{RoleKind}
 use Rattle.np_text.specs.declared.word.RoleKind.TheVariants as role_kind
-use Rattle.np_text.specs.Word.{end_as_word, reason_kind_word, role_kind_word}
-use Rattle.np_text.proofs.OrderLemmas.{length-ten}
-use Rattle.np_event.specs.declared.event.Event.{Event}
 use Rattle.np_event.specs.declared.event.Event.TheVariants as ev
 use Rattle.np_event.specs.declared.event.Outcome.TheVariants as outcome
-use Rattle.np_event_lines.specs.Kind.{lettered}
-use Rattle.np_event_lines.specs.Line.{HasEventLine, event_line}
-use Rattle.np_log.specs.Batch.{batch_text}
-use Rattle.np_lists.proofs.Plain.{decimal-short}
 
 -- ## A word
 

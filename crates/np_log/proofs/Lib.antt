@@ -1,3 +1,4 @@
+pub mod Prelude
 pub mod LengthLemmas
 pub mod BatchLemmas
 pub mod RecordLemmas

@@ -1,8 +1,5 @@
 -- A log that was loaded.
-use Rattle.std.proofs.Common.{◌≡◌, ℕ, List, length, Option, Some, None, IfSome, Ok, refl, sym, ◌∙◌, ap}
-use Rattle.np_io.specs.Disk.{DiskFacts, Only, Settles, Stays}
-use Rattle.np_log.specs.Log.{Walk, walk_of}
-use Rattle.np_log.specs.Place.{IsSettled, IsSettledIn}
+use Rattle.np_log.proofs.Prelude.{DiskFacts, IfSome, IsSettled, IsSettledIn, List, None, Ok, Only, Option, Settles, Some, Stays, Walk, ap, length, refl, sym, walk_of, ℕ, ◌∙◌, ◌≡◌}
 
 -- what a crash leaves after a sync, and after calls that change nothing
 only_in : (before mid now : Option (List ℕ)) (was images : List ℕ → Type 0) → mid ≡ before → now ≡ mid → ((c : List ℕ) → images c → was c)

@@ -1,12 +1,5 @@
 -- One batch more.
-use Rattle.std.proofs.Common.{◌≡◌, inl, inr, ℕ, ◌+◌, ◌≤◌, List, [], ◌++◌, length, take, drop, Option, Some, None, IfSome, Result, Ok, Err, refl, sym, ◌∙◌, ap, arith, append_assoc}
-use Rattle.std.specs.Option.{option_map}
-use Rattle.std.proofs.Math.Seq.{take-add}
-use Rattle.np_event.specs.declared.event.Event.{Event}
-use Rattle.np_io.specs.Disk.{DiskFacts, LeavesOnly}
-use Rattle.np_io.proofs.Moments.{LeavesOnly-then}
-use Rattle.np_log.specs.Log.{Content, content_of, content_with}
-use Rattle.np_log.specs.Place.{SaysAllOrNone, SaysFirst}
+use Rattle.np_log.proofs.Prelude.{Content, DiskFacts, Err, Event, IfSome, LeavesOnly, LeavesOnly-then, List, None, Ok, Option, Result, SaysAllOrNone, SaysFirst, Some, ap, append_assoc, arith, content_of, content_with, drop, inl, inr, length, option_map, refl, sym, take, take-add, ℕ, ◌++◌, ◌+◌, ◌∙◌, ◌≡◌, ◌≤◌}
 
 pub content_with-then : (said : Result Content ℕ) (es fs : List Event) → content_with (content_with said es) fs ≡ content_with said (es ++ fs)
 content_with-then (Ok said) es fs = ap (λ (xs : List Event). Ok (record { config = said.config; events = xs })) (append_assoc said.events es fs)

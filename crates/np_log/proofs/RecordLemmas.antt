@@ -1,12 +1,5 @@
 -- A record's bytes.
-use Rattle.std.proofs.Common.{◌≡◌, ℕ, ◌^◌, ◌<◌, ◌≤◌, Bool, true, false, cond, List, ◌++◌, length, take, drop, Option, Some, None, refl, sym, ◌∙◌, ap, arith, append_assoc, length-append, take-append-drop}
-use Rattle.std.specs.Prelude.{nat_le}
-use Rattle.std.specs.Int.{w32, from_be_bytes, to_be_bytes}
-use Rattle.std.proofs.lemmas.Bool.Decides.{nat_tests}
-use Rattle.std.proofs.lemmas.List.{take_at, drop_at, length-take-le}
-use Rattle.std.proofs.lemmas.Option.{some_pair_parts}
-use Rattle.std.proofs.lemmas.Nat.{from_be_bytes-to_be_bytes_4}
-use Rattle.np_log.specs.Log.{first_bytes, record_in, record_text}
+use Rattle.np_log.proofs.Prelude.{Bool, List, None, Option, Some, ap, append_assoc, arith, cond, drop, drop_at, false, first_bytes, from_be_bytes, from_be_bytes-to_be_bytes_4, length, length-append, length-take-le, nat_le, nat_tests, record_in, record_text, refl, some_pair_parts, sym, take, take-append-drop, take_at, to_be_bytes, true, w32, ℕ, ◌++◌, ◌<◌, ◌^◌, ◌∙◌, ◌≡◌, ◌≤◌}
 
 -- a payload of the length that its four bytes say is read, whatever follows
 pub record_in-header : (header payload rest : List ℕ) → length header ≡ 4 → from_be_bytes w32 header ≡ length payload

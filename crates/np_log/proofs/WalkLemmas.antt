@@ -1,16 +1,5 @@
 -- Walks over a log's bytes.
-use Rattle.std.proofs.Common.{◌≡◌, ◌≢◌, inl, inr, ℕ, zero, suc, ◌+◌, ◌^◌, ◌<◌, ◌≤◌, Bool, true, false, cond, ◌==◌, List, [], ◌∷◌, ◌++◌, length, Option, Some, None, Result, Ok, Err, refl, sym, ◌∙◌, ap, subst, arith, append_assoc, length-append}
-use Rattle.std.specs.Prelude.{nat_le}
-use Rattle.std.specs.Int.{w32, from_be_bytes}
-use Rattle.std.proofs.lemmas.Bool.{cases_eq}
-use Rattle.std.proofs.lemmas.Bool.Decides.{nat_tests}
-use Rattle.std.specs.List.{AllByRecursion}
-use Rattle.np_event.specs.declared.event.Event.{Event}
-use Rattle.np_event_lines.specs.Line.{HasEventLine}
-use Rattle.np_log.specs.Batch.{batch_of}
-use Rattle.np_lists.specs.Refusals.{◌>>=◌, ◌>>◌, found, need}
-use Rattle.np_text.specs.declared.limit.TheConstants.{JOURNAL_ENTRIES}
-use Rattle.np_log.specs.Log.{Walk, after_config, first_record, go_on, is_open, after_batch, after_record, past_gate, record_in, record_text, walk, walk_of}
+use Rattle.np_log.proofs.Prelude.{AllByRecursion, Bool, Err, Event, HasEventLine, JOURNAL_ENTRIES, List, None, Ok, Option, Result, Some, Walk, [], after_batch, after_config, after_record, ap, append_assoc, arith, batch_of, cases_eq, cond, eq-eqb, false, first_record, found, from_be_bytes, go_on, inl, inr, is_open, length, length-append, nat_le, nat_tests, ne_eqb, need, past_gate, record_in, record_text, refl, subst, suc, sym, true, w32, walk, walk_of, zero, ℕ, ◌++◌, ◌+◌, ◌<◌, ◌==◌, ◌>>=◌, ◌>>◌, ◌^◌, ◌∙◌, ◌∷◌, ◌≡◌, ◌≢◌, ◌≤◌}
 use Rattle.np_log.proofs.BatchLemmas.{batch_of-told, lines-append}
 use Rattle.np_log.proofs.RecordLemmas.{record_in-header, record_in-parts, record_in-text}
 
@@ -56,9 +45,7 @@ gate-shut gate test is shut = grind (arith, nat_tests)
 
 pub go_on-closed : (w : Walk) (gate : ℕ) (bytes : List ℕ) → gate ≢ 1 → go_on w (gate ∷ bytes) ≡ Ok w
 unfolding walk
-go_on-closed w gate bytes shut =
-    let test : (gate == 1) ≡ false = grind (arith, nat_tests) in
-    rw test refl
+go_on-closed w gate bytes shut = rw (ne_eqb gate 1 shut) refl
 
 pub go_on-none : (w : Walk) → go_on w [] ≡ Err w.number
 unfolding walk
@@ -118,40 +105,41 @@ after_record-many v payload events batch many =
 -- ## Where a walk ends
 
 regroup : (a b c d : List ℕ) → a ++ (b ++ (c ++ d)) ≡ (a ++ (b ++ c)) ++ d
-regroup a b c d = sym (append_assoc a (b ++ c) d ∙ ap (λ (l : List ℕ). a ++ l) (append_assoc b c d))
+regroup a b c d = simp append_assoc
 
--- bytes over which a walk v goes to the closed gate where it is w, whatever follows
-pub record LeadsTo (v w : Walk) (bytes : List ℕ) : Type 0 where
+-- bytes over which a walk that has this many bytes before them goes to the closed gate where it is w, whatever follows
+pub record LeadsTo (start : ℕ) (had : List Event) (walks : List ℕ → Result Walk ℕ) (w : Walk) (bytes : List ℕ) : Type 0 where
   pub front : List ℕ
   pub gate : ℕ
   pub more : List ℕ
   pub split : bytes ≡ front ++ gate ∷ more
   pub closed : gate ≢ 1
-  pub place : w.gate ≡ v.gate + length front
-  pub goes : (rest : List ℕ) → go_on v (front ++ rest) ≡ go_on w rest
-  pub lines : AllByRecursion HasEventLine v.content.events → AllByRecursion HasEventLine w.content.events
+  pub place : w.gate ≡ start + length front
+  pub goes : (rest : List ℕ) → walks (front ++ rest) ≡ go_on w rest
+  pub lines : AllByRecursion HasEventLine had → AllByRecursion HasEventLine w.content.events
 
-pub walk-LeadsTo : (n : ℕ) (v w : Walk) (bytes : List ℕ) → length bytes ≤ n → walk n v bytes ≡ Ok w → LeadsTo v w bytes
+-- from a walk, and from a log's start
+abbrev Leads : Walk → Walk → List ℕ → Type 0
+Leads v w bytes = LeadsTo v.gate v.content.events (go_on v) w bytes
+
+abbrev pub EndsAt : Walk → List ℕ → Type 0
+EndsAt w bytes = LeadsTo 0 [] walk_of w bytes
+
+pub walk-LeadsTo : (n : ℕ) (v w : Walk) (bytes : List ℕ) → length bytes ≤ n → walk n v bytes ≡ Ok w → Leads v w bytes
 unfolding walk
 walk-LeadsTo n v w [] le ends = absurd (cc)
 walk-LeadsTo zero v w (gate ∷ bytes) le ends = absurd (omega arith)
 walk-LeadsTo (suc n) v w (gate ∷ bytes) le ends = elim (cases_eq gate 1) [
-  | inl open_gate ↦ past_open (λ u more le ends. walk-LeadsTo n u w more le ends) open_gate (record_in bytes) refl (subst (λ t. cond t (past_gate v bytes (walk n)) (Ok v) ≡ Ok w) (test open_gate) ends)
+  | inl open_gate ↦ past_open (λ u more le ends. walk-LeadsTo n u w more le ends) open_gate (record_in bytes) refl (subst (λ t. cond t (past_gate v bytes (walk n)) (Ok v) ≡ Ok w) (eq-eqb gate 1 open_gate) ends)
   | inr shut ↦
-      let same : Ok v ≡ Ok w = subst (λ t. cond t (past_gate v bytes (walk n)) (Ok v) ≡ Ok w) (untest shut) ends in
+      let same : Ok v ≡ Ok w = subst (λ t. cond t (past_gate v bytes (walk n)) (Ok v) ≡ Ok w) (ne_eqb gate 1 shut) ends in
       let is : v ≡ w = cc in
       record { front = []; gate = gate; more = bytes; split = refl; closed = shut; place = omega (arith, ap (λ (u : Walk). u.gate) is); goes = λ rest. ap (λ (u : Walk). go_on u rest) is; lines = λ had. subst (λ (u : Walk). AllByRecursion HasEventLine u.content.events) is had }
 ]
   where
-    test : gate ≡ 1 → (gate == 1) ≡ true
-    test is = grind (arith, nat_tests)
-
-    untest : gate ≢ 1 → (gate == 1) ≡ false
-    untest shut = grind (arith, nat_tests)
-
-    behind : ((u : Walk) (more : List ℕ) → length more ≤ n → walk n u more ≡ Ok w → LeadsTo u w more)
+    behind : ((u : Walk) (more : List ℕ) → length more ≤ n → walk n u more ≡ Ok w → Leads u w more)
         → gate ≡ 1 → (payload more : List ℕ) → record_in bytes ≡ Some (payload, more) → (r : Result Walk ℕ) → after_record v payload ≡ r
-        → (r >>= (λ u. walk n u more)) ≡ Ok w → LeadsTo v w (gate ∷ bytes)
+        → (r >>= (λ u. walk n u more)) ≡ Ok w → Leads v w (gate ∷ bytes)
     behind again open_gate payload more found (Err number) e ends = absurd (cc)
     behind again open_gate payload more found (Ok u) e ends =
         let parts = record_in-parts bytes payload more found in
@@ -174,40 +162,23 @@ walk-LeadsTo (suc n) v w (gate ∷ bytes) le ends = elim (cases_eq gate 1) [
               (lines-append v.content.events passes.events had (batch_of-told payload passes.events passes.batch).lines));
         }
 
-    past_open : ((u : Walk) (more : List ℕ) → length more ≤ n → walk n u more ≡ Ok w → LeadsTo u w more)
+    past_open : ((u : Walk) (more : List ℕ) → length more ≤ n → walk n u more ≡ Ok w → Leads u w more)
         → gate ≡ 1 → (o : Option (List ℕ × List ℕ)) → record_in bytes ≡ o
-        → (found o v.number >>= (λ r. after_record v r.0 >>= (λ u. walk n u r.1))) ≡ Ok w → LeadsTo v w (gate ∷ bytes)
+        → (found o v.number >>= (λ r. after_record v r.0 >>= (λ u. walk n u r.1))) ≡ Ok w → Leads v w (gate ∷ bytes)
     past_open again open_gate None e ends = absurd (cc)
     past_open again open_gate (Some r) e ends = behind again open_gate r.0 r.1 e (after_record v r.0) refl ends
-
--- the same, from a log's start
-pub record EndsAt (w : Walk) (bytes : List ℕ) : Type 0 where
-  pub front : List ℕ
-  pub gate : ℕ
-  pub more : List ℕ
-  pub split : bytes ≡ front ++ gate ∷ more
-  pub closed : gate ≢ 1
-  pub place : w.gate ≡ length front
-  pub goes : (rest : List ℕ) → walk_of (front ++ rest) ≡ go_on w rest
-  pub lines : AllByRecursion HasEventLine w.content.events
 
 pub walk_of-EndsAt : (bytes : List ℕ) (w : Walk) → walk_of bytes ≡ Ok w → EndsAt w bytes
 unfolding walk_of
 walk_of-EndsAt [] w is = absurd (cc)
 walk_of-EndsAt (gate ∷ bytes) w is = elim (cases_eq gate 1) [
-  | inl open_gate ↦ past_open open_gate (record_in bytes) refl (subst (λ t. (found (cond t (record_in bytes) None) 0 >>= (λ r. go_on (after_config r.0) r.1)) ≡ Ok w) (test open_gate) is)
-  | inr shut ↦ let none : (found {A = List ℕ × List ℕ} None 0 >>= (λ r. go_on (after_config r.0) r.1)) ≡ Ok w = subst (λ t. (found (cond t (record_in bytes) None) 0 >>= (λ r. go_on (after_config r.0) r.1)) ≡ Ok w) (untest shut) is in absurd (cc)
+  | inl open_gate ↦ past_open open_gate (record_in bytes) refl (subst (λ t. (found (cond t (record_in bytes) None) 0 >>= (λ r. go_on (after_config r.0) r.1)) ≡ Ok w) (eq-eqb gate 1 open_gate) is)
+  | inr shut ↦ let none : (found {A = List ℕ × List ℕ} None 0 >>= (λ r. go_on (after_config r.0) r.1)) ≡ Ok w = subst (λ t. (found (cond t (record_in bytes) None) 0 >>= (λ r. go_on (after_config r.0) r.1)) ≡ Ok w) (ne_eqb gate 1 shut) is in absurd (cc)
 ]
   where
-    test : gate ≡ 1 → (gate == 1) ≡ true
-    test is = grind (arith, nat_tests)
-
-    untest : gate ≢ 1 → (gate == 1) ≡ false
-    untest shut = grind (arith, nat_tests)
-
     goes : (header config front rest : List ℕ) → gate ≡ 1 → length header ≡ 4 → from_be_bytes w32 header ≡ length config
         → (found (first_record (gate ∷ header ++ (config ++ (front ++ rest)))) 0 >>= (λ r. go_on (after_config r.0) r.1)) ≡ go_on (after_config config) (front ++ rest)
-    goes header config front rest open_gate four says = rw (test open_gate, record_in-header header config (front ++ rest) four says) refl
+    goes header config front rest open_gate four says = rw (eq-eqb gate 1 open_gate, record_in-header header config (front ++ rest) four says) refl
 
     past_open : gate ≡ 1 → (o : Option (List ℕ × List ℕ)) → record_in bytes ≡ o → (found o 0 >>= (λ r. go_on (after_config r.0) r.1)) ≡ Ok w → EndsAt w (gate ∷ bytes)
     past_open open_gate None e is = absurd (cc)
@@ -225,7 +196,7 @@ walk_of-EndsAt (gate ∷ bytes) w is = elim (cases_eq gate 1) [
               ap (λ (l : List ℕ). found (first_record (gate ∷ l)) 0 >>= (λ r. go_on (after_config r.0) r.1)) (sym (regroup parts.header r.0 ends.front rest))
               ∙ goes parts.header r.0 ends.front rest open_gate parts.four parts.says
               ∙ ends.goes rest;
-          lines = ends.lines tt;
+          lines = ends.lines;
         }
 
 -- a first record
@@ -241,9 +212,7 @@ walk_of-none = refl
 
 pub walk_of-closed : (gate : ℕ) (bytes : List ℕ) → gate ≢ 1 → walk_of (gate ∷ bytes) ≡ Err 0
 unfolding walk_of
-walk_of-closed gate bytes shut =
-    let test : (gate == 1) ≡ false = grind (arith, nat_tests) in
-    rw test refl
+walk_of-closed gate bytes shut = rw (ne_eqb gate 1 shut) refl
 
 -- one byte is too few
 pub walk_of-one : (gate : ℕ) → walk_of (gate ∷ []) ≡ Err 0

@@ -2,12 +2,11 @@
 
 ghost use Rattle.std.specs.Prelude.{◌≡◌, ◌≤◌, ◌<◌, ◌^◌, length, IfOk, OnOk};
 ghost use Rattle.std.specs.List.{AllByRecursion};
-ghost use Rattle.np_event_lines.specs.Line.{HasEventLine};
+ghost use Rattle.np_event.specs.Line.{HasEventLine};
 ghost use Rattle.np_log.specs.Batch.{batch_text};
 ghost use Rattle.np_log.specs.Writing.{record_and_gate};
 
-use np_event::Event;
-use np_event_lines::put_event;
+use np_event::{Event, put_event};
 use np_text::NoMemory;
 use std::alloc::Global;
 

@@ -8,8 +8,7 @@ ghost use Rattle.np_log.specs.Log.{after_record, first_bytes, first_record, go_o
 ghost use Rattle.np_log.specs.Walking.{Fails, IsNear, Walks, walk_view};
 
 use crate::fault::LoadFault;
-use np_event::Event;
-use np_event_lines::read_event;
+use np_event::{Event, read_event};
 use np_text::{JOURNAL_ENTRIES, line_at};
 use std::alloc::{AllocError, Global};
 

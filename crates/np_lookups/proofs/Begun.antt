@@ -1,11 +1,5 @@
 -- only sessions that were begun have a number up to that of the last one, and only they wait in queues
-use Rattle.std.proofs.Common.{◌≡◌, ◌<◌, ◌-◌, false, List, length, arith}
-use Rattle.np_changes.specs.Prelude.{AllByRecursion, SessionId, State, is_queued, is_session}
-use Rattle.std.proofs.lemmas.Bool.Decides.{nat_tests}
-use Rattle.np_lists.proofs.Each.{all-weaker}
-use Rattle.np_lists.proofs.FilterLemmas.{list_any-none}
-use Rattle.np_laws.specs.Parts.{IsLive}
-use Rattle.np_changes.proofs.Facts.{session-low}
+use Rattle.np_lookups.proofs.Prelude.{AllByRecursion, IsLive, List, SessionId, State, all-weaker, arith, false, is_queued, is_session, length, list_any-none, nat_tests, session-low, ◌-◌, ◌<◌, ◌≡◌}
 
 other-number : (x y : SessionId) → y.0 < x.0 → is_session y x ≡ false
 other-number x y less = grind (arith, nat_tests)

@@ -1,8 +1,5 @@
 -- the owners of nodes, made node by node
-use Rattle.std.proofs.Common.{◌≡◌, ◌∙◌, ◌⊎◌, inl, inr, ◌<◌, ◌≤◌, ◌+◌, ℕ, zero, suc, List, [], ◌∷◌, ◌++◌, Option, length, refl, ap, sym, arith, length-append}
-use Rattle.np_changes.specs.Prelude.{Configuration, IsReached, JobId, NodeId, State, is_marked, option_map, owner_of}
-use Rattle.std.proofs.lemmas.Bool.{cases_lt}
-use Rattle.np_lookups.specs.Lookups.{owner_at, AreOwners}
+use Rattle.np_lookups.proofs.Prelude.{AreOwners, Configuration, IsReached, JobId, List, NodeId, Option, State, [], ap, arith, cases_lt, inl, inr, is_marked, length, length-append, option_map, owner_at, owner_of, refl, suc, sym, zero, ℕ, ◌++◌, ◌+◌, ◌<◌, ◌∙◌, ◌∷◌, ◌≡◌, ◌≤◌, ◌⊎◌}
 use Rattle.np_lookups.proofs.Firsts.{none-first}
 use Rattle.np_lookups.proofs.OfOwners.{owner_at-past}
 use Rattle.np_lookups.proofs.Unused.{unused-reached}

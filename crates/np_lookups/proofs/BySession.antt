@@ -1,15 +1,5 @@
 -- lists by session, made session by session
-use Rattle.std.proofs.Common.{◌≡◌, ◌∙◌, ◌⊎◌, inl, inr, ℕ, false, ◌<◌, ◌≤◌, List, [], length, Option, sym, ap, arith}
-use Rattle.std.specs.Prelude.{unwrap_or}
-use Rattle.std.proofs.lemmas.Bool.{cases_lt}
-use Rattle.std.proofs.lemmas.Option.{slice_get_past}
-use Rattle.np_changes.specs.Prelude.{Configuration, IsReached, NodeId, RequestId, SessionId, State, is_queued}
-use Rattle.np_look.specs.Readers.{queued_nodes, queued_requests}
-use Rattle.np_lists.proofs.Each.{all-weaker}
-use Rattle.np_laws.specs.Parts.{IsQueue, IsQueued}
-use Rattle.np_laws.proofs.Runs.{invariant-Runs}
-use Rattle.np_lookups.specs.Lookups.{AreRequestsOf, AreNodesOf}
-use Rattle.np_lookups.specs.Lists.{list_at}
+use Rattle.np_lookups.proofs.Prelude.{AreNodesOf, AreRequestsOf, Configuration, IsLiveQueue, IsQueued, IsReached, List, NodeId, Option, RequestId, SessionId, State, [], all-weaker, ap, arith, cases_lt, false, inl, inr, invariant-Runs, is_queued, length, list_at, queued_nodes, queued_requests, slice_get_past, sym, unwrap_or, ℕ, ◌<◌, ◌∙◌, ◌≡◌, ◌≤◌, ◌⊎◌}
 use Rattle.np_lookups.proofs.Begun.{past-out}
 use Rattle.np_lookups.proofs.Ids.{ids-none}
 
@@ -34,7 +24,7 @@ module _ (c : Configuration) (s : State) (reached : IsReached c s) where
   requests-by_session number lists past made = record {
     each = each-of (λ x. queued_requests x s) number lists made (λ x later.
         ids-none (λ e. e.id) (λ e. is_queued x e.queue) s.requests
-        (all-weaker (λ e. IsQueue s e.queue) (λ e. is_queued x e.queue ≡ false) (λ e queue. past-out x s e.queue (omega arith) queue.live) s.requests queued.at_requests));
+        (all-weaker (λ e. IsLiveQueue s e.queue) (λ e. is_queued x e.queue ≡ false) (λ e queue. past-out x s e.queue (omega arith) queue.live) s.requests queued.at_requests));
     many = omega (arith, made.many);
   }
 
@@ -42,6 +32,6 @@ module _ (c : Configuration) (s : State) (reached : IsReached c s) where
   nodes-by_session number lists past made = record {
     each = each-of (λ x. queued_nodes x s) number lists made (λ x later.
         ids-none (λ e. e.id) (λ e. is_queued x e.queue) s.nodes
-        (all-weaker (λ e. IsQueue s e.queue) (λ e. is_queued x e.queue ≡ false) (λ e queue. past-out x s e.queue (omega arith) queue.live) s.nodes queued.at_nodes));
+        (all-weaker (λ e. IsLiveQueue s e.queue) (λ e. is_queued x e.queue ≡ false) (λ e queue. past-out x s e.queue (omega arith) queue.live) s.nodes queued.at_nodes));
     many = omega (arith, made.many);
   }

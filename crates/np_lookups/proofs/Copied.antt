@@ -1,14 +1,5 @@
 -- the ids of a list in an order, copied one by one into a table
-use Rattle.std.proofs.Common.{◌≡◌, ◌∙◌, ℕ, zero, suc, ◌+◌, Bool, true, false, List, [], ◌∷◌, ◌++◌, take, Some, sym, ap, subst}
-use Rattle.std.specs.Prelude.{slice_get}
-use Rattle.np_changes.specs.Prelude.{AllByRecursion, Configuration, IsReached, NonePass, Rises, SessionId, State, insert_before, is_id_before, is_queued}
-use Rattle.np_laws.specs.Parts.{Invariant}
-use Rattle.np_look.specs.Readers.{queued_nodes, queued_requests}
-use Rattle.np_lists.proofs.ChangeLemmas.{insert_before-end}
-use Rattle.np_lists.proofs.Each.{all-at, all-weaker}
-use Rattle.np_laws.proofs.Runs.{invariant-Runs}
-use Rattle.np_look.specs.Keys.{is_node_before}
-use Rattle.np_look.proofs.Walks.{take_there}
+use Rattle.np_lookups.proofs.Prelude.{AllByRecursion, Bool, Configuration, Invariant, IsReached, List, NonePass, Rises, SessionId, Some, State, [], all-at, all-weaker, ap, false, insert_before, insert_before-end, invariant-Runs, is_id_before, is_node_before, is_queued, queued_nodes, queued_requests, slice_get, subst, suc, sym, take, take_there, true, zero, ℕ, ◌++◌, ◌+◌, ◌∙◌, ◌∷◌, ◌≡◌}
 use Rattle.np_lookups.proofs.Ids.{apart, ids-rise}
 
 -- ## one id more

@@ -1,9 +1,5 @@
 -- a session is in the queues of some of the rows
-use Rattle.std.proofs.Common.{◌≤◌, suc, length, filter, arith}
-use Rattle.np_changes.specs.Prelude.{NodeEntry, RequestEntry, SessionId, State, is_queued}
-use Rattle.np_look.specs.Readers.{queued_nodes, queued_requests}
-use Rattle.np_lists.proofs.Each.{length-filter_at_most}
-use Rattle.np_lists.proofs.Plain.{length-map}
+use Rattle.np_lookups.proofs.Prelude.{NodeEntry, RequestEntry, SessionId, State, arith, filter, is_queued, length, length-filter_at_most, length-map, queued_nodes, queued_requests, ◌≤◌}
 
 pub few-requests : (x : SessionId) (s : State) → length (queued_requests x s) ≤ length s.requests
 few-requests x s = omega (arith, length-map (λ (e : RequestEntry). e.id) (filter (λ e. is_queued x e.queue) s.requests), length-filter_at_most (λ (e : RequestEntry). is_queued x e.queue) s.requests)

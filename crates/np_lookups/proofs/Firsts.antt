@@ -1,9 +1,6 @@
 -- the place of the first member that passes, as one member of the list changes
-use Rattle.std.proofs.Common.{◌≡◌, ◌∙◌, ℕ, zero, suc, Bool, true, false, cond, List, [], ◌∷◌, Option, Some, None, refl, sym, ap, subst}
-use Rattle.std.specs.Prelude.{◌||◌, slice_get, slice_set}
-use Rattle.np_changes.specs.Prelude.{change_at, list_any, option_map, position}
+use Rattle.np_lookups.proofs.Prelude.{Bool, List, None, Option, Some, [], ap, change_at, cond, false, list_any, option_map, or_parts, position, refl, slice_get, slice_set, subst, suc, sym, true, zero, ℕ, ◌||◌, ◌∙◌, ◌∷◌, ◌≡◌}
 use Rattle.np_look.proofs.OwnerLemmas.{position-here, position-later}
-use Rattle.std.proofs.lemmas.Bool.{or_parts}
 
 module _ {X : Type 0} (p : X → Bool) where
   -- ## if none passes

@@ -1,15 +1,8 @@
 -- lists of the ids of the rows that pass a test, after a change of the rows
-use Rattle.std.proofs.Common.{◌≡◌, Bool, true, false, cond, List, [], ◌∷◌, ◌++◌, map, filter, find, Some, refl, sym, ap, ◌∙◌, subst, append-nil}
-use Rattle.np_changes.specs.Prelude.{AllByRecursion, NonePass, Rises, change_first, insert_before, list_any, option_map_or, remove_first}
-use Rattle.std.proofs.lemmas.Bool.{false_from_ne_true}
-use Rattle.std.proofs.lemmas.List.{map-append}
-use Rattle.std.proofs.lemmas.List.Elements.{filter-append}
-use Rattle.np_lists.proofs.Each.{all-map, all-filter, all-find, all-mapped, all-weaker}
-use Rattle.np_lists.proofs.FilterLemmas.{filter-nothing, list_any-none, none-list_any}
+use Rattle.np_lookups.proofs.Prelude.{AllByRecursion, Bool, List, NonePass, Rises, Some, [], all-filter, all-find, all-map, all-mapped, all-weaker, ap, append-nil, change_first, cond, false, false_from_ne_true, filter, filter-append, filter-nothing, find, ids_of, insert_before, list_any, list_any-none, map, map-append, none-list_any, option_map_or, refl, remove_first, subst, sym, true, with_id, without_id, ◌++◌, ◌∙◌, ◌∷◌, ◌≡◌}
 use Rattle.np_lists.proofs.FoundLemmas.{find-passes}
 use Rattle.np_lists.proofs.Halves.{remove_first-none}
 use Rattle.np_lists.proofs.RisingLemmas.{Rises-filter}
-use Rattle.np_lookups.specs.Lists.{with_id, without_id, ids_of}
 
 -- ## rows in any order
 

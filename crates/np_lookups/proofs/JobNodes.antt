@@ -1,12 +1,7 @@
 -- what the changes of an event make of the nodes of a job
-use Rattle.std.proofs.Common.{◌≡◌, ◌∙◌, ◌⊎◌, inl, inr, ℕ, Bool, true, false, List, [], ◌∷◌, Some, refl, sym, ap, subst}
-use Rattle.std.specs.Prelude.{◌||◌, ◌==◌, map, slice_get}
-use Rattle.np_changes.specs.Prelude.{AsksForJob, Configuration, FinishesJob, JobId, JobRecord, NodeId, Phase, PutsJob, RequestId, State, TakesOver, Withdraws, is_asked, is_marked, is_new, is_using, list_any, marked, next_id, request_after_withdraw, unended, with_mark}
-use Rattle.np_changes.specs.declared.asked.Asked.{Asked}
-use Rattle.np_changes.specs.declared.changes.Changes.{Changes}
+use Rattle.np_lookups.proofs.Prelude.{Asked, AsksForJob, Bool, Changes, Configuration, FinishesJob, JobId, JobRecord, List, NodeId, Phase, PutsJob, RequestId, Some, State, TakesOver, Withdraws, [], ap, false, inl, inr, is_asked, is_marked, is_new, is_using, list_any, list_any-map, map, marked, next_id, refl, request_after_withdraw, slice_get, subst, sym, true, unended, with_mark, ℕ, ◌==◌, ◌||◌, ◌∙◌, ◌∷◌, ◌≡◌, ◌⊎◌}
 use Rattle.np_text.specs.declared.word.Ending.TheVariants as ending
 use Rattle.np_text.specs.declared.word.Phase.TheVariants as phase
-use Rattle.np_lists.proofs.FilterLemmas.{list_any-map}
 use Rattle.np_changes.specs.declared.changes.Growth.TheVariants as grow
 use Rattle.np_changes.specs.declared.changes.JobsChange.TheVariants as jobs
 use Rattle.np_changes.specs.declared.changes.RequestsChange.TheVariants as requests

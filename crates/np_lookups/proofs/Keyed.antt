@@ -1,12 +1,5 @@
 -- rows in the order of their keys: a row is put in and left out, in one list or in that at a place
-use Rattle.std.proofs.Common.{◌≡◌, ◌∙◌, ◌<◌, ℕ, Bool, true, false, List, [], length, get_or, Option, Some, refl, sym, ap, subst}
-use Rattle.std.specs.Prelude.{slice_get, slice_set, unwrap_or}
-use Rattle.np_changes.specs.Prelude.{AllByRecursion, NonePass, change_at, insert_before, list_any}
-use Rattle.std.proofs.lemmas.Bool.{false_from_ne_true}
-use Rattle.std.proofs.lemmas.Option.{slice_get-get_or}
-use Rattle.np_lists.proofs.ChangeLemmas.{change_at-back, change_at-set}
-use Rattle.np_lists.proofs.Each.{all-weaker}
-use Rattle.np_lookups.specs.Lists.{list_at, without_id}
+use Rattle.np_lookups.proofs.Prelude.{AllByRecursion, Bool, List, NonePass, Option, Some, [], all-weaker, ap, change_at, change_at-back, change_at-set, false, false_from_ne_true, get_or, insert_before, length, list_any, list_at, refl, slice_get, slice_get-get_or, slice_set, subst, sym, true, unwrap_or, without_id, ℕ, ◌<◌, ◌∙◌, ◌≡◌}
 use Rattle.np_lookups.proofs.Ids.{without-with}
 
 -- ## keys

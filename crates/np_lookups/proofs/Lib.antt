@@ -19,3 +19,12 @@ pub mod Joins
 pub mod Room
 pub mod Few
 pub mod Settled
+pub mod Prelude
+pub mod MoveLemmas
+pub mod OpenLemmas
+pub mod LineLemmas
+pub mod NoteLemmas
+pub mod PastLemmas
+pub mod RebuildLemmas
+pub mod RunLemmas
+pub mod OpenPrelude

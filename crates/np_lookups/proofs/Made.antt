@@ -1,17 +1,5 @@
 -- the jobs of lookups, made from a state job by job
-use Rattle.std.proofs.Common.{◌≡◌, ◌∙◌, ◌<◌, ◌+◌, ℕ, Bool, true, false, cond, List, [], ◌∷◌, ◌++◌, length, take, get_or, Some, None, refl, sym, ap, subst, append-nil, arith}
-use Rattle.std.specs.Prelude.{◌==◌, ◌&&◌, not, slice_get}
-use Rattle.np_changes.specs.Prelude.{AllByRecursion, Configuration, IsSound, Job, JobId, JobRecord, RequesterId, State, change_at, is_over, new_job}
-use Rattle.std.proofs.lemmas.Bool.Decides.{nat_tests}
-use Rattle.std.proofs.lemmas.List.{length-take-le}
-use Rattle.std.proofs.lemmas.List.Elements.{All-get_or}
-use Rattle.std.proofs.lemmas.Option.{slice_get-get_or, slice_get_within, get_or_from_slice_get}
-use Rattle.np_lists.proofs.ChangeLemmas.{length-change_at}
-use Rattle.np_lists.proofs.Each.{all-weaker}
-use Rattle.np_look.specs.Keys.{is_job_before}
-use Rattle.np_look.specs.Readers.{is_unfinished_job, unfinished_from}
-use Rattle.np_look.proofs.Walks.{take_there}
-use Rattle.np_lookups.specs.Lists.{list_at}
+use Rattle.np_lookups.proofs.Prelude.{All-get_or, AllByRecursion, Bool, Configuration, IsSound, Job, JobId, JobRecord, List, None, RequesterId, Some, State, [], all-weaker, and_false, and_true, ap, append-nil, arith, change_at, cond, false, get_or, get_or_from_slice_get, is_job_before, is_over, is_unfinished_job, length, length-change_at, length-take-le, list_at, nat_tests, new_job, refl, slice_get, slice_get-get_or, slice_get_within, subst, sym, take, take_there, true, unfinished_from, ℕ, ◌++◌, ◌+◌, ◌<◌, ◌==◌, ◌∙◌, ◌∷◌, ◌≡◌}
 use Rattle.np_lookups.specs.Unfinished.{has_ended}
 use Rattle.np_lookups.proofs.Overs.{job_id, is_own, unfinished-push, all-below}
 use Rattle.np_lookups.proofs.Places.{here-list, other-list}
@@ -50,13 +38,9 @@ module _ (c : Configuration) (s : State) (number : ℕ) (lists : List (List JobI
   over_as : (b : Bool) → has_ended s (job_id number) ≡ b → is_over kept.phase ≡ b
   over_as b is = let told : has_ended s (job_id number) ≡ is_over kept.phase = rw there refl in sym told ∙ is
 
-  and-false : (b : Bool) → (b && not true) ≡ false
-  and-false true = refl
-  and-false false = refl
-
   -- a job that is over
   pub made-over : has_ended s (job_id number) ≡ true → IsMadeTo c s (number + 1) lists
-  made-over is = skipped (λ q. rw (over_as true is) (and-false (is_own c q number)))
+  made-over is = skipped (λ q. rw (over_as true is) (and_false (is_own c q number)))
 
   -- a job that nobody has
   pub made-unowned : slice_get c.jobs number ≡ None → IsMadeTo c s (number + 1) lists
@@ -86,10 +70,7 @@ module _ (c : Configuration) (s : State) (number : ℕ) (lists : List (List JobI
       each = λ q. ap (λ (ls : List (List JobId)). list_at q.0 ls) added ∙ by q (row.requester.0 == q.0) refl;
     } where
       told : (q : RequesterId) → is_unfinished_job c q (job_id number) kept ≡ (row.requester.0 == q.0)
-      told q = rw (is_row, over_as false is) (and-true (row.requester.0 == q.0)) where
-        and-true : (b : Bool) → (b && not false) ≡ b
-        and-true true = refl
-        and-true false = refl
+      told q = rw (is_row, over_as false is) (and_true (row.requester.0 == q.0))
 
       with_job : (q : RequesterId) (b : Bool) → (row.requester.0 == q.0) ≡ b → unfinished_from c q 0 (take (number + 1) s.jobs) ≡ list_at q.0 lists ++ cond b (job_id number ∷ []) []
       with_job q b own =

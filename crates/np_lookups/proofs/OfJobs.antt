@@ -1,21 +1,9 @@
 -- what the changes of an event make of the jobs that are not over
-use Rattle.std.proofs.Common.{◌≡◌, ◌∙◌, ◌⊎◌, inl, inr, ℕ, zero, suc, Bool, true, false, cond, List, [], ◌∷◌, Option, Some, None, refl, sym, ap, subst, arith}
-use Rattle.std.specs.Prelude.{◌==◌, slice_get, slice_set}
-use Rattle.np_changes.specs.Prelude.{AsksForJob, Configuration, FinishesJob, Job, JobId, JobRecord, JobsPremise, NodeId, Phase, PutsJob, RequestId, RequesterId, State, TakesOver, Withdraws, change_at, changed, grown, is_asked, is_new, is_over, jobs_changed, option_map_or, request_after_withdraw, with_mark}
-use Rattle.np_changes.specs.declared.asked.Asked.{Asked}
-use Rattle.np_changes.specs.declared.changes.Changes.{Changes}
-use Rattle.np_changes.specs.declared.changes.Growth.{Growth}
-use Rattle.np_changes.specs.declared.changes.JobsChange.{JobsChange}
-use Rattle.np_changes.specs.declared.changes.Maker.{Maker}
-use Rattle.np_look.specs.Readers.{unfinished_from}
+use Rattle.np_lookups.proofs.Prelude.{AreUnfinished, Asked, AsksForJob, Bool, Changes, Configuration, FinishesJob, Job, JobId, JobRecord, JobsChange, JobsPremise, List, NodeId, None, Option, Phase, PutsJob, RequestId, RequesterId, Some, State, TakesOver, Withdraws, [], ap, arith, change_at, changed, cond, false, inl, inr, is_asked, is_new, is_over, jobs-grown, jobs_changed, list_at, option_map_or, refl, request_after_withdraw, same_job, slice_get, slice_set, subst, suc, sym, true, unfinished_changed, unfinished_from, with_mark, without_id, zero, ℕ, ◌==◌, ◌∙◌, ◌∷◌, ◌≡◌, ◌⊎◌}
 use Rattle.np_text.specs.declared.word.Phase.TheVariants as phase
 use Rattle.np_changes.specs.declared.changes.Growth.TheVariants as grow
 use Rattle.np_changes.specs.declared.changes.JobsChange.TheVariants as jobs
 use Rattle.np_changes.specs.declared.changes.RequestsChange.TheVariants as requests
-use Rattle.np_look.specs.Keys.{same_job}
-use Rattle.np_lookups.specs.Changed.{unfinished_changed}
-use Rattle.np_lookups.specs.Lookups.{AreUnfinished}
-use Rattle.np_lookups.specs.Lists.{list_at, without_id}
 use Rattle.np_lookups.proofs.Overs.{overs, is_own, open_from, unfinished-open, open-over, open-other}
 use Rattle.np_lookups.proofs.Places.{here-list_or, other-list}
 
@@ -37,42 +25,21 @@ marked-same n i [] = refl
 marked-same n zero (job ∷ rows) = refl
 marked-same n (suc i) (job ∷ rows) = ap (λ (bs : List Bool). is_over job.phase ∷ bs) (marked-same n i rows)
 
--- nothing that grows is a job
-grown-jobs : (c : Configuration) (s : State) (maker : Option Maker) (growth : Growth) → (grown c maker growth s).jobs ≡ s.jobs
-grown-jobs c s maker grow.Nothing = refl
-grown-jobs c s maker (grow.Session role) = refl
-grown-jobs c s None (grow.Registration p) = refl
-grown-jobs c s (Some m) (grow.Registration p) = refl
-grown-jobs c s maker (grow.Request priority asked) = refl
-grown-jobs c s maker (grow.Node kept) = refl
-grown-jobs c s maker (grow.JoinRequest r) = refl
-grown-jobs c s maker (grow.JoinNode n) = refl
-grown-jobs c s maker (grow.Allocate n r tenant) = refl
-grown-jobs c s maker (grow.Handles j) = refl
-grown-jobs c s maker (grow.Swept n x) = refl
-
 -- ## a job whose record is put, and that is not over then
 
 new-open : (p : Phase) → is_new p ≡ true → is_over p ≡ false
 new-open phase.New is = refl
-new-open phase.Asked is = absurd cc
-new-open phase.Using is = absurd cc
-new-open phase.Over is = absurd cc
+new-open _ is = absurd cc
 
 asked-open : (p : Phase) → is_asked p ≡ true → is_over p ≡ false
-asked-open phase.New is = absurd cc
 asked-open phase.Asked is = refl
-asked-open phase.Using is = absurd cc
-asked-open phase.Over is = absurd cc
+asked-open _ is = absurd cc
 
 -- it was not over before
 record WasOpen (s : State) (j : JobId) : Type 0 where
   pub old : JobRecord
   pub stands : slice_get s.jobs j.0 ≡ Some old
   pub open_is : is_over old.phase ≡ false
-
-opened : (s : State) (i j : JobId) → i ≡ j → WasOpen s i → WasOpen s j
-opened s i j is was = subst (WasOpen s) is was
 
 was-open : (c : Configuration) (s : State) (ch : Changes) (j : JobId) (later : JobRecord) → ch.jobs ≡ jobs.Put j later → PutsJob c s ch j later → is_over later.phase ≡ false → WasOpen s j
 was-open c s ch j later puts premise open_is = by premise.way where
@@ -81,8 +48,8 @@ was-open c s ch j later puts premise open_is = by premise.way where
       ⊎ (FinishesJob c s ch j premise.kept later
       ⊎ (Withdraws s ch j premise.kept × (ch.requests ≡ request_after_withdraw premise.kept.request))))
       → WasOpen s j
-  by (inl is) = let asks = is.2 in opened s asks.number j is.3.1 (record { old = asks.kept; stands = asks.stands; open_is = new-open asks.kept.phase asks.new })
-  by (inr (inl is)) = let takes = is.1 in opened s takes.number j is.2.1 (record { old = takes.kept; stands = takes.stands; open_is = asked-open takes.kept.phase takes.asked })
+  by (inl is) = let asks = is.2 in subst (WasOpen s) is.3.1 (record { old = asks.kept; stands = asks.stands; open_is = new-open asks.kept.phase asks.new })
+  by (inr (inl is)) = let takes = is.1 in subst (WasOpen s) is.2.1 (record { old = takes.kept; stands = takes.stands; open_is = asked-open takes.kept.phase takes.asked })
   by (inr (inr (inl finishes))) = let over = finishes.record_after in absurd cc
   by (inr (inr (inr withdraws))) = let over = withdraws.0.puts in absurd cc
 
@@ -132,4 +99,4 @@ module _ (c : Configuration) (s t : State) (lists : List (List JobId)) (old : Ar
 
 pub unfinished-changed : (c : Configuration) (s : State) (ch : Changes) (lists : List (List JobId)) → JobsPremise c s ch ch.jobs → AreUnfinished c s lists → AreUnfinished c (changed c ch s) (unfinished_changed c ch.jobs lists)
 unfinished-changed c s ch lists premise old =
-    after-jobs c s (changed c ch s) lists old ch ch.jobs refl (ap (jobs_changed ch.jobs) (grown-jobs c s ch.maker ch.grows)) premise
+    after-jobs c s (changed c ch s) lists old ch ch.jobs refl (ap (jobs_changed ch.jobs) (jobs-grown c ch.maker ch.grows s)) premise

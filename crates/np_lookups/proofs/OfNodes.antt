@@ -1,24 +1,9 @@
 -- what the changes of an event make of the nodes in whose queues one session is
-use Rattle.std.proofs.Common.{◌≡◌, ◌∙◌, ◌⊎◌, ◌<◌, ℕ, Bool, true, false, cond, List, [], ◌∷◌, ◌++◌, Option, Some, None, inl, inr, refl, sym, arith}
-use Rattle.std.specs.Prelude.{◌==◌, nat_lt}
-use Rattle.std.proofs.lemmas.Bool.Decides.{nat_tests}
-use Rattle.np_changes.specs.declared.changes.Changes.{Changes}
-use Rattle.np_changes.specs.Prelude.{Configuration, NodeEntry, NodeId, NodeRecord, Rises, SessionId, State, all_in_use, allocated, change_first, freed_from, grown, in_use, is_session, node_entry, nodes_changed, nodes_left}
-use Rattle.np_changes.specs.declared.changes.Growth.{Growth}
-use Rattle.np_laws.specs.Parts.{IsNumbered}
-use Rattle.np_changes.specs.declared.changes.Maker.{Maker}
-use Rattle.np_changes.specs.declared.changes.NodesChange.{NodesChange}
-use Rattle.np_changes.specs.declared.changes.SessionsChange.{SessionsChange}
-use Rattle.np_lists.proofs.Each.{all-weaker}
-use Rattle.np_changes.specs.Premises.{IsTaken, IsMade, GrowthPremise}
+use Rattle.np_lookups.proofs.Prelude.{Bool, Changes, Configuration, Growth, GrowthPremise, IsNumbered, List, Maker, NodeEntry, NodeId, NodeRecord, NodesChange, None, Option, Rises, SessionId, SessionsChange, Some, State, [], all-weaker, all_in_use, allocated, arith, change_first, cond, ending, false, freed-id, freed-queue, freed_from, grown, in_use, inl, inr, is_node_before, is_session, joins_node, leaves_node, nat_lt, nat_tests, node_entry, node_equal, node_one_way, nodes_changed, nodes_left, refl, removed_node, row-of, same_node, sym, true, with_id, ℕ, ◌++◌, ◌<◌, ◌==◌, ◌∙◌, ◌∷◌, ◌≡◌, ◌⊎◌}
+use Rattle.np_changes.specs.Premises.{IsTaken, IsMade}
 use Rattle.np_changes.specs.declared.changes.Growth.TheVariants as grow
 use Rattle.np_changes.specs.declared.changes.NodesChange.TheVariants as nodes
 use Rattle.np_changes.specs.declared.changes.SessionsChange.TheVariants as sessions
-use Rattle.np_laws.proofs.Ids.{row-of}
-use Rattle.np_laws.proofs.Lookups.{freed-id, freed-queue}
-use Rattle.np_look.specs.Keys.{is_node_before, same_node, node_one_way, node_equal}
-use Rattle.np_lookups.specs.Lists.{with_id}
-use Rattle.np_lookups.specs.Waits.{joins_node, leaves_node, removed_node, ending}
 use Rattle.np_lookups.proofs.Ids.{ids-map, ids-change_first, ids-push_out, ids-pushed, ids-removed}
 use Rattle.np_lookups.proofs.Places.{list_joined, list_left, list_removed, list_ended}
 use Rattle.np_lookups.proofs.Rows.{id_of, has, waiting, rows-ended, rows-joined, rows-joined_by, rows-left}
@@ -32,19 +17,12 @@ StandsFor (grow.Allocate n r tenant) s = (e : NodeEntry) × (node_entry n s.node
 StandsFor growth s = Unit {0}
 
 stands : (c : Configuration) (s : State) (ch : Changes) (growth : Growth) → ch.grows ≡ growth → GrowthPremise c s ch growth → StandsFor growth s
-stands c s ch grow.Nothing is premise = tt
-stands c s ch (grow.Session role) is premise = tt
-stands c s ch (grow.Registration p) is premise = tt
-stands c s ch (grow.Request priority asked) is premise = tt
-stands c s ch (grow.Node kept) is premise = tt
-stands c s ch (grow.JoinRequest r) is premise = tt
 stands c s ch (grow.JoinNode n) is premise = row-of (λ (e : NodeEntry). e.kept) (node_entry n s.nodes) premise.node premise.stands
 stands c s ch (grow.Allocate n r tenant) is premise = by premise.from where
   by : IsTaken c s ch premise.pool r premise.request premise.label n ⊎ IsMade c s ch premise.pool r premise.request premise.label n → (e : NodeEntry) × (node_entry n s.nodes ≡ Some e)
   by (inl taken) = row-of (λ (e : NodeEntry). e.kept) (node_entry n s.nodes) taken.node taken.stands
   by (inr made) = let other : grow.Allocate n r tenant ≡ ch.grows = sym is in let node = other ∙ made.grows in absurd cc
-stands c s ch (grow.Handles j) is premise = tt
-stands c s ch (grow.Swept n x) is premise = tt
+stands c s ch _ is premise = tt
 
 below : (next : ℕ) (e : NodeEntry) → e.id.0 < next → is_node_before e.id (record { 0 = next }) ≡ true
 below next e low = grind (arith, nat_tests)
@@ -55,11 +33,6 @@ made s kept session = record { id = record { 0 = s.next_node }; kept = kept; que
 
 grown-by : (c : Configuration) (x : SessionId) (s : State) (maker : Option Maker) (growth : Growth) → IsNumbered s → StandsFor growth s
     → waiting x (grown c maker growth s).nodes ≡ list_joined is_node_before same_node x (joins_node maker growth s.next_node) (waiting x s.nodes)
-grown-by c x s maker grow.Nothing numbered there = refl
-grown-by c x s maker (grow.Session role) numbered there = refl
-grown-by c x s None (grow.Registration p) numbered there = refl
-grown-by c x s (Some m) (grow.Registration p) numbered there = refl
-grown-by c x s maker (grow.Request priority asked) numbered there = refl
 grown-by c x s None (grow.Node kept) numbered there = ids-push_out id_of (has x) (record { id = record { 0 = s.next_node }; kept = kept; queue = [] }) s.nodes refl
 grown-by c x s (Some m) (grow.Node kept) numbered there = by (is_session m.session x) refl where
   by : (b : Bool) → is_session m.session x ≡ b → waiting x (s.nodes ++ made s kept m.session ∷ []) ≡ cond b (with_id is_node_before same_node (record { 0 = s.next_node }) (waiting x s.nodes)) (waiting x s.nodes)
@@ -68,17 +41,11 @@ grown-by c x s (Some m) (grow.Node kept) numbered there = by (is_session m.sessi
       (all-weaker (λ (e : NodeEntry). e.id.0 < s.next_node) (λ (e : NodeEntry). is_node_before e.id (record { 0 = s.next_node }) ≡ true) (below s.next_node) s.nodes numbered.nodes_below)
       (rw is refl)
   by false is = ids-push_out id_of (has x) (made s kept m.session) s.nodes (rw is refl)
-grown-by c x s maker (grow.JoinRequest r) numbered there = by maker where
-  by : (m : Option Maker) → waiting x (grown c m (grow.JoinRequest r) s).nodes ≡ waiting x s.nodes
-  by None = refl
-  by (Some m) = refl
-grown-by c x s None (grow.JoinNode n) numbered there = refl
 grown-by c x s (Some m) (grow.JoinNode n) numbered there = rows-joined is_node_before same_node node_one_way node_equal x s.nodes numbered.nodes_rise m.session n there.0 there.1
-grown-by c x s None (grow.Allocate n r tenant) numbered there = refl
 grown-by c x s (Some m) (grow.Allocate n r tenant) numbered there =
     rows-joined_by is_node_before same_node node_one_way node_equal x s.nodes numbered.nodes_rise m.session n (allocated r tenant m.session) there.0 (λ e. refl) (λ e. refl) there.1
-grown-by c x s maker (grow.Handles j) numbered there = refl
-grown-by c x s maker (grow.Swept n p) numbered there = refl
+grown-by c x s None growth numbered there = refl
+grown-by c x s (Some m) growth numbered there = refl
 
 pub nodes-grown : (c : Configuration) (x : SessionId) (s : State) (ch : Changes) → IsNumbered s → GrowthPremise c s ch ch.grows
     → waiting x (grown c ch.maker ch.grows s).nodes ≡ list_joined is_node_before same_node x (joins_node ch.maker ch.grows s.next_node) (waiting x s.nodes)

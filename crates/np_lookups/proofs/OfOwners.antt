@@ -1,33 +1,13 @@
 -- what the changes of an event make of the owners of nodes
-use Rattle.std.proofs.Common.{◌≡◌, ◌∙◌, ◌⊎◌, ◌<◌, ◌≤◌, ◌+◌, inl, inr, ℕ, zero, suc, Bool, true, false, cond, List, [], ◌∷◌, ◌++◌, Option, Some, None, length, refl, sym, ap, arith, length-append}
-use Rattle.std.specs.Prelude.{◌==◌, ◌||◌, slice_get, slice_set, unwrap_or}
-use Rattle.np_changes.specs.Prelude.{Configuration, JobId, JobRecord, JobsPremise, Marked, NodeId, Premises, State, changed, grown, is_asked, is_marked, is_using, jobs_changed, list_any, option_map, owner_of, with_mark}
-use Rattle.std.proofs.lemmas.Bool.{cases_lt}
-use Rattle.std.proofs.lemmas.Bool.Decides.{nat_tests}
-use Rattle.std.proofs.lemmas.Option.{slice_get_past}
-use Rattle.np_changes.specs.declared.changes.Changes.{Changes}
-use Rattle.np_changes.specs.declared.changes.Growth.{Growth}
-use Rattle.np_laws.specs.Parts.{Invariant}
-use Rattle.np_changes.specs.declared.changes.JobsChange.{JobsChange}
-use Rattle.np_changes.specs.declared.changes.Maker.{Maker}
-use Rattle.np_lists.proofs.Each.{all-at}
+use Rattle.np_lookups.proofs.Prelude.{AreOwners, Bool, Changes, Configuration, Growth, Invariant, JobId, JobRecord, JobsChange, JobsPremise, List, Maker, Marked, NodeId, None, Option, Premises, Some, State, [], all-at, ap, arith, cases_lt, changed, cond, false, grown, inl, inr, is_asked, is_marked, is_using, jobs-grown, jobs_changed, length, length-append, length-set, list_any, nat_tests, option_map, owner_at, owner_of, owners_changed, owners_grown, owners_with, refl, set-other, slice_get, slice_get_past, slice_set, suc, sym, true, unwrap_or, with_mark, zero, ℕ, ◌++◌, ◌+◌, ◌<◌, ◌==◌, ◌||◌, ◌∙◌, ◌∷◌, ◌≡◌, ◌≤◌, ◌⊎◌}
 use Rattle.np_changes.specs.declared.changes.Growth.TheVariants as grow
 use Rattle.np_changes.specs.declared.changes.JobsChange.TheVariants as jobs
-use Rattle.np_laws.proofs.JobsLater.{jobs-grown}
-use Rattle.np_lookups.specs.Changed.{owners_grown, owners_with, owners_changed}
-use Rattle.np_lookups.specs.Lookups.{owner_at, AreOwners}
 use Rattle.np_lookups.proofs.Firsts.{none-first, first-set, first-same, first-changed}
 use Rattle.np_lookups.proofs.JobNodes.{is_early, KeepsNodes, TakesNodes, put-nodes, marked-has, unended-has}
+use Rattle.np_lookups.proofs.Places.{at-push}
 use Rattle.np_lookups.proofs.Unused.{AreUnused, taken-free, unused-changed}
-use Rattle.np_lists.proofs.Plain.{length-set}
 
 -- ## lists by place
-
-owner_at-push : (i : ℕ) (owners : List (Option JobId)) → owner_at i (owners ++ None ∷ []) ≡ owner_at i owners
-owner_at-push zero [] = refl
-owner_at-push (suc i) [] = refl
-owner_at-push zero (o ∷ owners) = refl
-owner_at-push (suc i) (o ∷ owners) = owner_at-push i owners
 
 pub owner_at-past : (i : ℕ) (owners : List (Option JobId)) → length owners ≤ i → owner_at i owners ≡ None
 owner_at-past i owners past = ap (λ (o : Option (Option JobId)). unwrap_or o None) (slice_get_past owners i past)
@@ -40,13 +20,6 @@ set-here : {X : Type 0} (xs : List X) (i : ℕ) (x : X) → i < length xs → sl
 set-here [] i x within = absurd (omega arith)
 set-here (y ∷ xs) zero x within = refl
 set-here (y ∷ xs) (suc i) x within = set-here xs i x (omega arith)
-
-set-other : {X : Type 0} (xs : List X) (i k : ℕ) (x : X) → (i ≡ k → ⊥) → slice_get (slice_set xs i x) k ≡ slice_get xs k
-set-other [] i k x other = refl
-set-other (y ∷ xs) zero zero x other = absurd (other refl)
-set-other (y ∷ xs) zero (suc k) x other = refl
-set-other (y ∷ xs) (suc i) zero x other = refl
-set-other (y ∷ xs) (suc i) (suc k) x other = set-other xs i k x (λ same. other (ap suc same))
 
 owner_at-set : (i k : ℕ) (o : Option JobId) (owners : List (Option JobId)) → k < length owners → owner_at k (slice_set owners i o) ≡ cond (i == k) o (owner_at k owners)
 owner_at-set i k o owners within = by (i == k) refl where
@@ -75,20 +48,12 @@ as_job o = option_map (λ (at : ℕ). record { 0 = at }) o
 
 -- what grows
 owners-grown : (c : Configuration) (s : State) (maker : Option Maker) (growth : Growth) (owners : List (Option JobId)) → AreOwners s owners → AreOwners (grown c maker growth s) (owners_grown growth owners)
-owners-grown c s maker grow.Nothing owners is = is
-owners-grown c s maker (grow.Session role) owners is = record { each = is.each; many = is.many }
-owners-grown c s None (grow.Registration p) owners is = is
-owners-grown c s (Some m) (grow.Registration p) owners is = record { each = is.each; many = is.many }
-owners-grown c s maker (grow.Request priority asked) owners is = record { each = is.each; many = is.many }
 owners-grown c s maker (grow.Node kept) owners is = record {
-  each = λ n. owner_at-push n.0 owners ∙ is.each n;
+  each = λ n. at-push None n.0 owners ∙ is.each n;
   many = let more : length (owners ++ None ∷ []) ≡ length owners + 1 = simp length-append refl in omega (arith, more, is.many);
 }
-owners-grown c s maker (grow.JoinRequest r) owners is = record { each = is.each; many = is.many }
-owners-grown c s maker (grow.JoinNode n) owners is = record { each = is.each; many = is.many }
-owners-grown c s maker (grow.Allocate n r tenant) owners is = record { each = is.each; many = is.many }
-owners-grown c s maker (grow.Handles j) owners is = record { each = is.each; many = is.many }
-owners-grown c s maker (grow.Swept n x) owners is = record { each = is.each; many = is.many }
+owners-grown c s None growth owners is = record { each = is.each; many = is.many }
+owners-grown c s (Some m) growth owners is = record { each = is.each; many = is.many }
 
 module _ (c : Configuration) (s : State) (ch : Changes) (inv : Invariant c s) (unused : AreUnused s) (given : Premises c s ch) where
   -- the owner of a node, after a job's record was put

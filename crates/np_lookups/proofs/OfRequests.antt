@@ -1,19 +1,8 @@
 -- what the changes of an event make of the requests in whose queues one session is
-use Rattle.std.proofs.Common.{◌≡◌, List, [], Option, Some, None, refl}
-use Rattle.np_changes.specs.declared.changes.Changes.{Changes}
-use Rattle.np_changes.specs.Prelude.{Configuration, GrowthPremise, RequestEntry, RequestId, Rises, SessionId, State, edited, grown, is_id_before, new_record, next_id, request_entry, requests_changed, requests_left, same_request}
-use Rattle.np_changes.specs.declared.changes.Growth.{Growth}
-use Rattle.np_laws.specs.Parts.{IsNumbered}
-use Rattle.np_changes.specs.declared.changes.Maker.{Maker}
-use Rattle.np_changes.specs.declared.changes.RequestsChange.{RequestsChange}
-use Rattle.np_changes.specs.declared.changes.SessionsChange.{SessionsChange}
+use Rattle.np_lookups.proofs.Prelude.{Changes, Configuration, Growth, GrowthPremise, IsNumbered, List, Maker, None, Option, RequestEntry, RequestId, RequestsChange, Rises, SessionId, SessionsChange, Some, State, Wait, [], by, edited, ending, grown, is_id_before, joins_request, new_record, next_id, refl, removed_request, request_entry, request_equal, request_one_way, requests_changed, requests_left, row-of, same_request, ◌≡◌}
 use Rattle.np_changes.specs.declared.changes.Growth.TheVariants as grow
 use Rattle.np_changes.specs.declared.changes.RequestsChange.TheVariants as requests
 use Rattle.np_changes.specs.declared.changes.SessionsChange.TheVariants as sessions
-use Rattle.np_laws.proofs.Ids.{row-of}
-use Rattle.np_look.specs.Keys.{request_one_way, request_equal}
-use Rattle.np_lookups.specs.declared.waits.Wait.{Wait}
-use Rattle.np_lookups.specs.Waits.{by, joins_request, removed_request, ending}
 use Rattle.np_lookups.proofs.Ids.{ids-change_first, ids-insert_out, ids-removed}
 use Rattle.np_lookups.proofs.Places.{list_joined, list_left, list_removed, list_ended}
 use Rattle.np_lookups.proofs.Rows.{id_of, has, waiting, rows-ended, rows-joined, rows-left}
@@ -26,34 +15,16 @@ StandsFor (grow.JoinRequest r) s = (e : RequestEntry) × (request_entry r s.requ
 StandsFor growth s = Unit {0}
 
 stands : (c : Configuration) (s : State) (ch : Changes) (growth : Growth) → GrowthPremise c s ch growth → StandsFor growth s
-stands c s ch grow.Nothing premise = tt
-stands c s ch (grow.Session role) premise = tt
-stands c s ch (grow.Registration p) premise = tt
-stands c s ch (grow.Request priority asked) premise = tt
-stands c s ch (grow.Node kept) premise = tt
 stands c s ch (grow.JoinRequest r) premise = row-of (λ (e : RequestEntry). e.kept) (request_entry r s.requests) premise.request premise.stands
-stands c s ch (grow.JoinNode n) premise = tt
-stands c s ch (grow.Allocate n r tenant) premise = tt
-stands c s ch (grow.Handles j) premise = tt
-stands c s ch (grow.Swept n x) premise = tt
+stands c s ch _ premise = tt
 
 grown-by : (c : Configuration) (x : SessionId) (s : State) (maker : Option Maker) (growth : Growth) → IsNumbered s → StandsFor growth s
     → waiting x (grown c maker growth s).requests ≡ list_joined is_id_before same_request x (joins_request maker growth) (waiting x s.requests)
-grown-by c x s maker grow.Nothing numbered there = refl
-grown-by c x s maker (grow.Session role) numbered there = refl
-grown-by c x s None (grow.Registration p) numbered there = refl
-grown-by c x s (Some m) (grow.Registration p) numbered there = refl
 grown-by c x s maker (grow.Request priority asked) numbered there =
     ids-insert_out id_of (has x) (λ (e : RequestEntry). is_id_before (next_id priority s) e.id) (record { id = next_id priority s; kept = new_record asked; queue = [] }) s.requests refl
-grown-by c x s maker (grow.Node kept) numbered there = refl
-grown-by c x s None (grow.JoinRequest r) numbered there = refl
 grown-by c x s (Some m) (grow.JoinRequest r) numbered there = rows-joined is_id_before same_request request_one_way request_equal x s.requests numbered.requests_rise m.session r there.0 there.1
-grown-by c x s None (grow.JoinNode n) numbered there = refl
-grown-by c x s (Some m) (grow.JoinNode n) numbered there = refl
-grown-by c x s None (grow.Allocate n r tenant) numbered there = refl
-grown-by c x s (Some m) (grow.Allocate n r tenant) numbered there = refl
-grown-by c x s maker (grow.Handles j) numbered there = refl
-grown-by c x s maker (grow.Swept n p) numbered there = refl
+grown-by c x s None growth numbered there = refl
+grown-by c x s (Some m) growth numbered there = refl
 
 pub requests-grown : (c : Configuration) (x : SessionId) (s : State) (ch : Changes) → IsNumbered s → GrowthPremise c s ch ch.grows
     → waiting x (grown c ch.maker ch.grows s).requests ≡ list_joined is_id_before same_request x (joins_request ch.maker ch.grows) (waiting x s.requests)

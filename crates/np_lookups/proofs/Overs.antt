@@ -1,11 +1,5 @@
 -- the jobs of a requester that are not over, determined by which jobs are over
-use Rattle.std.proofs.Common.{◌≡◌, ◌∙◌, ℕ, zero, suc, ◌+◌, ◌<◌, ◌≤◌, Bool, true, false, cond, List, [], ◌∷◌, ◌++◌, length, map, refl, sym, ap, arith}
-use Rattle.std.specs.Prelude.{◌==◌, ◌&&◌, not, slice_get, slice_set}
-use Rattle.np_changes.specs.Prelude.{AllByRecursion, Configuration, JobId, JobRecord, RequesterId, is_over, option_map_or, remove_first}
-use Rattle.std.proofs.lemmas.Bool.Decides.{nat_tests}
-use Rattle.np_look.specs.Readers.{is_unfinished_job, unfinished_from}
-use Rattle.np_look.specs.Keys.{same_job}
-use Rattle.np_lists.proofs.Plain.{below-apart, above-apart}
+use Rattle.np_lookups.proofs.Prelude.{AllByRecursion, Bool, Configuration, JobId, JobRecord, List, RequesterId, [], above-apart, ap, arith, below-apart, cond, false, is_over, is_unfinished_job, length, map, nat_tests, not, option_map_or, refl, remove_first, same_job, slice_get, slice_set, suc, sym, true, unfinished_from, zero, ℕ, ◌&&◌, ◌++◌, ◌+◌, ◌<◌, ◌==◌, ◌∙◌, ◌∷◌, ◌≡◌, ◌≤◌}
 
 -- for each job whether it is over
 abbrev pub overs : List JobRecord → List Bool

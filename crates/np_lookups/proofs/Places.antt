@@ -1,13 +1,5 @@
 -- one of the lists by place, changed, and the lists of sessions
-use Rattle.std.proofs.Common.{◌≡◌, ◌∙◌, ◌<◌, ℕ, zero, suc, Bool, true, false, cond, List, [], ◌∷◌, ◌++◌, length, Option, Some, None, IfSome, refl, sym, ap, subst, arith, eq-eqb}
-use Rattle.std.specs.Prelude.{◌==◌, ◌||◌, slice_get, unwrap_or}
-use Rattle.np_changes.specs.Prelude.{SessionId, change_at, is_queued, is_session, option_map, option_map_or}
-use Rattle.std.proofs.lemmas.Bool.{eqb-true}
-use Rattle.np_lists.proofs.ChangeLemmas.{length-change_at, slice_get-change_at, slice_get-change_at_other}
-use Rattle.np_laws.specs.Parts.{DistinctSessions}
-use Rattle.np_lookups.specs.declared.waits.Wait.{Wait}
-use Rattle.np_lookups.specs.Changed.{lists_joined, lists_left, lists_without, lists_removed, lists_ended}
-use Rattle.np_lookups.specs.Lists.{list_at, with_id, without_id}
+use Rattle.np_lookups.proofs.Prelude.{Bool, DistinctSessions, IfSome, List, None, Option, SessionId, Some, Wait, [], ap, arith, change_at, cond, eq-eqb, eqb-true, false, is_queued, is_session, length, length-change_at, list_at, lists_ended, lists_joined, lists_left, lists_removed, lists_without, option_map, option_map_or, refl, slice_get, slice_get-change_at, slice_get-change_at_other, subst, suc, sym, true, unwrap_or, with_id, without_id, zero, ℕ, ◌++◌, ◌<◌, ◌==◌, ◌||◌, ◌∙◌, ◌∷◌, ◌≡◌}
 
 -- ## one list
 
@@ -37,12 +29,20 @@ module _ {I : Type 0} where
       subst (λ (i : ℕ). unwrap_or (slice_get (change_at at f lists) i) [] ≡ f (unwrap_or (slice_get lists i) [])) (eqb-true at place is)
       (ap (λ (o : Option (List I)). unwrap_or o []) (slice_get-change_at at f lists) ∙ none-by f (slice_get lists at) none)
 
-  -- an empty list more at the end
-  pub list_at-push : (at : ℕ) (lists : List (List I)) → list_at at (lists ++ [] ∷ []) ≡ list_at at lists
-  list_at-push zero [] = refl
-  list_at-push (suc at) [] = refl
-  list_at-push zero (list ∷ lists) = refl
-  list_at-push (suc at) (list ∷ lists) = list_at-push at lists
+  -- the list of a session, if one list is changed
+  at-changed : (session x : SessionId) (f : List I → List I) (lists : List (List I)) → (is_session session x ≡ true → list_at x.0 (change_at session.0 f lists) ≡ f (list_at x.0 lists))
+      → list_at x.0 (change_at session.0 f lists) ≡ cond (is_session session x) (f (list_at x.0 lists)) (list_at x.0 lists)
+  at-changed session x f lists here = by (is_session session x) refl where
+    by : (b : Bool) → is_session session x ≡ b → list_at x.0 (change_at session.0 f lists) ≡ cond b (f (list_at x.0 lists)) (list_at x.0 lists)
+    by true is = here is
+    by false is = other-list session.0 x.0 f lists is
+
+-- what is found past the end of a list is there if it is put at the end
+pub at-push : {X : Type 0} (x : X) (at : ℕ) (xs : List X) → unwrap_or (slice_get (xs ++ x ∷ []) at) x ≡ unwrap_or (slice_get xs at) x
+at-push x zero [] = refl
+at-push x (suc at) [] = refl
+at-push x zero (y ∷ ys) = refl
+at-push x (suc at) (y ∷ ys) = at-push x at ys
 
 -- ## what a change makes of the list of one session
 
@@ -67,18 +67,12 @@ HasList wait lists = IfSome wait (λ w. w.session.0 < length lists)
 module _ {I : Type 0} (before same : I → I → Bool) (x : SessionId) where
   pub at-joined : (wait : Option (Wait I)) (lists : List (List I)) → HasList wait lists → list_at x.0 (lists_joined before same wait lists) ≡ list_joined before same x wait (list_at x.0 lists)
   at-joined None lists has = refl
-  at-joined (Some w) lists has = by (is_session w.session x) refl where
-    by : (b : Bool) → is_session w.session x ≡ b → list_at x.0 (change_at w.session.0 (with_id before same w.id) lists) ≡ cond b (with_id before same w.id (list_at x.0 lists)) (list_at x.0 lists)
-    by true is = here-list w.session.0 x.0 (with_id before same w.id) lists has is
-    by false is = other-list w.session.0 x.0 (with_id before same w.id) lists is
+  at-joined (Some w) lists has = at-changed w.session x (with_id before same w.id) lists (here-list w.session.0 x.0 (with_id before same w.id) lists has)
 
 module _ {I : Type 0} (same : I → I → Bool) (x : SessionId) where
   pub at-left : (wait : Option (Wait I)) (lists : List (List I)) → list_at x.0 (lists_left same wait lists) ≡ list_left same x wait (list_at x.0 lists)
   at-left None lists = refl
-  at-left (Some w) lists = by (is_session w.session x) refl where
-    by : (b : Bool) → is_session w.session x ≡ b → list_at x.0 (change_at w.session.0 (without_id same w.id) lists) ≡ cond b (without_id same w.id (list_at x.0 lists)) (list_at x.0 lists)
-    by true is = here-list_or w.session.0 x.0 (without_id same w.id) lists refl is
-    by false is = other-list w.session.0 x.0 (without_id same w.id) lists is
+  at-left (Some w) lists = at-changed w.session x (without_id same w.id) lists (here-list_or w.session.0 x.0 (without_id same w.id) lists refl)
 
   -- the list of each session of the queue, which has none twice
   pub at-without : (i : I) (queue : List SessionId) (lists : List (List I)) → DistinctSessions queue → list_at x.0 (lists_without same i queue lists) ≡ cond (is_queued x queue) (without_id same i (list_at x.0 lists)) (list_at x.0 lists)
@@ -95,10 +89,7 @@ module _ {I : Type 0} (same : I → I → Bool) (x : SessionId) where
 
 pub at-ended : {I : Type 0} (x : SessionId) (ending : Option SessionId) (lists : List (List I)) → list_at x.0 (lists_ended ending lists) ≡ list_ended x ending (list_at x.0 lists)
 at-ended x None lists = refl
-at-ended x (Some e) lists = by (is_session e x) refl where
-  by : (b : Bool) → is_session e x ≡ b → list_at x.0 (change_at e.0 (λ _. []) lists) ≡ cond b [] (list_at x.0 lists)
-  by true is = here-list_or e.0 x.0 (λ _. []) lists refl is
-  by false is = other-list e.0 x.0 (λ _. []) lists is
+at-ended x (Some e) lists = at-changed e x (λ _. []) lists (here-list_or e.0 x.0 (λ _. []) lists refl)
 
 -- ## no list more and none less
 

@@ -1,47 +1,29 @@
 -- what a change of the queues of rows makes of the rows in whose queues one session is
-use Rattle.std.proofs.Common.{◌≡◌, ◌∙◌, ℕ, Bool, true, false, cond, List, [], ◌∷◌, ◌++◌, Option, Some, None, refl, sym, ap, subst, eqb-true}
-use Rattle.std.specs.Prelude.{◌||◌, not, find, map}
-use Rattle.np_changes.specs.Prelude.{Locked, Rises, SessionId, change_first, is_queued, is_session, joined, left, option_map_or}
-use Rattle.np_lists.proofs.ChangeLemmas.{change_first-same}
-use Rattle.np_lookups.specs.Lists.{ids_of, with_id, without_id}
+use Rattle.np_lookups.proofs.Prelude.{Bool, List, Locked, None, Option, Rises, SessionId, Some, [], ap, change_first, change_first-same, cond, eqb-true, false, find, ids_of, is_queued, is_session, joined, left, map, not, option_map_or, or_false, or_true, refl, subst, sym, true, with_id, without_id, ℕ, ◌++◌, ◌||◌, ◌∙◌, ◌∷◌, ◌≡◌}
+use Rattle.std.proofs.lemmas.List.Folds.{list_any-append}
 use Rattle.np_lookups.proofs.Ids.{ids-map, ids-change_first, ids-map_none, ids-there, ids-joined, ids-left, without_id-absent}
 use Rattle.np_lookups.proofs.Places.{list_joined, list_left, list_ended}
 
 -- ## one queue
 
 queued-push : (x y : SessionId) (queue : List SessionId) → is_queued x (queue ++ y ∷ []) ≡ (is_queued x queue || is_session y x)
-queued-push x y [] = or-false (is_session y x) where
-  or-false : (b : Bool) → (b || false) ≡ b
-  or-false true = refl
-  or-false false = refl
-queued-push x y (z ∷ queue) = by (is_session z x) (queued-push x y queue) where
-  by : (b : Bool) → is_queued x (queue ++ y ∷ []) ≡ (is_queued x queue || is_session y x) → (b || is_queued x (queue ++ y ∷ [])) ≡ ((b || is_queued x queue) || is_session y x)
-  by true later = refl
-  by false later = later
+queued-push x y queue = list_any-append (λ (z : SessionId). is_session z x) queue (y ∷ []) ∙ ap (λ (b : Bool). is_queued x queue || b) (or_false (is_session y x))
 
 -- a session that joins is in the queue
 queued-joined : (x y : SessionId) (queue : List SessionId) → is_session y x ≡ true → is_queued x (joined y queue) ≡ true
 queued-joined x y queue is = by (is_queued y queue) refl where
-  or-true : (b : Bool) → (b || true) ≡ true
-  or-true true = refl
-  or-true false = refl
-
   by : (b : Bool) → is_queued y queue ≡ b → is_queued x (cond b queue (queue ++ y ∷ [])) ≡ true
   by true there =
       let alike : y ≡ x = ap (λ (n : ℕ). record { 0 = n }) (eqb-true y.0 x.0 is) in
       subst (λ (z : SessionId). is_queued z queue ≡ true) alike there
-  by false out = queued-push x y queue ∙ rw is (or-true (is_queued x queue))
+  by false out = queued-push x y queue ∙ rw is (or_true (is_queued x queue))
 
 -- the others are where they were
 queued-joined_other : (x y : SessionId) (queue : List SessionId) → is_session y x ≡ false → is_queued x (joined y queue) ≡ is_queued x queue
 queued-joined_other x y queue other = by (is_queued y queue) where
-  or-false : (b : Bool) → (b || false) ≡ b
-  or-false true = refl
-  or-false false = refl
-
   by : (b : Bool) → is_queued x (cond b queue (queue ++ y ∷ [])) ≡ is_queued x queue
   by true = refl
-  by false = queued-push x y queue ∙ rw other (or-false (is_queued x queue))
+  by false = queued-push x y queue ∙ rw other (or_false (is_queued x queue))
 
 -- a session that leaves is not in the queue
 queued-left : (x y : SessionId) (queue : List SessionId) → is_session y x ≡ true → is_queued x (left y queue) ≡ false

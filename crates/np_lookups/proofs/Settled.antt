@@ -1,29 +1,9 @@
 -- the lookups of a state, changed as the state is, are those of the changed state
-use Rattle.std.proofs.Common.{◌≡◌, ◌∙◌, inl, inr, ◌<◌, ◌≤◌, ◌+◌, ◌-◌, ℕ, Bool, true, false, cond, List, [], ◌∷◌, length, Option, Some, None, IfSome, refl, sym, ap, subst, arith, length-append}
-use Rattle.std.specs.Prelude.{◌==◌}
-use Rattle.np_changes.specs.Prelude.{Configuration, IsPlanned, IsReached, MakerPremise, NodeEntry, NodeId, NodesPremise, Premises, RequestEntry, RequestId, RequestsPremise, SessionFacts, SessionId, SessionsPremise, State, changed, ended, grown, holder, is_id_before, is_queued, is_session, muted, node_entry, node_queue, nodes_changed, option_map, option_map_or, request_entry, request_queue, requests_changed, same_request, sessions_changed}
-use Rattle.np_changes.specs.declared.changes.Changes.{Changes}
-use Rattle.np_changes.specs.declared.changes.Growth.{Growth}
-use Rattle.np_changes.specs.declared.changes.Maker.{Maker}
-use Rattle.np_changes.specs.declared.changes.NodesChange.{NodesChange}
-use Rattle.np_changes.specs.declared.changes.RequestsChange.{RequestsChange}
-use Rattle.np_changes.specs.declared.changes.SessionsChange.{SessionsChange}
-use Rattle.np_look.specs.Readers.{queued_nodes, queued_requests}
-use Rattle.np_lists.proofs.ChangeLemmas.{length-change_at}
-use Rattle.np_lists.proofs.Each.{all-find}
-use Rattle.np_changes.proofs.PremisesOf.{premises}
+use Rattle.np_lookups.proofs.Prelude.{AreLookupsOf, Bool, Changes, Configuration, DistinctSessions, Growth, HasRoom, IfSome, Invariant, IsPlanned, IsLiveQueue, IsReached, List, LookupsOf, Maker, MakerPremise, NodeEntry, NodeId, NodesChange, NodesPremise, None, Option, Premises, RequestEntry, RequestId, RequestsChange, RequestsPremise, SessionFacts, SessionId, SessionsChange, SessionsPremise, Some, State, [], all-find, ap, arith, by, changed, cond, ended, ending, false, grown, grown-numbered, holder, holder_at, inl, inr, invariant-Runs, is_id_before, is_node_before, is_queued, is_session, joins_node, joins_request, leaves_node, leaves_request, length, length-append, length-change_at, list_at, lists_ended, lists_joined, lists_left, lists_removed, lookups_grown, lookups_settled, muted, node_entry, node_equal, node_one_way, node_queue, nodes_changed, option_map, option_map_or, premises, queue_at, queued_nodes, queued_requests, refl, removed_node, removed_request, request_entry, request_equal, request_one_way, request_queue, requests_changed, same_node, same_request, session-low, sessions_changed, subst, sym, true, without_id, ℕ, ◌+◌, ◌-◌, ◌<◌, ◌==◌, ◌∙◌, ◌∷◌, ◌≡◌, ◌≤◌}
 use Rattle.np_changes.specs.declared.changes.Growth.TheVariants as grow
 use Rattle.np_changes.specs.declared.changes.NodesChange.TheVariants as nodes
 use Rattle.np_changes.specs.declared.changes.RequestsChange.TheVariants as requests
 use Rattle.np_changes.specs.declared.changes.SessionsChange.TheVariants as sessions
-use Rattle.np_laws.specs.Parts.{DistinctSessions, Invariant, IsQueue}
-use Rattle.np_laws.proofs.Numbered.{grown-numbered}
-use Rattle.np_laws.proofs.Runs.{invariant-Runs}
-use Rattle.np_look.specs.Keys.{is_node_before, same_node, node_one_way, node_equal, request_one_way, request_equal}
-use Rattle.np_lookups.specs.Changed.{lists_joined, lists_left, lists_removed, lists_ended, queue_at, holder_at, lookups_grown, lookups_settled}
-use Rattle.np_lookups.specs.Lookups.{LookupsOf, HasRoom, AreLookupsOf}
-use Rattle.np_lookups.specs.Lists.{list_at, without_id}
-use Rattle.np_lookups.specs.Waits.{by, joins_request, joins_node, leaves_request, leaves_node, removed_node, removed_request, ending}
 use Rattle.np_lookups.proofs.OfJobs.{unfinished-changed}
 use Rattle.np_lookups.proofs.OfNodes.{nodes-grown, nodes-changed, nodes-left}
 use Rattle.np_lookups.proofs.OfOwners.{owners-changed}
@@ -31,7 +11,6 @@ use Rattle.np_lookups.proofs.OfRequests.{leaves, requests-grown, requests-change
 use Rattle.np_lookups.proofs.Places.{list_joined, list_left, list_removed, list_ended, at-joined, at-left, at-without, at-ended, length-joined, length-left, length-removed, length-ended}
 use Rattle.np_lookups.proofs.Rows.{waiting, rows-absent}
 use Rattle.np_lookups.proofs.Unused.{AreUnused, unused-reached}
-use Rattle.np_changes.proofs.Facts.{session-low}
 
 -- ## sessions
 
@@ -40,42 +19,20 @@ maker-within s None i many heard room = tt
 maker-within s (Some m) i many heard room = omega (arith, session-low m.session s heard.facts heard.begun)
 
 joins_node-within : (s : State) (maker : Option Maker) (growth : Growth) (many : ℕ) → MakerPremise s maker → length s.sessions < many → IfSome (joins_node maker growth s.next_node) (λ w. w.session.0 < many)
-joins_node-within s maker grow.Nothing many heard room = tt
-joins_node-within s maker (grow.Session role) many heard room = tt
-joins_node-within s maker (grow.Registration p) many heard room = tt
-joins_node-within s maker (grow.Request priority asked) many heard room = tt
 joins_node-within s maker (grow.Node kept) many heard room = maker-within s maker (record { 0 = s.next_node }) many heard room
-joins_node-within s maker (grow.JoinRequest r) many heard room = tt
 joins_node-within s maker (grow.JoinNode n) many heard room = maker-within s maker n many heard room
 joins_node-within s maker (grow.Allocate n r tenant) many heard room = maker-within s maker n many heard room
-joins_node-within s maker (grow.Handles j) many heard room = tt
-joins_node-within s maker (grow.Swept n x) many heard room = tt
+joins_node-within s maker _ many heard room = tt
 
 joins_request-within : (s : State) (maker : Option Maker) (growth : Growth) (many : ℕ) → MakerPremise s maker → length s.sessions < many → IfSome (joins_request maker growth) (λ w. w.session.0 < many)
-joins_request-within s maker grow.Nothing many heard room = tt
-joins_request-within s maker (grow.Session role) many heard room = tt
-joins_request-within s maker (grow.Registration p) many heard room = tt
-joins_request-within s maker (grow.Request priority asked) many heard room = tt
-joins_request-within s maker (grow.Node kept) many heard room = tt
 joins_request-within s maker (grow.JoinRequest r) many heard room = maker-within s maker r many heard room
-joins_request-within s maker (grow.JoinNode n) many heard room = tt
-joins_request-within s maker (grow.Allocate n r tenant) many heard room = tt
-joins_request-within s maker (grow.Handles j) many heard room = tt
-joins_request-within s maker (grow.Swept n x) many heard room = tt
+joins_request-within s maker _ many heard room = tt
 
 -- at most one session more
 grown-sessions : (c : Configuration) (s : State) (maker : Option Maker) (growth : Growth) → length (grown c maker growth s).sessions ≤ length s.sessions + 1
-grown-sessions c s maker grow.Nothing = omega arith
 grown-sessions c s maker (grow.Session role) = simp length-append (omega arith)
-grown-sessions c s None (grow.Registration p) = omega arith
-grown-sessions c s (Some m) (grow.Registration p) = omega arith
-grown-sessions c s maker (grow.Request priority asked) = omega arith
-grown-sessions c s maker (grow.Node kept) = omega arith
-grown-sessions c s maker (grow.JoinRequest r) = omega arith
-grown-sessions c s maker (grow.JoinNode n) = omega arith
-grown-sessions c s maker (grow.Allocate n r tenant) = omega arith
-grown-sessions c s maker (grow.Handles j) = omega arith
-grown-sessions c s maker (grow.Swept n x) = omega arith
+grown-sessions c s None growth = omega arith
+grown-sessions c s (Some m) growth = omega arith
 
 changed-sessions : (change : SessionsChange) (facts : List SessionFacts) → length (sessions_changed change facts) ≡ length facts
 changed-sessions sessions.Same facts = refl
@@ -92,15 +49,10 @@ module _ (c : Configuration) (s : State) (ch : Changes) (old : Invariant c s) (g
   node-removed : (change : NodesChange) → ch.nodes ≡ change → NodesPremise c s ch change → (lists : List (List NodeId)) → list_at x.0 lists ≡ queued_nodes x s
       → list_at x.0 (lists_removed same_node (removed_node change) (queue_at (removed_node change) s) (lists_left same_node (leaves_node ch.maker change) (lists_joined is_node_before same_node (joins_node ch.maker ch.grows s.next_node) lists)))
       ≡ list_removed same_node (removed_node change) (list_at x.0 (lists_left same_node (leaves_node ch.maker change) (lists_joined is_node_before same_node (joins_node ch.maker ch.grows s.next_node) lists)))
-  node-removed nodes.Same is premise lists here = refl
-  node-removed (nodes.Put n kept) is premise lists here = refl
-  node-removed (nodes.Leave n) is premise lists here = refl
-  node-removed (nodes.FreeAll r) is premise lists here = refl
-  node-removed (nodes.TakeOver numbers) is premise lists here = refl
   node-removed (nodes.Remove n) is premise lists here = rw premise.same_size (at-without same_node x n (node_queue n s.nodes) lists once ∙ out (is_queued x (node_queue n s.nodes)) refl) where
     once-by : (o : Option NodeEntry) → node_entry n s.nodes ≡ o → DistinctSessions (option_map_or (λ e. e.queue) o [])
     once-by None found = tt
-    once-by (Some e) found = (all-find (λ (e : NodeEntry). IsQueue s e.queue) (λ e. e.id.0 == n.0) s.nodes e old.queued.at_nodes found).once
+    once-by (Some e) found = (all-find (λ (e : NodeEntry). IsLiveQueue s e.queue) (λ e. e.id.0 == n.0) s.nodes e old.queued.at_nodes found).once
 
     once : DistinctSessions (node_queue n s.nodes)
     once = once-by (node_entry n s.nodes) refl
@@ -111,6 +63,7 @@ module _ (c : Configuration) (s : State) (ch : Changes) (old : Invariant c s) (g
         here
         ∙ sym (rows-absent is_node_before same_node node_one_way node_equal x s.nodes old.numbered.nodes_rise n is_out)
         ∙ ap (without_id same_node n) (sym here)
+  node-removed _ is premise lists here = refl
 
   node-list : (lists : List (List NodeId)) → list_at x.0 lists ≡ queued_nodes x s → length s.sessions < length lists
       → list_at x.0 (lists_ended (ending ch.sessions) (lists_removed same_node (removed_node ch.nodes) (queue_at (removed_node ch.nodes) s) (lists_left same_node (leaves_node ch.maker ch.nodes) (lists_joined is_node_before same_node (joins_node ch.maker ch.grows s.next_node) lists))))
@@ -136,9 +89,6 @@ module _ (c : Configuration) (s : State) (ch : Changes) (old : Invariant c s) (g
   request-removed : (change : RequestsChange) → RequestsPremise c s ch change
       → list_left same_request x (leaves_request ch.maker change (holder_at (removed_request change) s)) (list_joined is_id_before same_request x (joins_request ch.maker ch.grows) (queued_requests x s))
       ≡ list_removed same_request (removed_request change) (list_left same_request x (leaves ch.maker change) (list_joined is_id_before same_request x (joins_request ch.maker ch.grows) (queued_requests x s)))
-  request-removed requests.Same premise = refl
-  request-removed (requests.Edit r change) premise = refl
-  request-removed (requests.Leave r) premise = refl
   request-removed (requests.Remove r) premise = rw (same_size premise) (by (request_queue r s.requests) refl few) where
     same_size : RequestsPremise c s ch (requests.Remove r) → ch.grows ≡ grow.Nothing
     same_size (inl fulfilled) = fulfilled.fulfils.same_size
@@ -165,6 +115,7 @@ module _ (c : Configuration) (s : State) (ch : Changes) (old : Invariant c s) (g
     by [] is one = rw is (absent [] is refl)
     by (h ∷ []) is one = rw is (held-by h (is_session h x) refl is)
     by (h ∷ g ∷ queue) is one = absurd (omega arith)
+  request-removed _ premise = refl
 
   request-list : (lists : List (List RequestId)) → list_at x.0 lists ≡ queued_requests x s → length s.sessions < length lists
       → list_at x.0 (lists_ended (ending ch.sessions) (lists_left same_request (leaves_request ch.maker ch.requests (holder_at (removed_request ch.requests) s)) (lists_joined is_id_before same_request (joins_request ch.maker ch.grows) lists)))

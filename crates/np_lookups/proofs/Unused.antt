@@ -1,35 +1,18 @@
 -- a node that no job has used is no job's: this holds of every state that a run leads to
-use Rattle.std.proofs.Common.{◌≡◌, ◌∙◌, ◌⊎◌, ◌<◌, ◌≤◌, inl, inr, ℕ, Bool, true, false, cond, List, [], ◌∷◌, ◌++◌, Option, Some, None, refl, sym, ap, subst, arith, eqb-true, le_refl}
-use Rattle.std.specs.Prelude.{◌==◌, is_ok, map, nat_lt}
-use Rattle.np_changes.specs.Prelude.{AllByRecursion, Configuration, EndAs, EndsNode, Entry, Event, Frees, GivesUp, IsReached, Job, JobRecord, JobsPremise, Marked, NodeEntry, NodeId, NodeRecord, NodeState, NodesPremise, Premises, PutsNode, Reports, RequestId, Rises, Starts, State, TakesOver, changed, ended_as, freed, grown, is_building, is_marked, is_ready, is_request, jobs_changed, judge, list_any, marked, new_job, next, node_in, nodes_changed, option_map, plan, remove_node, start, state_after, with_mark}
-use Rattle.std.proofs.lemmas.Bool.{false≢true, false_from_ne_true}
-use Rattle.std.proofs.lemmas.Option.{none-some, same_Some, slice_get_within}
-use Rattle.np_changes.specs.declared.changes.Changes.{Changes}
-use Rattle.np_changes.specs.declared.changes.Growth.{Growth}
-use Rattle.np_laws.specs.Parts.{Invariant}
-use Rattle.np_changes.specs.declared.changes.JobsChange.{JobsChange}
-use Rattle.np_changes.specs.declared.changes.Maker.{Maker}
-use Rattle.np_changes.specs.declared.changes.NodesChange.{NodesChange}
+use Rattle.np_lookups.proofs.Prelude.{AllByRecursion, Bool, Changes, Configuration, EndAs, EndsNode, Entry, Event, Frees, GivesUp, Growth, Invariant, IsReached, Job, JobRecord, JobsChange, JobsPremise, List, Maker, Marked, NodeEntry, NodeId, NodeRecord, NodeState, NodesChange, NodesPremise, None, Option, Premises, PutsNode, Reports, RequestId, Rises, Some, Starts, State, TakesOver, [], all-at, all-change_at, all-set, ap, arith, changed, cond, ended_as, eqb-true, false, false_from_ne_true, false≢true, freed, grown, grown-numbered, inl, inr, invariant-changed, is_building, is_marked, is_ok, is_ready, is_request, jobs-grown, jobs_changed, judge, le_refl, list_any, map, marked, member-there, nat_lt, new_job, next, node_in, node_in-allocated, node_in-below, node_in-freed, node_in-in_use, node_in-other, node_in-put, node_in-remove, node_in-removed, nodes_changed, none-some, option_map, plan, premises, refl, remove_node, same_Some, slice_get_within, start, state_after, subst, sym, true, used_from, with_mark, ℕ, ◌++◌, ◌<◌, ◌==◌, ◌∙◌, ◌∷◌, ◌≡◌, ◌≤◌, ◌⊎◌}
 use Rattle.np_text.specs.declared.word.EndAs.TheVariants as end
 use Rattle.np_text.specs.declared.word.NodeState.TheVariants as node_state
-use Rattle.np_lists.proofs.Each.{all-at, all-set, all-change_at}
 use Rattle.np_changes.specs.declared.changes.Growth.TheVariants as grow
 use Rattle.np_changes.specs.declared.changes.JobsChange.TheVariants as jobs
 use Rattle.np_changes.specs.declared.changes.NodesChange.TheVariants as nodes
 use Rattle.np_changes.proofs.PlanLaws.{plan-next}
-use Rattle.np_changes.proofs.PremisesOf.{premises}
-use Rattle.np_laws.proofs.After.{grown-node, leave-node, nodes-after, next-more}
-use Rattle.np_laws.proofs.JobsLater.{jobs-grown}
-use Rattle.np_laws.proofs.Lookups.{node_in-put, node_in-remove, node_in-removed, node_in-freed, node_in-in_use, node_in-allocated, node_in-other, node_in-below, used_from}
-use Rattle.np_laws.proofs.NodeKept.{found-same}
-use Rattle.np_laws.proofs.Numbered.{grown-numbered}
-use Rattle.np_laws.proofs.Places.{node-place}
-use Rattle.np_laws.proofs.Runs.{invariant-changed}
-use Rattle.np_laws.proofs.Start.{invariant-start}
-use Rattle.np_laws.proofs.StandsOn.{owns-if}
+use Rattle.np_changes.proofs.After.{grown-node, leave-node, nodes-after, next-more}
+use Rattle.np_changes.proofs.NodeKept.{found-same}
+use Rattle.np_changes.proofs.Places.{node-place}
+use Rattle.np_changes.proofs.Start.{invariant-start}
+use Rattle.np_changes.proofs.StandsOn.{owns-if}
 use Rattle.np_lookups.proofs.Firsts.{none-there, none-set, any-changed}
 use Rattle.np_lookups.proofs.JobNodes.{is_early, KeepsNodes, TakesNodes, put-nodes, marked-has, unended-has}
-use Rattle.np_lists.proofs.Plain.{member-there}
 
 -- ## what is said
 

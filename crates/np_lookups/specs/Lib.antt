@@ -4,3 +4,9 @@ pub mod Lookups
 pub mod Unfinished
 pub mod Changed
 pub mod Prepared
+pub mod Ranks
+pub mod Lines
+pub mod Open
+pub mod Pasts
+pub mod Moves
+pub mod Runs

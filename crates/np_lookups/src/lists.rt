@@ -4,7 +4,7 @@ ghost use Rattle.std.specs.Prelude.{◌≡◌, ◌++◌, ◌∷◌, [], true, If
 ghost use Rattle.np_changes.specs.Prelude.{AllByRecursion, change_at};
 ghost use Rattle.np_lookups.specs.Lists.{list_at, taken_back, with_id, without_id};
 
-use np_table::{KeyTable, Order};
+use np_lists::{KeyTable, Order};
 use std::alloc::{AllocError, Global};
 
 /// The rows of the table at the place, or none past the end.

@@ -8,8 +8,8 @@ ghost use Rattle.np_lookups.specs.Lookups.{AreNodesOf, AreRequestsOf, HasRoom, A
 use crate::lists::list_of;
 use crate::owners::list_owners;
 use crate::unfinished::list_unfinished;
+use np_lists::KeyTable;
 use np_look::{ByNode, ByRequest, JobTable, Rows};
-use np_table::KeyTable;
 use np_text::{JobId, NoMemory, NodeId, RequestId, RequesterId, SessionId};
 use std::alloc::{AllocError, Global};
 use std::marker::Model;

@@ -6,8 +6,8 @@ ghost use Rattle.np_lookups.specs.Changed.{lists_ended, lists_joined, lists_left
 
 use crate::lists::{add_at, clear_at, remove_at, take_back_at};
 use crate::waits::Wait;
+use np_lists::{KeyTable, Order};
 use np_look::{Rows, request_holder};
-use np_table::{KeyTable, Order};
 use np_text::{NodeId, RequestId, SessionId};
 use std::alloc::{AllocError, Global};
 

@@ -44,7 +44,7 @@ pub(crate) fn list_unfinished<R: Rows>(alloc: Global, rows: &R) -> Result<Vec<Jo
         (λ lists. AreUnfinished (R.site rows.now) (R.state rows.now) lists.items) }
 {
     let config = rows.config();
-    config.soundness();
+    config.know_soundness();
     let mut lists = no_jobs(alloc, config)?;
     for number in 0..rows.jobs() {
         let job = JobId(number);

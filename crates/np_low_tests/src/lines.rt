@@ -1,8 +1,8 @@
 //! Events and entries as lines (docs/SCRIPTS.md).
 
-use np_event::{Done, Entry, Event, Found, Outcome, Refusal, Reply};
-use np_event_lines::{
-    LineFault, entry_has_line, event_has_line, put_entry, put_event, read_entry, read_event,
+use np_event::{
+    Done, Entry, Event, Found, LineFault, Outcome, Refusal, Reply, entry_has_line, event_has_line,
+    put_entry, put_event, read_entry, read_event,
 };
 use np_text::{
     Ending, JobId, LabelId, NodeId, NodeState, RequestId, RequestState, RequesterId, Role,

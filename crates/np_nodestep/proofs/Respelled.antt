@@ -5,9 +5,9 @@ use Rattle.np_layout.specs.Prelude.{HasRoomFor, IsStored, IsWhole, LaysOut, Tree
 use Rattle.np_layout.specs.declared.place.Place.TheVariants.{Node}
 use Rattle.np_layout.proofs.DeleteNodeWaits.{is_node_it}
 use Rattle.np_layout.proofs.SetNodes.{nodes-lay-out}
-use Rattle.np_enact.specs.Stands.{Stands}
-use Rattle.np_enact.proofs.Calls.{stands-numbered}
-use Rattle.np_enact.proofs.StandsLemmas.{room-after, room-less}
+use Rattle.np_layout.specs.Stands.{Stands}
+use Rattle.np_layout.proofs.Calls.{stands-numbered}
+use Rattle.np_layout.proofs.StandsLemmas.{room-after, room-less}
 use Rattle.np_layout.proofs.OneState.{trees-have-one_state}
 use Rattle.np_keeper.specs.Keeper.{IsHeld, most_changes, room_left}
 use Rattle.np_nodestep.specs.Spelling.{IsSpelling, respelled}

@@ -14,9 +14,9 @@ use Rattle.np_layout.specs.declared.place.Place.TheVariants as place
 use Rattle.np_layout.proofs.AboveLemmas.{is_path-of}
 use Rattle.np_layout.proofs.Texts.{session-read}
 use Rattle.np_changes.proofs.Makers.{launcher-maker}
-use Rattle.np_readers.proofs.Stored.{kept_of, session-bytes, session-sound}
-use Rattle.np_laws.specs.Parts.{IsLive, IsQueued}
-use Rattle.np_laws.proofs.Runs.{invariant-Runs}
+use Rattle.np_tree_rows.proofs.Stored.{kept_of, session-bytes, session-sound}
+use Rattle.np_changes.specs.Parts.{IsLive, IsQueued}
+use Rattle.np_changes.proofs.Runs.{invariant-Runs}
 use Rattle.np_planned.specs.Agree.{Agree}
 use Rattle.np_planned.specs.Commits.{FreshCommits}
 use Rattle.np_useful.specs.Planned.{is_planned}

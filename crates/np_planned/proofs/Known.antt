@@ -11,8 +11,8 @@ use Rattle.np_event.specs.declared.reply.Refusal.TheVariants as no
 use Rattle.np_layout.specs.declared.place.Place.TheVariants as place
 use Rattle.np_layout.proofs.DeleteNodeWaits.{found-node, is_node_it}
 use Rattle.np_layout.proofs.DeleteRequestWaits.{is_request_it, request-good}
-use Rattle.np_readers.proofs.Stored.{kept_of, session-sound}
-use Rattle.np_laws.specs.Parts.{IsLive, IsQueue, IsQueued}
+use Rattle.np_tree_rows.proofs.Stored.{kept_of, session-sound}
+use Rattle.np_changes.specs.Parts.{IsLive, IsLiveQueue, IsQueued}
 use Rattle.std.proofs.lemmas.Bool.{and_parts}
 use Rattle.std.proofs.lemmas.Option.{slice_get_within}
 
@@ -84,13 +84,13 @@ module _ (u : State) (queued : IsQueued u) where
   request-live r = by (request_entry r u.requests) refl where
     by : (o : Option RequestEntry) → request_entry r u.requests ≡ o → AllByRecursion (IsLive u) (option_map_or (λ (e : RequestEntry). e.queue) o [])
     by None there = tt
-    by (Some e) there = (all-find (λ (x : RequestEntry). IsQueue u x.queue) (is_request_it r) u.requests e queued.at_requests there).live
+    by (Some e) there = (all-find (λ (x : RequestEntry). IsLiveQueue u x.queue) (is_request_it r) u.requests e queued.at_requests there).live
 
   pub node-live : (n : NodeId) → AllByRecursion (IsLive u) (node_queue n u.nodes)
   node-live n = by (node_entry n u.nodes) refl where
     by : (o : Option NodeEntry) → node_entry n u.nodes ≡ o → AllByRecursion (IsLive u) (option_map_or (λ (e : NodeEntry). e.queue) o [])
     by None there = tt
-    by (Some e) there = (all-find (λ (x : NodeEntry). IsQueue u x.queue) (is_node_it n) u.nodes e queued.at_nodes there).live
+    by (Some e) there = (all-find (λ (x : NodeEntry). IsLiveQueue u x.queue) (is_node_it n) u.nodes e queued.at_nodes there).live
 
 -- ## ids that have a path
 

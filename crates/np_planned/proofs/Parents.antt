@@ -13,13 +13,13 @@ use Rattle.np_event.specs.declared.event.Event.TheVariants as ev
 use Rattle.np_layout.specs.declared.place.Place.{Place}
 use Rattle.np_layout.specs.declared.place.Place.TheVariants as place
 use Rattle.np_layout.proofs.AboveLemmas.{is_path-of, parts-of}
-use Rattle.np_layout.specs.Layout.{HasNodeLock, IsQueue, next_under, under}
+use Rattle.np_layout.specs.Layout.{HasNodeLock, HasQueue, next_under, under}
 use Rattle.np_layout.specs.Rows.{persistent}
 use Rattle.np_layout.proofs.DeleteNodeWaits.{found-node, is_node_it}
 use Rattle.np_layout.proofs.DeleteRequestWaits.{is_request_it, request-queue}
-use Rattle.np_readers.proofs.Shown.{seen-named}
-use Rattle.np_laws.specs.Parts.{Invariant}
-use Rattle.np_laws.proofs.Runs.{invariant-Runs}
+use Rattle.np_tree_rows.proofs.Shown.{seen-named}
+use Rattle.np_changes.specs.Parts.{Invariant}
+use Rattle.np_changes.proofs.Runs.{invariant-Runs}
 use Rattle.np_planned.specs.Paths.{HavePaths, SpotsHaveParents, SpotsHavePaths}
 use Rattle.np_planned.specs.Spots.{listed, of_node, of_nodes, of_reason, of_request, of_role, path_at, paths_at, place_of, spots_of}
 use Rattle.np_planned.specs.Stale.{StaleHasParent}
@@ -160,7 +160,7 @@ module _ (c : Configuration) (s u : State) (t v : TreeState) (z : ℕ) (stored :
             let same = node-same c s u t v z stored later since n good ((test-says-fresh v z (path_of (place.Node n))).0 fresh) in
             let e = kept-there (λ (e : NodeEntry). e.kept) (node_entry n u.nodes) has.node (sym same ∙ has.there) in
             let lock = all-find (HasNodeLock v) (is_node_it n) u.nodes e.0 later.lays.node_locks e.1 in
-            let queue : IsQueue (place.NodeLock n) (e.0).queue v = subst (λ (id : NodeId). IsQueue (place.NodeLock id) (e.0).queue v) (found-node n u.nodes e.0 e.1) lock.queue in
+            let queue : HasQueue (place.NodeLock n) (e.0).queue v = subst (λ (id : NodeId). HasQueue (place.NodeLock id) (e.0).queue v) (found-node n u.nodes e.0 e.1) lock.queue in
             (above-wait (place.NodeLock n) good (lock-stands (place.NodeLock n) queue.next queue.gives), λ _. all),
       )
 

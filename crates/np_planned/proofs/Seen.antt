@@ -13,10 +13,10 @@ use Rattle.np_spelling.proofs.RequestForm.{request_all}
 use Rattle.np_layout.specs.declared.place.Place.{Place}
 use Rattle.np_layout.specs.declared.place.Place.TheVariants as place
 use Rattle.np_layout.proofs.AboveLemmas.{is_path-of}
-use Rattle.np_readers.proofs.NodeReads.{node-read, node-unread, node-waits}
-use Rattle.np_readers.proofs.Registered.{registered-owner}
-use Rattle.np_readers.proofs.RequestReads.{IsRead, request-read, request-unread, request-waits}
-use Rattle.np_readers.proofs.Shown.{bytes-seen}
+use Rattle.np_tree_rows.proofs.NodeReads.{node-read, node-unread, node-waits}
+use Rattle.np_tree_rows.proofs.Registered.{registered-owner}
+use Rattle.np_tree_rows.proofs.RequestReads.{IsRead, request-read, request-unread, request-waits}
+use Rattle.np_tree_rows.proofs.Shown.{bytes-seen}
 
 owner-seen : (nodes : List Node) (o : Option Node) → option_and_then (λ (stat : Stat). stat.owner) (option_map (stat_of nodes) o) ≡ option_and_then (λ (seen : Seen). seen.owner) (option_map seen_of o)
 owner-seen nodes None = refl

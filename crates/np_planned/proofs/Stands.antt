@@ -11,7 +11,7 @@ use Rattle.np_event.specs.declared.reply.Done.TheVariants as done
 use Rattle.np_event.specs.declared.reply.Refusal.TheVariants as no
 use Rattle.np_machine.specs.Tests.{by_registrant, by_request_holder, in_pending_by, launcher, maker, node_at, none_missing, request_at, wrong_request}
 use Rattle.np_changes.proofs.Makers.{launcher-maker}
-use Rattle.np_laws.specs.Parts.{Invariant, IsServed, StandsIn}
+use Rattle.np_changes.specs.Parts.{Invariant, IsServed, StandsIn}
 use Rattle.np_planned.specs.Spots.{listed, of_node, of_nodes, of_reason, of_request, of_role, spots_of}
 use Rattle.np_planned.specs.declared.spot.Spot.{Spot}
 use Rattle.np_planned.specs.declared.spot.Spot.TheVariants as spot

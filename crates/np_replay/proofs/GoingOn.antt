@@ -4,8 +4,8 @@ use Rattle.std.specs.Prelude.{IfSome}
 use Rattle.np_changes.specs.Prelude.{AllByRecursion, Event, lines_of}
 use Rattle.np_io.specs.Disk.{DiskFacts, LeavesOnly}
 use Rattle.np_io.proofs.Moments.{LeavesOnly-then}
-use Rattle.np_event_lines.specs.Line.{HasEventLine}
-use Rattle.np_event_lines.proofs.EventLemmas.{event_in-spelled}
+use Rattle.np_event.specs.Line.{HasEventLine}
+use Rattle.np_event.proofs.EventLemmas.{event_in-spelled}
 use Rattle.np_log.specs.Place.{Place}
 use Rattle.np_log.proofs.BatchLemmas.{lines-append}
 use Rattle.np_report.specs.Script.{IsPlayable, event_said, most_lines}

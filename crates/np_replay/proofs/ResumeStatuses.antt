@@ -5,7 +5,7 @@ use Rattle.np_io.specs.Counts.{Rose}
 use Rattle.np_io.specs.Facts.{SourceFacts, SinkFacts, IsWritten}
 use Rattle.np_io.specs.Disk.{DiskFacts}
 use Rattle.np_changes.specs.Prelude.{Configuration, Event}
-use Rattle.np_event_lines.specs.declared.fault.LineFault.{LineFault}
+use Rattle.np_event.specs.declared.fault.LineFault.{LineFault}
 use Rattle.np_report.specs.declared.lines.LinesFault.{LinesFault}
 use Rattle.np_replay.specs.declared.ending.Ending.{Ending}
 use Rattle.np_replay.specs.declared.ending.Ending.TheVariants as ending

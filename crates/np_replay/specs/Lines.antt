@@ -4,8 +4,8 @@ use Rattle.np_changes.specs.Prelude.{PoolId, line}
 use Rattle.np_json.specs.declared.fault.ConfigKind.{ConfigKind}
 use Rattle.np_json.specs.declared.fault.ConfigKind.TheVariants as kind
 use Rattle.np_json.specs.declared.fault.ConfigFault.{ConfigFault}
-use Rattle.np_event_lines.specs.declared.fault.LineFault.{LineFault}
-use Rattle.np_event_lines.specs.declared.fault.LineFault.TheVariants as fault
+use Rattle.np_event.specs.declared.fault.LineFault.{LineFault}
+use Rattle.np_event.specs.declared.fault.LineFault.TheVariants as fault
 use Rattle.np_report.specs.declared.lines.LinesFault.{LinesFault}
 use Rattle.np_report.specs.declared.lines.LinesFault.TheVariants as lines
 use Rattle.np_report.specs.declared.script.ScriptFault.{ScriptFault}

@@ -1,7 +1,7 @@
 -- what a transaction log says of a site and its events, and what a crash leaves of it
 use Rattle.std.specs.Prelude.{◌≡◌, ◌⊎◌, ◌≤◌, ◌-◌, ◌++◌, ℕ, List, length, take, IfSome, Result, Ok, Err, codes, decimal}
 use Rattle.np_changes.specs.Prelude.{Configuration, Event, line, lines_of}
-use Rattle.np_event_lines.specs.declared.fault.LineFault.{LineFault}
+use Rattle.np_event.specs.declared.fault.LineFault.{LineFault}
 use Rattle.np_config_read.specs.Walk.{reads}
 use Rattle.np_config_text.specs.Canonical.{canonical}
 use Rattle.np_io.specs.Disk.{DiskFacts, Only}

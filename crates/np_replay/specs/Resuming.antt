@@ -3,7 +3,7 @@ use Rattle.std.specs.Prelude.{◌≡◌, ℕ, List, ◌++◌, length, IfSome, Op
 use Rattle.np_io.specs.Counts.{Rose}
 use Rattle.np_io.specs.Disk.{DiskFacts}
 use Rattle.np_changes.specs.Prelude.{Configuration, Event}
-use Rattle.np_event_lines.specs.declared.fault.LineFault.{LineFault}
+use Rattle.np_event.specs.declared.fault.LineFault.{LineFault}
 use Rattle.np_config_read.specs.Walk.{reads}
 use Rattle.np_config_text.specs.Canonical.{canonical}
 use Rattle.np_log.specs.Place.{IsSettled, Place}

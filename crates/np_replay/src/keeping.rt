@@ -41,7 +41,7 @@ fn new_log<D: Disk>(
     ensures cause { IfErr result (WhyNotWritten (D.facts disk.old) (D.facts disk.new)) }
     ensures later { (D.facts disk.old).faults ≤ (D.facts disk.new).faults }
 {
-    config.soundness();
+    config.know_soundness();
     disk.open_file(file)?;
     let text = config_text(alloc, config)?;
     Ok(Log::create(alloc, disk, &text)?)

@@ -3,7 +3,7 @@
 ghost use Rattle.std.specs.Prelude.{◌≡◌, ◌++◌, codes, IfOk, OnOk};
 ghost use Rattle.np_replay.specs.Lines.{kind_text, config_line, fault_text, numbered_line, lines_line, script_line, script_status};
 
-use np_event_lines::LineFault;
+use np_event::LineFault;
 use np_json::{ConfigFault, ConfigKind};
 use np_report::{LinesFault, ScriptFault};
 use np_text::{NoMemory, put_number};

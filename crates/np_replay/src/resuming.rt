@@ -3,7 +3,7 @@
 ghost use Rattle.std.specs.Prelude.{◌≡◌, ◌≤◌, ◌+◌, ◌++◌, length, IfOk, IfErr, IfSome, Ok};
 ghost use Rattle.std.specs.List.{AllByRecursion};
 ghost use Rattle.np_io.specs.Disk.{LeavesOnly};
-ghost use Rattle.np_event_lines.specs.Line.{HasEventLine};
+ghost use Rattle.np_event.specs.Line.{HasEventLine};
 ghost use Rattle.np_replay.specs.Logged.{HoldsLog, IsPartOfLog, more_of};
 ghost use Rattle.np_replay.specs.Resume.{EndsResume, IsGoingOn, Resumes, ResumesWhole};
 ghost use Rattle.np_replay.specs.Resuming.{IsCanonical, IsPlayedOn, IsReady, TellsResumeFault, WhyNotAppended, WhyNotLoaded, WhyNotRead, WhyNotResumed};
@@ -13,7 +13,7 @@ use crate::{Ending, input, line_of_lines, tell};
 use np_config::Config;
 use np_config_read::{ConfigRead, read_config};
 use np_config_text::config_text;
-use np_event_lines::LineFault;
+use np_event::LineFault;
 use np_io::{Disk, Sink, Source};
 use np_lists::Items;
 use np_log::{Loaded, Log};
@@ -87,7 +87,7 @@ fn load_script<D: Disk>(alloc: Global, disk: &mut D, file: &str) -> Result<(Log,
     } = Log::load(alloc, disk)?;
     match canonical(alloc, &config)? {
         Some(config) => {
-            config.soundness();
+            config.know_soundness();
             let events = Items::new(events);
             Ok((log, Script { config, events }))
         }

@@ -6,7 +6,7 @@ use Rattle.np_text.specs.declared.word.Ending.TheVariants as ending
 use Rattle.np_event.specs.declared.reply.Done.TheVariants as done
 use Rattle.np_event.specs.declared.reply.Refusal.TheVariants as no
 use Rattle.np_event.specs.declared.reply.Reply.TheVariants as reply
-use Rattle.np_event_lines.specs.Line.{HasReplyLine}
+use Rattle.np_event.specs.Line.{HasReplyLine}
 use Rattle.np_machine.specs.Tests.{Answer, Check}
 use Rattle.np_report.specs.Told.{has_digits, is_told_done, is_told_refusal, is_told_answer}
 

@@ -7,7 +7,7 @@ use Rattle.std.proofs.lemmas.List.{append_cancel_left}
 use Rattle.np_json.specs.declared.fault.ConfigFault.{ConfigFault}
 use Rattle.np_config_text.specs.Canonical.{canonical}
 use Rattle.np_config_read.specs.Walk.{reads}
-use Rattle.np_event_lines.proofs.KindLemmas.{bytes_eq-refl, same_bytes}
+use Rattle.np_event.proofs.KindLemmas.{bytes_eq-refl, same_bytes}
 use Rattle.np_report.specs.declared.script.Script.{Script}
 use Rattle.np_report.specs.Played.{played}
 use Rattle.np_report.specs.Printed.{IsPrinted}

@@ -5,8 +5,8 @@ use Rattle.std.proofs.lemmas.Bool.Decides.{nat_tests}
 use Rattle.std.proofs.lemmas.List.{length_push, nil_from_length, take_all, take_at}
 use Rattle.np_text.specs.Lines.{line_in, line_length, lines_of}
 use Rattle.np_text.proofs.LineLemmas.{lines_of-walk}
-use Rattle.np_event_lines.specs.Line.{HasEventLine, entry_in}
-use Rattle.np_event_lines.proofs.EntryLemmas.{entry_in-told}
+use Rattle.np_event.specs.Line.{HasEventLine, entry_in}
+use Rattle.np_event.proofs.EntryLemmas.{entry_in-told}
 use Rattle.np_report.specs.Script.{IsPlayable}
 use Rattle.np_report.specs.Entries.{event_told, events_told, first_line, later_lines, leading_events, with_event}
 

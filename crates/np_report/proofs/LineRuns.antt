@@ -1,11 +1,11 @@
 -- each entry of a run has a line if its event has one
 use Rattle.std.proofs.Common.{◌≡◌, ◌≤◌, ◌+◌, ℕ, suc, List, [], ◌∷◌, length, refl, arith, subst}
 use Rattle.np_changes.specs.Prelude.{AllByRecursion, Configuration, Entry, Event, IsSound, Runs, State, judge, next, replayed, reply_of, start}
-use Rattle.np_event_lines.specs.Line.{HasEventLine, HasReplyLine, HasEntryLine}
+use Rattle.np_event.specs.Line.{HasEventLine, HasReplyLine, HasEntryLine}
 use Rattle.np_changes.proofs.ShapeRuns.{shape-next, shape-Runs}
 use Rattle.np_changes.proofs.Sites.{sound_fits}
-use Rattle.np_laws.proofs.Start.{invariant-start}
-use Rattle.np_laws.proofs.Runs.{invariant-next}
+use Rattle.np_changes.proofs.Start.{invariant-start}
+use Rattle.np_changes.proofs.Runs.{invariant-next}
 use Rattle.np_report.proofs.Ids.{HasIds-start, HasIds-next}
 use Rattle.np_report.proofs.Replies.{judge-told}
 use Rattle.np_report.proofs.Chains.{answer-line}

@@ -8,7 +8,7 @@ use Rattle.np_lists.proofs.Each.{all-find, all-at, all-filter}
 use Rattle.np_machine.specs.Reasons.{next_label, first_unoffered, due_tick}
 use Rattle.np_changes.proofs.Shape.{Shaped}
 use Rattle.np_changes.proofs.Shaping.{node-queue}
-use Rattle.np_laws.specs.Parts.{IsLive, IsQueue, IsLauncher, Invariant}
+use Rattle.np_changes.specs.Parts.{IsLive, IsLiveQueue, IsLauncher, Invariant}
 use Rattle.np_report.proofs.Ids.{HasIds}
 use Rattle.np_report.proofs.Labels.{LabelsInRange, AsksInRange}
 
@@ -92,20 +92,20 @@ module _ (c : Configuration) (n : ℕ) (s : State) (at : Reached c n s) where
   live-below : (session : SessionId) → IsLive s session → session.0 < 2 ^ 32
   live-below session live = begun-below session live.facts live.begun
 
-  first-below : (queue : List SessionId) (session : SessionId) → IsQueue s queue → holder queue ≡ Some session → session.0 < 2 ^ 32
+  first-below : (queue : List SessionId) (session : SessionId) → IsLiveQueue s queue → holder queue ≡ Some session → session.0 < 2 ^ 32
   first-below queue session is first = live-below session (all-at (IsLive s) queue 0 session is.live first)
 
   pub request_holder-below : (r : RequestId) (session : SessionId) → request_holder r s.requests ≡ Some session → session.0 < 2 ^ 32
   request_holder-below r session first = by (request_entry r s.requests) refl first where
     by : (o : Option RequestEntry) → request_entry r s.requests ≡ o → holder (option_map_or (λ e. e.queue) o []) ≡ Some session → session.0 < 2 ^ 32
     by None is there = absurd cc
-    by (Some e) is there = first-below e.queue session (all-find (λ (x : RequestEntry). IsQueue s x.queue) (λ x. same_request x.id r) s.requests e at.invariant.queued.at_requests is) there
+    by (Some e) is there = first-below e.queue session (all-find (λ (x : RequestEntry). IsLiveQueue s x.queue) (λ x. same_request x.id r) s.requests e at.invariant.queued.at_requests is) there
 
   pub node_holder-below : (number : NodeId) (session : SessionId) → node_holder number s.nodes ≡ Some session → session.0 < 2 ^ 32
   node_holder-below number session first = by (node_entry number s.nodes) refl first where
     by : (o : Option NodeEntry) → node_entry number s.nodes ≡ o → holder (option_map_or (λ e. e.queue) o []) ≡ Some session → session.0 < 2 ^ 32
     by None is there = absurd cc
-    by (Some e) is there = first-below e.queue session (all-find (λ (x : NodeEntry). IsQueue s x.queue) (λ x. x.id.0 == number.0) s.nodes e at.invariant.queued.at_nodes is) there
+    by (Some e) is there = first-below e.queue session (all-find (λ (x : NodeEntry). IsLiveQueue s x.queue) (λ x. x.id.0 == number.0) s.nodes e at.invariant.queued.at_nodes is) there
 
   pub registered-below : (p : PoolId) (session : SessionId) → registered p s.registrations ≡ Some session → session.0 < 2 ^ 32
   registered-below p session has = by (find (λ g. g.pool.0 == p.0) s.registrations) refl has where

@@ -13,8 +13,8 @@ use Rattle.np_config.specs.declared.row.Requester.{Requester}
 use Rattle.np_config.specs.Sound.{IsJob, IsRequester, IsSound, StandsByOwner}
 use Rattle.np_config_text.specs.Canonical.{canonical}
 use Rattle.np_config_text.proofs.Ascii.{at_place}
-use Rattle.np_event_lines.specs.Line.{HasEntryLine, entry_line}
-use Rattle.np_event_lines.proofs.EntryLemmas.{is_line-entry}
+use Rattle.np_event.specs.Line.{HasEntryLine, entry_line}
+use Rattle.np_event.proofs.EntryLemmas.{is_line-entry}
 use Rattle.np_machine.specs.Fates as fate
 use Rattle.np_report.specs.Printed.{IsPrinted}
 use Rattle.np_report.specs.Text.{decline_text, entry_lines, fate_lines, fate_text, job_text, node_text, pool_text, requester_name}

@@ -7,8 +7,8 @@ use Rattle.np_text.proofs.LineLemmas.{lines_of-lines}
 use Rattle.np_text.proofs.SectionLemmas.{sections_of-bar}
 use Rattle.np_config_text.specs.Canonical.{configuration_data, canonical}
 use Rattle.np_config_read.specs.Walk.{reads}
-use Rattle.np_event_lines.specs.Line.{HasEntryLine, entry_line}
-use Rattle.np_event_lines.proofs.EntryLemmas.{is_line-entry, entry_line-no_bar, entry_line-injective}
+use Rattle.np_event.specs.Line.{HasEntryLine, entry_line}
+use Rattle.np_event.proofs.EntryLemmas.{is_line-entry, entry_line-no_bar, entry_line-injective}
 use Rattle.np_report.specs.Text.{entry_lines, fate_lines, text_of}
 use Rattle.np_report.proofs.Compact.{is_line-compact_text}
 use Rattle.np_report.proofs.OwnText.{reads-canonical}

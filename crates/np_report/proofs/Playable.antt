@@ -6,8 +6,8 @@ use Rattle.np_config.specs.Configuration.{Configuration}
 use Rattle.np_config_read.specs.Walk.{reads}
 use Rattle.np_config_read.proofs.WalkTakes.{reads-takes}
 use Rattle.np_event.specs.declared.event.Event.{Event}
-use Rattle.np_event_lines.specs.Line.{HasEventLine}
-use Rattle.np_event_lines.proofs.EventLemmas.{event_in-spelled}
+use Rattle.np_event.specs.Line.{HasEventLine}
+use Rattle.np_event.proofs.EventLemmas.{event_in-spelled}
 use Rattle.np_report.specs.Script.{events_of, event_said, IsPlayable, most_lines}
 use Rattle.np_report.proofs.LinesRead.{lines_read-all, lines_read-few}
 

@@ -1,8 +1,8 @@
 -- the lines that a text begins with are played into the journal that they show
 use Rattle.std.proofs.Common.{◌≡◌, ℕ, zero, suc, ◌≤◌, ◌⊎◌, inl, inr, List, [], ◌∷◌, ◌++◌, map, length, take, Option, None, refl, sym, ap, ◌∙◌, arith, append_assoc, true}
 use Rattle.np_changes.specs.Prelude.{AllByRecursion, Configuration, Entry, Event, State, bar, flat_map, is_line, judge, line, list_all, next, option_map, replayed, reply_of}
-use Rattle.np_event_lines.specs.Line.{HasEntryLine, entry_in, entry_line, sides_of}
-use Rattle.np_event_lines.proofs.EntryLemmas.{entry_in-line, is_line-entry}
+use Rattle.np_event.specs.Line.{HasEntryLine, entry_in, entry_line, sides_of}
+use Rattle.np_event.proofs.EntryLemmas.{entry_in-line, is_line-entry}
 use Rattle.np_report.specs.Played.{played_from}
 use Rattle.np_report.specs.Text.{entry_lines}
 use Rattle.np_report.specs.Entries.{event_told, events_told, with_event}

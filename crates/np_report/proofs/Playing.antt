@@ -3,7 +3,7 @@ use Rattle.std.proofs.Common.{◌≡◌, ℕ, suc, ◌+◌, ◌<◌, ◌≤◌, 
 use Rattle.np_changes.specs.Prelude.{AllByRecursion, Configuration, Entry, Event, State, after, judge, next, reply_of, start, state_after}
 use Rattle.std.proofs.lemmas.Bool.Decides.{nat_tests}
 use Rattle.std.proofs.lemmas.List.{take_more}
-use Rattle.np_event_lines.specs.Line.{HasEventLine}
+use Rattle.np_event.specs.Line.{HasEventLine}
 use Rattle.np_rules.specs.Ran.{Ran, applied, has_room}
 use Rattle.np_machine.proofs.Runs.{state_after-push}
 use Rattle.np_report.specs.Played.{played_from, played, ran}

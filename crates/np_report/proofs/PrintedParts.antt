@@ -3,8 +3,8 @@ use Rattle.std.proofs.Common.{◌≡◌, ℕ, ◌≤◌, inl, inr, true, List, [
 use Rattle.np_changes.specs.Prelude.{AllByRecursion, Configuration, Entry, Event, after, bar, fates, flat_map, is_line, line, lines_of, list_all, replayed, start}
 use Rattle.np_text.proofs.LineLemmas.{lines_of-line, lines_of-lines}
 use Rattle.np_config_text.specs.Canonical.{canonical, configuration_data}
-use Rattle.np_event_lines.specs.Line.{HasEntryLine, entry_line}
-use Rattle.np_event_lines.proofs.EntryLemmas.{is_line-entry}
+use Rattle.np_event.specs.Line.{HasEntryLine, entry_line}
+use Rattle.np_event.proofs.EntryLemmas.{is_line-entry}
 use Rattle.np_report.proofs.LineRuns.{lines-Runs}
 use Rattle.np_report.specs.Played.{played}
 use Rattle.np_report.specs.Printed.{IsPrinted}

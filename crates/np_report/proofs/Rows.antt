@@ -5,7 +5,7 @@ use Rattle.np_changes.specs.Prelude.{Configuration, Event, Janitor, Job, JobId, 
 use Rattle.std.proofs.lemmas.List.Sums.{count_by-le-length}
 use Rattle.np_text.specs.declared.word.NodeState.TheVariants as node_state
 use Rattle.np_event.specs.declared.event.Event.TheVariants as ev
-use Rattle.np_event_lines.specs.Line.{HasEventLine}
+use Rattle.np_event.specs.Line.{HasEventLine}
 use Rattle.np_event.specs.declared.reply.Done.TheVariants as done
 use Rattle.np_event.specs.declared.reply.Refusal.TheVariants as no
 use Rattle.np_lists.proofs.RefusalLemmas.{need-last, found-some}

@@ -1,11 +1,11 @@
 -- a script's events make a run, which is safe after every step
 use Rattle.std.proofs.Common.{◌≡◌, ◌≤◌, ℕ, List, [], ◌∷◌, length, refl, ap, subst, sym}
 use Rattle.np_changes.specs.Prelude.{AllByRecursion, Configuration, Entry, Event, IsSound, Runs, State, after, judge, next, replayed, reply_of, start}
-use Rattle.np_event_lines.specs.Line.{HasEventLine}
-use Rattle.np_laws.proofs.Runs.{safe-every_step}
-use Rattle.np_laws.proofs.Journals.{caused-every_step}
-use Rattle.np_laws.proofs.Made.{kept-every_step}
-use Rattle.np_laws.proofs.Rightful.{fenced-every_step}
+use Rattle.np_event.specs.Line.{HasEventLine}
+use Rattle.np_changes.proofs.Runs.{safe-every_step}
+use Rattle.np_changes.proofs.Journals.{caused-every_step}
+use Rattle.np_changes.proofs.Made.{kept-every_step}
+use Rattle.np_changes.proofs.Rightful.{fenced-every_step}
 use Rattle.np_report.specs.declared.script.Script.{Script}
 use Rattle.np_rules.specs.Ran.{Ran}
 use Rattle.np_report.specs.Played.{played_from, played, ran}

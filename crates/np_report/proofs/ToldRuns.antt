@@ -1,7 +1,7 @@
 -- the replies of a run can be printed
 use Rattle.std.proofs.Common.{◌≡◌, List, [], ◌∷◌, length, ap, sym, ◌∙◌, subst, true, Ok, Err}
 use Rattle.np_changes.specs.Prelude.{AllByRecursion, Answer, Configuration, Entry, IsSound, Runs, State, judge, next, replayed, reply_of, start, state_after}
-use Rattle.np_event_lines.specs.Line.{HasEventLine}
+use Rattle.np_event.specs.Line.{HasEventLine}
 use Rattle.np_report.specs.Told.{is_told, is_told_answer, IsToldEntry}
 use Rattle.np_report.proofs.Ids.{HasIds, HasIds-start, HasIds-next}
 use Rattle.np_report.proofs.Replies.{judge-told}

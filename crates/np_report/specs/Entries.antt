@@ -2,7 +2,7 @@
 use Rattle.std.specs.Prelude.{ℕ, ◌+◌, List, [], ◌∷◌, Option, Some, None, take, drop}
 use Rattle.np_changes.specs.Prelude.{Event, option_map}
 use Rattle.np_text.specs.Lines.{line_length, lines_of}
-use Rattle.np_event_lines.specs.Line.{entry_in}
+use Rattle.np_event.specs.Line.{entry_in}
 
 -- the text's first line, without its newline
 abbrev pub first_line : List ℕ → List ℕ

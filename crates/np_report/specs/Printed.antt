@@ -1,8 +1,8 @@
 -- what the printed text of a run shows
 use Rattle.std.specs.Prelude.{◌≡◌, ℕ, List}
 use Rattle.np_changes.specs.Prelude.{AllByRecursion, Caused, Configuration, Entry, Fenced, IsSound, Kept, Runs, Safe, State}
-use Rattle.np_event_lines.specs.Line.{HasEventLine}
-use Rattle.np_laws.specs.Steps.{AfterEveryStep}
+use Rattle.np_event.specs.Line.{HasEventLine}
+use Rattle.np_changes.specs.Steps.{AfterEveryStep}
 use Rattle.np_report.specs.Text.{text_of}
 
 -- after every step of the journal: no node and no request has two live holders, no pool, tenant or semaphore passes its limit, a fulfilled request owns its labels in order from one pool; a request failed only with its cause; no crash and no expiry lost a record; each node was changed by its holder alone

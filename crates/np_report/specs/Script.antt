@@ -8,9 +8,9 @@ use Rattle.np_config.specs.Configuration.{Configuration}
 use Rattle.np_config.specs.Sound.{IsSound}
 use Rattle.np_config_read.specs.Walk.{reads}
 use Rattle.np_event.specs.declared.event.Event.{Event}
-use Rattle.np_event_lines.specs.declared.fault.LineFault.{LineFault}
-use Rattle.np_event_lines.specs.Line.{HasEventLine, event_in}
-use Rattle.np_event_lines.specs.Words.{words_of}
+use Rattle.np_event.specs.declared.fault.LineFault.{LineFault}
+use Rattle.np_event.specs.Line.{HasEventLine, event_in}
+use Rattle.np_event.specs.Words.{words_of}
 use Rattle.np_report.specs.declared.lines.LinesFault.{LinesFault}
 use Rattle.np_report.specs.declared.script.Script.{Script}
 use Rattle.np_report.specs.declared.script.ScriptFault.{ScriptFault}

@@ -3,7 +3,7 @@ use Rattle.std.specs.Prelude.{ℕ, ◌+◌, List, [], ◌∷◌, ◌++◌, codes
 use Rattle.np_changes.specs.Prelude.{Configuration, Declined, Entry, Fate, Job, NodeId, PoolId, after, bar, fates, flat_map, line, option_map_or}
 use Rattle.np_text.specs.Word.{phase_word, reason_text_of}
 use Rattle.np_config_text.specs.Canonical.{canonical}
-use Rattle.np_event_lines.specs.Line.{entry_line}
+use Rattle.np_event.specs.Line.{entry_line}
 use Rattle.np_machine.specs.Fates as fate
 
 -- a pool's decline, after a space

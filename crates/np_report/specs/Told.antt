@@ -2,7 +2,7 @@
 use Rattle.std.specs.Prelude.{◌≡◌, nat_le, Bool, true, false, ◌&&◌, Result, Ok, Err}
 use Rattle.np_changes.specs.Prelude.{Done, Ending, Entry, Refusal, Reply, RequestId}
 use Rattle.np_text.specs.declared.word.Ending.TheVariants as ending
-use Rattle.np_event_lines.specs.Line.{HasEventLine}
+use Rattle.np_event.specs.Line.{HasEventLine}
 use Rattle.np_event.specs.declared.reply.Done.TheVariants as done
 use Rattle.np_event.specs.declared.reply.Refusal.TheVariants as no
 use Rattle.np_event.specs.declared.reply.Reply.TheVariants as reply

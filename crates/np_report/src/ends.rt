@@ -81,7 +81,7 @@ pub fn summary<R: Rows>(alloc: Global, rows: &R) -> Result<Vec<u8>, NoMemory>
     requires jobs { length (R.state rows.now).jobs ≡ length (R.site rows.now).jobs }
     ensures { IfOk result (λ text. text.items ≡ summary_of (fates (R.state rows.now))) }
 {
-    rows.config().soundness();
+    rows.config().know_soundness();
     let mut out = Vec::new(alloc);
     put_count(&mut out, b"jobs", count_jobs(rows))?;
     put_count(&mut out, b"served", count_ends(rows, End::Served))?;

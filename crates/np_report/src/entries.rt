@@ -3,8 +3,7 @@
 ghost use Rattle.std.specs.Prelude.{◌≡◌, IfOk};
 ghost use Rattle.np_report.specs.Entries.{event_told, first_line, later_lines, leading_events};
 
-use np_event::Event;
-use np_event_lines::read_entry;
+use np_event::{Event, read_entry};
 use np_lists::Items;
 use np_text::{JOURNAL_ENTRIES, NoMemory, line_at};
 use std::alloc::Global;

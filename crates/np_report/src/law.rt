@@ -2,7 +2,7 @@
 
 ghost use Rattle.std.specs.Prelude.{◌≡◌, List};
 ghost use Rattle.np_changes.specs.Prelude.{AllByRecursion, Configuration, Entry, IsSound, Runs, State};
-ghost use Rattle.np_event_lines.specs.Line.{HasEntryLine};
+ghost use Rattle.np_event.specs.Line.{HasEntryLine};
 ghost use Rattle.np_report.specs.declared.script.Script.{Script};
 ghost use Rattle.np_report.specs.Played.{played};
 ghost use Rattle.np_report.specs.Printed.{IsPrinted};

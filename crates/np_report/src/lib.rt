@@ -11,7 +11,7 @@
 //!
 //! What a run answers can be printed, and each entry has a line. `specs/Told` says which replies have
 //! a line, if their numbers are within their types. np_changes bounds the numbers of every state of a
-//! run, and np_laws says what they name. `proofs/Labels` bounds the labels of requests.
+//! run, and np_changes says what they name. `proofs/Labels` bounds the labels of requests.
 //! `proofs/PlainRows` and `proofs/Rows` go through the tests of each event by `proofs/Chains`: the
 //! numbers of each answer are within the ranges that a line has.
 //!

@@ -2,7 +2,7 @@
 
 ghost use Rattle.std.specs.Prelude.{◌≡◌, ◌≤◌, [], length, IfOk, OnOk};
 ghost use Rattle.std.specs.List.{AllByRecursion};
-ghost use Rattle.np_event_lines.specs.Line.{HasEventLine};
+ghost use Rattle.np_event.specs.Line.{HasEventLine};
 ghost use Rattle.np_rules.specs.Running.{ran_of};
 ghost use Rattle.np_report.specs.Played.{played, ran};
 ghost use Rattle.np_report.specs.Printed.{IsPrinted};

@@ -2,7 +2,7 @@
 
 ghost use Rattle.std.specs.Prelude.{◌≡◌, ◌+◌, ◌≤◌, ◌++◌, ◌∷◌, [], drop, length, OnOk, IfOk};
 ghost use Rattle.np_changes.specs.Prelude.{AllByRecursion, IsSound, Runs, fates, line};
-ghost use Rattle.np_event_lines.specs.Line.{HasEventLine, entry_line};
+ghost use Rattle.np_event.specs.Line.{HasEventLine, entry_line};
 ghost use Rattle.np_report.specs.Told.{IsToldEntry};
 ghost use Rattle.np_report.specs.Printed.{IsPrinted};
 ghost use Rattle.np_report.specs.Text.{text_of, job_text, entry_lines, fate_lines};
@@ -10,8 +10,7 @@ ghost use Rattle.np_report.specs.Text.{text_of, job_text, entry_lines, fate_line
 use crate::fate::put_fate;
 use np_config::{Config, Job};
 use np_config_text::config_text;
-use np_event::Entry;
-use np_event_lines::put_entry;
+use np_event::{Entry, put_entry};
 use np_look::Rows;
 use np_text::{JobId, NoMemory, put_number};
 use std::alloc::Global;
@@ -55,7 +54,7 @@ fn put_fates<R: Rows>(out: &mut Vec<u8>, rows: &R) -> Result<(), NoMemory>
     ensures { OnOk result (out.new.items ≡ out.old.items ++ fate_lines (R.site rows.now) 0 (R.site rows.now).jobs (fates (R.state rows.now))) }
 {
     let config = rows.config();
-    config.soundness();
+    config.know_soundness();
     let mut at = 0;
     while let Some(job) = config.job(JobId(at)) {
         let Some(kept) = rows.job(JobId(at)) else {
@@ -73,7 +72,7 @@ fn put_fates<R: Rows>(out: &mut Vec<u8>, rows: &R) -> Result<(), NoMemory>
 fn is_sound<R: Rows>(rows: &R)
     ensures { IsSound (R.site rows.now) }
 {
-    rows.config().soundness();
+    rows.config().know_soundness();
 }
 
 #[tactic(auto, unfolding(crate::specs::Text::text_of))]
@@ -83,7 +82,7 @@ fn parts<R: Rows>(alloc: Global, rows: &R, journal: &[Entry]) -> Result<Vec<u8>,
     ensures { IfOk result (λ text. text.items ≡ text_of (R.site rows.now) journal.now) }
 {
     let config = rows.config();
-    config.soundness();
+    config.know_soundness();
     let mut out = config_text(alloc, config)?;
     out.extend_from_slice(b"\n%%\n")?;
     put_entries(&mut out, journal)?;

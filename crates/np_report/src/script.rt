@@ -6,8 +6,7 @@ ghost use Rattle.np_report.specs.Script.{script_of, event_said, IsPlayable};
 
 use crate::lines::{FromLine, LinesFault, read_lines};
 use np_config::Config;
-use np_event::Event;
-use np_event_lines::{LineFault, read_event};
+use np_event::{Event, LineFault, read_event};
 use np_json::{ConfigFault, ConfigRead};
 use np_lists::Items;
 use np_text::{JOURNAL_ENTRIES, NoMemory, split_sections};

@@ -2,7 +2,7 @@
 
 ghost use Rattle.std.specs.Prelude.{List};
 ghost use Rattle.np_changes.specs.Prelude.{AllByRecursion, Configuration, Entry, IsSound, Runs, State};
-ghost use Rattle.np_event_lines.specs.Line.{HasEventLine, HasEntryLine};
+ghost use Rattle.np_event.specs.Line.{HasEventLine, HasEntryLine};
 
 /// Each entry of a run of a sound configuration has a line if its event has one.
 pub fn each_entry_of_a_run_has_a_line()

@@ -2,7 +2,7 @@
 
 ghost use Rattle.std.specs.Prelude.{◌≡◌, List, length};
 ghost use Rattle.np_changes.specs.Prelude.{AllByRecursion, Configuration, Entry, IsSound, Runs, State};
-ghost use Rattle.np_event_lines.specs.Line.{HasEventLine};
+ghost use Rattle.np_event.specs.Line.{HasEventLine};
 ghost use Rattle.np_report.specs.Told.{IsToldEntry};
 
 /// Each entry of a run can be printed if its event has a line: the requests that its reply names

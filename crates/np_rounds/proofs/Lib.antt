@@ -12,3 +12,4 @@ mod Hosted
 mod Seats
 mod PlainLemmas
 mod Laps
+mod Endings

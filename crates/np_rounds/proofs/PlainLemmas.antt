@@ -1,4 +1,4 @@
--- turns of any board, at one at which launchers plan
+-- turns without a plan
 use Rattle.std.specs.Prelude.{IfOk}
 use Rattle.std.proofs.Common.{◌≡◌, ◌∙◌, ⊎_elim, inl, inr, ℕ, suc, List, [], ◌∷◌, length, Option, Some, None, Result, Ok, Err, refl, ap, subst, arith}
 use Rattle.np_changes.specs.Prelude.{Configuration, Entry, NoMemory}
@@ -9,10 +9,10 @@ use Rattle.np_desk.specs.Series.{Asked, Heard, IsOver, Took, TookAtOnce, Walk}
 use Rattle.np_desk.specs.Turned.{AnsweredAtOnce}
 use Rattle.np_desk.proofs.SeriesLemmas.{Went, took-loosely}
 use Rattle.np_board.specs.PlanAnswers.{plan_answers, plan_recorded}
-use Rattle.np_board.specs.declared.planned.plan.PlanAsk.{PlanAsk}
-use Rattle.np_board.specs.declared.planned.plan.PlanAsk.TheVariants as plan_ask
-use Rattle.np_board.specs.declared.planned.plan.PlanTurn.{PlanTurn}
-use Rattle.np_board.specs.declared.planned.plan.PlanTurn.TheVariants as plan_turn
+use Rattle.np_board.specs.declared.board.plan.PlanAsk.{PlanAsk}
+use Rattle.np_board.specs.declared.board.plan.PlanAsk.TheVariants as plan_ask
+use Rattle.np_board.specs.declared.board.plan.PlanTurn.{PlanTurn}
+use Rattle.np_board.specs.declared.board.plan.PlanTurn.TheVariants as plan_turn
 use Rattle.np_rounds.specs.declared.plain.PlainSeries.{PlainSeries}
 use Rattle.np_rounds.specs.Plain.{HearsPlain, asks_plain, plain_ask}
 
@@ -28,7 +28,7 @@ module _ (c : Configuration) where
   only_plain journal a plan_turn.Idle h = absurd h
   only_plain journal a plan_turn.Full h = absurd h
 
-  -- the answer is one of any board
+  -- the answer is one without a plan
   pub plain_turn : (v w : Sight Entry) (a : Ask) (t : PlanTurn) → Answered plan_answers plan_recorded c v (plan_ask.Plain a) t w → (u : Turn) × (t ≡ plan_turn.Plain u) × Answered answers recorded c v a u w
   plain_turn v w a t h =
       let plain = only_plain h.0 a t h.2 in

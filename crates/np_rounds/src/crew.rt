@@ -7,7 +7,7 @@ ghost use Rattle.np_rounds.specs.Crews.{players_of};
 ghost use Rattle.np_rounds.specs.Plays.{CrewPlays};
 
 use crate::plain::PlainTurns;
-use np_board::{PlannedBoard, Planner};
+use np_board::{Board, Planner};
 use np_cloud::{Driver, Gate};
 use np_config::Config;
 use np_desk::{Desk, Pass};
@@ -33,10 +33,10 @@ pub(crate) struct CrewEnd<D, P> {
 /// Lets the crew's worker play a round in which launchers plan.
 fn play_planned<R: Wait, D: Driver, G: Gate>(
     rt: &R,
-    desk: &Desk<PlannedBoard>,
+    desk: &Desk<Board>,
     gate: &G,
-    crew: Crew<D, Pass<PlannedBoard>>,
-) -> CrewEnd<D, Pass<PlannedBoard>>
+    crew: Crew<D, Pass<Board>>,
+) -> CrewEnd<D, Pass<Board>>
     requires own { IsOf crew.pass desk.now }
     ensures { CrewPlays true D.facts D.plan D.sound D.room desk.now crew result }
 {
@@ -53,10 +53,10 @@ fn play_planned<R: Wait, D: Driver, G: Gate>(
 /// Lets the crew's worker play a round in which nobody plans.
 fn play_plainly<R: Wait, D: Driver, G: Gate>(
     rt: &R,
-    desk: &Desk<PlannedBoard>,
+    desk: &Desk<Board>,
     gate: &G,
-    crew: Crew<D, Pass<PlannedBoard>>,
-) -> CrewEnd<D, Pass<PlannedBoard>>
+    crew: Crew<D, Pass<Board>>,
+) -> CrewEnd<D, Pass<Board>>
     requires own { IsOf crew.pass desk.now }
     ensures { CrewPlays false D.facts D.plan D.sound D.room desk.now crew result }
 {
@@ -73,11 +73,11 @@ fn play_plainly<R: Wait, D: Driver, G: Gate>(
 /// Lets the crew's worker play a round.
 pub(crate) fn play<R: Wait, D: Driver, G: Gate>(
     rt: &R,
-    desk: &Desk<PlannedBoard>,
+    desk: &Desk<Board>,
     plans: bool,
     gate: &G,
-    crew: Crew<D, Pass<PlannedBoard>>,
-) -> CrewEnd<D, Pass<PlannedBoard>>
+    crew: Crew<D, Pass<Board>>,
+) -> CrewEnd<D, Pass<Board>>
     requires own { IsOf crew.pass desk.now }
     ensures { CrewPlays plans D.facts D.plan D.sound D.room desk.now crew result }
 {
@@ -101,7 +101,7 @@ pub(crate) fn workers_of<D: Driver + Drop>(
         drivings_of (players_of D.facts D.plan D.sound D.room v.items)
         ≡ map (driving D.facts D.plan D.sound D.room) drivers.items) }
 {
-    config.soundness();
+    config.know_soundness();
     let mut workers = Vec::new(alloc);
     workers.push(Worker::Reaper)?;
     for id in 0..u16::MAX {

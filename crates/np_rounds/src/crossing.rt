@@ -3,29 +3,27 @@
 
 ghost use Rattle.std.specs.Thread.{IsSend, IsSync};
 ghost use Rattle.np_active.specs.contracts.active.Active as active;
-ghost use Rattle.np_counts.specs.contracts.awaited.Awaited as awaited;
-ghost use Rattle.np_board.specs.contracts.planned.board.PlannedBoard as board;
+ghost use Rattle.np_index.specs.contracts.awaited.Awaited as awaited;
+ghost use Rattle.np_board.specs.contracts.board.Board as board;
 ghost use Rattle.np_classes.specs.contracts.classes.Classes as classes;
 ghost use Rattle.np_config.specs.contracts.config.Config as config;
 ghost use Rattle.np_active.specs.contracts.given.Given as given;
 ghost use Rattle.np_index.specs.contracts.index.Index as index;
 ghost use Rattle.np_keeper.specs.contracts.store.TreeStore as store;
 ghost use Rattle.np_lookups.specs.contracts.lookups.Lookups as lookups;
-ghost use Rattle.np_open.specs.contracts.requests.Open as requested;
+ghost use Rattle.np_lookups.specs.contracts.requests.Open as requested;
 ghost use Rattle.np_tables.specs.contracts.tables.Tables as tables;
 ghost use Rattle.np_tree.specs.contracts.tree.Tree as tree;
 
 use np_active::{Active, Given};
-use np_board::{Plan, PlannedBoard};
+use np_board::{Board, Plan};
 use np_classes::Classes;
 use np_config::Config;
-use np_counts::Awaited;
 use np_event::Entry;
-use np_index::Index;
+use np_index::{Awaited, Index};
 use np_keeper::TreeStore;
 use np_lists::Items;
-use np_lookups::Lookups;
-use np_open::Open;
+use np_lookups::{Lookups, Open};
 use np_path::Path;
 use np_rules::Machine;
 use np_tables::Tables;
@@ -144,5 +142,5 @@ pub(crate) fn board_crosses()
     crosses::<Plan>();
     crosses::<Items<Path>>();
     crosses::<Watches>();
-    crosses::<PlannedBoard>();
+    crosses::<Board>();
 }

@@ -5,9 +5,9 @@
 //! entry, time advances by one tick. The site has come to its end when a round made no entry and
 //! the board is settled, or when the journal has no room.
 //!
-//! The board is one at which launchers may plan (np_board), and a parameter `plans` says whether they
-//! do: if so, each worker takes its turns through a `Planner`, and otherwise through `PlainTurns`
-//! (`plain`), which ask what is asked of any board.
+//! At the board (np_board) launchers may plan, and a parameter `plans` says whether they do: if so,
+//! each worker takes its turns through a `Planner`, and otherwise through `PlainTurns` (`plain`), which
+//! ask without a plan.
 //!
 //! The one pass of a desk is split, a part for each worker, and joined again in the reverse order:
 //! so it is whole after each round, and knows every entry. A round of all crews is then a round of

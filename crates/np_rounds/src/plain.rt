@@ -1,10 +1,10 @@
-//! Turns at the desk of a board at which launchers may plan, of those who don't.
+//! Turns at the desk of a board, of those who plan nothing.
 
 ghost use Rattle.std.specs.Prelude.{Some};
 ghost use Rattle.np_worker.specs.Prelude.{IsOf, answers, recorded, sight_of};
 ghost use Rattle.np_rounds.specs.Plain.{HearsPlain, asks_plain};
 
-use np_board::{PlanAsk, PlanTurn, PlannedBoard};
+use np_board::{Board, PlanAsk, PlanTurn};
 use np_config::Config;
 use np_desk::{Desk, Pass, Series, Turns};
 use np_event::Entry;
@@ -12,7 +12,7 @@ use np_text::NoMemory;
 use np_worker::{Ask, Turn};
 use std::sync::Wait;
 
-/// A series that asks what is asked of any board.
+/// A series that asks without a plan.
 #[derive(Clone, Copy)]
 struct PlainSeries<S> {
     series: S,
@@ -42,13 +42,13 @@ impl<S: Series<Ask = Ask, Turn = Turn>> Series for PlainSeries<S> {
     }
 }
 
-/// A pass beside the desk of a board at which launchers may plan. Whoever has it plans nothing: each of
-/// its turns is one that any board takes. It may wait for the turns of others.
+/// A pass beside the desk of a board. Whoever has it plans nothing. It may wait for the turns of
+/// others.
 #[derive(Drop)]
 pub(crate) struct PlainTurns<'a, R: Wait> {
     pub(crate) rt: &'a R,
-    pub(crate) desk: &'a Desk<PlannedBoard>,
-    pub(crate) pass: Pass<PlannedBoard>,
+    pub(crate) desk: &'a Desk<Board>,
+    pub(crate) pass: Pass<Board>,
 }
 
 impl<'a, R: Wait> Turns for PlainTurns<'a, R> {

@@ -10,7 +10,7 @@ ghost use Rattle.np_rounds.specs.Played.{with_end};
 
 use crate::crew::{Crew, CrewEnd, play};
 use crate::crossing::{board_crosses, sends};
-use np_board::PlannedBoard;
+use np_board::Board;
 use np_cloud::{Driver, Gate};
 use np_config::Config;
 use np_desk::{Desk, Pass, SeqObject};
@@ -60,22 +60,22 @@ fn hand_out<M: SeqObject<Entry = Entry, Fixed = Config>, D: Driver + Drop>(
 /// Lets all crews play, each in a thread of its own if one can be made.
 fn play_all<R: Threads + Wait + Sync, D: Driver + Send + Drop, G: Gate + Sync>(
     rt: &R,
-    desk: &Desk<PlannedBoard>,
+    desk: &Desk<Board>,
     plans: bool,
     gate: &G,
-    crews: Vec<Crew<D, Pass<PlannedBoard>>>,
-) -> Result<Vec<CrewEnd<D, Pass<PlannedBoard>>>, NoMemory>
+    crews: Vec<Crew<D, Pass<Board>>>,
+) -> Result<Vec<CrewEnd<D, Pass<Board>>>, NoMemory>
     requires own { All (λ crew. IsOf crew.pass desk.now) crews.items }
     ensures { IfOk result (λ v. Pairwise (CrewPlays plans D.facts D.plan D.sound D.room desk.now)
         crews.items v.items) }
 {
     board_crosses();
     sends::<Worker<D>>();
-    sends::<Pass<PlannedBoard>>();
+    sends::<Pass<Board>>();
     let ends = thread::map_vec(
         rt,
         crews,
-        &|crew: Crew<D, Pass<PlannedBoard>>| -> CrewEnd<D, Pass<PlannedBoard>>
+        &|crew: Crew<D, Pass<Board>>| -> CrewEnd<D, Pass<Board>>
             requires { IsOf crew.pass desk.now }
             ensures { CrewPlays plans D.facts D.plan D.sound D.room desk.entry.now crew result }
         { play(rt, desk, plans, gate, crew) },
@@ -130,8 +130,8 @@ fn take_back<M: SeqObject<Entry = Entry, Fixed = Config>, D: Driver + Drop>(
 pub(crate) fn play_round<R: Threads + Wait + Sync, D: Driver + Send + Drop, G: Gate + Sync>(
     rt: &R,
     alloc: Global,
-    desk: &Desk<PlannedBoard>,
-    pass: &mut Pass<PlannedBoard>,
+    desk: &Desk<Board>,
+    pass: &mut Pass<Board>,
     workers: &mut Vec<Worker<D>>,
     plans: bool,
     gate: &G,

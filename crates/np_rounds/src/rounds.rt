@@ -12,7 +12,7 @@ ghost use Rattle.np_rounds.specs.Played.{EndsWithTick, IsRested, Stops};
 
 use crate::crew::{drivers_of, workers_of};
 use crate::round::play_round;
-use np_board::{PlanAsk, PlanTurn, PlannedBoard};
+use np_board::{Board, PlanAsk, PlanTurn};
 use np_cloud::{Driver, Gate};
 use np_config::Config;
 use np_desk::{Desk, Pass};
@@ -27,7 +27,7 @@ use std::thread::Threads;
 #[derive(Drop)]
 pub struct Ended<D> {
     /// The board, with the whole journal.
-    pub board: PlannedBoard,
+    pub board: Board,
     /// Whether the journal had no room for what came next.
     pub full: bool,
     /// The drivers, in the order of the pools.
@@ -42,11 +42,7 @@ fn is_full(turn: PlanTurn) -> bool
 }
 
 /// Advances time by one tick, and returns whether the journal has no room for that.
-fn tick<R: Wait>(
-    rt: &R,
-    desk: &Desk<PlannedBoard>,
-    pass: &mut Pass<PlannedBoard>,
-) -> Result<bool, NoMemory>
+fn tick<R: Wait>(rt: &R, desk: &Desk<Board>, pass: &mut Pass<Board>) -> Result<bool, NoMemory>
     requires own { IsOf pass.old desk.now }
     requires whole { IsWhole pass.old.part }
     ensures own { IsOf pass.new desk.now }
@@ -65,8 +61,8 @@ fn tick<R: Wait>(
 fn play_at<R: Threads + Wait + Sync, D: Driver + Send + Drop, G: Gate + Sync>(
     rt: &R,
     alloc: Global,
-    desk: &Desk<PlannedBoard>,
-    pass: &mut Pass<PlannedBoard>,
+    desk: &Desk<Board>,
+    pass: &mut Pass<Board>,
     workers: &mut Vec<Worker<D>>,
     plans: bool,
     gate: &G,
@@ -100,11 +96,11 @@ fn play_at<R: Threads + Wait + Sync, D: Driver + Send + Drop, G: Gate + Sync>(
 fn play_board<R: Threads + Wait + Sync, D: Driver + Send + Drop, G: Gate + Sync>(
     rt: &R,
     alloc: Global,
-    board: PlannedBoard,
+    board: Board,
     workers: &mut Vec<Worker<D>>,
     plans: bool,
     gate: &G,
-) -> Result<(PlannedBoard, bool), NoMemory>
+) -> Result<(Board, bool), NoMemory>
     requires rested { IsRested board.journal }
     ensures configuration { IfOk result (λ r. r.0.configuration ≡ board.configuration) }
     ensures stops { IfOk result (λ r. Stops r.1 r.0.journal) }
@@ -112,7 +108,7 @@ fn play_board<R: Threads + Wait + Sync, D: Driver + Send + Drop, G: Gate + Sync>
         board.journal (players_of D.facts D.plan D.sound D.room workers.old.items)
         r.0.journal (players_of D.facts D.plan D.sound D.room workers.new.items) r.1) }
 {
-    board.soundness();
+    board.know_soundness();
     let Ok((desk, mut pass)) = Desk::set_up(alloc, board) else {
         return Err(NoMemory);
     };
@@ -126,11 +122,11 @@ fn play_board<R: Threads + Wait + Sync, D: Driver + Send + Drop, G: Gate + Sync>
 fn play_site<R: Threads + Wait + Sync, D: Driver + Send + Drop, G: Gate + Sync>(
     rt: &R,
     alloc: Global,
-    mut board: PlannedBoard,
+    mut board: Board,
     workers: &mut Vec<Worker<D>>,
     plans: bool,
     gate: &G,
-) -> Result<(PlannedBoard, bool), NoMemory>
+) -> Result<(Board, bool), NoMemory>
     requires rested { IsRested board.journal }
     ensures configuration { IfOk result (λ r. r.0.configuration ≡ board.configuration) }
     ensures stops { IfOk result (λ r. Stops r.1 r.0.journal) }
@@ -190,11 +186,11 @@ pub fn run_rounds<R: Threads + Wait + Sync, D: Driver + Send + Drop, G: Gate + S
         IfOk result (λ e. FailOnlyFull config e.board.journal
         (map (driving D.facts D.plan D.sound D.room) e.drivers.items)) }
 {
-    config.soundness();
+    config.know_soundness();
     let mut workers = workers_of(alloc, &config, drivers)?;
-    let board = PlannedBoard::new(alloc, config)?;
+    let board = Board::new(alloc, config)?;
     let (played, full) = play_site(rt, alloc, board, &mut workers, plans, gate)?;
-    played.soundness();
+    played.know_soundness();
     let drivers = drivers_of(alloc, workers)?;
     Ok(Ended {
         board: played,

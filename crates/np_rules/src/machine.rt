@@ -97,7 +97,7 @@ impl<S: Store + Drop> Machine<S> {
         }) }
         ensures err { IfErr result (λ not_made. not_made.store ≡ store) }
     {
-        tables.config().soundness();
+        tables.config().know_soundness();
         match Index::rebuild(alloc, &tables) {
             Ok(index) => Ok(Machine {
                 alloc,
@@ -113,7 +113,7 @@ impl<S: Store + Drop> Machine<S> {
 
     /// The earlier entries and the journal lead to the state, and the configuration leaves room for
     /// every run. The call does nothing: a caller's proof takes the facts from it.
-    pub fn soundness(&self)
+    pub fn know_soundness(&self)
         ensures site { IsFitSite self.now.configuration }
         ensures runs { RunsOn self.now.configuration self.now.earlier self.now.journal self.now.state }
     {
@@ -167,7 +167,7 @@ impl<S: Store + Drop> Machine<S> {
     pub fn judge(&self, event: Event) -> Reply
         ensures { result ≡ answer_after self.now.earlier (ran_of self.now) event }
     {
-        self.soundness();
+        self.know_soundness();
         if !self.has_room() {
             return Reply::Refused(Refusal::Full);
         }
@@ -191,7 +191,7 @@ impl<S: Store + Drop> Machine<S> {
         ensures runs { RunsOn self.new.configuration self.new.earlier self.new.journal
             self.new.state }
     {
-        self.soundness();
+        self.know_soundness();
         if !self.has_room() {
             return Ok(Reply::Refused(Refusal::Full));
         }

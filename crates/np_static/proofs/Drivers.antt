@@ -3,7 +3,7 @@ use Rattle.std.proofs.Common.{◌≡◌, ℕ, zero, suc, ◌+◌, List, [], ◌�
 use Rattle.std.specs.Prelude.{All, slice_get, sum}
 use Rattle.std.proofs.lemmas.List.Elements.{All-nil, All-cons}
 use Rattle.np_machine.specs.Prelude.{Configuration, Pool, PoolId}
-use Rattle.np_event_lines.specs.declared.fault.LineFault.{LineFault}
+use Rattle.np_event.specs.declared.fault.LineFault.{LineFault}
 use Rattle.np_report.specs.declared.lines.LinesFault.{LinesFault}
 use Rattle.np_cloud.specs.Inventory.{told_nothing}
 use Rattle.np_cloud.specs.Sim.{simulation_of}

@@ -1,8 +1,8 @@
 -- the words of a host line
 use Rattle.std.proofs.Common.{◌≡◌, ℕ, ◌≤◌, List, [], ◌∷◌, length, refl, ap, ◌∙◌, arith, Option, Some, Err}
 use Rattle.std.proofs.lemmas.List.Splits.{length-slice_split}
-use Rattle.np_event_lines.specs.Words.{is_space, left_of, words_of}
-use Rattle.np_event_lines.specs.declared.fault.LineFault.TheVariants.{WrongCount}
+use Rattle.np_event.specs.Words.{is_space, left_of, words_of}
+use Rattle.np_event.specs.declared.fault.LineFault.TheVariants.{WrongCount}
 use Rattle.np_static.specs.Line.{host_with}
 
 more-by : (pools : ℕ) (pool servers : List ℕ) (words : List (List ℕ)) → 1 ≤ length words → host_with pools (pool ∷ servers ∷ words) ≡ Err WrongCount

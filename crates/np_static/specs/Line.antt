@@ -2,9 +2,9 @@
 use Rattle.std.specs.Prelude.{ℕ, nat_lt, if◌then◌else◌, List, [], ◌∷◌, codes, Option, Some, None, Result, Ok, Err}
 use Rattle.std.specs.Str.{bytes_eq}
 use Rattle.np_machine.specs.Prelude.{PoolId, number_of}
-use Rattle.np_event_lines.specs.Kind.{number_behind}
-use Rattle.np_event_lines.specs.declared.fault.LineFault.{LineFault}
-use Rattle.np_event_lines.specs.declared.fault.LineFault.TheVariants.{UnknownEvent, WrongCount, BadArgument}
+use Rattle.np_event.specs.Kind.{number_behind}
+use Rattle.np_event.specs.declared.fault.LineFault.{LineFault}
+use Rattle.np_event.specs.declared.fault.LineFault.TheVariants.{UnknownEvent, WrongCount, BadArgument}
 use Rattle.np_static.specs.declared.limit.TheConstants.{HOST_SERVERS}
 use Rattle.np_static.specs.declared.line.HostLine.{HostLine}
 

@@ -1,8 +1,8 @@
 -- the drivers of all pools, by host lines
 use Rattle.std.specs.Prelude.{◌≡◌, ◌==◌, ℕ, suc, nat_le, Bool, false, if◌then◌else◌, List, [], ◌∷◌, length, map, filter, sum, Option, Some, None, Result, Ok, Err}
 use Rattle.np_machine.specs.Prelude.{Configuration, Pool, PoolId, lines_of}
-use Rattle.np_event_lines.specs.Words.{words_of}
-use Rattle.np_event_lines.specs.declared.fault.LineFault.{LineFault}
+use Rattle.np_event.specs.Words.{words_of}
+use Rattle.np_event.specs.declared.fault.LineFault.{LineFault}
 use Rattle.np_report.specs.Lines.{lines_read}
 use Rattle.np_report.specs.declared.lines.LinesFault.{LinesFault}
 use Rattle.np_report.specs.declared.lines.LinesFault.TheVariants as lines

@@ -3,7 +3,7 @@
 ghost use Rattle.std.specs.Prelude.{◌≡◌};
 ghost use Rattle.np_static.specs.declared.fault.HostsRead.TheVariants.{NoMemory};
 
-use np_event_lines::LineFault;
+use np_event::LineFault;
 use np_json::ConfigFault;
 use np_text::PoolId;
 use std::alloc::{AllocError, AllocFailed};

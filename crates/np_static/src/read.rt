@@ -11,7 +11,7 @@ use crate::line::{HostLine, read_host};
 use crate::site::SiteDriver;
 use np_cloud::SimDriver;
 use np_config::Config;
-use np_event_lines::LineFault;
+use np_event::LineFault;
 use np_lists::Items;
 use np_report::LinesFault;
 use np_text::{NoMemory, PoolId, line_at};
@@ -116,7 +116,7 @@ fn site_drivers(
     ensures { let said = sites_from config.now lines.now 0 config.now.pools in
         MatchResult result (λ drivers. said ≡ Ok (map site_of drivers.items)) (Tells said) }
 {
-    config.soundness();
+    config.know_soundness();
     let mut drivers = Vec::new(alloc);
     while let Some(row) = config.pool(PoolId(drivers.len() as u16)) {
         let pool = PoolId(drivers.len() as u16);

@@ -3,8 +3,8 @@ use Rattle.std.proofs.Common.{◌≡◌, ℕ, zero, suc, Bool, true, false, cond
 use Rattle.std.specs.Prelude.{find, slice_get}
 use Rattle.np_layout.specs.Prelude.{Any, Op, Row, TreeState, below, child_name, delete_parts, is_some, list_any, option_map, option_map_or, rows_at}
 use Rattle.std.proofs.lemmas.List.{append_assoc}
-use Rattle.np_nodes.specs.declared.op.Op.TheVariants as op
-use Rattle.np_readers.proofs.Shown.{name-at}
+use Rattle.np_tree_nodes.specs.declared.op.Op.TheVariants as op
+use Rattle.np_tree_rows.proofs.Shown.{name-at}
 
 -- ## the deletes of all
 

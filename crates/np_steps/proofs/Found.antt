@@ -8,7 +8,7 @@ use Rattle.np_changes.specs.declared.changes.RequestEdit.{RequestEdit}
 use Rattle.np_changes.specs.declared.changes.RequestsChange.TheVariants.{Edit}
 use Rattle.np_layout.proofs.DeleteNodeWaits.{is_node_it}
 use Rattle.np_layout.proofs.DeleteRequestWaits.{is_request_it, request-good}
-use Rattle.np_enact.specs.Parts.{where_there}
+use Rattle.np_layout.specs.Parts.{where_there}
 
 -- ## parts
 

@@ -7,13 +7,13 @@ use Rattle.std.proofs.lemmas.List.{append_assoc, append-nil}
 use Rattle.np_lists.proofs.ChangeLemmas.{slice_get-change_at_other}
 use Rattle.np_lists.proofs.Each.{all-find}
 use Rattle.np_lists.proofs.FoundLemmas.{find-passes}
-use Rattle.np_layout.specs.Prelude.{HasNodeLock, IsGood, IsNode, IsQueue, IsStored, Op, PersistentSequential, TreeState, below, make, node_text, path_of, set, under}
-use Rattle.np_nodes.specs.declared.op.Op.TheVariants as op
+use Rattle.np_layout.specs.Prelude.{HasNodeLock, IsGood, IsNode, HasQueue, IsStored, Op, PersistentSequential, TreeState, below, make, node_text, path_of, set, under}
+use Rattle.np_tree_nodes.specs.declared.op.Op.TheVariants as op
 use Rattle.np_changes.specs.declared.changes.Maker.{Maker}
 use Rattle.np_layout.specs.declared.place.Place.TheVariants.{Handle, Node, NodeLock, Request, RequestLock, Requests}
 use Rattle.np_layout.specs.Creates.{request_parts, request_prefix}
-use Rattle.np_enact.specs.Parts.{acquire_parts, allocate_parts, by_session, join_parts, where_there}
-use Rattle.np_readers.proofs.QueueRows.{is_waiting, lock-any}
+use Rattle.np_layout.specs.Parts.{acquire_parts, allocate_parts, by_session, join_parts, where_there}
+use Rattle.np_tree_rows.proofs.QueueRows.{is_waiting, lock-any}
 use Rattle.np_lists.proofs.Plain.{equal-numbers}
 use Rattle.std.proofs.lemmas.Bool.{not-true, or_parts}
 use Rattle.np_machine.proofs.Ids.{request-equal}
@@ -30,7 +30,7 @@ module _ (c : Configuration) (s : State) (t : TreeState) (stored : IsStored c s 
   -- the waits at a request's lock are its queue
   pub request-waits : (session : SessionId) (r : RequestId) (e : RequestEntry) → request_entry r s.requests ≡ Some e → list_any (is_waiting session) (under (RequestLock r) t) ≡ is_queued session e.queue
   request-waits session r e there =
-      let queue = all-find (λ (x : RequestEntry). IsQueue (RequestLock x.id) x.queue t) (λ (x : RequestEntry). same_request x.id r) s.requests e stored.lays.request_locks.queues there in
+      let queue = all-find (λ (x : RequestEntry). HasQueue (RequestLock x.id) x.queue t) (λ (x : RequestEntry). same_request x.id r) s.requests e stored.lays.request_locks.queues there in
       ap (λ (id : RequestId). list_any (is_waiting session) (under (RequestLock id) t)) (sym (request-is r s.requests e there))
       ∙ lock-any queue.next session (under (RequestLock e.id) t) e.queue queue.waits
 

@@ -7,8 +7,8 @@ use Rattle.np_lists.proofs.FoundLemmas.{found-change_first}
 use Rattle.np_layout.specs.Prelude.{IsNode, Op, node_text, set}
 use Rattle.np_layout.specs.declared.place.Place.TheVariants.{Node}
 use Rattle.np_layout.proofs.DeleteNodeWaits.{found-node, is_node_it}
-use Rattle.np_enact.specs.Parts.{change_parts, each_changed, where_there}
-use Rattle.np_enact.proofs.EachNode.{freed-keeps}
+use Rattle.np_layout.specs.Parts.{change_parts, each_changed, where_there}
+use Rattle.np_layout.proofs.EachNode.{freed-keeps}
 use Rattle.np_steps.specs.NodeEdits.{KeepsNodes, edited_entry, edited_record}
 use Rattle.np_steps.specs.declared.nodes.NodeEdit.{NodeEdit}
 use Rattle.np_steps.specs.declared.nodes.NodeEdit.TheVariants as edit

@@ -5,7 +5,7 @@ use Rattle.np_changes.specs.Prelude.{Configuration, JobId, JobRecord, NodeEntry,
 use Rattle.std.proofs.lemmas.List.Folds.{list_all-append}
 use Rattle.np_text.specs.declared.id.Role.TheVariants.{Launcher as LauncherOf}
 use Rattle.np_layout.specs.Prelude.{Any, Op, Row, TreeState, below, delete, delete_parts, is_numbered, is_owner, make, path_of, place_of_role, tree_session, under, wait_at}
-use Rattle.np_nodes.specs.declared.op.Op.TheVariants as op
+use Rattle.np_tree_nodes.specs.declared.op.Op.TheVariants as op
 use Rattle.np_changes.specs.declared.changes.Changes.{Changes}
 use Rattle.np_changes.specs.declared.changes.Deed.{Deed}
 use Rattle.np_changes.specs.declared.changes.Deed.TheVariants as deed
@@ -24,7 +24,7 @@ use Rattle.np_changes.specs.declared.changes.SessionsChange.{SessionsChange}
 use Rattle.np_changes.specs.declared.changes.SessionsChange.TheVariants as sessions
 use Rattle.np_layout.specs.declared.place.Place.{Place}
 use Rattle.np_layout.specs.declared.place.Place.TheVariants.{Handle, NodeLock, RequestLock}
-use Rattle.np_enact.specs.Parts.{acquire_parts, by_session, change_parts, deed_parts, each_changed, grown_parts, handles_parts, jobs_parts, join_parts, leave_parts, nodes_of, nodes_parts, parts_of, release_parts, requests_parts, role_parts, session_parts, settled_parts, tick_parts, where_there}
+use Rattle.np_layout.specs.Parts.{acquire_parts, by_session, change_parts, deed_parts, each_changed, grown_parts, handles_parts, jobs_parts, join_parts, leave_parts, nodes_of, nodes_parts, parts_of, release_parts, requests_parts, role_parts, session_parts, settled_parts, tick_parts, where_there}
 
 -- all of them are
 abbrev AreNumbered : List Op → Type 0

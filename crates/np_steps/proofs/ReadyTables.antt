@@ -11,11 +11,11 @@ use Rattle.np_changes.specs.declared.changes.RequestsChange.{RequestsChange}
 use Rattle.np_changes.specs.declared.changes.RequestsChange.TheVariants as requests
 use Rattle.np_changes.specs.declared.changes.SessionsChange.{SessionsChange}
 use Rattle.np_changes.specs.declared.changes.SessionsChange.TheVariants as sessions
-use Rattle.np_enact.specs.Events.{IsReady, in_call}
-use Rattle.np_enact.specs.Ways.{with_deeds}
-use Rattle.np_enact.proofs.Settled.{edit-leaves, freeing-grows, same-requests, same-roles}
+use Rattle.np_layout.specs.Events.{IsReady, in_call}
+use Rattle.np_layout.specs.Ways.{with_deeds}
+use Rattle.np_layout.proofs.Settled.{edit-leaves, freeing-grows, same-requests, same-roles}
 use Rattle.np_changes.proofs.Facts.{remove-alone}
-use Rattle.np_laws.proofs.JobsLater.{jobs-grown}
+use Rattle.np_changes.proofs.JobsLater.{jobs-grown}
 
 -- no session ends in the call, so no queue is left
 requests-stay : (change : SessionsChange) (rows : List RequestEntry) → requests_left (in_call change) rows ≡ rows

@@ -13,8 +13,8 @@ use Rattle.np_changes.specs.declared.changes.Deed.{Deed}
 use Rattle.np_changes.specs.declared.changes.Deed.TheVariants as deed
 use Rattle.np_changes.specs.declared.changes.Maker.{Maker}
 use Rattle.np_layout.specs.declared.place.Place.TheVariants.{Handle}
-use Rattle.np_enact.specs.Parts.{release_parts, role_parts, where_there}
-use Rattle.np_enact.specs.Ways.{with_deeds}
+use Rattle.np_layout.specs.Parts.{release_parts, role_parts, where_there}
+use Rattle.np_layout.specs.Ways.{with_deeds}
 use Rattle.np_steps.specs.Releases.{each_released, released}
 use Rattle.np_lists.proofs.Plain.{set-here}
 

@@ -2,8 +2,8 @@
 
 ghost use Rattle.std.specs.Prelude.{◌≡◌, ◌≤◌, ◌++◌, true, length, IfOk, OnOk};
 ghost use Rattle.np_layout.specs.Prelude.{IsCarried, IsStored, is_numbered, list_all};
-ghost use Rattle.np_enact.specs.Events.{IsReady};
-ghost use Rattle.np_enact.specs.Parts.{parts_of, settled_parts};
+ghost use Rattle.np_layout.specs.Events.{IsReady};
+ghost use Rattle.np_layout.specs.Parts.{parts_of, settled_parts};
 
 use crate::grow::push_growth;
 use crate::nodes::push_nodes;
@@ -11,9 +11,9 @@ use crate::records::{push_deed, push_handles, push_jobs, push_session, push_tick
 use crate::requests::push_requests;
 use np_changes::Changes;
 use np_look::Rows;
-use np_nodes::Op;
 use np_text::NoMemory;
 use np_tree::Tree;
+use np_tree_nodes::Op;
 use std::alloc::Global;
 
 /// What the tree is asked to do for the changes of an event: the parts of one call, in the order of

@@ -3,23 +3,23 @@
 ghost use Rattle.std.specs.Prelude.{◌≡◌, ◌<◌, ◌^◌, ◌++◌, ◌∷◌, [], Some, false, not, if◌then◌else◌, filter, map, IfOk, IfSome, OnOk};
 ghost use Rattle.np_changes.specs.Prelude.{Configuration, HasText, NodeEntry, RequestEntry, State, has_handle, is_swept, list_any, new_record, node_entry, request_entry, semaphores_of};
 ghost use Rattle.np_layout.specs.Prelude.{IsGood, IsNode, IsRequest, IsSessionRole, IsStored, below, is_owner, make, node_text, path_of, request_record_text, session_text, tree_session, under};
-ghost use Rattle.np_nodes.specs.declared.kind.Mode.TheVariants as modes;
-ghost use Rattle.np_nodes.specs.declared.op.Op.TheVariants as op;
+ghost use Rattle.np_tree_nodes.specs.declared.kind.Mode.TheVariants as modes;
+ghost use Rattle.np_tree_nodes.specs.declared.op.Op.TheVariants as op;
 ghost use Rattle.np_layout.specs.declared.place.Place.TheVariants.{Handle, Launcher, NodeLock, RequestLock, Requests, Session, Swept};
 ghost use Rattle.np_layout.specs.Creates.{node_parts, request_parts, request_prefix, wait_at};
-ghost use Rattle.np_enact.specs.Parts.{acquire_parts, allocate_parts, by_session, grown_parts, join_parts, where_there};
-ghost use Rattle.np_enact.specs.Ways.{GrowthReady};
+ghost use Rattle.np_layout.specs.Parts.{acquire_parts, allocate_parts, by_session, grown_parts, join_parts, where_there};
+ghost use Rattle.np_layout.specs.Ways.{GrowthReady};
 
 use crate::ops::{child, push_make, push_set, push_wait, waits};
 use np_changes::{Asked, Growth, Maker};
 use np_layout::{Place, to_path};
 use np_look::Rows;
-use np_nodes::{Bytes, Mode, Op};
 use np_path::Path;
 use np_record::{DeclineRow, NodeRecord, RequestRecord, SessionRecord};
 use np_spelling::Record;
 use np_text::{JobId, NoMemory, NodeId, PoolId, RequestId, Role, SemId, SessionId, TenantId};
 use np_tree::Tree;
+use np_tree_nodes::{Bytes, Mode, Op};
 use std::alloc::Global;
 
 /// A node that is given to a request, for the tenant of its job.
@@ -286,7 +286,7 @@ fn push_handles<R: Rows>(
 {
     let config = rows.config();
     // No job of a configuration names a semaphore twice.
-    config.soundness();
+    config.know_soundness();
     match config.job(job) {
         Some(row) => push_each_handle(alloc, ops, rows, job, row.semaphores.items()),
         None => Ok(()),

@@ -1,6 +1,6 @@
 //! What a tree is asked to do for the changes of an event, written out.
 //!
-//! np_enact defines the parts of the call, and `parts` makes them. What it needs of the state it reads
+//! np_layout defines the parts of the call, and `parts` makes them. What it needs of the state it reads
 //! from rows that are handed in, and the names of waits at a lock from the tree, which stores the same
 //! state. Each way of changing has a function of its own.
 #![tactic(auto)]

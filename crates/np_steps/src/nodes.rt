@@ -4,18 +4,18 @@ ghost use Rattle.std.specs.Prelude.{◌≡◌, ◌++◌, ◌∷◌, [], OnOk};
 ghost use Rattle.np_changes.specs.Prelude.{AllByRecursion, freed_from, is_request, node_entry, nodes_changed, put_node};
 ghost use Rattle.np_layout.specs.Prelude.{IsCarried, IsNode, node_deletes, node_text, set};
 ghost use Rattle.np_layout.specs.declared.place.Place.TheVariants.{Node, NodeLock};
-ghost use Rattle.np_enact.specs.Parts.{change_parts, each_changed, leave_parts, nodes_of, nodes_parts, where_there};
-ghost use Rattle.np_enact.specs.Ways.{NodesReady};
+ghost use Rattle.np_layout.specs.Parts.{change_parts, each_changed, leave_parts, nodes_of, nodes_parts, where_there};
+ghost use Rattle.np_layout.specs.Ways.{NodesReady};
 ghost use Rattle.np_steps.specs.NodeEdits.{KeepsNodes, edited_entry, edited_record};
 
 use crate::ops::{push_delete, push_deletes, push_leave, push_set};
 use np_changes::{Maker, NodesChange};
 use np_layout::Place;
 use np_look::Rows;
-use np_nodes::Op;
 use np_record::NodeRecord;
 use np_text::{NoMemory, NodeId, NodeState, RequestId, SessionId};
 use np_tree::Tree;
+use np_tree_nodes::Op;
 use std::alloc::Global;
 
 /// What happens to the record of each of several nodes.

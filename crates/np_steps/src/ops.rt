@@ -2,18 +2,18 @@
 
 ghost use Rattle.std.specs.Prelude.{◌≡◌, ◌++◌, ◌∷◌, [], codes, find, IfOk, OnOk};
 ghost use Rattle.np_layout.specs.Prelude.{IsGood, below, delete, delete_parts, is_owner, list_any, make, option_copied, option_map, path_of, rows_at, set, tree_session, under, wait_at};
-ghost use Rattle.np_nodes.specs.declared.kind.Expect.TheVariants as expects;
-ghost use Rattle.np_nodes.specs.declared.op.Op.TheVariants as op;
-ghost use Rattle.np_enact.specs.Parts.{leave_parts};
+ghost use Rattle.np_tree_nodes.specs.declared.kind.Expect.TheVariants as expects;
+ghost use Rattle.np_tree_nodes.specs.declared.op.Op.TheVariants as op;
+ghost use Rattle.np_layout.specs.Parts.{leave_parts};
 
 use np_layout::{PathText, Place, to_path};
 use np_lock::enqueue_op;
-use np_nodes::{Bytes, Expect, Mode, Op};
 use np_path::Path;
-use np_readers::{children, waits_at};
 use np_spelling::Record;
 use np_text::{NoMemory, SessionId};
 use np_tree::Tree;
+use np_tree_nodes::{Bytes, Expect, Mode, Op};
+use np_tree_rows::{children, waits_at};
 use std::alloc::Global;
 
 /// Sets the bytes of a place to the record's text, whatever the version there.

@@ -6,18 +6,18 @@ ghost use Rattle.np_changes.specs.Prelude.{AllByRecursion, change_at, has_handle
 ghost use Rattle.np_layout.specs.Prelude.{HasSpellings, IsGood, IsJob, IsRole, IsSessionRole, job_text, place_of_role, role_text, session_text, set};
 ghost use Rattle.np_layout.specs.declared.place.Place.TheVariants as place;
 ghost use Rattle.np_text.specs.declared.id.Role.TheVariants as role;
-ghost use Rattle.np_enact.specs.Parts.{deed_parts, handles_parts, jobs_parts, role_parts, session_parts, tick_parts, where_there};
-ghost use Rattle.np_enact.specs.Ways.{with_deeds};
+ghost use Rattle.np_layout.specs.Parts.{deed_parts, handles_parts, jobs_parts, role_parts, session_parts, tick_parts, where_there};
+ghost use Rattle.np_layout.specs.Ways.{with_deeds};
 ghost use Rattle.np_steps.specs.Releases.{each_released, released};
 
 use crate::ops::{push_delete, push_set};
 use np_changes::{Deed, HandlesChange, JobsChange, Maker, SessionsChange};
 use np_layout::{Place, to_path};
 use np_look::Rows;
-use np_nodes::{Bytes, Expect, Op};
 use np_record::{JobRecord, MarkRow, Marked, RoleRecord, SessionRecord};
 use np_spelling::Record;
 use np_text::{JobId, NoMemory, NodeId, Role, SemId, SessionId, put_number};
+use np_tree_nodes::{Bytes, Expect, Op};
 use std::alloc::Global;
 
 /// Puts the parts for a change of the jobs behind others: a job's record is set, if it is there. If
@@ -122,7 +122,7 @@ pub(crate) fn push_handles<R: Rows>(
     };
     let config = rows.config();
     // No job of a configuration names a semaphore twice.
-    config.soundness();
+    config.know_soundness();
     match config.job(*job) {
         Some(row) => push_releases(alloc, ops, rows, *job, row.semaphores.items()),
         None => Ok(()),

@@ -5,16 +5,16 @@ ghost use Rattle.np_changes.specs.Prelude.{AllByRecursion, edited, request_in, r
 ghost use Rattle.np_layout.specs.Prelude.{IsCarried, IsRequest, request_deletes, request_record_text, set};
 ghost use Rattle.np_changes.specs.declared.changes.RequestsChange.TheVariants as requests;
 ghost use Rattle.np_layout.specs.declared.place.Place.TheVariants.{Request, RequestLock};
-ghost use Rattle.np_enact.specs.Parts.{leave_parts, requests_parts, where_there};
+ghost use Rattle.np_layout.specs.Parts.{leave_parts, requests_parts, where_there};
 
 use crate::ops::{push_delete, push_deletes, push_leave, push_set};
 use np_changes::{Maker, RequestEdit, RequestsChange};
 use np_layout::Place;
 use np_look::Rows;
-use np_nodes::Op;
 use np_record::{Declined, NodeRow, RequestRecord};
 use np_text::{NoMemory, RequestId, RequestState, SessionId};
 use np_tree::Tree;
+use np_tree_nodes::Op;
 use std::alloc::Global;
 
 /// Puts the parts for a change of the requests behind others. If memory runs out nothing is

@@ -12,7 +12,7 @@ use Rattle.np_changes.proofs.PlanLaws.{plan-next}
 use Rattle.np_tables.specs.Kept.{IsCountable}
 use Rattle.np_changes.proofs.Shape.{Shaped}
 use Rattle.np_changes.proofs.ShapeRuns.{shape-Runs, shape-next}
-use Rattle.np_laws.proofs.JobsLater.{jobs-grown}
+use Rattle.np_changes.proofs.JobsLater.{jobs-grown}
 
 length-jobs_changed : (change : JobsChange) (rows : List JobRecord) → length (jobs_changed change rows) ≡ length rows
 length-jobs_changed jobs.Same rows = refl

@@ -4,14 +4,14 @@ use Rattle.std.specs.Prelude.{filter, map}
 use Rattle.np_changes.specs.declared.changes.Changes.{Changes}
 use Rattle.np_changes.specs.Prelude.{Configuration, IsPlanned, IsReached, NodeEntry, NodeId, RequestEntry, RequestId, Rises, SessionId, State, grown, is_id_before, is_queued, nodes_changed, requests_changed}
 use Rattle.np_changes.specs.declared.changes.Growth.{Growth}
-use Rattle.np_laws.specs.Parts.{IsNumbered}
+use Rattle.np_changes.specs.Parts.{IsNumbered}
 use Rattle.np_changes.specs.declared.changes.NodesChange.{NodesChange}
 use Rattle.np_changes.specs.declared.changes.RequestsChange.{RequestsChange}
 use Rattle.np_changes.specs.declared.changes.SessionsChange.{SessionsChange}
 use Rattle.np_changes.specs.Premises.{EndsSession, Premises, SessionsPremise}
 use Rattle.np_changes.specs.declared.changes.SessionsChange.TheVariants as sessions
 use Rattle.np_changes.proofs.PremisesOf.{premises}
-use Rattle.np_laws.proofs.Runs.{invariant-Runs}
+use Rattle.np_changes.proofs.Runs.{invariant-Runs}
 use Rattle.np_look.specs.Keys.{is_node_before}
 use Rattle.np_tables.specs.Queues.{AreQueuesOf}
 use Rattle.np_tables.specs.LeftLast.{CanEnd, changed_in_queues}

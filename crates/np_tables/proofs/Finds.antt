@@ -7,7 +7,7 @@ use Rattle.std.proofs.lemmas.Option.{slice_get_within}
 use Rattle.np_lists.proofs.Each.{all-find}
 use Rattle.np_changes.proofs.Makers.{launcher-role}
 use Rattle.np_changes.proofs.Passed.{decline-first, take_ready-room}
-use Rattle.np_laws.proofs.Journals.{ok-what}
+use Rattle.np_changes.proofs.Journals.{ok-what}
 
 pub request-fits : (c : Configuration) (s : State) (r : RequestId) (e : RequestEntry) → Fits c s → request_entry r s.requests ≡ Some e → RequestFits c s e
 request-fits c s r e fits is = all-find (RequestFits c s) (λ other. same_request other.id r) s.requests e fits.each_request is

@@ -3,7 +3,7 @@ use Rattle.std.proofs.Common.{◌≡◌, ℕ, zero, suc, ◌<◌, ◌≤◌, Lis
 use Rattle.std.specs.Prelude.{◌==◌, ◌||◌, nat_lt, slice_set}
 use Rattle.np_changes.specs.Prelude.{AllByRecursion, JobId, change_at, insert_before, is_among, remove_first, with_handle, without_handle}
 use Rattle.std.proofs.lemmas.Bool.Decides.{nat_tests}
-use Rattle.np_table.specs.Roomy.{Roomy}
+use Rattle.np_lists.specs.Roomy.{Roomy}
 use Rattle.np_tables.specs.Room.{has_place, rooms_of, rows_of}
 use Rattle.np_lists.proofs.Plain.{equal-itself}
 

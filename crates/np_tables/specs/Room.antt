@@ -4,7 +4,7 @@ use Rattle.np_changes.specs.Prelude.{AllByRecursion, JobId, SessionId, State, by
 use Rattle.np_changes.specs.declared.changes.Changes.{Changes}
 use Rattle.np_changes.specs.declared.changes.Growth.{Growth}
 use Rattle.np_changes.specs.declared.changes.Maker.{Maker}
-use Rattle.np_table.specs.Roomy.{Roomy}
+use Rattle.np_lists.specs.Roomy.{Roomy}
 use Rattle.np_changes.specs.declared.changes.Growth.TheVariants as grow
 use Rattle.np_tables.specs.Kept.{Kept, Room}
 

@@ -5,9 +5,9 @@ ghost use Rattle.np_tables.specs.CanChange.{edited_in_room, has_room};
 ghost use Rattle.std.specs.Prelude.{◌≡◌, Some, true};
 
 use np_changes::RequestEdit;
+use np_lists::{RowChange, RowEdit};
 use np_machine::{Locked, NodeEntry, Queue, RequestEntry};
 use np_record::{Declined, NodeRow, RequestRecord};
-use np_table::{RowChange, RowEdit};
 use np_text::{JOB_LABELS, NodeState, POOLS, RequestId, RequestState, SessionId, TenantId};
 use std::convert::Infallible;
 

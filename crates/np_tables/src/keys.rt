@@ -3,9 +3,9 @@
 ghost use Rattle.np_changes.specs.Prelude.{NodeEntry, RequestEntry, is_id_before, same_request};
 ghost use Rattle.np_look.specs.Keys.{is_node_before, node_equal, node_one_way, node_some_way, node_transitive, request_equal, request_one_way, request_some_way, request_transitive, same_node};
 
+use np_lists::{Order, RoomyTable};
 use np_look::{ByJob, ByNode, ByRequest, BySwept};
 use np_machine::{NodeEntry, RequestEntry};
-use np_table::{Order, RoomyTable};
 use np_text::{NodeId, RequestId};
 
 /// Nodes under their locks, by number.

@@ -43,7 +43,7 @@ impl Model for Tables {
 fn is_sound(config: &Config)
     ensures { IsSound config.now }
 {
-    config.soundness();
+    config.know_soundness();
 }
 
 impl Tables {

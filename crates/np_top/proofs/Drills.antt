@@ -1,7 +1,7 @@
 -- a site that was played for its summary: from what playing left to what a drill shows
 use Rattle.std.proofs.Common.{◌≡◌, ◌∙◌, refl, sym, ap, subst, Bool, ℕ, List, false}
 use Rattle.np_changes.specs.Prelude.{AllByRecursion, Configuration, Entry, IsSound, Runs, State, fates}
-use Rattle.np_event_lines.specs.Line.{HasEventLine}
+use Rattle.np_event.specs.Line.{HasEventLine}
 use Rattle.np_useful.specs.Driven.{Driven}
 use Rattle.np_report.specs.Summary.{summary_of}
 use Rattle.np_report.specs.Text.{text_of}

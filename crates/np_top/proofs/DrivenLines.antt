@@ -6,7 +6,7 @@ use Rattle.np_text.specs.declared.id.Role.TheVariants as role
 use Rattle.np_text.specs.declared.word.Reason.TheVariants as reason
 use Rattle.np_event.specs.declared.event.Event.TheVariants as ev
 use Rattle.np_event.specs.declared.event.Outcome.TheVariants as outcome
-use Rattle.np_event_lines.specs.Line.{HasEventLine}
+use Rattle.np_event.specs.Line.{HasEventLine}
 use Rattle.np_useful.specs.Useful.{IsUseful, row_holds}
 use Rattle.np_report.specs.Told.{has_digits}
 use Rattle.np_report.proofs.Ids.{IdHasDigits, HasIds, request-digits, HasIds-start, HasIds-next}

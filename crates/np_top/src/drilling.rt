@@ -2,14 +2,14 @@
 
 ghost use Rattle.std.specs.Prelude.{◌≤◌, false, IfOk};
 ghost use Rattle.np_changes.specs.Prelude.{AllByRecursion, IsSound};
-ghost use Rattle.np_event_lines.specs.Line.{HasEventLine};
+ghost use Rattle.np_event.specs.Line.{HasEventLine};
 ghost use Rattle.np_useful.specs.Driven.{Driven};
 ghost use Rattle.np_gen.specs.Site.{drill_site};
 ghost use Rattle.np_top.specs.Drill.{Drills, EndsDrill};
 ghost use Rattle.np_top.specs.Play.{HasEnded};
 
 use crate::playing::play_site;
-use np_board::PlannedBoard;
+use np_board::Board;
 use np_cloud::Gate;
 use np_io::Sink;
 use np_look::Look;
@@ -21,14 +21,14 @@ use std::sync::Wait;
 use std::thread::Threads;
 
 /// How a drill that ended with this board ends: with the summary of its jobs' fates.
-fn ending_at(alloc: Global, board: &PlannedBoard, full: bool) -> Result<Ending, NoMemory>
+fn ending_at(alloc: Global, board: &Board, full: bool) -> Result<Ending, NoMemory>
     requires sound { IsSound board.now.configuration }
     requires lines { AllByRecursion (λ e. HasEventLine e.event) board.now.journal }
     requires driven { Driven board.now.configuration board.now.journal }
     requires ended { HasEnded false board.now.configuration board.now.journal full }
     ensures { IfOk result (EndsDrill board.now.configuration) }
 {
-    board.soundness();
+    board.know_soundness();
     let text = summary(alloc, board.machine().rows())?;
     if full {
         return Ok(Ending::Full { text });
@@ -47,7 +47,7 @@ fn play_drill<R: Threads + Wait + Sync, G: Gate + Sync>(
     ensures { IfOk result (EndsDrill (drill_site jobs)) }
 {
     let config = np_gen::drill(alloc, jobs)?;
-    config.soundness();
+    config.know_soundness();
     let (board, full) = play_site(rt, alloc, config, false, gate)?;
     let ending = ending_at(alloc, &board, full);
     board.close();

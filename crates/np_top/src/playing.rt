@@ -2,7 +2,7 @@
 
 ghost use Rattle.std.specs.Prelude.{◌≡◌, length, map, false, All, IfOk};
 ghost use Rattle.np_worker.specs.Prelude.{AllByRecursion, driving};
-ghost use Rattle.np_event_lines.specs.Line.{HasEventLine};
+ghost use Rattle.np_event.specs.Line.{HasEventLine};
 ghost use Rattle.np_worker.specs.Planned.{DrivenAs};
 ghost use Rattle.np_worker.specs.Players.{WasAnswered};
 ghost use Rattle.np_worker.specs.Carried.{AreCarried, BeginsNew, FailOnlyFull};
@@ -12,7 +12,7 @@ ghost use Rattle.np_top.specs.Run.{driven_as};
 ghost use Rattle.np_top.specs.RunHosts.{IsDrivenWithHosts};
 
 use crate::typed::numbers_are_within_their_types;
-use np_board::PlannedBoard;
+use np_board::Board;
 use np_cloud::{Driver, Gate, simulated_clouds};
 use np_config::Config;
 use np_rounds::{Ended, run_rounds};
@@ -49,9 +49,9 @@ fn play_over<R: Threads + Wait + Sync, D: Driver + Send + Drop, G: Gate + Sync>(
     ensures rooms { IfOk result (λ e. map D.room e.drivers.items ≡ map D.room drivers.items) }
     ensures ended { IfOk result (λ e. HasEnded plans config e.board.journal e.full) }
 {
-    config.soundness();
+    config.know_soundness();
     let ended = run_rounds(rt, alloc, config, drivers, plans, gate)?;
-    ended.board.soundness();
+    ended.board.know_soundness();
     numbers_are_within_their_types(ended.board.journal());
     Ok(ended)
 }
@@ -64,7 +64,7 @@ pub(crate) fn play_site<R: Threads + Wait + Sync, G: Gate + Sync>(
     config: Config,
     plans: bool,
     gate: &G,
-) -> Result<(PlannedBoard, bool), NoMemory>
+) -> Result<(Board, bool), NoMemory>
     ensures configuration { IfOk result (λ r. r.0.configuration ≡ config) }
     ensures lines { IfOk result (λ r. AllByRecursion (λ e. HasEventLine e.event) r.0.journal) }
     ensures driven { IfOk result (λ r. driven_as plans config r.0.journal) }
@@ -83,7 +83,7 @@ pub(crate) fn play_hosts<R: Threads + Wait + Sync, G: Gate + Sync>(
     alloc: Global,
     site: HostedSite,
     gate: &G,
-) -> Result<(PlannedBoard, bool), NoMemory>
+) -> Result<(Board, bool), NoMemory>
     requires { HasHostLines (hosted_view site) }
     ensures configuration { IfOk result (λ r. r.0.configuration ≡ site.config) }
     ensures lines { IfOk result (λ r. AllByRecursion (λ e. HasEventLine e.event) r.0.journal) }

@@ -2,7 +2,7 @@
 
 ghost use Rattle.std.specs.Prelude.{◌≡◌, Bool, length, IfOk, IfErr};
 ghost use Rattle.np_changes.specs.Prelude.{AllByRecursion, fate_of, fates};
-ghost use Rattle.np_event_lines.specs.Line.{HasEventLine};
+ghost use Rattle.np_event.specs.Line.{HasEventLine};
 ghost use Rattle.np_top.specs.Play.{EndsPlay, HasEnded, is_waiting, status_of_fates};
 ghost use Rattle.np_top.specs.Run.{EndsRun, EndsSite, HasCome, RunsSite, site_run};
 
@@ -52,7 +52,7 @@ fn status_of<R: Rows>(rows: &R) -> u8
     requires jobs { length (R.state rows.now).jobs ≡ length (R.site rows.now).jobs }
     ensures { result ≡ status_of_fates (fates (R.state rows.now)) }
 {
-    rows.config().soundness();
+    rows.config().know_soundness();
     let mut at = 0;
     while let Some(job) = rows.job(JobId(at)) {
         if is_waiting(rows, &job) {
@@ -76,7 +76,7 @@ pub(crate) fn ending_at<S: Store + Drop>(
         HasEnded plans machine.now.configuration machine.now.journal full →
         IfOk result (EndsPlay plans machine.now.configuration machine.now.journal) }
 {
-    machine.soundness();
+    machine.know_soundness();
     let rows = machine.rows();
     let text = text(alloc, rows, machine.journal())?;
     if full {

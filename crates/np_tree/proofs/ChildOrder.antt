@@ -1,17 +1,17 @@
 -- children are in byte order of their names
 use Rattle.std.proofs.Common.{◌≡◌, ℕ, Bool, true, false, cond, List, [], ◌∷◌, Option, Some, None, refl, sym, ap, ◌∙◌}
 use Rattle.std.specs.Prelude.{filter}
-use Rattle.np_nodes.specs.Prelude.{AllByRecursion, Rises, is_path, name_of, parent_of}
+use Rattle.np_tree_nodes.specs.Prelude.{AllByRecursion, Rises, is_path, name_of, parent_of}
 use Rattle.std.specs.Ordering.{nat_cmp, is_lt, ordering_then}
 use Rattle.std.specs.Cmp.Lexicographic.{slice_cmp}
 use Rattle.std.proofs.lemmas.Cmp.{nat_list_cmp_total, tied_itself}
-use Rattle.np_nodes.specs.Nodes.{before_of, children_of, is_child, is_parent}
+use Rattle.np_tree_nodes.specs.Nodes.{before_of, children_of, is_child, is_parent}
 use Rattle.np_lists.proofs.RisingLemmas.{Rises-filter}
-use Rattle.np_nodes.specs.Order.{AllPaths, node_before}
-use Rattle.np_nodes.specs.declared.node.Node.{Node}
-use Rattle.np_nodes.proofs.ChildLemmas.{IsKey, child-half, half-not_root}
-use Rattle.np_nodes.proofs.OrderLemmas.{parent-first, parent-half}
-use Rattle.np_nodes.proofs.PlaceLemmas.{bytes_eq-is}
+use Rattle.np_tree_nodes.specs.Order.{AllPaths, node_before}
+use Rattle.np_tree_nodes.specs.declared.node.Node.{Node}
+use Rattle.np_tree_nodes.proofs.ChildLemmas.{IsKey, child-half, half-not_root}
+use Rattle.np_tree_nodes.proofs.OrderLemmas.{parent-first, parent-half}
+use Rattle.np_tree_nodes.proofs.PlaceLemmas.{bytes_eq-is}
 use Rattle.np_tree.specs.Sorted.{ChildrenByName, ParentsComeFirst, named_before}
 
 pub parents-first : ParentsComeFirst

@@ -1,17 +1,17 @@
 -- a directory is cleared
 use Rattle.std.proofs.Common.{◌≡◌, ℕ, ◌<◌, Bool, true, false, not, cond, List, [], ◌∷◌, map, Some, Result, Ok, refl, ap, ◌∙◌, subst}
 use Rattle.std.specs.Prelude.{IsOk, filter}
-use Rattle.np_nodes.specs.Prelude.{AllByRecursion, AllPaths, Rises, TreeState, after_delete, after_parts, below, delete_answer, is_child, is_element, is_in, is_path, name_of, option_map, ◌>>◌}
+use Rattle.np_tree_nodes.specs.Prelude.{AllByRecursion, AllPaths, Rises, TreeState, after_delete, after_parts, below, delete_answer, is_child, is_element, is_in, is_path, name_of, option_map, ◌>>◌}
 use Rattle.np_lists.proofs.Each.{all-weaker}
 use Rattle.np_lists.proofs.FilterLemmas.{filter-not_none}
 use Rattle.np_path.proofs.PathLaws.{HasParts-below, IsChild-of}
 use Rattle.np_path.proofs.PartsLemmas.{is_path-below}
-use Rattle.np_nodes.specs.declared.kind.Expect.TheVariants.{Any}
-use Rattle.np_nodes.specs.declared.node.Node.{Node}
-use Rattle.np_nodes.specs.declared.op.Op.TheVariants as op
-use Rattle.np_nodes.specs.declared.op.OpDone.TheVariants as done
-use Rattle.np_nodes.specs.declared.refusal.TreeRefusal.{TreeRefusal}
-use Rattle.np_nodes.proofs.PlaceLemmas.{bytes_eq-from}
+use Rattle.np_tree_nodes.specs.declared.kind.Expect.TheVariants.{Any}
+use Rattle.np_tree_nodes.specs.declared.node.Node.{Node}
+use Rattle.np_tree_nodes.specs.declared.op.Op.TheVariants as op
+use Rattle.np_tree_nodes.specs.declared.op.OpDone.TheVariants as done
+use Rattle.np_tree_nodes.specs.declared.refusal.TreeRefusal.{TreeRefusal}
+use Rattle.np_tree_nodes.proofs.PlaceLemmas.{bytes_eq-from}
 use Rattle.np_tree.specs.Whole.{IsWhole}
 use Rattle.np_tree.proofs.WholeLemmas.{IsWhole-after_part}
 use Rattle.np_tree.specs.Relations.{Deletes}

@@ -1,15 +1,15 @@
 -- what a change of the nodes leaves without its number was there before
 use Rattle.std.proofs.Common.{◌≡◌, ℕ, Bool, true, false, not, ◌&&◌, cond, List, [], ◌∷◌, map, Option, Some, None, ◌⊎◌, inl, inr, refl, sym, ap, ◌∙◌, subst}
 use Rattle.std.specs.Prelude.{filter}
-use Rattle.np_nodes.specs.Prelude.{IsSorted, NonePass, after_loss, at_path, change_node, insert_node, is_at, is_child, is_owned, is_owner, is_parent, list_any, nodes_after_end, option_map, parent_of, path_before, without_node}
+use Rattle.np_tree_nodes.specs.Prelude.{IsSorted, NonePass, after_loss, at_path, change_node, insert_node, is_at, is_child, is_owned, is_owner, is_parent, list_any, nodes_after_end, option_map, parent_of, path_before, without_node}
 use Rattle.std.specs.Str.{bytes_eq}
 use Rattle.np_lists.proofs.Each.{all-filter_to, all-mapped}
 use Rattle.np_lists.proofs.FilterLemmas.{filter-not_none, none-list_any}
 use Rattle.np_lists.proofs.FoundLemmas.{find-insert_before, find-passes}
 use Rattle.np_lists.proofs.Halves.{none-find}
-use Rattle.np_nodes.specs.declared.node.Node.{Node}
-use Rattle.np_nodes.proofs.PathsLemmas.{KeepsPath, at_path-change_here, at_path-change_other, at_path-paths-none, paths_of-change_node}
-use Rattle.np_nodes.proofs.PlaceLemmas.{bytes_eq-from, bytes_eq-is}
+use Rattle.np_tree_nodes.specs.declared.node.Node.{Node}
+use Rattle.np_tree_nodes.proofs.PathsLemmas.{KeepsPath, at_path-change_here, at_path-change_other, at_path-paths-none, paths_of-change_node}
+use Rattle.np_tree_nodes.proofs.PlaceLemmas.{bytes_eq-from, bytes_eq-is}
 use Rattle.np_tree.specs.Dates.{Tag, tag_of}
 use Rattle.np_tree.specs.Views.{Row, row_of, seen_of}
 use Rattle.np_tree.proofs.FindLemmas.{find-filter_gone, find-filter_other, find-insert_here, kept_by}

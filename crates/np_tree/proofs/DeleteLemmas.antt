@@ -3,13 +3,13 @@ use Rattle.std.proofs.Common.{◌≡◌, ℕ, ◌<◌, false, not, List, length,
 use Rattle.std.specs.Prelude.{nat_lt, ◌==◌}
 use Rattle.std.specs.Str.{bytes_eq}
 use Rattle.std.proofs.lemmas.Bool.{eqb-true, ltb-true, not-true}
-use Rattle.np_nodes.specs.Prelude.{TreeState, at_path, children_of, delete_answer, is_in, need, root, ◌>>=◌, ◌>>◌}
+use Rattle.np_tree_nodes.specs.Prelude.{TreeState, at_path, children_of, delete_answer, is_in, need, root, ◌>>=◌, ◌>>◌}
 use Rattle.np_lists.proofs.RefusalLemmas.{found-ok, need-last, need-ok}
-use Rattle.np_nodes.specs.Tests.{has_version, is_expected, there, unspent}
-use Rattle.np_nodes.specs.declared.node.Node.{Node}
-use Rattle.np_nodes.specs.declared.kind.Expect.{Expect}
-use Rattle.np_nodes.specs.declared.refusal.TreeRefusal.{TreeRefusal}
-use Rattle.np_nodes.specs.declared.refusal.TreeRefusal.TheVariants as no
+use Rattle.np_tree_nodes.specs.Tests.{has_version, is_expected, there, unspent}
+use Rattle.np_tree_nodes.specs.declared.node.Node.{Node}
+use Rattle.np_tree_nodes.specs.declared.kind.Expect.{Expect}
+use Rattle.np_tree_nodes.specs.declared.refusal.TreeRefusal.{TreeRefusal}
+use Rattle.np_tree_nodes.specs.declared.refusal.TreeRefusal.TheVariants as no
 
 pub record MayDelete (t : TreeState) (path : List ℕ) : Type 0 where
   pub node : Node

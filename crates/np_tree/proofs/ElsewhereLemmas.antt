@@ -1,19 +1,19 @@
 -- parts that change the rows of other directories
 use Rattle.std.proofs.Common.{◌≡◌, ℕ, Bool, true, false, cond, List, [], ◌∷◌, Option, Some, None, Result, Ok, Err, refl, sym, ap, ◌∙◌, subst}
 use Rattle.std.specs.Prelude.{IsOk}
-use Rattle.np_nodes.specs.Prelude.{TreeState, after_create_under, after_part, change_node, child_answer, create_answer, create_under_answer, delete_answer, is_at, is_child, is_in, is_parent, name_of, next_change, option_map, parent_of, part_answer, root, where_found, with_bytes}
+use Rattle.np_tree_nodes.specs.Prelude.{TreeState, after_create_under, after_part, change_node, child_answer, create_answer, create_under_answer, delete_answer, is_at, is_child, is_in, is_parent, name_of, next_change, option_map, parent_of, part_answer, root, where_found, with_bytes}
 use Rattle.np_lists.proofs.RefusalLemmas.{bind-ok, need-ok, then-ok}
 use Rattle.np_path.proofs.PathLaws.{root-of}
-use Rattle.np_nodes.specs.declared.kind.Expect.{Expect}
-use Rattle.np_nodes.specs.declared.kind.Mode.{Mode}
-use Rattle.np_nodes.specs.declared.node.Node.{Node}
-use Rattle.np_nodes.specs.declared.op.Op.{Op}
-use Rattle.np_nodes.specs.declared.op.Op.TheVariants as op
-use Rattle.np_nodes.specs.declared.op.OpDone.{OpDone}
-use Rattle.np_nodes.specs.declared.op.OpDone.TheVariants as done
-use Rattle.np_nodes.specs.declared.refusal.TreeRefusal.{TreeRefusal}
-use Rattle.np_nodes.specs.declared.refusal.TreeRefusal.TheVariants as no
-use Rattle.np_nodes.proofs.PlaceLemmas.{bytes_eq-from, bytes_eq-is}
+use Rattle.np_tree_nodes.specs.declared.kind.Expect.{Expect}
+use Rattle.np_tree_nodes.specs.declared.kind.Mode.{Mode}
+use Rattle.np_tree_nodes.specs.declared.node.Node.{Node}
+use Rattle.np_tree_nodes.specs.declared.op.Op.{Op}
+use Rattle.np_tree_nodes.specs.declared.op.Op.TheVariants as op
+use Rattle.np_tree_nodes.specs.declared.op.OpDone.{OpDone}
+use Rattle.np_tree_nodes.specs.declared.op.OpDone.TheVariants as done
+use Rattle.np_tree_nodes.specs.declared.refusal.TreeRefusal.{TreeRefusal}
+use Rattle.np_tree_nodes.specs.declared.refusal.TreeRefusal.TheVariants as no
+use Rattle.np_tree_nodes.proofs.PlaceLemmas.{bytes_eq-from, bytes_eq-is}
 use Rattle.np_tree.specs.Read.{counter_at}
 use Rattle.np_tree.specs.Whole.{IsPart, IsWhole}
 use Rattle.np_tree.proofs.DeleteLemmas.{delete_answer-passed}

@@ -1,9 +1,9 @@
 -- what is found at a path after a change of the nodes
 use Rattle.std.proofs.Common.{◌≡◌, ℕ, Bool, true, false, not, cond, List, [], ◌∷◌, Option, Some, None, refl, ap}
 use Rattle.std.specs.Prelude.{filter, find}
-use Rattle.np_nodes.specs.Prelude.{IsSorted, NonePass, at_path, insert_before, is_at}
-use Rattle.np_nodes.specs.declared.node.Node.{Node}
-use Rattle.np_nodes.proofs.PlaceLemmas.{later-others}
+use Rattle.np_tree_nodes.specs.Prelude.{IsSorted, NonePass, at_path, insert_before, is_at}
+use Rattle.np_tree_nodes.specs.declared.node.Node.{Node}
+use Rattle.np_tree_nodes.proofs.PlaceLemmas.{later-others}
 
 -- what was found, if it is kept
 abbrev pub kept_by : {A : Type 0} → (A → Bool) → Option A → Option A

@@ -1,8 +1,8 @@
 -- what a reader of the earlier tree sees of what is fresh in the later one
 use Rattle.std.proofs.Common.{◌≡◌, ℕ, ◌<◌, Bool, true, false, cond, List, [], ◌∷◌, codes, map, Option, Some, None, refl, sym, ap, ◌∙◌, arith}
-use Rattle.np_nodes.specs.Prelude.{TreeState, at_path, is_path, name_of, option_map, parent_of, root, root_node}
+use Rattle.np_tree_nodes.specs.Prelude.{TreeState, at_path, is_path, name_of, option_map, parent_of, root, root_node}
 use Rattle.std.specs.Str.{bytes_eq}
-use Rattle.np_nodes.specs.declared.node.Node.{Node}
+use Rattle.np_tree_nodes.specs.declared.node.Node.{Node}
 use Rattle.np_tree.specs.Whole.{IsWhole}
 use Rattle.np_tree.specs.Dates.{FreshListed, FreshSeen, IsFresh, Since, Tag, UndatedBytesAreNotLater, UndatedLossIsNotLater, tag_of}
 use Rattle.np_tree.specs.Views.{Row, Seen, find_named, rows_at, seen_at, seen_in, seen_of}

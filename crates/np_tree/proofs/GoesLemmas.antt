@@ -1,14 +1,14 @@
 -- the facts from which a part of a call is accepted
 use Rattle.std.proofs.Common.{◌≡◌, ℕ, ◌+◌, ◌<◌, Bool, true, false, not, ◌||◌, List, [], length, Option, Some, None, Result, Ok, refl, sym, ap, ◌∙◌, arith}
 use Rattle.std.specs.Prelude.{nat_le, nat_lt, ◌==◌}
-use Rattle.np_nodes.specs.Prelude.{TreeState, at_path, below, child_answer, children_of, delete_answer, found, is_in, is_none, is_sequential, made_path, name_of, need, option_map, parent_of, root, unspent, ◌>>=◌, ◌>>◌}
+use Rattle.np_tree_nodes.specs.Prelude.{TreeState, at_path, below, child_answer, children_of, delete_answer, found, is_in, is_none, is_sequential, made_path, name_of, need, option_map, parent_of, root, unspent, ◌>>=◌, ◌>>◌}
 use Rattle.std.specs.Str.{bytes_eq}
 use Rattle.std.proofs.lemmas.List.{length-map}
-use Rattle.np_nodes.specs.declared.kind.Expect.TheVariants.{Any}
-use Rattle.np_nodes.specs.declared.kind.Mode.{Mode}
-use Rattle.np_nodes.specs.declared.node.Node.{Node}
-use Rattle.np_nodes.specs.declared.refusal.TreeRefusal.{TreeRefusal}
-use Rattle.np_nodes.specs.declared.refusal.TreeRefusal.TheVariants as no
+use Rattle.np_tree_nodes.specs.declared.kind.Expect.TheVariants.{Any}
+use Rattle.np_tree_nodes.specs.declared.kind.Mode.{Mode}
+use Rattle.np_tree_nodes.specs.declared.node.Node.{Node}
+use Rattle.np_tree_nodes.specs.declared.refusal.TreeRefusal.{TreeRefusal}
+use Rattle.np_tree_nodes.specs.declared.refusal.TreeRefusal.TheVariants as no
 use Rattle.np_tree.specs.Goes.{CanCreate, ChecksGo, CreatesGo, CreatesUnderGo, DeletesGo, SetsGo}
 use Rattle.np_tree.specs.Views.{Seen, name_given, row_of, rows_at, seen_at, seen_of}
 use Rattle.np_tree.proofs.RelationLemmas.{counter-found, made-is, seen-none}

@@ -4,10 +4,10 @@ use Rattle.std.specs.Prelude.{OnOk, OnErr}
 use Rattle.np_session.specs.Known.{Known, without}
 use Rattle.np_session.specs.Known as known
 use Rattle.np_session.specs.declared.fault.SessionFault.{SessionFault}
-use Rattle.np_nodes.specs.Prelude.{IsKept, TreeState, after_begin, after_end, after_part, after_raise, change_node, new_tree, next_change, nodes_after_end, part_answer, root_node, with_counter, with_next_number}
-use Rattle.np_nodes.specs.declared.lists.NodeLists.{NodeLists}
-use Rattle.np_nodes.specs.declared.op.Op.{Op}
-use Rattle.np_nodes.specs.declared.op.OpDone.{OpDone}
+use Rattle.np_tree_nodes.specs.Prelude.{IsKept, TreeState, after_begin, after_end, after_part, after_raise, change_node, new_tree, next_change, nodes_after_end, part_answer, root_node, with_counter, with_next_number}
+use Rattle.np_tree_nodes.specs.declared.lists.NodeLists.{NodeLists}
+use Rattle.np_tree_nodes.specs.declared.op.Op.{Op}
+use Rattle.np_tree_nodes.specs.declared.op.OpDone.{OpDone}
 use Rattle.np_tree.specs.Inners.{Holds, state_of}
 use Rattle.np_tree.specs.Whole.{IsPart, IsTree, IsTreeUpTo}
 use Rattle.np_tree.specs.declared.inner.Inner.{Inner}

@@ -1,22 +1,22 @@
 -- each call leaves a later tree
 use Rattle.std.proofs.Common.{◌≡◌, ℕ, ◌+◌, ◌<◌, ◌≤◌, Bool, true, false, not, List, [], ◌∷◌, Option, Some, None, ◌⊎◌, inl, inr, refl, sym, ap, ◌∙◌, subst, arith}
 use Rattle.std.specs.Prelude.{IsOk, Ok}
-use Rattle.np_nodes.specs.Prelude.{AllByRecursion, MakesName, TreeState, after_multi, at_path, change_node, child_answer, create_answer, create_under_answer, delete_answer, insert_node, is_at, is_check, is_in, is_path, list_any, made_path, name_of, parent_of, part_answer, root, with_counter, without_node}
+use Rattle.np_tree_nodes.specs.Prelude.{AllByRecursion, MakesName, TreeState, after_multi, at_path, change_node, child_answer, create_answer, create_under_answer, delete_answer, insert_node, is_at, is_check, is_in, is_path, list_any, made_path, name_of, parent_of, part_answer, root, with_counter, without_node}
 use Rattle.np_lists.proofs.Each.{all-find}
 use Rattle.np_lists.proofs.FoundLemmas.{find-passes}
 use Rattle.np_lists.proofs.RefusalLemmas.{bind-ok, need-ok, then-ok}
 use Rattle.np_path.proofs.PathLaws.{root-of}
-use Rattle.np_nodes.specs.After.{after_create_under, after_end, after_part, after_removal, new_node, next_change, where_found, with_bytes, with_child, with_new_child, with_next_number, without_child, without_child_above}
-use Rattle.np_nodes.specs.declared.kind.Expect.{Expect}
-use Rattle.np_nodes.specs.declared.kind.Mode.{Mode}
-use Rattle.np_nodes.specs.declared.node.Node.{Node}
-use Rattle.np_nodes.specs.declared.op.Op.{Op}
-use Rattle.np_nodes.specs.declared.op.Op.TheVariants as op
-use Rattle.np_nodes.specs.declared.op.OpDone.TheVariants as done
-use Rattle.np_nodes.specs.declared.refusal.TreeRefusal.TheVariants as no
-use Rattle.np_nodes.proofs.MadePathLemmas.{MakesName-child}
-use Rattle.np_nodes.proofs.PathsLemmas.{at_path-paths-none, paths_of-change_node}
-use Rattle.np_nodes.proofs.PlaceLemmas.{bytes_eq-from}
+use Rattle.np_tree_nodes.specs.After.{after_create_under, after_end, after_part, after_removal, new_node, next_change, where_found, with_bytes, with_child, with_new_child, with_next_number, without_child, without_child_above}
+use Rattle.np_tree_nodes.specs.declared.kind.Expect.{Expect}
+use Rattle.np_tree_nodes.specs.declared.kind.Mode.{Mode}
+use Rattle.np_tree_nodes.specs.declared.node.Node.{Node}
+use Rattle.np_tree_nodes.specs.declared.op.Op.{Op}
+use Rattle.np_tree_nodes.specs.declared.op.Op.TheVariants as op
+use Rattle.np_tree_nodes.specs.declared.op.OpDone.TheVariants as done
+use Rattle.np_tree_nodes.specs.declared.refusal.TreeRefusal.TheVariants as no
+use Rattle.np_tree_nodes.proofs.MadePathLemmas.{MakesName-child}
+use Rattle.np_tree_nodes.proofs.PathsLemmas.{at_path-paths-none, paths_of-change_node}
+use Rattle.np_tree_nodes.proofs.PlaceLemmas.{bytes_eq-from}
 use Rattle.np_tree.specs.Whole.{IsPart, IsWhole}
 use Rattle.np_tree.proofs.DeleteLemmas.{delete_answer-passed}
 use Rattle.np_tree.proofs.MultiLemmas.{after_parts-nodes}

@@ -1,11 +1,11 @@
 -- the parts of a call, one after another
 use Rattle.std.proofs.Common.{◌≡◌, ℕ, true, false, not, List, [], ◌∷◌, ◌++◌, Option, Some, None, refl, ap, ◌∙◌}
-use Rattle.np_nodes.specs.Prelude.{TreeState, after_create_under, after_part, after_parts, at_path, is_check, list_any, name_of, next_change, parent_of, where_found, with_new_child}
+use Rattle.np_tree_nodes.specs.Prelude.{TreeState, after_create_under, after_part, after_parts, at_path, is_check, list_any, name_of, next_change, parent_of, where_found, with_new_child}
 use Rattle.std.proofs.lemmas.Bool.{not-false, or_parts}
-use Rattle.np_nodes.specs.declared.node.Node.{Node}
-use Rattle.np_nodes.specs.declared.kind.Mode.{Mode}
-use Rattle.np_nodes.specs.declared.op.Op.{Op}
-use Rattle.np_nodes.specs.declared.op.Op.TheVariants as op
+use Rattle.np_tree_nodes.specs.declared.node.Node.{Node}
+use Rattle.np_tree_nodes.specs.declared.kind.Mode.{Mode}
+use Rattle.np_tree_nodes.specs.declared.op.Op.{Op}
+use Rattle.np_tree_nodes.specs.declared.op.Op.TheVariants as op
 
 -- ## a part changes nodes alone
 

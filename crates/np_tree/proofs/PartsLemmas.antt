@@ -1,15 +1,15 @@
 -- the parts of a `multi`, one after another
 use Rattle.std.proofs.Common.{◌≡◌, ℕ, suc, ◌+◌, ◌<◌, ◌≤◌, false, true, not, List, [], ◌∷◌, ◌++◌, length, take, drop, get_or, Result, Ok, Err, refl, sym, ap, ◌∙◌, arith}
-use Rattle.np_nodes.specs.Prelude.{AllByRecursion, AtPart, IsKept, Stops, TreeState, after_multi, after_part, after_parts, and_then, answers_from, is_check, list_any, part_answer, with_next_number}
+use Rattle.np_tree_nodes.specs.Prelude.{AllByRecursion, AtPart, IsKept, Stops, TreeState, after_multi, after_part, after_parts, and_then, answers_from, is_check, list_any, part_answer, with_next_number}
 use Rattle.std.specs.Prelude.{IsOk}
 use Rattle.std.proofs.lemmas.List.{drop_more, length-take-le, take-append-drop, take_all, take_more}
 use Rattle.np_lists.proofs.Each.{all-push}
-use Rattle.np_nodes.specs.Undo.{KeepsStart}
-use Rattle.np_nodes.specs.declared.lists.NodeLists.{NodeLists}
-use Rattle.np_nodes.specs.declared.op.Op.{Op}
-use Rattle.np_nodes.specs.declared.op.OpDone.{OpDone}
-use Rattle.np_nodes.specs.declared.refusal.TreeRefusal.{TreeRefusal}
-use Rattle.np_nodes.specs.declared.refusal.MultiFault.TheVariants.{NoMemory}
+use Rattle.np_tree_nodes.specs.Undo.{KeepsStart}
+use Rattle.np_tree_nodes.specs.declared.lists.NodeLists.{NodeLists}
+use Rattle.np_tree_nodes.specs.declared.op.Op.{Op}
+use Rattle.np_tree_nodes.specs.declared.op.OpDone.{OpDone}
+use Rattle.np_tree_nodes.specs.declared.refusal.TreeRefusal.{TreeRefusal}
+use Rattle.np_tree_nodes.specs.declared.refusal.MultiFault.TheVariants.{NoMemory}
 use Rattle.np_tree.specs.Inners.{state_of}
 use Rattle.np_tree.specs.Whole.{IsPart}
 use Rattle.np_tree.specs.declared.inner.Inner.{Inner}

@@ -1,16 +1,16 @@
 -- what an accepted operation implies about the tree
 use Rattle.std.proofs.Common.{◌≡◌, ℕ, ◌<◌, ◌≤◌, true, not, ◌||◌, List, length, Some, Result, Ok, refl, subst}
 use Rattle.std.specs.Prelude.{nat_le, nat_lt}
-use Rattle.np_nodes.specs.Prelude.{MakesName, TreeState, at_path, child_answer, children_of, is_at, is_none, is_path, made_path, need, parent_of, ◌>>◌}
+use Rattle.np_tree_nodes.specs.Prelude.{MakesName, TreeState, at_path, child_answer, children_of, is_at, is_none, is_path, made_path, need, parent_of, ◌>>◌}
 use Rattle.std.proofs.lemmas.Bool.{leb-true, ltb-true}
 use Rattle.np_lists.proofs.RefusalLemmas.{found-ok, need-ok}
-use Rattle.np_nodes.specs.Tests.{fits, is_sequential, unspent}
-use Rattle.np_nodes.specs.declared.node.Node.{Node}
-use Rattle.np_nodes.specs.declared.kind.Mode.{Mode}
-use Rattle.np_nodes.specs.declared.refusal.TreeRefusal.{TreeRefusal}
-use Rattle.np_nodes.specs.declared.refusal.TreeRefusal.TheVariants as no
-use Rattle.np_nodes.proofs.MadePathLemmas.{IsMade-made_path}
-use Rattle.np_nodes.proofs.PlaceLemmas.{bytes_eq-is}
+use Rattle.np_tree_nodes.specs.Tests.{fits, is_sequential, unspent}
+use Rattle.np_tree_nodes.specs.declared.node.Node.{Node}
+use Rattle.np_tree_nodes.specs.declared.kind.Mode.{Mode}
+use Rattle.np_tree_nodes.specs.declared.refusal.TreeRefusal.{TreeRefusal}
+use Rattle.np_tree_nodes.specs.declared.refusal.TreeRefusal.TheVariants as no
+use Rattle.np_tree_nodes.proofs.MadePathLemmas.{IsMade-made_path}
+use Rattle.np_tree_nodes.proofs.PlaceLemmas.{bytes_eq-is}
 
 ok-same : {A : Type 0} (r s : Result A TreeRefusal) (x y : A) → r ≡ Ok x → s ≡ Ok y → r ≡ s → x ≡ y
 ok-same r s x y first second same = cc

@@ -1,25 +1,25 @@
 -- what each accepted part changes of what a tree shows
 use Rattle.std.proofs.Common.{◌≡◌, ℕ, ◌+◌, Bool, true, false, not, cond, List, [], ◌∷◌, ◌++◌, append-nil, map, Option, Some, None, Result, Ok, refl, sym, ap, ◌∙◌, subst}
 use Rattle.std.specs.Prelude.{filter, nat_lt}
-use Rattle.np_nodes.specs.Prelude.{AllByRecursion, AllPaths, IsSorted, MakesName, Rises, TreeState, at_path, below, change_node, child_answer, children_of, create_answer, found, insert_node, is_at, is_child, is_in, is_owned, is_owner, is_parent, is_path, made_path, name_of, need, option_map, parent_of, path_before, set_answer, ten_digits_of, without_node, ◌>>=◌, ◌>>◌}
+use Rattle.np_tree_nodes.specs.Prelude.{AllByRecursion, AllPaths, IsSorted, MakesName, Rises, TreeState, at_path, below, change_node, child_answer, children_of, create_answer, found, insert_node, is_at, is_child, is_in, is_owned, is_owner, is_parent, is_path, made_path, name_of, need, option_map, parent_of, path_before, set_answer, ten_digits_of, without_node, ◌>>=◌, ◌>>◌}
 use Rattle.np_lists.proofs.Each.{all-find, all-weaker}
 use Rattle.np_lists.proofs.FilterLemmas.{filter-nothing}
 use Rattle.np_lists.proofs.FoundLemmas.{find-insert_before, find-map, find-passes, found-change_first}
 use Rattle.np_lists.proofs.Halves.{none-find}
 use Rattle.np_lists.proofs.RefusalLemmas.{found-ok, need-ok}
 use Rattle.np_path.proofs.PathLaws.{IsChild-of}
-use Rattle.np_nodes.specs.After.{after_create_under, after_delete, after_loss, after_removal, after_set, new_node, next_change, nodes_after_end, where_found, with_bytes, with_child, with_new_child, without_child, without_child_above}
-use Rattle.np_nodes.specs.Calls.{is_below, with_counter}
-use Rattle.np_nodes.specs.Tests.{fits, has_version, is_sequential, there, unspent}
-use Rattle.np_nodes.specs.declared.kind.Expect.{Expect}
-use Rattle.np_nodes.specs.declared.kind.Mode.{Mode}
-use Rattle.np_nodes.specs.declared.node.Node.{Node}
-use Rattle.np_nodes.specs.declared.refusal.TreeRefusal.{TreeRefusal}
-use Rattle.np_nodes.specs.declared.refusal.TreeRefusal.TheVariants as no
-use Rattle.np_nodes.proofs.MadePathLemmas.{IsMade-made_path, MakesName-child}
-use Rattle.np_nodes.proofs.OrderLemmas.{parent-first, path_before-itself}
-use Rattle.np_nodes.proofs.PathsLemmas.{AllPaths-change_node, IsSorted-change_node, KeepsPath, at_path-change_here, at_path-change_other, at_path-paths-none, paths_of-change_node}
-use Rattle.np_nodes.proofs.PlaceLemmas.{bytes_eq-from, bytes_eq-is}
+use Rattle.np_tree_nodes.specs.After.{after_create_under, after_delete, after_loss, after_removal, after_set, new_node, next_change, nodes_after_end, where_found, with_bytes, with_child, with_new_child, without_child, without_child_above}
+use Rattle.np_tree_nodes.specs.Calls.{is_below, with_counter}
+use Rattle.np_tree_nodes.specs.Tests.{fits, has_version, is_sequential, there, unspent}
+use Rattle.np_tree_nodes.specs.declared.kind.Expect.{Expect}
+use Rattle.np_tree_nodes.specs.declared.kind.Mode.{Mode}
+use Rattle.np_tree_nodes.specs.declared.node.Node.{Node}
+use Rattle.np_tree_nodes.specs.declared.refusal.TreeRefusal.{TreeRefusal}
+use Rattle.np_tree_nodes.specs.declared.refusal.TreeRefusal.TheVariants as no
+use Rattle.np_tree_nodes.proofs.MadePathLemmas.{IsMade-made_path, MakesName-child}
+use Rattle.np_tree_nodes.proofs.OrderLemmas.{parent-first, path_before-itself}
+use Rattle.np_tree_nodes.proofs.PathsLemmas.{AllPaths-change_node, IsSorted-change_node, KeepsPath, at_path-change_here, at_path-change_other, at_path-paths-none, paths_of-change_node}
+use Rattle.np_tree_nodes.proofs.PlaceLemmas.{bytes_eq-from, bytes_eq-is}
 use Rattle.np_tree.specs.Read.{counter_at}
 use Rattle.np_tree.specs.Sorted.{named_before}
 use Rattle.np_tree.specs.Whole.{HasParent, IsWhole, Stand}

@@ -1,24 +1,24 @@
 -- no node has more children than its stat can count
 use Rattle.std.proofs.Common.{◌≡◌, ℕ, ◌<◌, true, not, List, [], length, Option, Some, None, Ok, refl, sym, subst}
 use Rattle.std.specs.Prelude.{filter}
-use Rattle.np_nodes.specs.Prelude.{MakesName, TreeState, after_create_under, after_loss, after_part, at_path, change_node, child_answer, children_of, create_answer, create_under_answer, found, is_at, is_in, is_owned, is_path, made_path, name_of, new_node, new_tree, next_change, nodes_after_end, parent_of, part_answer, where_found, with_bytes, with_child, with_new_child, without_child_above, ◌>>=◌}
+use Rattle.np_tree_nodes.specs.Prelude.{MakesName, TreeState, after_create_under, after_loss, after_part, at_path, change_node, child_answer, children_of, create_answer, create_under_answer, found, is_at, is_in, is_owned, is_path, made_path, name_of, new_node, new_tree, next_change, nodes_after_end, parent_of, part_answer, where_found, with_bytes, with_child, with_new_child, without_child_above, ◌>>=◌}
 use Rattle.np_lists.proofs.Each.{all-find}
 use Rattle.np_lists.proofs.FoundLemmas.{find-passes}
 use Rattle.np_lists.proofs.RefusalLemmas.{bind-ok, need-ok}
-use Rattle.np_nodes.specs.Kept.{HasRoom}
-use Rattle.np_nodes.specs.Order.{place_of}
-use Rattle.np_nodes.specs.declared.kind.Mode.{Mode}
-use Rattle.np_nodes.specs.declared.node.Node.{Node}
-use Rattle.np_nodes.specs.declared.op.Op.{Op}
-use Rattle.np_nodes.specs.declared.op.Op.TheVariants as op
-use Rattle.np_nodes.specs.declared.op.OpDone.{OpDone}
-use Rattle.np_nodes.specs.declared.op.OpDone.TheVariants as done
-use Rattle.np_nodes.specs.declared.refusal.TreeRefusal.TheVariants as no
-use Rattle.np_nodes.proofs.KeptLemmas.{HasRoom-filter, HasRoom-insert, IsKept-root}
-use Rattle.np_nodes.proofs.MadePathLemmas.{MakesName-child}
-use Rattle.np_nodes.proofs.PathsLemmas.{AllPaths-change_node, IsSorted-change_node, KeepsPath, at_path-paths-none, length-children-paths, paths_of-change_node, paths_of-map}
-use Rattle.np_nodes.proofs.PlaceLemmas.{insert_node-at}
-use Rattle.np_nodes.proofs.PlanLemmas.{HasRoom-paths, paths_of-without_child_above}
+use Rattle.np_tree_nodes.specs.Kept.{HasRoom}
+use Rattle.np_tree_nodes.specs.Order.{place_of}
+use Rattle.np_tree_nodes.specs.declared.kind.Mode.{Mode}
+use Rattle.np_tree_nodes.specs.declared.node.Node.{Node}
+use Rattle.np_tree_nodes.specs.declared.op.Op.{Op}
+use Rattle.np_tree_nodes.specs.declared.op.Op.TheVariants as op
+use Rattle.np_tree_nodes.specs.declared.op.OpDone.{OpDone}
+use Rattle.np_tree_nodes.specs.declared.op.OpDone.TheVariants as done
+use Rattle.np_tree_nodes.specs.declared.refusal.TreeRefusal.TheVariants as no
+use Rattle.np_tree_nodes.proofs.KeptLemmas.{HasRoom-filter, HasRoom-insert, IsKept-root}
+use Rattle.np_tree_nodes.proofs.MadePathLemmas.{MakesName-child}
+use Rattle.np_tree_nodes.proofs.PathsLemmas.{AllPaths-change_node, IsSorted-change_node, KeepsPath, at_path-paths-none, length-children-paths, paths_of-change_node, paths_of-map}
+use Rattle.np_tree_nodes.proofs.PlaceLemmas.{insert_node-at}
+use Rattle.np_tree_nodes.proofs.PlanLemmas.{HasRoom-paths, paths_of-without_child_above}
 use Rattle.np_tree.specs.Whole.{IsPart, IsWhole}
 use Rattle.np_tree.proofs.PassedLemmas.{IsChildPath-above, child_answer-passed}
 use Rattle.np_tree.proofs.WholeLemmas.{empty-makes}

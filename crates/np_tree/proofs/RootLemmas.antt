@@ -1,19 +1,19 @@
 -- there is a root, and no session owns it
 use Rattle.std.proofs.Common.{◌≡◌, ℕ, Bool, true, false, not, List, [], Option, Some, None, Ok, refl, sym, ap, ◌∙◌, subst}
 use Rattle.std.specs.Prelude.{filter}
-use Rattle.np_nodes.specs.Prelude.{TreeState, after_create_under, after_loss, after_part, at_path, change_node, child_answer, create_answer, create_under_answer, delete_answer, found, insert_node, is_at, is_in, is_none, is_owned, is_owner, made_path, name_of, new_node, new_tree, next_change, nodes_after_end, option_map, parent_of, part_answer, path_before, root, root_node, where_found, with_bytes, with_child, with_new_child, without_child, without_child_above, without_node, ◌>>=◌}
+use Rattle.np_tree_nodes.specs.Prelude.{TreeState, after_create_under, after_loss, after_part, at_path, change_node, child_answer, create_answer, create_under_answer, delete_answer, found, insert_node, is_at, is_in, is_none, is_owned, is_owner, made_path, name_of, new_node, new_tree, next_change, nodes_after_end, option_map, parent_of, part_answer, path_before, root, root_node, where_found, with_bytes, with_child, with_new_child, without_child, without_child_above, without_node, ◌>>=◌}
 use Rattle.std.specs.Str.{bytes_eq}
 use Rattle.np_lists.proofs.FoundLemmas.{find-filter, find-insert_before, find-map, find-passes}
 use Rattle.np_lists.proofs.RefusalLemmas.{bind-ok, need-ok, then-ok}
-use Rattle.np_nodes.specs.declared.node.Node.{Node}
-use Rattle.np_nodes.specs.declared.kind.Mode.{Mode}
-use Rattle.np_nodes.specs.declared.op.Op.{Op}
-use Rattle.np_nodes.specs.declared.op.Op.TheVariants as op
-use Rattle.np_nodes.specs.declared.op.OpDone.{OpDone}
-use Rattle.np_nodes.specs.declared.op.OpDone.TheVariants as done
-use Rattle.np_nodes.specs.declared.refusal.TreeRefusal.TheVariants as no
-use Rattle.np_nodes.proofs.PathsLemmas.{KeepsOwner, KeepsPath, at_path-change_here, at_path-change_other}
-use Rattle.np_nodes.proofs.PlaceLemmas.{bytes_eq-from, bytes_eq-is}
+use Rattle.np_tree_nodes.specs.declared.node.Node.{Node}
+use Rattle.np_tree_nodes.specs.declared.kind.Mode.{Mode}
+use Rattle.np_tree_nodes.specs.declared.op.Op.{Op}
+use Rattle.np_tree_nodes.specs.declared.op.Op.TheVariants as op
+use Rattle.np_tree_nodes.specs.declared.op.OpDone.{OpDone}
+use Rattle.np_tree_nodes.specs.declared.op.OpDone.TheVariants as done
+use Rattle.np_tree_nodes.specs.declared.refusal.TreeRefusal.TheVariants as no
+use Rattle.np_tree_nodes.proofs.PathsLemmas.{KeepsOwner, KeepsPath, at_path-change_here, at_path-change_other}
+use Rattle.np_tree_nodes.proofs.PlaceLemmas.{bytes_eq-from, bytes_eq-is}
 use Rattle.np_tree.specs.Whole.{HasRoot}
 use Rattle.np_tree.proofs.DeleteLemmas.{delete_answer-passed}
 use Rattle.np_tree.proofs.PassedLemmas.{child_answer-passed}

@@ -1,12 +1,12 @@
 -- the rows of a directory after a change of the nodes
 use Rattle.std.proofs.Common.{◌≡◌, ℕ, Bool, true, false, not, cond, List, [], ◌∷◌, map, Some, refl, sym, ap, ◌∙◌}
 use Rattle.std.specs.Prelude.{filter}
-use Rattle.np_nodes.specs.Prelude.{AllByRecursion, change_first, change_node, insert_node, is_at, is_child, is_owned, is_parent, is_path, name_of, parent_of, path_before, without_node}
+use Rattle.np_tree_nodes.specs.Prelude.{AllByRecursion, change_first, change_node, insert_node, is_at, is_child, is_owned, is_parent, is_path, name_of, parent_of, path_before, without_node}
 use Rattle.np_lists.proofs.Each.{all-weaker}
-use Rattle.np_nodes.specs.Order.{AllPaths, IsSorted, node_before}
-use Rattle.np_nodes.specs.declared.node.Node.{Node}
-use Rattle.np_nodes.proofs.OrderLemmas.{path_before-trans}
-use Rattle.np_nodes.proofs.PathsLemmas.{KeepsPath}
+use Rattle.np_tree_nodes.specs.Order.{AllPaths, IsSorted, node_before}
+use Rattle.np_tree_nodes.specs.declared.node.Node.{Node}
+use Rattle.np_tree_nodes.proofs.OrderLemmas.{path_before-trans}
+use Rattle.np_tree_nodes.proofs.PathsLemmas.{KeepsPath}
 use Rattle.np_tree.specs.Views.{Row, is_named, row_before, row_of, with_row}
 use Rattle.np_tree.specs.Relations.{is_kept}
 use Rattle.np_tree.proofs.SiblingLemmas.{at-child, at-other, named-at, siblings-order}

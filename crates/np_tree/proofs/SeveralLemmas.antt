@@ -1,11 +1,11 @@
 -- several parts in one call
 use Rattle.std.proofs.Common.{◌≡◌, ℕ, ◌+◌, List, [], ◌∷◌, Some, Result, Ok, Err, refl, sym, ap, ◌∙◌, subst}
 use Rattle.std.specs.Prelude.{IsOk}
-use Rattle.np_nodes.specs.Prelude.{AtPart, TreeState, after_part, and_then, answers_from, name_of, parent_of, part_answer, with_next_number}
+use Rattle.np_tree_nodes.specs.Prelude.{AtPart, TreeState, after_part, and_then, answers_from, name_of, parent_of, part_answer, with_next_number}
 use Rattle.np_path.proofs.PathLaws.{HasParts-below}
-use Rattle.np_nodes.specs.declared.op.OpDone.{OpDone}
-use Rattle.np_nodes.specs.declared.refusal.MultiFault.TheVariants.{NoMemory, Refused}
-use Rattle.np_nodes.specs.declared.refusal.TreeRefusal.{TreeRefusal}
+use Rattle.np_tree_nodes.specs.declared.op.OpDone.{OpDone}
+use Rattle.np_tree_nodes.specs.declared.refusal.MultiFault.TheVariants.{NoMemory, Refused}
+use Rattle.np_tree_nodes.specs.declared.refusal.TreeRefusal.{TreeRefusal}
 use Rattle.np_tree.proofs.MultiLemmas.{after_parts-checks}
 use Rattle.np_tree.proofs.PartsLemmas.{after_multi-change, after_multi-checks}
 use Rattle.np_tree.proofs.WholeLemmas.{and_then-ok}

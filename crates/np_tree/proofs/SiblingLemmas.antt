@@ -4,13 +4,13 @@ use Rattle.std.specs.Ordering.{nat_cmp, is_lt, ordering_then}
 use Rattle.std.specs.Cmp.Lexicographic.{slice_cmp}
 use Rattle.std.specs.Str.{bytes_eq}
 use Rattle.std.proofs.lemmas.Cmp.{nat_list_cmp_total, tied_itself}
-use Rattle.np_nodes.specs.Prelude.{below, is_path, name_of, parent_of}
+use Rattle.np_tree_nodes.specs.Prelude.{below, is_path, name_of, parent_of}
 use Rattle.np_path.proofs.PathLaws.{IsChild-of}
-use Rattle.np_nodes.specs.Nodes.{before_of, is_at, is_child, is_parent, path_before}
-use Rattle.np_nodes.specs.declared.node.Node.{Node}
-use Rattle.np_nodes.proofs.ChildLemmas.{IsKey, child-half, half-not_root}
-use Rattle.np_nodes.proofs.OrderLemmas.{parent-half}
-use Rattle.np_nodes.proofs.PlaceLemmas.{bytes_eq-from, bytes_eq-is}
+use Rattle.np_tree_nodes.specs.Nodes.{before_of, is_at, is_child, is_parent, path_before}
+use Rattle.np_tree_nodes.specs.declared.node.Node.{Node}
+use Rattle.np_tree_nodes.proofs.ChildLemmas.{IsKey, child-half, half-not_root}
+use Rattle.np_tree_nodes.proofs.OrderLemmas.{parent-half}
+use Rattle.np_tree_nodes.proofs.PlaceLemmas.{bytes_eq-from, bytes_eq-is}
 use Rattle.np_tree.specs.Views.{Row, is_named, name_before, row_before, row_of}
 use Rattle.np_lists.proofs.Plain.{bytes_eq-apart}
 

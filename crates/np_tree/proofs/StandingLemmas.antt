@@ -1,14 +1,14 @@
 -- each node except the root is below a node that no session owns
 use Rattle.std.proofs.Common.{◌≡◌, ℕ, Bool, true, false, not, cond, List, [], ◌∷◌, length, Option, Some, None, refl, sym, ap, ◌∙◌, subst, arith}
 use Rattle.std.specs.Prelude.{filter}
-use Rattle.np_nodes.specs.Prelude.{AllByRecursion, after_loss, at_path, change_node, children_of, insert_node, is_at, is_child, is_owned, is_owner, is_parent, new_tree, nodes_after_end, option_map, parent_of, path_before, without_node}
+use Rattle.np_tree_nodes.specs.Prelude.{AllByRecursion, after_loss, at_path, change_node, children_of, insert_node, is_at, is_child, is_owned, is_owner, is_parent, new_tree, nodes_after_end, option_map, parent_of, path_before, without_node}
 use Rattle.std.specs.Str.{bytes_eq}
 use Rattle.np_lists.proofs.Each.{all-change_first, all-filter, all-insert_before, all-mapped, all-weaker}
 use Rattle.np_lists.proofs.FilterLemmas.{filter-nothing}
 use Rattle.np_lists.proofs.FoundLemmas.{find-filter, find-insert_before, find-map, find-passes}
-use Rattle.np_nodes.specs.declared.node.Node.{Node}
-use Rattle.np_nodes.proofs.PathsLemmas.{KeepsOwner, KeepsPath, at_path-change_here, at_path-change_other}
-use Rattle.np_nodes.proofs.PlaceLemmas.{bytes_eq-from, bytes_eq-is}
+use Rattle.np_tree_nodes.specs.declared.node.Node.{Node}
+use Rattle.np_tree_nodes.proofs.PathsLemmas.{KeepsOwner, KeepsPath, at_path-change_here, at_path-change_other}
+use Rattle.np_tree_nodes.proofs.PlaceLemmas.{bytes_eq-from, bytes_eq-is}
 use Rattle.np_tree.specs.Whole.{AllStand, HasParent, Stand}
 use Rattle.np_lists.proofs.Plain.{bytes_eq-apart}
 

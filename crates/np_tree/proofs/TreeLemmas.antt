@@ -1,17 +1,17 @@
 -- what is always true of a tree, after each call
 use Rattle.std.proofs.Common.{◌≡◌, ℕ, ◌+◌, ◌≤◌, Bool, true, false, not, ◌||◌, cond, List, [], ◌∷◌, ◌++◌, Option, Some, None, Ok, refl, sym, ap, ◌∙◌, subst, lit≤, arith}
 use Rattle.std.specs.Prelude.{◌==◌, filter, min}
-use Rattle.np_nodes.specs.Prelude.{AllByRecursion, TreeState, after_begin, after_create_under, after_loss, after_part, after_parts, answers_from, at_path, change_node, is_at, is_check, is_in, is_owned, is_owner, list_any, made_path, name_of, new_node, new_tree, next_change, parent_of, part_answer, path_before, where_found, with_bytes, with_child, with_counter, with_new_child, with_next_number, without, without_child, without_child_above}
+use Rattle.np_tree_nodes.specs.Prelude.{AllByRecursion, TreeState, after_begin, after_create_under, after_loss, after_part, after_parts, answers_from, at_path, change_node, is_at, is_check, is_in, is_owned, is_owner, list_any, made_path, name_of, new_node, new_tree, next_change, parent_of, part_answer, path_before, where_found, with_bytes, with_child, with_counter, with_new_child, with_next_number, without, without_child, without_child_above}
 use Rattle.std.proofs.lemmas.Bool.{eq-eqb, eqb-true, false_from_ne_true, or_left}
 use Rattle.std.proofs.lemmas.List.Folds.{list_any-append}
 use Rattle.np_lists.proofs.Each.{all-change_first, all-filter, all-filter_to, all-insert_before, all-mapped, all-weaker}
-use Rattle.np_nodes.specs.Kept.{HasRoom}
-use Rattle.np_nodes.specs.Tests.{is_ephemeral}
-use Rattle.np_nodes.specs.declared.kind.Mode.{Mode}
-use Rattle.np_nodes.specs.declared.node.Node.{Node}
-use Rattle.np_nodes.specs.declared.op.Op.{Op}
-use Rattle.np_nodes.specs.declared.op.Op.TheVariants as op
-use Rattle.np_nodes.specs.declared.op.OpDone.{OpDone}
+use Rattle.np_tree_nodes.specs.Kept.{HasRoom}
+use Rattle.np_tree_nodes.specs.Tests.{is_ephemeral}
+use Rattle.np_tree_nodes.specs.declared.kind.Mode.{Mode}
+use Rattle.np_tree_nodes.specs.declared.node.Node.{Node}
+use Rattle.np_tree_nodes.specs.declared.op.Op.{Op}
+use Rattle.np_tree_nodes.specs.declared.op.Op.TheVariants as op
+use Rattle.np_tree_nodes.specs.declared.op.OpDone.{OpDone}
 use Rattle.np_tree.specs.Whole.{BeginsKeepTree, CallsKeepTree, EndsKeepTree, IsDated, IsPart, IsTree, IsTreeUpTo, IsWhole, OwnerLives, PartsKeepTree, RaisesKeepTree}
 use Rattle.np_tree.proofs.MultiLemmas.{after_part-nodes, after_parts-nodes, with_nodes}
 use Rattle.np_tree.proofs.RoomLemmas.{HasRoom-after_end, HasRoom-after_part, HasRoom-change_node, HasRoom-new_tree}

@@ -1,15 +1,15 @@
 -- room for a given number of parts
 use Rattle.std.proofs.Common.{◌≡◌, ℕ, ◌+◌, ◌<◌, ◌≤◌, Bool, true, false, not, cond, List, [], ◌∷◌, length, map, Option, Some, None, refl, sym, ◌∙◌, subst, arith}
 use Rattle.std.specs.Prelude.{filter}
-use Rattle.np_nodes.specs.Prelude.{AllByRecursion, TreeState, after_create_under, after_part, at_path, change_node, children_of, insert_node, is_at, is_child, is_sequential, made_path, name_of, new_node, next_change, option_map, parent_of, path_before, where_found, with_bytes, with_child, with_new_child, without_child, without_child_above, without_node}
+use Rattle.np_tree_nodes.specs.Prelude.{AllByRecursion, TreeState, after_create_under, after_part, at_path, change_node, children_of, insert_node, is_at, is_child, is_sequential, made_path, name_of, new_node, next_change, option_map, parent_of, path_before, where_found, with_bytes, with_child, with_new_child, without_child, without_child_above, without_node}
 use Rattle.std.proofs.lemmas.List.{length-map}
 use Rattle.np_lists.proofs.Each.{all-change_first_to, all-filter, all-find, all-insert_before, all-weaker}
 use Rattle.np_lists.proofs.FilterLemmas.{length-filter-filter}
-use Rattle.np_nodes.specs.declared.kind.Mode.{Mode}
-use Rattle.np_nodes.specs.declared.node.Node.{Node}
-use Rattle.np_nodes.specs.declared.op.Op.{Op}
-use Rattle.np_nodes.specs.declared.op.Op.TheVariants as op
-use Rattle.np_nodes.proofs.PathsLemmas.{KeepsPath, length-children-paths, paths_of-change_node}
+use Rattle.np_tree_nodes.specs.declared.kind.Mode.{Mode}
+use Rattle.np_tree_nodes.specs.declared.node.Node.{Node}
+use Rattle.np_tree_nodes.specs.declared.op.Op.{Op}
+use Rattle.np_tree_nodes.specs.declared.op.Op.TheVariants as op
+use Rattle.np_tree_nodes.proofs.PathsLemmas.{KeepsPath, length-children-paths, paths_of-change_node}
 use Rattle.np_tree.specs.Several.{RoomFalls, RoomGives}
 use Rattle.np_tree.specs.Views.{row_of}
 use Rattle.np_tree.proofs.RelationLemmas.{parts-change_nodes_alone}

@@ -1,23 +1,23 @@
 -- each accepted operation, and each session's end, leaves a whole tree
 use Rattle.std.proofs.Common.{◌≡◌, ℕ, ◌+◌, Bool, not, cond, true, false, List, [], ◌∷◌, length, Option, Some, None, Result, Ok, Err, refl, sym, ◌∙◌, subst}
 use Rattle.std.specs.Prelude.{filter}
-use Rattle.np_nodes.specs.Prelude.{AllByRecursion, AllPaths, AtPart, IsSorted, MakesName, TreeState, after_parts, and_then, answers_from, at_path, change_node, child_answer, children_of, create_answer, create_under_answer, delete_answer, found, is_at, is_check, is_in, is_owned, is_path, is_sequential, list_any, made_path, name_of, new_tree, parent_of, part_answer, with_counter, ◌>>=◌}
+use Rattle.np_tree_nodes.specs.Prelude.{AllByRecursion, AllPaths, AtPart, IsSorted, MakesName, TreeState, after_parts, and_then, answers_from, at_path, change_node, child_answer, children_of, create_answer, create_under_answer, delete_answer, found, is_at, is_check, is_in, is_owned, is_path, is_sequential, list_any, made_path, name_of, new_tree, parent_of, part_answer, with_counter, ◌>>=◌}
 use Rattle.np_lists.proofs.Each.{all-find}
 use Rattle.np_lists.proofs.FoundLemmas.{find-passes}
 use Rattle.np_lists.proofs.RefusalLemmas.{bind-ok, need-ok, then-ok}
-use Rattle.np_nodes.specs.After.{after_create_under, after_loss, after_part, after_removal, new_node, next_change, nodes_after_end, where_found, with_bytes, with_child, with_new_child, with_next_number, without_child, without_child_above}
-use Rattle.np_nodes.specs.declared.node.Node.{Node}
-use Rattle.np_nodes.specs.declared.kind.Mode.{Mode}
-use Rattle.np_nodes.specs.declared.op.Op.{Op}
-use Rattle.np_nodes.specs.declared.op.Op.TheVariants as op
-use Rattle.np_nodes.specs.declared.op.OpDone.{OpDone}
-use Rattle.np_nodes.specs.declared.op.OpDone.TheVariants as done
-use Rattle.np_nodes.specs.declared.refusal.TreeRefusal.{TreeRefusal}
-use Rattle.np_nodes.specs.declared.refusal.TreeRefusal.TheVariants as no
-use Rattle.np_nodes.proofs.MadePathLemmas.{MakesName-child}
-use Rattle.np_nodes.proofs.PathsLemmas.{AllPaths-change_node, AllPaths-map, IsSorted-change_node, IsSorted-map, KeepsOwner, KeepsPath, length-children-paths, at_path-change_here, at_path-paths-none, paths_of-change_node}
-use Rattle.np_nodes.proofs.PlaceLemmas.{AllPaths-filter, AllPaths-insert_node, AllPaths-without_node, IsSorted-filter, IsSorted-insert_node, IsSorted-without_node}
-use Rattle.np_nodes.proofs.PlanLemmas.{paths_of-without_child_above}
+use Rattle.np_tree_nodes.specs.After.{after_create_under, after_loss, after_part, after_removal, new_node, next_change, nodes_after_end, where_found, with_bytes, with_child, with_new_child, with_next_number, without_child, without_child_above}
+use Rattle.np_tree_nodes.specs.declared.node.Node.{Node}
+use Rattle.np_tree_nodes.specs.declared.kind.Mode.{Mode}
+use Rattle.np_tree_nodes.specs.declared.op.Op.{Op}
+use Rattle.np_tree_nodes.specs.declared.op.Op.TheVariants as op
+use Rattle.np_tree_nodes.specs.declared.op.OpDone.{OpDone}
+use Rattle.np_tree_nodes.specs.declared.op.OpDone.TheVariants as done
+use Rattle.np_tree_nodes.specs.declared.refusal.TreeRefusal.{TreeRefusal}
+use Rattle.np_tree_nodes.specs.declared.refusal.TreeRefusal.TheVariants as no
+use Rattle.np_tree_nodes.proofs.MadePathLemmas.{MakesName-child}
+use Rattle.np_tree_nodes.proofs.PathsLemmas.{AllPaths-change_node, AllPaths-map, IsSorted-change_node, IsSorted-map, KeepsOwner, KeepsPath, length-children-paths, at_path-change_here, at_path-paths-none, paths_of-change_node}
+use Rattle.np_tree_nodes.proofs.PlaceLemmas.{AllPaths-filter, AllPaths-insert_node, AllPaths-without_node, IsSorted-filter, IsSorted-insert_node, IsSorted-without_node}
+use Rattle.np_tree_nodes.proofs.PlanLemmas.{paths_of-without_child_above}
 use Rattle.np_tree.specs.Whole.{CallsKeepWhole, HasParent, IsPart, IsWhole, RaisesKeepWhole, Stand}
 use Rattle.np_tree.proofs.DeleteLemmas.{delete_answer-passed}
 use Rattle.np_tree.proofs.PassedLemmas.{IsChildPath-above, child_answer-passed}

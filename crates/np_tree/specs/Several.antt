@@ -1,12 +1,12 @@
 -- several parts in one call
 use Rattle.std.specs.Prelude.{◌≡◌, ◌<◌, ◌≤◌, ℕ, ◌+◌, true, false, not, List, [], ◌∷◌, ◌++◌, length, map, Some, Ok, IsOk, Option, None}
-use Rattle.np_nodes.specs.Prelude.{AllByRecursion, Stops, TreeState, after_multi, after_part, after_parts, answers_from, below, is_check, is_element, is_in, is_path, list_any, parent_of, part_answer, with_next_number}
-use Rattle.np_nodes.specs.declared.kind.Expect.TheVariants.{Any}
-use Rattle.np_nodes.specs.declared.op.Op.{Op}
-use Rattle.np_nodes.specs.declared.op.Op.TheVariants as op
-use Rattle.np_nodes.specs.declared.op.OpDone.{OpDone}
-use Rattle.np_nodes.specs.declared.refusal.MultiFault.{MultiFault}
-use Rattle.np_nodes.specs.declared.refusal.MultiFault.TheVariants.{NoMemory}
+use Rattle.np_tree_nodes.specs.Prelude.{AllByRecursion, Stops, TreeState, after_multi, after_part, after_parts, answers_from, below, is_check, is_element, is_in, is_path, list_any, parent_of, part_answer, with_next_number}
+use Rattle.np_tree_nodes.specs.declared.kind.Expect.TheVariants.{Any}
+use Rattle.np_tree_nodes.specs.declared.op.Op.{Op}
+use Rattle.np_tree_nodes.specs.declared.op.Op.TheVariants as op
+use Rattle.np_tree_nodes.specs.declared.op.OpDone.{OpDone}
+use Rattle.np_tree_nodes.specs.declared.refusal.MultiFault.{MultiFault}
+use Rattle.np_tree_nodes.specs.declared.refusal.MultiFault.TheVariants.{NoMemory}
 use Rattle.np_tree.specs.Read.{counter_at}
 use Rattle.np_tree.specs.Whole.{IsPart, IsWhole}
 use Rattle.np_tree.specs.Goes.{version_at}

@@ -1,15 +1,15 @@
 -- worked calls on closed trees, and their answers
 use Rattle.std.specs.Prelude.{ℕ, List, [], ◌∷◌, codes, Result, Ok, Err, if◌then◌else◌}
 use Rattle.std.specs.Result.{is_ok}
-use Rattle.np_nodes.specs.Prelude.{AtPart, TreeState, after_end, after_part, after_raise, new_tree, part_answer, with_next_number}
-use Rattle.np_nodes.specs.declared.op.Op.{Op}
-use Rattle.np_nodes.specs.declared.op.Op.TheVariants as op
-use Rattle.np_nodes.specs.declared.op.OpDone.{OpDone}
-use Rattle.np_nodes.specs.declared.op.OpDone.TheVariants as done
-use Rattle.np_nodes.specs.declared.kind.Mode.TheVariants.{Persistent, Ephemeral, PersistentSequential}
-use Rattle.np_nodes.specs.declared.kind.Expect.TheVariants.{Any, Exactly}
-use Rattle.np_nodes.specs.declared.refusal.TreeRefusal.{TreeRefusal}
-use Rattle.np_nodes.specs.declared.refusal.TreeRefusal.TheVariants as no
+use Rattle.np_tree_nodes.specs.Prelude.{AtPart, TreeState, after_end, after_part, after_raise, new_tree, part_answer, with_next_number}
+use Rattle.np_tree_nodes.specs.declared.op.Op.{Op}
+use Rattle.np_tree_nodes.specs.declared.op.Op.TheVariants as op
+use Rattle.np_tree_nodes.specs.declared.op.OpDone.{OpDone}
+use Rattle.np_tree_nodes.specs.declared.op.OpDone.TheVariants as done
+use Rattle.np_tree_nodes.specs.declared.kind.Mode.TheVariants.{Persistent, Ephemeral, PersistentSequential}
+use Rattle.np_tree_nodes.specs.declared.kind.Expect.TheVariants.{Any, Exactly}
+use Rattle.np_tree_nodes.specs.declared.refusal.TreeRefusal.{TreeRefusal}
+use Rattle.np_tree_nodes.specs.declared.refusal.TreeRefusal.TheVariants as no
 
 -- a call that is accepted takes a change number
 abbrev pub after_call : TreeState → ℕ → Op → TreeState

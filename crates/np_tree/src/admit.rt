@@ -1,14 +1,14 @@
 //! The tests of each call in order, with what they found.
 
 ghost use Rattle.std.specs.Prelude.{◌≡◌, ◌+◌, Ok, Err, true, false, MatchOption, MatchResult};
-ghost use Rattle.np_nodes.specs.Answer.{check_answer, child_answer, delete_answer, made_path, set_answer};
-ghost use Rattle.np_nodes.specs.Prelude.{IsKept, MakesName, may_raise};
-ghost use Rattle.np_nodes.specs.Finds.{IsPlace};
-ghost use Rattle.np_nodes.specs.Plans.{IsSpot};
+ghost use Rattle.np_tree_nodes.specs.Answer.{check_answer, child_answer, delete_answer, made_path, set_answer};
+ghost use Rattle.np_tree_nodes.specs.Prelude.{IsKept, MakesName, may_raise};
+ghost use Rattle.np_tree_nodes.specs.Finds.{IsPlace};
+ghost use Rattle.np_tree_nodes.specs.Plans.{IsSpot};
 ghost use Rattle.np_tree.specs.Inners.{state_of};
 
 use crate::inner::Inner;
-use np_nodes::{Expect, Found, Mode, Spot, TreeRefusal};
+use np_tree_nodes::{Expect, Found, Mode, Spot, TreeRefusal};
 
 /// The most bytes of a node.
 const MOST_BYTES: usize = 65_536;

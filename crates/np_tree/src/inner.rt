@@ -1,15 +1,15 @@
 //! The fields of the tree, and what each call does to them.
 
 ghost use Rattle.std.specs.Prelude.{◌≡◌, ◌<◌, ◌≤◌, ◌+◌, [], true, IfOk, OnOk, OnErr};
-ghost use Rattle.np_nodes.specs.Prelude.{IsKept, MakesName, OnFalse, OnTrue, after_begin, after_create, after_create_under, after_delete, after_end, after_raise, after_set, child_answer, create_answer, create_under_answer, delete_answer, is_in, is_path, is_sequential, may_raise, new_tree, next_change, set_answer, stat_of, with_next_number, with_spare};
+ghost use Rattle.np_tree_nodes.specs.Prelude.{IsKept, MakesName, OnFalse, OnTrue, after_begin, after_create, after_create_under, after_delete, after_end, after_raise, after_set, child_answer, create_answer, create_under_answer, delete_answer, is_in, is_path, is_sequential, may_raise, new_tree, next_change, set_answer, stat_of, with_next_number, with_spare};
 ghost use Rattle.np_session.specs.Begins.{Begins};
-ghost use Rattle.np_nodes.specs.Undo.{KeepsStart};
+ghost use Rattle.np_tree_nodes.specs.Undo.{KeepsStart};
 ghost use Rattle.np_tree.specs.Inners.{Answers, Holds, state_of};
 
-use np_nodes::{Expect, Mode, Node, NodeLists, Stat, TreeFault, TreeRefusal, child_path};
 use np_path::Path;
 use np_session::{SessionFault, Sessions};
 use np_text::NoMemory;
+use np_tree_nodes::{Expect, Mode, Node, NodeLists, Stat, TreeFault, TreeRefusal, child_path};
 use std::alloc::Global;
 
 /// The fields of the tree: its lists, its sessions, and the number of its last change.

@@ -1,6 +1,6 @@
 //! The coordination tree: nodes with bytes, versions, owners and counters, changed by sessions.
 //!
-//! Contracts see a `Tree` as the `TreeState` of np_nodes's `specs/TreeState`. Read its `specs/Nodes`,
+//! Contracts see a `Tree` as the `TreeState` of np_tree_nodes's `specs/TreeState`. Read its `specs/Nodes`,
 //! then its `specs/Answer` and `specs/After` for one call: its tests in their order, and what it leaves;
 //! then its `specs/Multi` and `specs/Calls`, and `specs/Read` here. `specs/Worked` has closed rows. How
 //! the code does it is in `docs/TREE.md`.
@@ -29,7 +29,9 @@ pub use laws::{
     calls_keep_the_nodes_whole, calls_keep_the_tree, ephemerals_have_no_children,
     nodes_stand_in_order, worked_rows,
 };
-pub use np_nodes::{Bytes, Expect, Mode, MultiFault, Op, OpDone, Stat, TreeFault, TreeRefusal};
+pub use np_tree_nodes::{
+    Bytes, Expect, Mode, MultiFault, Op, OpDone, Stat, TreeFault, TreeRefusal,
+};
 pub use tree::Tree;
 pub use views::{
     calls_leave_later_trees, check_goes, clears, create_goes, creates, delete_goes, deletes,

@@ -1,18 +1,18 @@
 //! The tree.
 
 ghost use Rattle.std.specs.Prelude.{◌≡◌, ◌<◌, ◌≤◌, ◌+◌, ℕ, [], true, length, IfOk, MatchResult, OnOk, OnErr};
-ghost use Rattle.np_nodes.specs.Prelude.{OnFalse, OnTrue, Stops, after_begin, after_create, after_create_under, after_delete, after_end, after_multi, after_raise, after_set, answers_from, is_in, is_numbered, is_sequential, list_all, may_raise, new_tree, option_copied, option_map, with_next_number, with_spare};
+ghost use Rattle.np_tree_nodes.specs.Prelude.{OnFalse, OnTrue, Stops, after_begin, after_create, after_create_under, after_delete, after_end, after_multi, after_raise, after_set, answers_from, is_in, is_numbered, is_sequential, list_all, may_raise, new_tree, option_copied, option_map, with_next_number, with_spare};
 ghost use Rattle.np_session.specs.Begins.{Begins};
-ghost use Rattle.np_nodes.specs.Answer.{check_answer, create_answer, create_under_answer, delete_answer, set_answer};
+ghost use Rattle.np_tree_nodes.specs.Answer.{check_answer, create_answer, create_under_answer, delete_answer, set_answer};
 ghost use Rattle.np_tree.specs.Inners.{Answers};
 ghost use Rattle.np_tree.specs.Read.{bytes_at, child_name, counter_at, stat_at, stat_of_child};
 ghost use Rattle.np_tree.specs.Whole.{IsTree};
 
 use crate::inner::Inner;
-use np_nodes::{Expect, Mode, MultiFault, Op, OpDone, Stat, TreeFault, TreeRefusal};
 use np_path::Path;
 use np_session::SessionFault;
 use np_text::NoMemory;
+use np_tree_nodes::{Expect, Mode, MultiFault, Op, OpDone, Stat, TreeFault, TreeRefusal};
 use std::alloc::Global;
 use std::marker::Model;
 
@@ -24,7 +24,7 @@ pub struct Tree {
 }
 
 impl Model for Tree {
-    ghost use Rattle.np_nodes.specs.TreeState.{TreeState};
+    ghost use Rattle.np_tree_nodes.specs.TreeState.{TreeState};
 
     ghost Value = { TreeState };
 

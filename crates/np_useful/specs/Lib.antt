@@ -10,3 +10,7 @@ pub mod Useful
 pub mod Settled
 pub mod Driven
 pub mod Planned
+pub mod Kinds
+pub mod Choices
+pub mod Passing
+pub mod Candidates

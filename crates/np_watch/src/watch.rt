@@ -5,8 +5,8 @@ ghost use Rattle.np_watch.specs.Watching.{is_between, is_fired};
 ghost use Rattle.np_watch.specs.Keys.{key_equal, key_one_way, key_some_way, key_transitive};
 
 use crate::fresh::{is_fresh, stat_above};
+use np_lists::Order;
 use np_path::Path;
-use np_table::Order;
 use np_tree::Tree;
 
 /// A watch of a path.

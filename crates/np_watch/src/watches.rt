@@ -5,8 +5,8 @@ ghost use Rattle.np_lists.specs.Change.{remove_first};
 ghost use Rattle.np_watch.specs.Watching.{AreWatches, is_between, is_fired, is_watched, watch_of, with_watch};
 
 use crate::watch::{ByKey, Watch, is_between, is_fired};
+use np_lists::KeyTable;
 use np_path::Path;
-use np_table::KeyTable;
 use np_text::NoMemory;
 use np_tree::Tree;
 use std::alloc::Global;

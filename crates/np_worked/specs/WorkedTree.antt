@@ -9,7 +9,7 @@ use Rattle.np_tree.specs.After.{after_end, after_set}
 use Rattle.np_tree.specs.Calls.{after_begin}
 use Rattle.np_tree.specs.Multi.{after_parts}
 use Rattle.np_tree.specs.Prelude.{Any, Ephemeral, EphemeralSequential, Op, Persistent, PersistentSequential}
-use Rattle.np_nodes.specs.declared.op.Op.TheVariants as op
+use Rattle.np_tree_nodes.specs.declared.op.Op.TheVariants as op
 use Rattle.np_worked.specs.Site.{session, job, label, node, pool, tenant, request, launcher, janitor, requester}
 use Rattle.np_layout.specs.First.{first_directories, make}
 

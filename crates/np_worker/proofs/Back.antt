@@ -1,7 +1,7 @@
 -- where the records and the queues of nodes come from, over one event that is no start, no report and no lock of a node
 use Rattle.np_worker.proofs.Prelude.{AllByRecursion, Bool, Configuration, Done, EndAs, Event, Invariant, JobId, JobRecord, LabelId, List, NodeEntry, NodeId, NodeRecord, NodeState, None, Ok, Option, PoolId, RequestId, RequestRecord, Rises, RunsWhileBuilding, SessionId, Some, State, TenantId, [], after_found-keeps, after_given-keeps, all-filter, all_freed, all_in_use, allocated, ap, arith, by_bool, change_first, cond, create_by, create_for, created, decline_by, declined, drop, effect, ended_as, eqb-true, expired, false, false≢true, freed, fulfilled, given_back, given_up, holder, incomplete, inl, inr, is_building, is_fulfilled, is_in_use, is_none, is_pending_by, is_ready, is_request, is_session, is_session_of, is_some, is_up, joined, judge, judge_end_node, judge_take, judge_take_ready, launcher, left, list_any, made, map, nat_lt, nat_tests, next, next-keeps, next_label, node_ended, node_freed, node_holder, node_in, node_in-allocated, node_in-freed, node_in-in_use, node_in-later, node_in-left, node_in-new, node_in-other, node_in-put, node_in-queue, node_in-remove, node_in-removed, node_left, node_queue, node_queue-allocated, node_queue-freed, node_queue-in_use, node_queue-left, node_queue-new, node_queue-nowhere, node_queue-other, node_queue-put, node_queue-queue, node_queue-remove, none-some, not, on-found, on-given, on-need, option_map, put_node, put_node_queue, refl, registered, remove_node, request_holder, request_in, same_Some, same_node-is, session_of, slice_get, subst, sym, take_for, take_from, taken, tenant_of_request, took_ready, true, used_from, ℕ, ⊎_elim, ◌++◌, ◌<◌, ◌==◌, ◌∙◌, ◌∷◌, ◌≡◌, ◌≤◌, ◌⊎◌}
-use Rattle.np_laws.proofs.Accepted.{take_ready-stands}
-use Rattle.np_laws.proofs.StandsOn.{owns-if, owned-node}
+use Rattle.np_changes.proofs.Accepted.{take_ready-stands}
+use Rattle.np_changes.proofs.StandsOn.{owns-if, owned-node}
 use Rattle.np_text.specs.declared.word.NodeState.TheVariants as node_state
 use Rattle.np_event.specs.declared.event.Event.TheVariants as ev
 

@@ -1,8 +1,8 @@
 -- which reports of a pool's launcher the machine would accept: an event makes none acceptable, except a start
-use Rattle.np_worker.proofs.Prelude.{AllByRecursion, Bool, Changes, Configuration, Done, Event, Invariant, IsLive, IsQueue, Launcher, List, NodeEntry, NodeId, NodeRecord, None, Ok, Option, Outcome, PoolId, Refusal, Result, Role, SessionFacts, SessionId, SessionsChange, Some, State, [], after_found-keeps, after_given-keeps, all-filter, all-find, all-push, ap, arith, as_launcher, by_bool, change_session, cond, effect, eqb-true, facts-grown, facts_in, false, false≢true, found, grown, holder, inl, inr, is_ok, is_session, is_session_of, is_up, joined, judge, judge_done, judge_start, launcher, launcher-role, left, list_any, muted, nat_tests, need, next, next-keeps, node_entry, node_holder, node_in, node_in-put, node_in-queue, node_queue, node_queue-nowhere, node_queue-put, node_queue-queue, none-some, not, ok-is, option_map, option_map_or, plan, plan-next, put_node, refl, retries_of, role_of, same_Some, same_node-is, session-equal, sessions_changed, slice_get, slice_get-change_at, slice_get-change_at_other, start_by, started, starts_of, subst, sym, true, with_act, ℕ, ⊎_elim, ◌++◌, ◌+◌, ◌-◌, ◌==◌, ◌>>=◌, ◌>>◌, ◌∙◌, ◌∷◌, ◌≡◌, ◌⊎◌}
+use Rattle.np_worker.proofs.Prelude.{AllByRecursion, Bool, Changes, Configuration, Done, Event, Invariant, IsLive, IsLiveQueue, Launcher, List, NodeEntry, NodeId, NodeRecord, None, Ok, Option, Outcome, PoolId, Refusal, Result, Role, SessionFacts, SessionId, SessionsChange, Some, State, [], after_found-keeps, after_given-keeps, all-filter, all-find, all-push, ap, arith, as_launcher, by_bool, change_session, cond, effect, eqb-true, facts-grown, facts_in, false, false≢true, found, grown, holder, inl, inr, is_ok, is_session, is_session_of, is_up, joined, judge, judge_done, judge_start, launcher, launcher-role, left, list_any, muted, nat_tests, need, next, next-keeps, node_entry, node_holder, node_in, node_in-put, node_in-queue, node_queue, node_queue-nowhere, node_queue-put, node_queue-queue, none-some, not, ok-is, option_map, option_map_or, plan, plan-next, put_node, refl, retries_of, role_of, same_Some, same_node-is, session-equal, sessions_changed, slice_get, slice_get-change_at, slice_get-change_at_other, start_by, started, starts_of, subst, sym, true, with_act, ℕ, ⊎_elim, ◌++◌, ◌+◌, ◌-◌, ◌==◌, ◌>>=◌, ◌>>◌, ◌∙◌, ◌∷◌, ◌≡◌, ◌⊎◌}
 use Rattle.np_changes.specs.Prelude.{acting, ended, launched, reported}
 use Rattle.np_machine.specs.Node.{effect_lock_node}
-use Rattle.np_laws.proofs.Firsts.{is_first, one-named}
+use Rattle.np_changes.proofs.Firsts.{is_first, one-named}
 use Rattle.np_event.specs.declared.event.Event.TheVariants as ev
 use Rattle.np_event.specs.declared.reply.Refusal.TheVariants as no
 use Rattle.np_changes.specs.declared.changes.SessionsChange.TheVariants as sessions
@@ -61,7 +61,7 @@ queue-all Q none n rows all = by (node_entry n rows) refl where
   by (Some e) is = all-find (λ (x : NodeEntry). Q x.queue) (λ x. x.id.0 == n.0) rows e all is
 
 queue-live : (c : Configuration) (s : State) (n : NodeId) → Invariant c s → AllByRecursion (IsLive s) (node_queue n s.nodes)
-queue-live c s n whole = (queue-all (IsQueue s) (record { live = tt; once = tt }) n s.nodes whole.queued.at_nodes).live
+queue-live c s n whole = (queue-all (IsLiveQueue s) (record { live = tt; once = tt }) n s.nodes whole.queued.at_nodes).live
 
 -- the first of a queue is one of it
 first-all : (P : SessionId → Type 0) (session : SessionId) (queue : List SessionId) → is_first session queue ≡ true → AllByRecursion P queue → P session

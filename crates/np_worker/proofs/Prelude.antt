@@ -10,15 +10,15 @@ pub use Rattle.np_changes.specs.declared.changes.SessionsChange.{SessionsChange}
 pub use Rattle.np_cloud.specs.Calls.{Answers, IsAsPlanned, KeepsCounts, with_launch}
 pub use Rattle.np_cloud.specs.Sound.{IsFull, is_number, numbers_of}
 pub use Rattle.np_desk.proofs.HistoryLemmas.{rising_more, starts_more, starts_on, starts_same}
-pub use Rattle.np_laws.proofs.Ids.{row-of, same_pool}
-pub use Rattle.np_laws.proofs.LiveHolders.{replied-at}
-pub use Rattle.np_laws.proofs.Lookups.{node_in-allocated, node_in-below, node_in-freed, node_in-in_use, node_in-later, node_in-left, node_in-new, node_in-other, node_in-put, node_in-queue, node_in-remove, node_in-removed, node_queue-allocated, node_queue-freed, node_queue-in_use, node_queue-left, node_queue-new, node_queue-nowhere, node_queue-other, node_queue-put, node_queue-queue, node_queue-remove, same_node-is, used_from}
-pub use Rattle.np_laws.proofs.Puts.{Way}
-pub use Rattle.np_laws.proofs.Replies.{head-reply, tail-replies}
-pub use Rattle.np_laws.proofs.Runs.{invariant-after, invariant-next}
-pub use Rattle.np_laws.proofs.Sessions.{facts-grown, facts_in}
-pub use Rattle.np_laws.proofs.Start.{invariant-start}
-pub use Rattle.np_laws.specs.Parts.{Invariant, IsLive, IsQueue, RunsWhileBuilding}
+pub use Rattle.np_changes.proofs.Ids.{row-of, same_pool}
+pub use Rattle.np_changes.proofs.LiveHolders.{replied-at}
+pub use Rattle.np_changes.proofs.Lookups.{node_in-allocated, node_in-below, node_in-freed, node_in-in_use, node_in-later, node_in-left, node_in-new, node_in-other, node_in-put, node_in-queue, node_in-remove, node_in-removed, node_queue-allocated, node_queue-freed, node_queue-in_use, node_queue-left, node_queue-new, node_queue-nowhere, node_queue-other, node_queue-put, node_queue-queue, node_queue-remove, same_node-is, used_from}
+pub use Rattle.np_changes.proofs.Puts.{Way}
+pub use Rattle.np_changes.proofs.Replies.{head-reply, tail-replies}
+pub use Rattle.np_changes.proofs.Runs.{invariant-after, invariant-next}
+pub use Rattle.np_changes.proofs.Sessions.{facts-grown, facts_in}
+pub use Rattle.np_changes.proofs.Start.{invariant-start}
+pub use Rattle.np_changes.specs.Parts.{Invariant, IsLive, IsLiveQueue, RunsWhileBuilding}
 pub use Rattle.np_lists.proofs.ChangeLemmas.{kept-change_at, slice_get-change_at, slice_get-change_at_other}
 pub use Rattle.np_lists.proofs.Each.{all-filter, all-filter_to, all-find, all-push, all-weaker, length-filter_at_most}
 pub use Rattle.np_lists.proofs.EachAfterLemmas.{EachAfter-push, EachAfter-weaker}

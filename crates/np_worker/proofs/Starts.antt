@@ -3,9 +3,9 @@ use Rattle.np_worker.proofs.Prelude.{Answer, Bool, Changes, Configuration, Done,
 use Rattle.np_changes.specs.Prelude.{acting}
 use Rattle.np_changes.specs.declared.changes.NodesChange.{NodesChange}
 use Rattle.np_changes.proofs.PremisesOf.{premises}
-use Rattle.np_laws.specs.Parts.{IsNumbered}
-use Rattle.np_laws.proofs.Numbered.{grown-numbered}
-use Rattle.np_laws.proofs.After.{next-more}
+use Rattle.np_changes.specs.Parts.{IsNumbered}
+use Rattle.np_changes.proofs.Numbered.{grown-numbered}
+use Rattle.np_changes.proofs.After.{next-more}
 use Rattle.np_changes.specs.declared.changes.Growth.TheVariants as grow
 use Rattle.np_changes.specs.declared.changes.NodesChange.TheVariants as nodes
 use Rattle.np_changes.specs.declared.changes.SessionsChange.TheVariants as sessions

@@ -1,22 +1,21 @@
 //! The board as an object at which turns are taken.
 
 use crate::board::Board;
+use crate::board::plan::{PlanAsk, PlanTurn};
 use np_config::Config;
 use np_desk::SeqObject;
 use np_event::Entry;
 use np_text::NoMemory;
-use np_worker::{Ask, Turn};
 
 impl SeqObject for Board {
-    ghost use Rattle.np_worker.specs.Answers.{answers};
-    ghost use Rattle.np_worker.specs.Asks.{recorded};
     ghost use Rattle.np_worker.specs.Legal.{is_legal};
+    ghost use Rattle.np_board.specs.PlanAnswers.{plan_answers, plan_recorded};
 
-    type Ask = Ask;
+    type Ask = PlanAsk;
 
     type Entry = Entry;
 
-    type Turn = Turn;
+    type Turn = PlanTurn;
 
     type Fixed = Config;
 
@@ -26,11 +25,11 @@ impl SeqObject for Board {
 
     ghost legal = { is_legal };
 
-    ghost answers = { answers };
+    ghost answers = { plan_answers };
 
-    ghost recorded = { recorded };
+    ghost recorded = { plan_recorded };
 
-    fn turn(&mut self, ask: Ask) -> Result<Turn, NoMemory> {
+    fn turn(&mut self, ask: PlanAsk) -> Result<PlanTurn, NoMemory> {
         self.take_turn(ask)
     }
 }

@@ -1,5 +1,4 @@
-use Rattle.std.proofs.Common.{arith, subst}
-use Rattle.np_active.specs.Begin.{IsBest}
+use Rattle.np_active.proofs.Prelude.{IsBest, arith, subst}
 use Rattle.np_active.proofs.BestLemmas.{best-first, best-next}
 use Rattle.np_active.proofs.WaitingLemmas.{lines-fall}
 use Rattle.np_active.proofs.begin.earliest.Goals as goal

@@ -1,7 +1,4 @@
-use Rattle.np_lists.specs.Rising.{Rises}
-use Rattle.np_table.specs.Groups.{is_member_before}
-use Rattle.np_look.specs.Keys.{is_job_before}
-use Rattle.np_active.specs.Begin.{IsBest}
+use Rattle.np_active.proofs.Prelude.{IsBest, Rises, is_job_before, is_member_before}
 use Rattle.np_active.proofs.WaitingLemmas.{lines_left}
 use Rattle.np_active.proofs.begin.earliest.Given as goal
 

@@ -1,8 +1,4 @@
-use Rattle.std.proofs.Common.{◌∙◌, sym, ap}
-use Rattle.std.specs.Prelude.{find}
-use Rattle.np_table.specs.declared.groups.Group.{Group}
-use Rattle.np_table.specs.Groups.{ids_in}
-use Rattle.np_active.specs.Begin.{may_begin_of}
+use Rattle.np_active.proofs.Prelude.{Group, ap, find, ids_in, may_begin_of, sym, ◌∙◌}
 use Rattle.np_active.proofs.PromptLemmas.{here-passes, next-after}
 use Rattle.np_active.proofs.begin.first_prompt.Goals as goal
 

@@ -1,5 +1,4 @@
-use Rattle.np_table.specs.Groups.{ids_in}
-use Rattle.np_active.specs.Begin.{may_begin_of}
+use Rattle.np_active.proofs.Prelude.{ids_in, may_begin_of}
 use Rattle.np_active.proofs.PromptLemmas.{IsAfter}
 use Rattle.np_active.proofs.begin.first_prompt.Given as goal
 

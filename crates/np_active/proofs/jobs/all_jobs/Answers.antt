@@ -1,8 +1,4 @@
-use Rattle.std.proofs.Common.{◌≤◌, length, arith, refl, subst, sym}
-use Rattle.np_text.specs.declared.id.JobId.{JobId}
-use Rattle.np_look.specs.Keys.{is_job_before, same_job}
-use Rattle.np_classes.proofs.Grouped.{below-next, below-none, jobs-in_order}
-use Rattle.np_active.specs.Placed.{groups_of_job}
+use Rattle.np_active.proofs.Prelude.{JobId, arith, below-next, below-none, groups_of_job, is_job_before, jobs-in_order, length, refl, same_job, subst, sym, ◌≤◌}
 use Rattle.np_active.proofs.Rebuilt.{AreJobsBelow, jobs-all}
 use Rattle.np_active.proofs.jobs.all_jobs.Goals as goal
 

@@ -1,8 +1,4 @@
-use Rattle.std.proofs.Common.{◌≡◌, ◌≤◌, ◌+◌, drop, map}
-use Rattle.np_look.specs.Keys.{is_job_before, same_job}
-use Rattle.np_table.specs.Moves.{with_all_moved}
-use Rattle.np_active.specs.Placed.{groups_of_job}
-use Rattle.np_active.specs.Prepared.{job_before}
+use Rattle.np_active.proofs.Prelude.{drop, groups_of_job, is_job_before, job_before, map, same_job, with_all_moved, ◌+◌, ◌≡◌, ◌≤◌}
 use Rattle.np_active.proofs.jobs.move_jobs.Given as goal
 
 abbrev pub invariant-loop-past : goal.invariant-loop-past

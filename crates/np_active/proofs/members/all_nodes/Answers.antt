@@ -1,9 +1,4 @@
-use Rattle.std.proofs.Common.{◌∙◌, ◌<◌, length, sym, ap, arith}
-use Rattle.np_look.specs.Keys.{is_node_before, same_node}
-use Rattle.np_machine.specs.Entries.{NodeEntry}
-use Rattle.np_look.proofs.Walks.{none_there}
-use Rattle.np_classes.proofs.Grouped.{made-next, nodes-in_order}
-use Rattle.np_active.specs.Given.{groups_of_node}
+use Rattle.np_active.proofs.Prelude.{NodeEntry, ap, arith, groups_of_node, is_node_before, length, made-next, nodes-in_order, none_there, same_node, sym, ◌<◌, ◌∙◌}
 use Rattle.np_active.proofs.GivenRebuilt.{given-made}
 use Rattle.np_active.proofs.members.all_nodes.Goals as goal
 use Rattle.np_active.proofs.members.all_nodes.Goals.{in-Some+in_ok-add_node, in_default}

@@ -1,4 +1,4 @@
-use Rattle.std.proofs.Common.{◌≡◌}
+use Rattle.np_active.proofs.Prelude.{◌≡◌}
 use Rattle.np_active.proofs.GivenRebuilt.{nodes_made}
 use Rattle.np_active.proofs.members.all_nodes.Given as goal
 

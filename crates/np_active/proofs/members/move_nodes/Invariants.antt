@@ -1,8 +1,4 @@
-use Rattle.std.proofs.Common.{◌≡◌, ◌≤◌, ◌-◌, ◌*◌, suc, drop, length}
-use Rattle.std.specs.Prelude.{vec_capacity}
-use Rattle.np_look.specs.Keys.{is_node_before, same_node}
-use Rattle.np_table.specs.Moves.{with_all_moved}
-use Rattle.np_active.specs.Within.{groups_within}
+use Rattle.np_active.proofs.Prelude.{drop, groups_within, is_node_before, length, same_node, suc, vec_capacity, with_all_moved, ◌*◌, ◌-◌, ◌≡◌, ◌≤◌}
 use Rattle.np_active.proofs.members.move_nodes.Given as goal
 
 abbrev pub invariant-loop-past : goal.invariant-loop-past

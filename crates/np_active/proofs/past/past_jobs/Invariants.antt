@@ -1,5 +1,4 @@
-use Rattle.std.proofs.Common.{◌≡◌, ◌++◌, drop, map}
-use Rattle.np_active.specs.Prepared.{past_job}
+use Rattle.np_active.proofs.Prelude.{drop, map, past_job, ◌++◌, ◌≡◌}
 use Rattle.np_active.proofs.past.past_jobs.Given as goal
 
 abbrev pub invariant-loop-job : goal.invariant-loop-job

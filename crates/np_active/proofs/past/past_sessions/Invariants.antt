@@ -1,5 +1,4 @@
-use Rattle.std.proofs.Common.{◌≡◌, ◌++◌, drop, map}
-use Rattle.np_active.specs.Prepared.{past_session}
+use Rattle.np_active.proofs.Prelude.{drop, map, past_session, ◌++◌, ◌≡◌}
 use Rattle.np_active.proofs.past.past_sessions.Given as goal
 
 abbrev pub invariant-loop-session : goal.invariant-loop-session

@@ -1,5 +1,4 @@
-use Rattle.std.proofs.Common.{arith, sym}
-use Rattle.np_machine.specs.Tables.{node_queue}
+use Rattle.np_active.proofs.Prelude.{arith, node_queue, sym}
 use Rattle.np_active.proofs.Queues.{list-next}
 use Rattle.np_active.proofs.past_given.list_sessions.Goals as goal
 

@@ -1,7 +1,4 @@
-use Rattle.std.proofs.Common.{◌≡◌, ◌≤◌, ◌+◌, ◌++◌, take}
-use Rattle.std.specs.Prelude.{vec_capacity, vec_len}
-use Rattle.np_machine.specs.Tables.{node_queue}
-use Rattle.np_active.specs.Within.{locked_groups}
+use Rattle.np_active.proofs.Prelude.{locked_groups, node_queue, take, vec_capacity, vec_len, ◌++◌, ◌+◌, ◌≡◌, ◌≤◌}
 use Rattle.np_active.proofs.past_given.list_sessions.Given as goal
 
 abbrev pub invariant-loop-at : goal.invariant-loop-at

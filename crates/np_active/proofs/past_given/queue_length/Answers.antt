@@ -1,9 +1,6 @@
-use Rattle.std.proofs.Common.{◌≡◌, ◌<◌, ◌≤◌, length, sym, arith}
-use Rattle.std.proofs.lemmas.Option.{slice_get_within}
-use Rattle.np_machine.specs.Tables.{node_queue}
+use Rattle.np_active.proofs.Prelude.{arith, length, node_queue, past-end, slice_get_within, sym, ◌<◌, ◌≡◌, ◌≤◌}
 use Rattle.np_look.proofs.Seen.{queue-fits}
 use Rattle.np_active.proofs.past_given.queue_length.Goals as goal
-use Rattle.np_lists.proofs.Plain.{past-end}
 
 pub overflow_add-count : goal.overflow_add-count
 overflow_add-count g c =

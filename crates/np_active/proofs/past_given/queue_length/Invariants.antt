@@ -1,5 +1,4 @@
-use Rattle.std.proofs.Common.{◌≤◌, ◌-◌, length}
-use Rattle.np_machine.specs.Tables.{node_queue}
+use Rattle.np_active.proofs.Prelude.{length, node_queue, ◌-◌, ◌≤◌}
 use Rattle.np_active.proofs.past_given.queue_length.Given as goal
 
 abbrev pub invariant-loop-count : goal.invariant-loop-count

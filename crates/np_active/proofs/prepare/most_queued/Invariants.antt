@@ -1,5 +1,4 @@
-use Rattle.std.proofs.Common.{◌≤◌, suc, length, take}
-use Rattle.np_changes.specs.Prelude.{AllByRecursion, node_queue}
+use Rattle.np_active.proofs.Prelude.{AllByRecursion, length, node_queue, suc, take, ◌≤◌}
 use Rattle.np_active.proofs.prepare.most_queued.Given as goal
 
 abbrev pub invariant-loop-node : goal.invariant-loop-node

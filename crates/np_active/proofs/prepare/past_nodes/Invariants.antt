@@ -1,5 +1,4 @@
-use Rattle.std.proofs.Common.{◌≡◌, ◌++◌, drop, map}
-use Rattle.np_active.specs.GivenPrepared.{placed_node}
+use Rattle.np_active.proofs.Prelude.{drop, map, placed_node, ◌++◌, ◌≡◌}
 use Rattle.np_active.proofs.prepare.past_nodes.Given as goal
 
 abbrev pub invariant-loop-node : goal.invariant-loop-node

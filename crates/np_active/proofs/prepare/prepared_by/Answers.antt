@@ -1,7 +1,4 @@
-use Rattle.std.proofs.Common.{◌≤◌, ◌∙◌, suc, ap, subst}
-use Rattle.std.specs.Prelude.{List, length, map}
-use Rattle.np_changes.specs.Prelude.{AllByRecursion, NodeId, node_queue}
-use Rattle.np_active.specs.GivenPrepared.{placed_node}
+use Rattle.np_active.proofs.Prelude.{AllByRecursion, List, NodeId, ap, length, map, node_queue, placed_node, subst, suc, ◌∙◌, ◌≤◌}
 use Rattle.np_active.proofs.Listed.{is-prepared}
 use Rattle.np_active.proofs.prepare.prepared_by.Goals as goal
 

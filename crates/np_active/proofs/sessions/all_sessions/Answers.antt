@@ -1,8 +1,4 @@
-use Rattle.std.proofs.Common.{◌+◌, ◌<◌, length, arith, refl, subst, sym}
-use Rattle.np_text.specs.declared.id.SessionId.{SessionId}
-use Rattle.np_look.specs.Keys.{is_session_before, same_session}
-use Rattle.np_classes.proofs.Grouped.{below-next, sessions-in_order}
-use Rattle.np_active.specs.Placed.{groups_of_session}
+use Rattle.np_active.proofs.Prelude.{SessionId, arith, below-next, groups_of_session, is_session_before, length, refl, same_session, sessions-in_order, subst, sym, ◌+◌, ◌<◌}
 use Rattle.np_active.proofs.Rebuilt.{AreSessionsBelow, sessions-all, sessions-none}
 use Rattle.np_active.proofs.sessions.all_sessions.Goals as goal
 

@@ -1,4 +1,4 @@
-use Rattle.std.proofs.Common.{◌+◌}
+use Rattle.np_active.proofs.Prelude.{◌+◌}
 use Rattle.np_active.proofs.Rebuilt.{AreSessionsBelow}
 use Rattle.np_active.proofs.sessions.all_sessions.Given as goal
 

@@ -1,8 +1,4 @@
-use Rattle.std.proofs.Common.{◌≡◌, ◌≤◌, ◌+◌, ◌*◌, drop, map}
-use Rattle.np_look.specs.Keys.{is_session_before, same_session}
-use Rattle.np_table.specs.Moves.{with_all_moved}
-use Rattle.np_active.specs.Placed.{groups_of_session}
-use Rattle.np_active.specs.Prepared.{session_before}
+use Rattle.np_active.proofs.Prelude.{drop, groups_of_session, is_session_before, map, same_session, session_before, with_all_moved, ◌*◌, ◌+◌, ◌≡◌, ◌≤◌}
 use Rattle.np_active.proofs.sessions.move_sessions.Given as goal
 
 abbrev pub invariant-loop-past : goal.invariant-loop-past

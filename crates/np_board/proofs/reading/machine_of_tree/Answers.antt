@@ -6,4 +6,4 @@ pub tables_of_tree-requires-clause-reached : goal.tables_of_tree-requires-clause
 tables_of_tree-requires-clause-reached c = RunsOn-reached _ _ _ _ c.requires.runs
 
 pub tables_of_tree-requires-clause-fits : goal.tables_of_tree-requires-clause-fits
-tables_of_tree-requires-clause-fits c = RunsOn-fits _ _ _ _ (sound_fits c.args.config c.soundness.ensures) c.requires.runs
+tables_of_tree-requires-clause-fits c = RunsOn-fits _ _ _ _ (sound_fits c.args.config c.know_soundness.ensures) c.requires.runs

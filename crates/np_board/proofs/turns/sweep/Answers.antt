@@ -2,7 +2,7 @@ use Rattle.np_rules.specs.Running.{ran_of}
 use Rattle.std.proofs.Common.{sym, inl, inr}
 use Rattle.std.proofs.lemmas.Result.{IfOk-weaker}
 use Rattle.np_text.specs.declared.id.Role.TheVariants.{Janitor}
-use Rattle.np_roles.proofs.Currents.{current-has}
+use Rattle.np_useful.proofs.Currents.{current-has}
 use Rattle.np_worker.specs.Answers.{IsNotKept}
 use Rattle.np_rules.proofs.First.{Runs-first}
 use Rattle.np_board.proofs.TurnLemmas.{kept-taken, swept-taken, sweep-taken}
@@ -11,21 +11,21 @@ use Rattle.np_board.proofs.turns.sweep.Goals as goal
 
 pub returns-in_default-clause-turn : goal.returns-in_default-clause-turn
 returns-in_default-clause-turn c =
-    kept-taken (ran_of c.args.machine.now) c.args.pool c.args.node c.args.server (Runs-first _ _ _ _ c.requires c.soundness.ensures.runs) (inl c.in_default.ensures)
+    kept-taken (ran_of c.args.machine.now) c.args.pool c.args.node c.args.server (Runs-first _ _ _ _ c.requires c.know_soundness.ensures.runs) (inl c.in_default.ensures)
 
 pub returns-then-is_wanted-clause-turn : goal.returns-then-is_wanted-clause-turn
 returns-then-is_wanted-clause-turn c =
-    kept-taken (ran_of c.args.machine.now) c.args.pool c.args.node c.args.server (Runs-first _ _ _ _ c.requires c.soundness.ensures.runs) (inr (sym c.if-is_wanted.ensures))
+    kept-taken (ran_of c.args.machine.now) c.args.pool c.args.node c.args.server (Runs-first _ _ _ _ c.requires c.know_soundness.ensures.runs) (inr (sym c.if-is_wanted.ensures))
 
 pub returns-then-was_swept-clause-turn : goal.returns-then-was_swept-clause-turn
 returns-then-was_swept-clause-turn c =
     let lost : IsNotKept c.args.pool c.args.node c.args.server c.args.machine.now.state = record { current = current-has (Janitor c.args.pool) c.args.machine.now.state c.in-Some.session c.in-Some.ensures; unwanted = sym c.if-is_wanted.ensures } in
-    swept-taken (ran_of c.args.machine.now) c.args.pool c.args.node c.args.server (Runs-first _ _ _ _ c.requires c.soundness.ensures.runs) lost (sym c.if-was_swept.ensures)
+    swept-taken (ran_of c.args.machine.now) c.args.pool c.args.node c.args.server (Runs-first _ _ _ _ c.requires c.know_soundness.ensures.runs) lost (sym c.if-was_swept.ensures)
 
 pub returns-clause-turn : goal.returns-clause-turn
 returns-clause-turn c =
     let lost : IsNotKept c.args.pool c.args.node c.args.server c.args.machine.now.state = record { current = current-has (Janitor c.args.pool) c.args.machine.now.state c.in-Some.session c.in-Some.ensures; unwanted = sym c.if-is_wanted.ensures } in
-    IfOk-weaker c.record.result _ _ (λ t taken. sweep-taken (ran_of c.args.machine.now) (ran_of c.record.new.machine) c.args.pool c.in-Some.session c.args.node c.args.server t (Runs-first _ _ _ _ c.requires c.soundness.ensures.runs) lost (sym c.if-was_swept.ensures) c.in-Some.ensures taken) c.record.ensures.turn
+    IfOk-weaker c.record.result _ _ (λ t taken. sweep-taken (ran_of c.args.machine.now) (ran_of c.record.new.machine) c.args.pool c.in-Some.session c.args.node c.args.server t (Runs-first _ _ _ _ c.requires c.know_soundness.ensures.runs) lost (sym c.if-was_swept.ensures) c.in-Some.ensures taken) c.record.ensures.turn
 
 pub returns-in_default-clause-later : goal.returns-in_default-clause-later
 returns-in_default-clause-later c = later-than-itself c.args.machine.now.store

@@ -17,5 +17,5 @@ returns-in-Some g c =
 
 pub returns-then-at-from : goal.returns-then-at-from
 returns-then-at-from g c =
-    let few : length (g.R.Rows.site c.args.rows.now).pools ≤ POOLS = rw c.config-config.ensures at c.soundness.ensures.supply.few_pools in
+    let few : length (g.R.Rows.site c.args.rows.now).pools ≤ POOLS = rw c.config-config.ensures at c.know_soundness.ensures.supply.few_pools in
     sym (no_offer (g.R.Rows.site c.args.rows.now) c.args.request c.args.at (omega (arith, few, c.if-at-from.true, c.from.ensures)))

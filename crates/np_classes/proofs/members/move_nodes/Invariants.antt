@@ -1,6 +1,6 @@
 use Rattle.std.proofs.Common.{◌≡◌, ◌≤◌, ◌+◌, ◌*◌, drop, map}
 use Rattle.np_look.specs.Keys.{is_node_before, same_node}
-use Rattle.np_table.specs.Moves.{with_all_moved}
+use Rattle.np_lists.specs.Moves.{with_all_moved}
 use Rattle.np_classes.specs.Placed.{groups_of_node, node_before}
 use Rattle.np_classes.proofs.members.move_nodes.Given as goal
 

@@ -1,6 +1,6 @@
 use Rattle.std.proofs.Common.{◌≡◌, ◌≤◌, ◌+◌, drop, map}
 use Rattle.np_changes.specs.Prelude.{is_id_before, same_request}
-use Rattle.np_table.specs.Moves.{with_all_moved}
+use Rattle.np_lists.specs.Moves.{with_all_moved}
 use Rattle.np_classes.specs.Placed.{queue_before, unheld_groups}
 use Rattle.np_classes.proofs.members.move_queues.Given as goal
 

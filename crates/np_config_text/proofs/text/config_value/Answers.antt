@@ -6,19 +6,19 @@ use Rattle.np_config_text.proofs.Members.{top_members}
 use Rattle.np_config_text.proofs.text.config_value.Goals as goal
 
 pub list_value-requires-2 : goal.list_value-requires-2
-list_value-requires-2 c = rw c.labels.ensures (labels-ascii _ c.soundness.ensures)
+list_value-requires-2 c = rw c.labels.ensures (labels-ascii _ c.know_soundness.ensures)
 
 pub placed_value-requires-clause-shown : goal.placed_value-requires-clause-shown
-placed_value-requires-clause-shown c = rw c.providers.ensures (providers-ascii _ c.soundness.ensures)
+placed_value-requires-clause-shown c = rw c.providers.ensures (providers-ascii _ c.know_soundness.ensures)
 
 pub placed_value-requires-2-clause-shown : goal.placed_value-requires-2-clause-shown
-placed_value-requires-2-clause-shown c = rw c.requesters.ensures (requesters-ascii _ c.soundness.ensures)
+placed_value-requires-2-clause-shown c = rw c.requesters.ensures (requesters-ascii _ c.know_soundness.ensures)
 
 pub list_value-requires-3 : goal.list_value-requires-3
-list_value-requires-3 c = rw c.semaphores.ensures (semaphores-ascii _ c.soundness.ensures)
+list_value-requires-3 c = rw c.semaphores.ensures (semaphores-ascii _ c.know_soundness.ensures)
 
 pub list_if_any-requires : goal.list_if_any-requires
-list_if_any-requires c = rw c.tenants.ensures (tenants-ascii _ c.soundness.ensures)
+list_if_any-requires c = rw c.tenants.ensures (tenants-ascii _ c.know_soundness.ensures)
 
 pub returns : goal.returns
 returns c =

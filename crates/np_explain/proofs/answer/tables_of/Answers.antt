@@ -6,6 +6,6 @@ returns c =
     let m = c.args.machine.now in
     record {
       state = m.state;
-      runs = Runs-first m.configuration m.earlier m.journal m.state c.requires c.soundness.ensures.runs;
+      runs = Runs-first m.configuration m.earlier m.journal m.state c.requires c.know_soundness.ensures.runs;
       lines = rw (c.rows.ensures.site, c.rows.ensures.state) at c.in_ok-text.ensures;
     }

@@ -3,7 +3,7 @@ use Rattle.np_explain.proofs.Goes.{GoesOn-applied, IsPlayed-applied}
 use Rattle.np_explain.proofs.run.step.Goals as goal
 
 pub note-requires : goal.note-requires
-note-requires c = RunsOn-fits _ _ _ _ c.soundness.ensures.site c.soundness.ensures.runs
+note-requires c = RunsOn-fits _ _ _ _ c.know_soundness.ensures.site c.know_soundness.ensures.runs
 
 pub returns-clause-played : goal.returns-clause-played
 returns-clause-played c =

@@ -2,7 +2,7 @@ use Rattle.np_rules.proofs.RunLemmas.{RunsOn-fits}
 use Rattle.np_explain.proofs.whole.waits.Goals as goal
 
 pub chains-requires : goal.chains-requires
-chains-requires c = RunsOn-fits _ _ _ _ c.soundness.ensures.site c.soundness.ensures.runs
+chains-requires c = RunsOn-fits _ _ _ _ c.know_soundness.ensures.site c.know_soundness.ensures.runs
 
 pub returns : goal.returns
 returns c = record {

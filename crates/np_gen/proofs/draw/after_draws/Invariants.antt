@@ -1,5 +1,4 @@
-use Rattle.std.proofs.Common.{◌≡◌}
-use Rattle.np_gen.specs.Draw.{after_draws}
+use Rattle.np_gen.proofs.Prelude.{after_draws, ◌≡◌}
 use Rattle.np_gen.proofs.draw.after_draws.Given as goal
 
 abbrev pub invariant-loop : goal.invariant-loop

@@ -1,6 +1,4 @@
-use Rattle.std.proofs.Common.{◌≡◌}
-use Rattle.np_gen.specs.Draw.{after_draws}
-use Rattle.np_gen.specs.Site.{drawn_labels}
+use Rattle.np_gen.proofs.Prelude.{after_draws, drawn_labels, ◌≡◌}
 use Rattle.np_gen.proofs.job.drawn_labels.Given as goal
 
 abbrev pub invariant-loop : goal.invariant-loop

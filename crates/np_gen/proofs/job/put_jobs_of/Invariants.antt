@@ -1,5 +1,4 @@
-use Rattle.std.proofs.Common.{◌≡◌, ◌-◌, ◌++◌}
-use Rattle.np_gen.specs.Site.{drawn_jobs, jobs_from, jobs_of}
+use Rattle.np_gen.proofs.Prelude.{drawn_jobs, jobs_from, jobs_of, ◌++◌, ◌-◌, ◌≡◌}
 use Rattle.np_gen.proofs.job.put_jobs_of.Given as goal
 
 abbrev pub invariant-loop-number : goal.invariant-loop-number

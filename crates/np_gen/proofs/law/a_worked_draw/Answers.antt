@@ -1,5 +1,4 @@
-use Rattle.std.proofs.Common.{refl}
-use Rattle.np_gen.specs.Draw.{next_state, draw}
+use Rattle.np_gen.proofs.Prelude.{draw, next_state, refl}
 use Rattle.np_gen.proofs.law.a_worked_draw.Goals as goal
 
 pub returns : goal.returns

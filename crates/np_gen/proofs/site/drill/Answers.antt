@@ -1,7 +1,4 @@
-use Rattle.std.proofs.Common.{◌≡◌, sym, subst}
-use Rattle.std.specs.Prelude.{IfOk}
-use Rattle.np_config.specs.Configuration.{Configuration}
-use Rattle.np_config.specs.Sound.{IsSound}
+use Rattle.np_gen.proofs.Prelude.{Configuration, IfOk, IsSound, subst, sym, ◌≡◌}
 use Rattle.np_gen.proofs.SoundSite.{drill_site-made, drill_site-sound}
 use Rattle.np_gen.proofs.site.drill.Goals as goal
 

@@ -2,8 +2,8 @@ use Rattle.std.proofs.Common.{◌≡◌, ◌∙◌, ◌+◌, ◌-◌, Option, tr
 use Rattle.std.specs.Prelude.{is_none}
 use Rattle.std.proofs.lemmas.Option.{slice_get_past}
 use Rattle.np_machine.specs.First.{blocking}
-use Rattle.np_open.specs.declared.ranks.Rank.{Rank}
-use Rattle.np_open.specs.Open.{IsOpenFrom, ranks_of}
+use Rattle.np_lookups.specs.declared.ranks.Rank.{Rank}
+use Rattle.np_lookups.specs.Open.{IsOpenFrom, ranks_of}
 use Rattle.np_index.specs.Candidates.{may_take_up}
 use Rattle.np_index.proofs.Firsts.{beats}
 use Rattle.np_index.proofs.WalkLemmas.{open-takes, room-told, shut-fails, start_of, walk-begins, walk-blocked, walk-ends, walk-finds, walk-goes_on, walk-late}

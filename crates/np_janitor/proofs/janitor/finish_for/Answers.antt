@@ -3,8 +3,8 @@ use Rattle.np_changes.specs.Prelude.{Janitor, JobId}
 use Rattle.np_event.specs.declared.event.Event.TheVariants as ev
 use Rattle.np_look.specs.Readers.{jobs_from}
 use Rattle.np_look.specs.Jobs.{is_job_to_finish, job_to_finish}
-use Rattle.np_roles.specs.Passing.{passes}
-use Rattle.np_roles.proofs.Among.{below-jobs, before-end, same-there}
+use Rattle.np_useful.specs.Passing.{passes}
+use Rattle.np_useful.proofs.Among.{below-jobs, before-end, same-there}
 use Rattle.np_janitor.proofs.FinishLemmas.{none-finished}
 use Rattle.np_janitor.proofs.janitor.finish_for.Goals as goal
 

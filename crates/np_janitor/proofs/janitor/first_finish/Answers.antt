@@ -11,6 +11,6 @@ loop-at-preserved g c =
 
 pub returns : goal.returns
 returns g c =
-    let sound : IsSound (g.L.Look.site c.args.look.now) = subst (λ (site : Configuration). IsSound site) (c.config.ensures ∙ c.rows.ensures.site) c.soundness.ensures in
+    let sound : IsSound (g.L.Look.site c.args.look.now) = subst (λ (site : Configuration). IsSound site) (c.config.ensures ∙ c.rows.ensures.site) c.know_soundness.ensures in
     finish-none (g.L.Look.site c.args.look.now) (g.L.Look.state c.args.look.now) c.args.rows.now.known.pool sound
     (λ k less. c.loop-at.invariant k (omega (arith, less, c.loop-at-test.false)))

@@ -1,6 +1,6 @@
 use Rattle.std.proofs.Common.{sym}
 use Rattle.np_text.specs.declared.id.Role.TheVariants.{Requester}
-use Rattle.np_roles.proofs.Wholes.{opening-chooses}
+use Rattle.np_useful.proofs.Wholes.{opening-chooses}
 use Rattle.np_jobs.specs.Steps.{requester_kinds}
 use Rattle.np_jobs.proofs.Made.{requester-law, all-choose}
 use Rattle.np_jobs.proofs.requester.choose_requester.Goals as goal

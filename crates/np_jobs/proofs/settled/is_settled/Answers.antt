@@ -6,7 +6,7 @@ use Rattle.np_jobs.proofs.settled.is_settled.Goals.{then-are_pools_idle, else-ar
 
 pub returns-then-are_requesters_idle : goal.returns-then-are_requesters_idle
 returns-then-are_requesters_idle g c =
-    let sound : IsSound (g.L.Look.site c.args.look.now) = subst (λ (site : Configuration). IsSound site) (c.config.ensures ∙ c.rows.ensures.site) c.soundness.ensures in
+    let sound : IsSound (g.L.Look.site c.args.look.now) = subst (λ (site : Configuration). IsSound site) (c.config.ensures ∙ c.rows.ensures.site) c.know_soundness.ensures in
     elim c.if-are_pools_idle.branch [
       | then-are_pools_idle w ↦
           let pools : c.are_pools_idle.result ≡ true = cc in

@@ -2,7 +2,7 @@ use Rattle.std.proofs.Common.{◌≡◌, ◌<◌, ℕ, Some, false}
 use Rattle.np_changes.specs.Prelude.{JobId, Requester}
 use Rattle.np_event.specs.declared.event.Event.TheVariants as ev
 use Rattle.np_look.specs.Jobs.{job_to_finish}
-use Rattle.np_roles.specs.Passing.{passes}
+use Rattle.np_useful.specs.Passing.{passes}
 use Rattle.np_jobs.proofs.step.first_step_to_finish.Given as goal
 
 abbrev pub invariant-loop-at : goal.invariant-loop-at

@@ -1,8 +1,8 @@
 use Rattle.std.proofs.Common.{◌≡◌, true}
 use Rattle.np_text.specs.declared.id.Role.TheVariants.{Requester}
 use Rattle.np_event.specs.declared.event.Event.TheVariants as ev
-use Rattle.np_roles.specs.Passing.{passes}
-use Rattle.np_roles.proofs.Searches.{passes-useful}
+use Rattle.np_useful.specs.Passing.{passes}
+use Rattle.np_useful.proofs.Searches.{passes-useful}
 use Rattle.np_jobs.proofs.step.step_to_take.Goals as goal
 
 pub returns-then-passes-2 : goal.returns-then-passes-2

@@ -1,6 +1,6 @@
 use Rattle.std.proofs.Common.{◌≡◌}
-use Rattle.np_nodes.specs.Multi.{after_parts}
-use Rattle.np_nodes.specs.declared.refusal.MultiFault.TheVariants.{NoMemory}
+use Rattle.np_tree_nodes.specs.Multi.{after_parts}
+use Rattle.np_tree_nodes.specs.declared.refusal.MultiFault.TheVariants.{NoMemory}
 use Rattle.np_tree.proofs.SeveralLemmas.{goes-unrefused}
 use Rattle.np_keeper.proofs.change.call.Goals as goal
 

@@ -2,10 +2,10 @@ use Rattle.std.proofs.Common.{◌≡◌, ◌<◌, ◌∙◌, sym, subst, ap, ari
 use Rattle.std.proofs.lemmas.Result.{on_err_weaker, on_ok_weaker}
 use Rattle.np_layout.specs.Prelude.{IsStored, TreeState, decoded}
 use Rattle.np_machine.specs.State.{State}
-use Rattle.np_enact.specs.Events.{IsReady}
-use Rattle.np_enact.specs.Parts.{parts_of}
+use Rattle.np_layout.specs.Events.{IsReady}
+use Rattle.np_layout.specs.Parts.{parts_of}
 use Rattle.np_layout.proofs.OneState.{trees-have-one_state}
-use Rattle.np_readers.specs.Rows.{SiteState}
+use Rattle.np_tree_rows.specs.Rows.{SiteState}
 use Rattle.np_keeper.specs.Keeper.{IsHeld}
 use Rattle.np_keeper.proofs.Enacted.{can-make, holds-made}
 use Rattle.np_keeper.proofs.Laws.{enact}

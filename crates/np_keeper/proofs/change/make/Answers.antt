@@ -1,6 +1,6 @@
 use Rattle.std.proofs.Common.{◌≡◌, ◌∙◌, sym, subst, ap, ℕ}
 use Rattle.np_layout.specs.Prelude.{TreeState, after_multi, with_spare}
-use Rattle.np_enact.specs.Parts.{with_begin, with_end, writer}
+use Rattle.np_layout.specs.Parts.{with_begin, with_end, writer}
 use Rattle.np_keeper.specs.Keeper.{CanEnd, made}
 use Rattle.np_keeper.proofs.Enacted.{end-spared}
 use Rattle.np_keeper.proofs.Later.{later-same, made-later}

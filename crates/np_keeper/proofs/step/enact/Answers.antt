@@ -5,20 +5,20 @@ use Rattle.np_changes.specs.declared.changes.Changes.{Changes}
 use Rattle.np_changes.proofs.PlanLaws.{plan-next}
 use Rattle.np_changes.proofs.FitsRuns.{Fits-Runs}
 use Rattle.np_changes.proofs.Sites.{sound_fits}
-use Rattle.np_enact.specs.Ready.{IsTyped}
+use Rattle.np_layout.specs.Ready.{IsTyped}
 use Rattle.np_layout.specs.Decoded.{decoded}
 use Rattle.np_keeper.proofs.Accepted.{may-change}
 use Rattle.np_keeper.proofs.Laid.{next-laid}
 use Rattle.np_keeper.proofs.step.enact.Goals as goal
 
 pub verdict_on-requires-clause-fits : goal.verdict_on-requires-clause-fits
-verdict_on-requires-clause-fits c = Fits-Runs _ _ _ (sound_fits c.args.config.now c.soundness.ensures) c.requires.reached.runs
+verdict_on-requires-clause-fits c = Fits-Runs _ _ _ (sound_fits c.args.config.now c.know_soundness.ensures) c.requires.reached.runs
 
 pub enact_changes-requires-clause-ready : goal.enact_changes-requires-clause-ready
 enact_changes-requires-clause-ready c =
-    let fits : Fits c.args.config.now (decoded c.args.config.now c.args.tree.now) = Fits-Runs _ _ _ (sound_fits c.args.config.now c.soundness.ensures) c.requires.reached.runs in
+    let fits : Fits c.args.config.now (decoded c.args.config.now c.args.tree.now) = Fits-Runs _ _ _ (sound_fits c.args.config.now c.know_soundness.ensures) c.requires.reached.runs in
     let typed : IsTyped c.in-Ok.verdict.changes = search rules in
-    may-change c.args.config.now (decoded c.args.config.now c.args.tree.now) c.in-Ok.verdict.changes c.soundness.ensures c.requires.held.stored.carried c.requires.reached fits (record {
+    may-change c.args.config.now (decoded c.args.config.now c.args.tree.now) c.in-Ok.verdict.changes c.know_soundness.ensures c.requires.held.stored.carried c.requires.reached fits (record {
       event = c.args.event;
       accepted = c.requires.accepted;
       plan = c.in-Ok.ensures.changes;

@@ -1,8 +1,8 @@
 use Rattle.std.proofs.Common.{◌≡◌, ◌∙◌, ap}
-use Rattle.np_roles.specs.declared.kind.EventKind.{EventKind}
-use Rattle.np_roles.specs.declared.kind.EventKind.TheVariants.{Request}
-use Rattle.np_roles.specs.declared.kind.RequestKind.{RequestKind}
-use Rattle.np_roles.specs.declared.kind.RequestKind.TheVariants.{Lock}
+use Rattle.np_useful.specs.declared.kind.EventKind.{EventKind}
+use Rattle.np_useful.specs.declared.kind.EventKind.TheVariants.{Request}
+use Rattle.np_useful.specs.declared.kind.RequestKind.{RequestKind}
+use Rattle.np_useful.specs.declared.kind.RequestKind.TheVariants.{Lock}
 use Rattle.np_launch.specs.declared.launcher.LaunchKind.TheVariants.{Plain}
 use Rattle.np_launch.proofs.Locks.{lock-launched}
 use Rattle.np_launch.proofs.launcher.first_launched.Goals as goal

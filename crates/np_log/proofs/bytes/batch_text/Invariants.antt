@@ -1,5 +1,4 @@
-use Rattle.std.proofs.Common.{◌≡◌, take}
-use Rattle.np_log.specs.Batch.{batch_text}
+use Rattle.np_log.proofs.Prelude.{batch_text, take, ◌≡◌}
 use Rattle.np_log.proofs.bytes.batch_text.Given as goal
 
 abbrev pub invariant-loop-event : goal.invariant-loop-event

@@ -1,7 +1,4 @@
-use Rattle.std.proofs.Common.{refl}
-use Rattle.np_event_lines.specs.EventForm.{event_forms}
-use Rattle.np_event_lines.specs.Line.{event_in}
-use Rattle.np_log.specs.Log.{record_in, walk, walk_of}
+use Rattle.np_log.proofs.Prelude.{event_forms, event_in, record_in, refl, walk, walk_of}
 use Rattle.np_log.proofs.WalkLemmas.{after_record-many}
 use Rattle.np_log.proofs.law.damage_has_its_number.Goals as goal
 

@@ -1,10 +1,4 @@
-use Rattle.std.proofs.Common.{◌≡◌, ◌+◌, ◌-◌, List, ℕ, Some, take, drop, sym, ◌∙◌, ap, arith}
-use Rattle.std.proofs.lemmas.List.{drop_min}
-use Rattle.np_event_lines.specs.Line.{event_in}
-use Rattle.np_event_lines.specs.Words.{words_of}
-use Rattle.np_text.specs.Lines.{line_in, lines_of}
-use Rattle.np_text.proofs.LineLemmas.{lines_of-walk}
-use Rattle.np_log.specs.Batch.{events_of}
+use Rattle.np_log.proofs.Prelude.{List, Some, ap, arith, drop, drop_min, event_in, events_of, line_in, lines_of, lines_of-walk, sym, take, words_of, ℕ, ◌+◌, ◌-◌, ◌∙◌, ◌≡◌}
 use Rattle.np_log.proofs.BatchLemmas.{events_of-fault, events_of-read, events_then}
 use Rattle.np_log.proofs.walk.events_of.Goals as goal
 

@@ -1,6 +1,4 @@
-use Rattle.std.proofs.Common.{◌≡◌, ◌≤◌, ◌-◌, length, drop}
-use Rattle.np_text.specs.Lines.{lines_of}
-use Rattle.np_log.specs.Batch.{events_of}
+use Rattle.np_log.proofs.Prelude.{drop, events_of, length, lines_of, ◌-◌, ◌≡◌, ◌≤◌}
 use Rattle.np_log.proofs.BatchLemmas.{events_then}
 use Rattle.np_log.proofs.walk.events_of.Given as goal
 

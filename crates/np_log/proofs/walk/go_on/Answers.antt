@@ -1,7 +1,4 @@
-use Rattle.std.proofs.Common.{ℕ, ◌∷◌, ◌++◌, length, sym, ◌∙◌, ap, arith, length-append}
-use Rattle.std.proofs.lemmas.Result.{err_from_is_err_and}
-use Rattle.np_log.specs.Log.{go_on}
-use Rattle.np_log.specs.Walking.{walk_view}
+use Rattle.np_log.proofs.Prelude.{ap, arith, err_from_is_err_and, go_on, length, length-append, sym, walk_view, ℕ, ◌++◌, ◌∙◌, ◌∷◌}
 use Rattle.np_log.proofs.RecordLemmas.{record_in-parts}
 use Rattle.np_log.proofs.WalkLemmas.{gate-open, gate-shut, go_on-closed, go_on-none, go_on-open, go_on-short}
 use Rattle.np_log.proofs.FaultLemmas.{fails_past}

@@ -1,6 +1,4 @@
-use Rattle.std.proofs.Common.{◌≡◌, length}
-use Rattle.np_log.specs.Log.{go_on}
-use Rattle.np_log.specs.Walking.{IsNear, walk_view}
+use Rattle.np_log.proofs.Prelude.{IsNear, go_on, length, walk_view, ◌≡◌}
 use Rattle.np_log.proofs.walk.go_on.Given as goal
 
 -- the walk from here ends as the whole walk does

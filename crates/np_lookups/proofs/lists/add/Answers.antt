@@ -1,5 +1,4 @@
-use Rattle.std.proofs.Common.{sym, ◌∙◌}
-use Rattle.np_lists.proofs.FilterLemmas.{none-list_any}
+use Rattle.np_lookups.proofs.Prelude.{none-list_any, sym, ◌∙◌}
 use Rattle.np_lookups.proofs.Keyed.{row-undo}
 use Rattle.np_lookups.proofs.lists.add.Goals as goal
 

@@ -1,5 +1,4 @@
-use Rattle.std.proofs.Common.{sym, arith}
-use Rattle.np_lists.proofs.ChangeLemmas.{change_at-past}
+use Rattle.np_lookups.proofs.Prelude.{arith, change_at-past, sym}
 use Rattle.np_lookups.proofs.Keyed.{set-back, set-changed}
 use Rattle.np_lookups.proofs.lists.add_at.Goals as goal
 

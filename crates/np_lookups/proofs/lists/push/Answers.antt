@@ -1,5 +1,4 @@
-use Rattle.std.proofs.Common.{◌∙◌}
-use Rattle.np_lists.proofs.ChangeLemmas.{insert_before-end}
+use Rattle.np_lookups.proofs.Prelude.{insert_before-end, ◌∙◌}
 use Rattle.np_lookups.proofs.Keyed.{none-later}
 use Rattle.np_lookups.proofs.lists.push.Goals as goal
 

@@ -1,6 +1,4 @@
-use Rattle.std.proofs.Common.{◌≡◌, true, sym, arith}
-use Rattle.std.specs.List.{AllByRecursion}
-use Rattle.np_lists.proofs.ChangeLemmas.{change_at-past}
+use Rattle.np_lookups.proofs.Prelude.{AllByRecursion, arith, change_at-past, sym, true, ◌≡◌}
 use Rattle.np_lookups.proofs.Keyed.{list-found, set-changed}
 use Rattle.np_lookups.proofs.lists.push_at.Goals as goal
 

@@ -1,8 +1,4 @@
-use Rattle.std.proofs.Common.{◌∙◌, ◌<◌, length, sym, ap, arith}
-use Rattle.np_changes.specs.Prelude.{NodeId, option_map}
-use Rattle.np_look.specs.Readers.{queued_nodes}
-use Rattle.np_look.specs.Keys.{is_node_before, same_node, node_one_way, node_equal}
-use Rattle.np_look.proofs.Walks.{none_there}
+use Rattle.np_lookups.proofs.Prelude.{NodeId, ap, arith, is_node_before, length, node_equal, node_one_way, none_there, option_map, queued_nodes, same_node, sym, ◌<◌, ◌∙◌}
 use Rattle.np_lookups.proofs.Copied.{copied-other, copied-next, nodes-rise}
 use Rattle.np_lookups.proofs.lookups.list_nodes.Goals as goal
 use Rattle.np_lookups.proofs.lookups.list_nodes.Goals.{in-Some+in_ok-insert, in_default}

@@ -1,5 +1,4 @@
-use Rattle.std.proofs.Common.{◌≡◌, take}
-use Rattle.np_look.specs.Readers.{queued_nodes}
+use Rattle.np_lookups.proofs.Prelude.{queued_nodes, take, ◌≡◌}
 use Rattle.np_lookups.proofs.lookups.list_nodes.Given as goal
 
 abbrev pub invariant-loop-at : goal.invariant-loop-at

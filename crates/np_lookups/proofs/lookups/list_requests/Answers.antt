@@ -1,8 +1,4 @@
-use Rattle.std.proofs.Common.{◌∙◌, ◌<◌, length, sym, ap, arith}
-use Rattle.np_changes.specs.Prelude.{RequestId, is_id_before, option_map, same_request}
-use Rattle.np_look.specs.Readers.{queued_requests}
-use Rattle.np_look.specs.Keys.{request_one_way, request_equal}
-use Rattle.np_look.proofs.Walks.{none_there}
+use Rattle.np_lookups.proofs.Prelude.{RequestId, ap, arith, is_id_before, length, none_there, option_map, queued_requests, request_equal, request_one_way, same_request, sym, ◌<◌, ◌∙◌}
 use Rattle.np_lookups.proofs.Copied.{copied-other, copied-next, requests-rise}
 use Rattle.np_lookups.proofs.lookups.list_requests.Goals as goal
 use Rattle.np_lookups.proofs.lookups.list_requests.Goals.{in-Some+in_ok-insert, in_default}

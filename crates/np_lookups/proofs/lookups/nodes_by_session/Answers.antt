@@ -1,4 +1,4 @@
-use Rattle.std.proofs.Common.{arith}
+use Rattle.np_lookups.proofs.Prelude.{arith}
 use Rattle.np_lookups.proofs.BySession.{nodes-by_session}
 use Rattle.np_lookups.proofs.lookups.nodes_by_session.Goals as goal
 

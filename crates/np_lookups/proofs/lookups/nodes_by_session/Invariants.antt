@@ -1,4 +1,4 @@
-use Rattle.np_look.specs.Readers.{queued_nodes}
+use Rattle.np_lookups.proofs.Prelude.{queued_nodes}
 use Rattle.np_lookups.proofs.BySession.{AreBelow}
 use Rattle.np_lookups.proofs.lookups.nodes_by_session.Given as goal
 

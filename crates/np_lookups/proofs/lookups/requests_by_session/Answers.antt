@@ -1,4 +1,4 @@
-use Rattle.std.proofs.Common.{arith}
+use Rattle.np_lookups.proofs.Prelude.{arith}
 use Rattle.np_lookups.proofs.BySession.{requests-by_session}
 use Rattle.np_lookups.proofs.lookups.requests_by_session.Goals as goal
 

@@ -1,5 +1,4 @@
-use Rattle.std.proofs.Common.{◌∙◌, ap, arith}
-use Rattle.np_changes.specs.Prelude.{NodeId, owner_of}
+use Rattle.np_lookups.proofs.Prelude.{NodeId, ap, arith, owner_of, ◌∙◌}
 use Rattle.np_lookups.proofs.ByNode.{owners-more, owners-all}
 use Rattle.np_lookups.proofs.owners.list_owners.Goals as goal
 

@@ -1,5 +1,4 @@
-use Rattle.std.proofs.Common.{◌≡◌, drop}
-use Rattle.np_lookups.specs.Changed.{owners_with}
+use Rattle.np_lookups.proofs.Prelude.{drop, owners_with, ◌≡◌}
 use Rattle.np_lookups.proofs.owners.settle_owners.Given as goal
 
 abbrev pub invariant-loop-marked : goal.invariant-loop-marked

@@ -1,5 +1,4 @@
-use Rattle.std.proofs.Common.{◌≡◌, drop}
-use Rattle.np_lookups.specs.Changed.{lists_without}
+use Rattle.np_lookups.proofs.Prelude.{drop, lists_without, ◌≡◌}
 use Rattle.np_lookups.proofs.queues.leave_all.Given as goal
 
 abbrev pub invariant-loop-session : goal.invariant-loop-session

@@ -1,9 +1,5 @@
-use Rattle.std.proofs.Common.{◌≡◌, ◌∙◌, ◌<◌, ◌+◌, ℕ, zero, suc, List, [], ◌∷◌, ◌++◌, length, take, None, Some, refl, sym, ap, arith}
-use Rattle.std.specs.Prelude.{slice_get}
-use Rattle.std.proofs.lemmas.Option.{slice_get_within}
-use Rattle.np_machine.specs.Tables.{node_queue}
+use Rattle.np_lookups.proofs.Prelude.{List, None, Some, [], ap, arith, length, node_queue, refl, slice_get, slice_get_within, suc, sym, take, take_there, zero, ℕ, ◌++◌, ◌+◌, ◌<◌, ◌∙◌, ◌∷◌, ◌≡◌}
 use Rattle.np_look.proofs.Seen.{queue-fits}
-use Rattle.np_look.proofs.Walks.{take_there}
 use Rattle.np_lookups.proofs.queues.queue_of.Goals as goal
 
 -- one more is read

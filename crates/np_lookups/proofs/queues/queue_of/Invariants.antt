@@ -1,5 +1,4 @@
-use Rattle.std.proofs.Common.{◌≡◌, ◌≤◌, ◌-◌, take, length, vec_len}
-use Rattle.np_machine.specs.Tables.{node_queue}
+use Rattle.np_lookups.proofs.Prelude.{length, node_queue, take, vec_len, ◌-◌, ◌≡◌, ◌≤◌}
 use Rattle.np_lookups.proofs.queues.queue_of.Given as goal
 
 abbrev pub invariant-loop-session : goal.invariant-loop-session

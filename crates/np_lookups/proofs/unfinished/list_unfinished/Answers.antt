@@ -1,6 +1,4 @@
-use Rattle.std.proofs.Common.{◌≡◌, ◌<◌, sym, subst, length, Some, None, arith}
-use Rattle.std.specs.Prelude.{slice_get}
-use Rattle.np_changes.specs.Prelude.{Configuration, IsSound}
+use Rattle.np_lookups.proofs.Prelude.{Configuration, IsSound, None, Some, arith, length, slice_get, subst, sym, ◌<◌, ◌≡◌}
 use Rattle.np_lookups.proofs.Made.{made-over, made-unowned, made-before, made-more}
 use Rattle.np_lookups.proofs.unfinished.list_unfinished.Goals as goal
 
@@ -19,7 +17,7 @@ loop-number-preserved-in_default g c =
 pub push_at-requires : goal.push_at-requires
 push_at-requires g c =
     let within : c.loop-number.number < length (g.R.Rows.state c.args.rows.now).jobs = omega (arith, c.jobs-number-end.ensures) in
-    let sound : IsSound (g.R.Rows.site c.args.rows.now) = subst (λ (x : Configuration). IsSound x) c.config-config.ensures c.soundness.ensures in
+    let sound : IsSound (g.R.Rows.site c.args.rows.now) = subst (λ (x : Configuration). IsSound x) c.config-config.ensures c.know_soundness.ensures in
     let is_row : slice_get (g.R.Rows.site c.args.rows.now).jobs c.loop-number.number ≡ Some c.in-Some.row.now =
     subst (λ (x : Configuration). slice_get x.jobs c.loop-number.number ≡ Some c.in-Some.row.now) c.config-config.ensures (sym c.in-Some.ensures) in
     made-before _ _ c.loop-number.number _ c.loop-number.invariant within sound c.in-Some.row.now is_row
@@ -27,7 +25,7 @@ push_at-requires g c =
 pub loop-number-preserved : goal.loop-number-preserved
 loop-number-preserved g c =
     let within : c.loop-number.number < length (g.R.Rows.state c.args.rows.now).jobs = omega (arith, c.jobs-number-end.ensures) in
-    let sound : IsSound (g.R.Rows.site c.args.rows.now) = subst (λ (x : Configuration). IsSound x) c.config-config.ensures c.soundness.ensures in
+    let sound : IsSound (g.R.Rows.site c.args.rows.now) = subst (λ (x : Configuration). IsSound x) c.config-config.ensures c.know_soundness.ensures in
     let is_row : slice_get (g.R.Rows.site c.args.rows.now).jobs c.loop-number.number ≡ Some c.in-Some.row.now =
     subst (λ (x : Configuration). slice_get x.jobs c.loop-number.number ≡ Some c.in-Some.row.now) c.config-config.ensures (sym c.in-Some.ensures) in
     made-more _ _ c.loop-number.number _ c.loop-number.invariant within sound c.in-Some.row.now is_row _ c.in_ok-push_at.ensures (sym c.if-has_ended.ensures)

@@ -1,6 +1,4 @@
-use Rattle.std.proofs.Common.{◌≡◌, ◌≤◌, ◌-◌, List, [], length}
-use Rattle.std.specs.Prelude.{replicate}
-use Rattle.np_text.specs.declared.id.JobId.{JobId}
+use Rattle.np_lookups.proofs.Prelude.{JobId, List, [], length, replicate, ◌-◌, ◌≡◌, ◌≤◌}
 use Rattle.np_lookups.proofs.unfinished.no_jobs.Given as goal
 
 abbrev pub invariant-loop-lists : goal.invariant-loop-lists

@@ -1,6 +1,6 @@
 use Rattle.std.proofs.Common.{◌∙◌, ap, sym, subst, List}
 use Rattle.np_changes.specs.Prelude.{AllByRecursion, Entry, start}
-use Rattle.np_event_lines.specs.Line.{HasEventLine}
+use Rattle.np_event.specs.Line.{HasEventLine}
 use Rattle.np_rules.specs.Running.{ran_of}
 use Rattle.np_rules.specs.Ran.{Ran}
 use Rattle.np_report.proofs.Playing.{lines-played_from}

@@ -9,8 +9,8 @@ use denote.Param.Send.{Quiet-if, enum_send, enum_sync, recorded_send, recorded_s
 use Rattle.std.proofs.Crossing.{Vec-send, Vec-sync}
 use Rattle.std.specs.contracts.option.Option as Option
 use Rattle.std.specs.Thread.{IsSend, IsSync}
-use Rattle.np_board.specs.contracts.planned.plan.Watched as watched
-use Rattle.np_board.specs.contracts.planned.plans.Plans as plans
+use Rattle.np_board.specs.contracts.board.plan.Watched as watched
+use Rattle.np_board.specs.contracts.board.plans.Plans as plans
 use Rattle.np_rounds.proofs.crossing.board_crosses.Goals as goal
 
 -- the place of a plan, as a type

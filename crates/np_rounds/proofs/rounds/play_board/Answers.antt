@@ -8,7 +8,7 @@ use Rattle.np_rounds.proofs.OneRound.{closed_seen}
 use Rattle.np_rounds.proofs.rounds.play_board.Goals as goal
 
 pub set_up-requires : goal.set_up-requires
-set_up-requires g c = record { legal = Runs-legal c.args.board.configuration c.args.board.journal c.args.board.state c.soundness.ensures.runs }
+set_up-requires g c = record { legal = Runs-legal c.args.board.configuration c.args.board.journal c.args.board.state c.know_soundness.ensures.runs }
 
 pub returns-clause-stops : goal.returns-clause-stops
 returns-clause-stops g c =

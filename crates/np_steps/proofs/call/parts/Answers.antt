@@ -1,6 +1,6 @@
 use Rattle.std.proofs.Common.{◌++◌, List, ap, ◌∙◌}
 use Rattle.np_layout.specs.Prelude.{Op, is_numbered, list_all}
-use Rattle.np_enact.specs.Parts.{grown_parts, settled_parts}
+use Rattle.np_layout.specs.Parts.{grown_parts, settled_parts}
 use Rattle.np_steps.proofs.NumberedParts.{parts-numbered}
 use Rattle.np_steps.proofs.call.parts.Goals as goal
 

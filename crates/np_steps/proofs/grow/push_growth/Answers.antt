@@ -3,8 +3,8 @@ use Rattle.np_changes.specs.Prelude.{NodeEntry, RequestEntry, RequestRecord, opt
 use Rattle.np_layout.specs.Prelude.{make, node_parts, node_text, request_parts, request_record_text, session_text}
 use Rattle.np_changes.specs.declared.changes.Growth.{Growth}
 use Rattle.np_layout.specs.declared.place.Place.TheVariants.{NodeLock, RequestLock, Session}
-use Rattle.np_enact.specs.Parts.{by_session, grown_parts, join_parts}
-use Rattle.np_enact.specs.Ways.{GrowthReady}
+use Rattle.np_layout.specs.Parts.{by_session, grown_parts, join_parts}
+use Rattle.np_layout.specs.Ways.{GrowthReady}
 use Rattle.np_steps.proofs.Growing.{on-ok, request-text}
 use Rattle.np_steps.proofs.grow.push_growth.Goals as goal
 

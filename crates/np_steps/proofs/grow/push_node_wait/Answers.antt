@@ -2,7 +2,7 @@ use Rattle.std.proofs.Common.{◌∙◌, ◌++◌, ◌∷◌, [], Bool, Option, 
 use Rattle.np_changes.specs.declared.changes.Maker.{Maker}
 use Rattle.np_layout.specs.declared.place.Place.TheVariants.{NodeLock}
 use Rattle.np_layout.specs.Creates.{wait_at}
-use Rattle.np_enact.specs.Parts.{by_session, join_parts}
+use Rattle.np_layout.specs.Parts.{by_session, join_parts}
 use Rattle.np_steps.proofs.Growing.{node-waits, on-ok}
 use Rattle.np_steps.proofs.grow.push_node_wait.Goals as goal
 

@@ -2,7 +2,7 @@ use Rattle.std.proofs.Common.{◌≡◌, ◌++◌, ◌∷◌, [], List, OnOk, su
 use Rattle.np_layout.specs.Prelude.{IsNode, Op, node_text, set}
 use Rattle.np_changes.specs.Prelude.{NodeEntry, NodeRecord, node_entry}
 use Rattle.np_layout.specs.declared.place.Place.TheVariants.{Node}
-use Rattle.np_enact.specs.Parts.{change_parts}
+use Rattle.np_layout.specs.Parts.{change_parts}
 use Rattle.np_steps.specs.NodeEdits.{edited_entry}
 use Rattle.np_steps.proofs.Found.{row-none}
 use Rattle.np_steps.proofs.NodeEdits.{edit-parts, edit-sound}

@@ -1,7 +1,7 @@
 use Rattle.std.proofs.Common.{◌<◌, ◌+◌, ◌++◌, List, ap, arith, drop, get_or, length, sym, ◌∙◌}
 use Rattle.std.proofs.lemmas.List.{drop_more}
 use Rattle.np_layout.specs.Prelude.{NodeId, Op}
-use Rattle.np_enact.specs.Parts.{each_changed}
+use Rattle.np_layout.specs.Parts.{each_changed}
 use Rattle.np_steps.specs.NodeEdits.{edited_entry}
 use Rattle.np_steps.proofs.NodeEdits.{each-behind}
 use Rattle.np_steps.proofs.nodes.push_edits.Goals as goal

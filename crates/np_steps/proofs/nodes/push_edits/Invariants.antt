@@ -1,5 +1,5 @@
 use Rattle.std.proofs.Common.{◌≡◌, ◌++◌, drop}
-use Rattle.np_enact.specs.Parts.{each_changed}
+use Rattle.np_layout.specs.Parts.{each_changed}
 use Rattle.np_steps.specs.NodeEdits.{edited_entry}
 use Rattle.np_steps.proofs.nodes.push_edits.Given as goal
 

@@ -2,7 +2,7 @@ use Rattle.std.proofs.Common.{◌≡◌, List, OnOk, subst}
 use Rattle.np_layout.specs.Prelude.{Op, delete, delete_parts, node_deletes, path_of, under}
 use Rattle.np_changes.specs.Prelude.{NodeEntry, node_entry}
 use Rattle.np_layout.specs.declared.place.Place.TheVariants.{Node, NodeLock}
-use Rattle.np_enact.specs.Parts.{where_there}
+use Rattle.np_layout.specs.Parts.{where_there}
 use Rattle.np_steps.proofs.Found.{parts-behind, row-none, row-some}
 use Rattle.np_steps.proofs.nodes.push_removal.Goals as goal
 

@@ -1,16 +1,16 @@
 use Rattle.std.proofs.Common.{◌≡◌, ◌∙◌, ◌++◌, List, ap, subst, sym}
 use Rattle.std.specs.Prelude.{OnOk, slice_get}
-use Rattle.np_nodes.specs.declared.op.Op.{Op}
+use Rattle.np_tree_nodes.specs.declared.op.Op.{Op}
 use Rattle.np_changes.specs.Prelude.{Configuration, IsSound}
 use Rattle.np_changes.specs.declared.changes.HandlesChange.{HandlesChange}
-use Rattle.np_enact.specs.Parts.{handles_parts}
+use Rattle.np_layout.specs.Parts.{handles_parts}
 use Rattle.np_steps.proofs.RecordRows.{handles-read}
 use Rattle.np_steps.proofs.records.push_handles.Goals as goal
 
 pub returns-in-Some : goal.returns-in-Some
 returns-in-Some g c =
     let s = g.R.Rows.state c.args.rows.now in
-    let sound = subst IsSound c.config-config.ensures c.soundness.ensures in
+    let sound = subst IsSound c.config-config.ensures c.know_soundness.ensures in
     let there = c.in-Some.ensures ∙ ap (λ (site : Configuration). slice_get site.jobs c.in-Release.job.0) c.config-config.ensures in
     subst (λ (change : HandlesChange). OnOk c.push_releases.result (c.push_releases.new.ops.items ≡ c.args.ops.now.items ++ handles_parts (g.R.Rows.site c.args.rows.now) change s.handles)) (sym c.in-Release.is)
     (subst (λ (parts : List Op). OnOk c.push_releases.result (c.push_releases.new.ops.items ≡ c.args.ops.now.items ++ parts))

@@ -3,7 +3,7 @@ use Rattle.std.specs.Prelude.{OnOk}
 use Rattle.std.specs.Fmt.{decimal}
 use Rattle.np_layout.specs.declared.place.Place.TheVariants.{Tick}
 use Rattle.np_layout.specs.Sets.{set}
-use Rattle.np_enact.specs.Parts.{tick_parts}
+use Rattle.np_layout.specs.Parts.{tick_parts}
 use Rattle.np_steps.proofs.records.push_tick.Goals as goal
 
 pub overflow_add-tick : goal.overflow_add-tick

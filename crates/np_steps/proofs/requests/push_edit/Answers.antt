@@ -2,7 +2,7 @@ use Rattle.std.proofs.Common.{◌≡◌, ◌++◌, ◌∷◌, [], Option, OnOk, 
 use Rattle.np_changes.specs.Prelude.{RequestRecord, edited, request_in}
 use Rattle.np_layout.specs.Prelude.{IsRequest, request_record_text, set}
 use Rattle.np_layout.specs.declared.place.Place.TheVariants.{Request}
-use Rattle.np_enact.specs.Parts.{where_there}
+use Rattle.np_layout.specs.Parts.{where_there}
 use Rattle.np_steps.proofs.Found.{parts-none, request-edited, request-text}
 use Rattle.np_steps.proofs.requests.push_edit.Goals as goal
 

@@ -1,6 +1,6 @@
 use Rattle.std.proofs.Common.{◌≡◌, ◌<◌, true, arith, length}
 use Rattle.np_changes.specs.Prelude.{JobId, with_handle}
-use Rattle.np_table.specs.Roomy.{Roomy}
+use Rattle.np_lists.specs.Roomy.{Roomy}
 use Rattle.np_lists.proofs.Each.{all-get_or, all-set}
 use Rattle.np_tables.specs.Room.{has_place}
 use Rattle.np_tables.proofs.HandleLemmas.{rows_of-past, rows_of-set}

@@ -2,7 +2,7 @@ use Rattle.std.proofs.Common.{◌∙◌, ◌<◌, ◌≤◌, List, length, arith
 use Rattle.np_changes.specs.Prelude.{AllByRecursion, JobId}
 use Rattle.std.proofs.lemmas.List.{length-set, take_all}
 use Rattle.np_lists.proofs.Each.{all-mapped}
-use Rattle.np_table.specs.Roomy.{Roomy}
+use Rattle.np_lists.specs.Roomy.{Roomy}
 use Rattle.np_tables.proofs.HandleLemmas.{IsRoomy, roomy-more, rows_of-same}
 use Rattle.np_tables.proofs.handles.reserve_handles.Goals as goal
 

@@ -13,14 +13,14 @@ summary-requires c =
     let board = c.args.board.now in
     record {
       jobs = rows_jobs (planning_ran board) (ran_of c.machine.result.now) c.machine.ensures.same _ _ c.rows.ensures.site c.rows.ensures.state
-          (jobs-Runs board.configuration board.journal board.state c.requires.sound c.soundness.ensures.runs);
+          (jobs-Runs board.configuration board.journal board.state c.requires.sound c.know_soundness.ensures.runs);
     }
 
 pub returns-then-full : goal.returns-then-full
 returns-then-full c =
     let board = c.args.board.now in let text = c.in_ok-text.text.items in
     let state = rows_state (planning_ran board) (ran_of c.machine.result.now) c.machine.ensures.same _ _ c.rows.ensures.site c.rows.ensures.state in
-    drill_shown board.configuration board.configuration board.journal board.state text true refl c.requires.sound c.soundness.ensures.runs
+    drill_shown board.configuration board.configuration board.journal board.state text true refl c.requires.sound c.know_soundness.ensures.runs
     c.requires.lines c.requires.driven (ended_is false board.configuration board.journal c.args.full true c.if-full.true c.requires.ended)
     (c.in_ok-text.ensures ∙ ap (λ (s : State). summary_of (fates s)) state)
 
@@ -29,7 +29,7 @@ returns c =
     let board = c.args.board.now in let text = c.in_ok-text.text.items in
     let state = rows_state (planning_ran board) (ran_of c.machine.result.now) c.machine.ensures.same _ _ c.rows.ensures.site c.rows.ensures.state in (
       refl,
-      drill_shown board.configuration board.configuration board.journal board.state text false refl c.requires.sound c.soundness.ensures.runs
+      drill_shown board.configuration board.configuration board.journal board.state text false refl c.requires.sound c.know_soundness.ensures.runs
           c.requires.lines c.requires.driven (ended_is false board.configuration board.journal c.args.full false c.if-full.false c.requires.ended)
           (c.in_ok-text.ensures ∙ ap (λ (s : State). summary_of (fates s)) state),
     )

@@ -7,7 +7,7 @@ use Rattle.np_top.specs.Play.{HasEnded}
 use Rattle.np_top.proofs.drilling.play_drill.Goals as goal
 
 pub ending_at-ending-requires-clause-sound : goal.ending_at-ending-requires-clause-sound
-ending_at-ending-requires-clause-sound g c = subst IsSound (sym c.in_ok-board.ensures.configuration) c.soundness.ensures
+ending_at-ending-requires-clause-sound g c = subst IsSound (sym c.in_ok-board.ensures.configuration) c.know_soundness.ensures
 
 pub ending_at-ending-requires-clause-driven : goal.ending_at-ending-requires-clause-driven
 ending_at-ending-requires-clause-driven g c =

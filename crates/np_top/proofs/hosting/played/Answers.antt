@@ -1,7 +1,7 @@
 use Rattle.std.proofs.Common.{false}
 use Rattle.std.specs.Prelude.{IfOk, List}
 use Rattle.np_changes.specs.Prelude.{AllByRecursion, Configuration, Entry}
-use Rattle.np_event_lines.specs.Line.{HasEventLine}
+use Rattle.np_event.specs.Line.{HasEventLine}
 use Rattle.np_rules.specs.Running.{ran_of}
 use Rattle.np_board.specs.Outstanding.{ran_of as planning_ran}
 use Rattle.np_static.specs.Hosted.{hosted_view}

@@ -12,7 +12,7 @@ returns-clause-lines g c =
     let ended = c.in_ok-ended.ended in let told = c.in_ok-ended.ensures in
     let none = new_servers g.D.Driver.facts c.args.drivers.items c.requires.new in
     let says = WasAnswered (map (driving g.D.Driver.facts g.D.Driver.plan g.D.Driver.sound g.D.Driver.room) ended.drivers.items) in
-    lines_as says c.args.config c.soundness.ensures c.args.plans ended.board.journal
+    lines_as says c.args.config c.know_soundness.ensures c.args.plans ended.board.journal
     (driven_either says c.args.plans c.args.config ended.board.journal (λ off. told.driven off none) (λ on. told.planned on none))
     (subst (AllByRecursion (λ (e : Entry). IsTyped e.event)) c.journal.ensures c.numbers_are_within_their_types.ensures)
 
@@ -31,7 +31,7 @@ returns-clause-failed g c = λ off. c.in_ok-ended.ensures.failed off c.requires.
 pub returns-clause-ended : goal.returns-clause-ended
 returns-clause-ended g c =
     let board = c.in_ok-ended.ended.board in (
-      ended_so c.args.config board.configuration board.journal board.state c.in_ok-ended.ended.full c.in_ok-ended.ensures.configuration c.soundness-2.ensures.runs
+      ended_so c.args.config board.configuration board.journal board.state c.in_ok-ended.ended.full c.in_ok-ended.ensures.configuration c.know_soundness-2.ensures.runs
           c.in_ok-ended.ensures.settled c.in_ok-ended.ensures.full,
       played_by c.args.plans g.D.Driver.facts g.D.Driver.plan g.D.Driver.sound g.D.Driver.room c.args.config c.args.drivers.items c.in_ok-ended.ended.drivers.items board.journal c.in_ok-ended.ended.full
           (new_servers g.D.Driver.facts c.args.drivers.items c.requires.new) c.in_ok-ended.ensures.played,

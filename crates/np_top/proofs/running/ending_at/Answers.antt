@@ -11,7 +11,7 @@ pub text-requires-clause-runs : goal.text-requires-clause-runs
 text-requires-clause-runs g c =
     let m = c.args.machine.now in
     rows_runs (ran_of m) (ran_of m) refl _ _ c.rows-rows.ensures.site c.rows-rows.ensures.state c.journal.result.now c.journal.ensures
-    (Runs-first m.configuration m.earlier m.journal m.state c.requires.first c.soundness.ensures.runs)
+    (Runs-first m.configuration m.earlier m.journal m.state c.requires.first c.know_soundness.ensures.runs)
 
 pub status_of-requires : goal.status_of-requires
 status_of-requires g c =
@@ -20,20 +20,20 @@ status_of-requires g c =
     c.journal.result.now c.in_ok-text.text.items c.journal.ensures c.in_ok-text.ensures in
     record {
       jobs = rows_jobs (ran_of m) (ran_of m) refl _ _ c.rows-rows.ensures.site c.rows-rows.ensures.state
-          (jobs-Runs m.configuration m.journal m.state printed.sound (Runs-first m.configuration m.earlier m.journal m.state c.requires.first c.soundness.ensures.runs));
+          (jobs-Runs m.configuration m.journal m.state printed.sound (Runs-first m.configuration m.earlier m.journal m.state c.requires.first c.know_soundness.ensures.runs));
     }
 
 pub returns-then-full : goal.returns-then-full
 returns-then-full g c = λ plans ended.
     let m = c.args.machine.now in let text = c.in_ok-text.text.items in
     let printed = rows_printed (ran_of m) (ran_of m) refl _ _ c.rows-rows.ensures.site c.rows-rows.ensures.state c.journal.result.now text c.journal.ensures c.in_ok-text.ensures in
-    played_to m.configuration m.configuration m.journal m.state refl (Runs-first m.configuration m.earlier m.journal m.state c.requires.first c.soundness.ensures.runs) plans text true
+    played_to m.configuration m.configuration m.journal m.state refl (Runs-first m.configuration m.earlier m.journal m.state c.requires.first c.know_soundness.ensures.runs) plans text true
     printed (ended_is plans m.configuration m.journal c.args.full true c.if-full.true ended)
 
 pub returns : goal.returns
 returns g c = λ plans ended.
     let m = c.args.machine.now in let text = c.in_ok-text.text.items in
-    let runs = Runs-first m.configuration m.earlier m.journal m.state c.requires.first c.soundness.ensures.runs in
+    let runs = Runs-first m.configuration m.earlier m.journal m.state c.requires.first c.know_soundness.ensures.runs in
     let printed = rows_printed (ran_of m) (ran_of m) refl _ _ c.rows-rows.ensures.site c.rows-rows.ensures.state c.journal.result.now text c.journal.ensures c.in_ok-text.ensures in
     let state = rows_state (ran_of m) (ran_of m) refl _ _ c.rows-rows.ensures.site c.rows-rows.ensures.state in (
       played_to m.configuration m.configuration m.journal m.state refl runs plans text false printed (ended_is plans m.configuration m.journal c.args.full false c.if-full.false ended),

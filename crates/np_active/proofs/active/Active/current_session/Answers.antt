@@ -1,4 +1,4 @@
-use Rattle.std.proofs.Common.{◌∙◌, sym, ap}
+use Rattle.np_active.proofs.Prelude.{ap, sym, ◌∙◌}
 use Rattle.np_active.proofs.Readers.{current-at, current-none}
 use Rattle.np_active.proofs.active.Active.current_session.Goals as goal
 

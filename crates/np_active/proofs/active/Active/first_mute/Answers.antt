@@ -1,4 +1,4 @@
-use Rattle.std.proofs.Common.{◌∙◌, ap}
+use Rattle.np_active.proofs.Prelude.{ap, ◌∙◌}
 use Rattle.np_active.proofs.Readers.{mute-at}
 use Rattle.np_active.proofs.active.Active.first_mute.Goals as goal
 

@@ -1,6 +1,4 @@
-use Rattle.std.proofs.Common.{◌∙◌, Option, ap}
-use Rattle.std.specs.Prelude.{is_some}
-use Rattle.np_text.specs.declared.id.SessionId.{SessionId}
+use Rattle.np_active.proofs.Prelude.{Option, SessionId, ap, is_some, ◌∙◌}
 use Rattle.np_active.proofs.Readers.{live-at}
 use Rattle.np_active.proofs.active.Active.has_live_session.Goals as goal
 

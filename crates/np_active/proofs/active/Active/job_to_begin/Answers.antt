@@ -1,7 +1,4 @@
-use Rattle.std.proofs.Common.{None, subst, sym}
-use Rattle.np_table.specs.declared.groups.Group.{Group}
-use Rattle.np_active.specs.Active.{AreActive}
-use Rattle.np_active.specs.Begin.{IsBest}
+use Rattle.np_active.proofs.Prelude.{AreActive, Group, IsBest, None, subst, sym}
 use Rattle.np_active.proofs.BeginLemmas.{first-begins}
 use Rattle.np_active.proofs.active.Active.job_to_begin.Goals as goal
 

@@ -1,5 +1,4 @@
-use Rattle.std.proofs.Common.{◌∙◌, ap}
-use Rattle.np_active.specs.Active.{supplied_ones}
+use Rattle.np_active.proofs.Prelude.{ap, supplied_ones, ◌∙◌}
 use Rattle.np_active.proofs.Readers.{job-at}
 use Rattle.np_active.proofs.active.Active.job_to_take.Goals as goal
 

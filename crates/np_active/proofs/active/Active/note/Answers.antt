@@ -1,12 +1,4 @@
-use Rattle.std.proofs.Common.{◌∙◌, List, ap}
-use Rattle.std.specs.Prelude.{map}
-use Rattle.np_text.specs.declared.id.JobId.{JobId}
-use Rattle.np_table.specs.declared.groups.Member.{Member}
-use Rattle.np_table.specs.Moves.{with_all_moved}
-use Rattle.np_look.specs.Keys.{is_job_before, is_session_before, same_job, same_session}
-use Rattle.np_active.specs.Placed.{groups_of_job, groups_of_session}
-use Rattle.np_active.specs.Prepared.{job_before, session_before}
-use Rattle.np_classes.proofs.Grouped.{moved-by}
+use Rattle.np_active.proofs.Prelude.{JobId, List, ap, groups_of_job, groups_of_session, is_job_before, is_session_before, job_before, map, moved-by, same_job, same_session, session_before, with_all_moved, ◌∙◌}
 use Rattle.np_active.proofs.Noted.{active-noted}
 use Rattle.np_active.proofs.active.Active.note.Goals as goal
 

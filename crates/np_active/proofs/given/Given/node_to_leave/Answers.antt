@@ -1,5 +1,4 @@
-use Rattle.std.proofs.Common.{subst, sym}
-use Rattle.np_active.specs.Given.{AreGivenGroups}
+use Rattle.np_active.proofs.Prelude.{AreGivenGroups, subst, sym}
 use Rattle.np_active.proofs.Outside.{leaves-by}
 use Rattle.np_active.proofs.given.Given.node_to_leave.Goals as goal
 

@@ -1,4 +1,4 @@
-use Rattle.std.proofs.Common.{◌∙◌, ap}
+use Rattle.np_active.proofs.Prelude.{ap, ◌∙◌}
 use Rattle.np_active.proofs.GivenNoted.{given-noted}
 use Rattle.np_active.proofs.given.Given.note.Goals as goal
 

@@ -2,4 +2,4 @@ use Rattle.np_config_text.proofs.Ascii.{jobs-ascii}
 use Rattle.np_config_text.proofs.rows.RequesterPlaced.value_at.Goals as goal
 
 pub owned_value-requires : goal.owned_value-requires
-owned_value-requires c = rw c.jobs.ensures (jobs-ascii _ c.soundness.ensures)
+owned_value-requires c = rw c.jobs.ensures (jobs-ascii _ c.know_soundness.ensures)

@@ -1,8 +1,8 @@
 use Rattle.std.proofs.Common.{◌≡◌, ◌∙◌, ◌+◌, ◌-◌, sym, ap, subst, arith}
 use Rattle.std.specs.Prelude.{slice_get}
 use Rattle.std.specs.Option.{option_map}
-use Rattle.np_open.specs.declared.ranks.Rank.{Rank}
-use Rattle.np_open.specs.Open.{AreOpen}
+use Rattle.np_lookups.specs.declared.ranks.Rank.{Rank}
+use Rattle.np_lookups.specs.Open.{AreOpen}
 use Rattle.np_index.specs.Candidates.{candidate_ranks}
 use Rattle.np_index.proofs.CandidateLemmas.{candidate-rank}
 use Rattle.np_index.proofs.BestLemmas.{best-at, best-begins, best-next, lines-fall, none-on}

@@ -1,6 +1,6 @@
 use Rattle.std.proofs.Common.{◌∙◌, ap, subst, sym}
 use Rattle.np_changes.specs.Changes.{changed}
-use Rattle.np_counts.specs.Awaited.{OthersStay, first_rest}
+use Rattle.np_index.specs.Awaited.{OthersStay, first_rest}
 use Rattle.np_lookups.specs.Lookups.{AreLookupsOf}
 use Rattle.np_lookups.specs.Prepared.{lookups_made}
 use Rattle.np_index.specs.Prepared.{IsPreparedFor}

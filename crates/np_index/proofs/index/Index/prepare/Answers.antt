@@ -1,6 +1,6 @@
 use Rattle.std.proofs.Common.{◌∙◌, ap, subst, sym}
-use Rattle.np_counts.specs.Awaited.{first_rest}
-use Rattle.np_open.specs.Prepared.{AreListed}
+use Rattle.np_index.specs.Awaited.{first_rest}
+use Rattle.np_lookups.specs.Pasts.{AreListed}
 use Rattle.np_classes.proofs.Noted.{classes-same}
 use Rattle.np_active.specs.Given.{AreGivenGroups}
 use Rattle.np_index.specs.Index.{IsIndexOf}

@@ -11,7 +11,7 @@ pub write-requires-clause-ready : goal.write-requires-clause-ready
 write-requires-clause-ready g c =
     let site = g.R.Rows.site c.args.rows.now in
     let s = g.R.Rows.state c.args.rows.now in
-    may-change site s c.args.changes.now (subst IsSound c.config.ensures c.soundness.ensures) (subst (IsCarried site) c.requires.holds.state c.requires.holds.held.stored.carried) c.requires.reached c.requires.fits c.requires.planned c.changes_are_in_range.ensures
+    may-change site s c.args.changes.now (subst IsSound c.config.ensures c.know_soundness.ensures) (subst (IsCarried site) c.requires.holds.state c.requires.holds.held.stored.carried) c.requires.reached c.requires.fits c.requires.planned c.changes_are_in_range.ensures
 
 pub returns-clause-err : goal.returns-clause-err
 returns-clause-err g c =

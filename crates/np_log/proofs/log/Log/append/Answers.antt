@@ -1,9 +1,4 @@
-use Rattle.std.proofs.Common.{◌≡◌, ◌+◌, length, ℕ, List, sym, ◌∙◌, ap, subst, arith}
-use Rattle.std.specs.Option.{option_map}
-use Rattle.np_io.specs.Disk.{LeavesOnly}
-use Rattle.np_log.specs.Batch.{batch_text}
-use Rattle.np_log.specs.Place.{IsSettled, Place}
-use Rattle.np_log.specs.Writing.{TornBehindOrAt, behind_open_gate, record_and_gate}
+use Rattle.np_log.proofs.Prelude.{IsSettled, LeavesOnly, List, Place, TornBehindOrAt, ap, arith, batch_text, behind_open_gate, length, option_map, record_and_gate, subst, sym, ℕ, ◌+◌, ◌∙◌, ◌≡◌}
 use Rattle.np_log.proofs.AppendLemmas.{adds_of, every_moment, fits, then_content, then_settled}
 use Rattle.np_log.proofs.log.Log.append.Goals as goal
 

@@ -1,9 +1,4 @@
-use Rattle.std.proofs.Common.{◌≡◌, ◌≤◌, ◌+◌, List, length, take, IfSome, ◌∙◌, ap, subst, arith, length-drop}
-use Rattle.std.specs.Option.{option_map}
-use Rattle.np_event.specs.declared.event.Event.{Event}
-use Rattle.np_io.specs.Disk.{LeavesOnly}
-use Rattle.np_log.specs.Log.{content_of, content_with}
-use Rattle.np_log.specs.Place.{SaysAllOrNone}
+use Rattle.np_log.proofs.Prelude.{Event, IfSome, LeavesOnly, List, SaysAllOrNone, ap, arith, content_of, content_with, length, length-drop, option_map, subst, take, ◌+◌, ◌∙◌, ◌≡◌, ◌≤◌}
 use Rattle.np_log.proofs.PartLemmas.{content_more, run_more}
 use Rattle.np_log.proofs.log.Log.append_all.Goals as goal
 

@@ -1,8 +1,4 @@
-use Rattle.std.proofs.Common.{◌≡◌, ◌≤◌, ◌+◌, ◌-◌, length, take, IfSome}
-use Rattle.std.specs.Option.{option_map}
-use Rattle.np_io.specs.Disk.{LeavesOnly}
-use Rattle.np_log.specs.Log.{content_of, content_with}
-use Rattle.np_log.specs.Place.{IsSettled, SaysFirst}
+use Rattle.np_log.proofs.Prelude.{IfSome, IsSettled, LeavesOnly, SaysFirst, content_of, content_with, length, option_map, take, ◌+◌, ◌-◌, ◌≡◌, ◌≤◌}
 use Rattle.np_log.proofs.log.Log.append_all.Given as goal
 
 abbrev pub invariant-loop-at : goal.invariant-loop-at

@@ -1,4 +1,4 @@
-use Rattle.std.proofs.Common.{◌∙◌}
+use Rattle.np_log.proofs.Prelude.{◌∙◌}
 use Rattle.np_log.proofs.CreateLemmas.{create_content, create_moment, create_settled, create_walk}
 use Rattle.np_log.proofs.log.Log.create.Goals as goal
 

@@ -1,7 +1,4 @@
-use Rattle.std.proofs.Common.{◌≡◌, ℕ, length, sym, ◌∙◌, ap, subst}
-use Rattle.np_log.specs.Log.{walk_of}
-use Rattle.np_log.specs.Place.{IsSettled}
-use Rattle.np_log.specs.Walking.{walk_view}
+use Rattle.np_log.proofs.Prelude.{IsSettled, ap, length, subst, sym, walk_of, walk_view, ℕ, ◌∙◌, ◌≡◌}
 use Rattle.np_log.proofs.LoadLemmas.{load_settled}
 use Rattle.np_log.proofs.WalkLemmas.{walk_of-EndsAt}
 use Rattle.np_log.proofs.log.Log.load.Goals as goal
@@ -15,4 +12,4 @@ returns-clause-settled g c =
     (ap walk_of (sym c.deref.ensures.value) ∙ c.in_ok-walk.ensures.walks))
 
 pub returns-clause-lines : goal.returns-clause-lines
-returns-clause-lines g c = (walk_of-EndsAt c.deref.result.now (walk_view c.in_ok-walk.walk) c.in_ok-walk.ensures.walks).lines
+returns-clause-lines g c = (walk_of-EndsAt c.deref.result.now (walk_view c.in_ok-walk.walk) c.in_ok-walk.ensures.walks).lines tt

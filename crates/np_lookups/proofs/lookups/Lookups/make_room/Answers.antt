@@ -1,5 +1,4 @@
-use Rattle.std.proofs.Common.{sym, subst}
-use Rattle.np_lookups.specs.Lookups.{AreLookupsOf}
+use Rattle.np_lookups.proofs.Prelude.{AreLookupsOf, subst, sym}
 use Rattle.np_lookups.proofs.Room.{requests-more, nodes-more}
 use Rattle.np_lookups.proofs.lookups.Lookups.make_room.Goals as goal
 use Rattle.np_lookups.proofs.lookups.Lookups.make_room.Goals.{then-len-wanted+in_ok-push, else-len-wanted}

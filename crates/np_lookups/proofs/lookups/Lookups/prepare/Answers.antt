@@ -1,6 +1,4 @@
-use Rattle.std.proofs.Common.{◌∙◌, ap, refl, sym, subst}
-use Rattle.np_lookups.specs.Changed.{holder_at, queue_at}
-use Rattle.np_lookups.specs.Lookups.{AreLookupsOf, HasRoom}
+use Rattle.np_lookups.proofs.Prelude.{AreLookupsOf, HasRoom, ap, holder_at, queue_at, refl, subst, sym, ◌∙◌}
 use Rattle.np_lookups.proofs.Settled.{ends-same, lookups-after}
 use Rattle.np_lookups.proofs.lookups.Lookups.prepare.Goals as goal
 

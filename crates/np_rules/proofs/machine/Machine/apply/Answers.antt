@@ -8,7 +8,7 @@ use Rattle.np_rules.proofs.RunLemmas.{RunsOn-reached, RunsOn-fits, RunsOn-next}
 use Rattle.np_rules.proofs.machine.Machine.apply.Goals as goal
 
 pub decide-decided-requires : goal.decide-decided-requires
-decide-decided-requires g c = RunsOn-fits _ _ _ _ c.soundness.ensures.site c.soundness.ensures.runs
+decide-decided-requires g c = RunsOn-fits _ _ _ _ c.know_soundness.ensures.site c.know_soundness.ensures.runs
 
 pub step-requires-clause-reached : goal.step-requires-clause-reached
 step-requires-clause-reached g c = RunsOn-reached _ _ _ _ c.self.invariant.runs

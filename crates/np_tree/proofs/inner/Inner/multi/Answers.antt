@@ -1,6 +1,6 @@
 use Rattle.std.proofs.Common.{◌≡◌, List, sym, ap, ◌∙◌}
-use Rattle.np_nodes.specs.Prelude.{after_multi, with_next_number}
-use Rattle.np_nodes.specs.declared.node.Node.{Node}
+use Rattle.np_tree_nodes.specs.Prelude.{after_multi, with_next_number}
+use Rattle.np_tree_nodes.specs.declared.node.Node.{Node}
 use Rattle.np_tree.specs.Inners.{state_of}
 use Rattle.np_tree.specs.declared.inner.Inner.{Inner}
 use Rattle.np_tree.proofs.HoldsLemmas.{Holds-tree}

@@ -1,5 +1,5 @@
 use Rattle.std.proofs.Common.{◌≡◌, refl, ap, ◌∙◌}
-use Rattle.np_nodes.specs.Prelude.{change_node, with_counter}
+use Rattle.np_tree_nodes.specs.Prelude.{change_node, with_counter}
 use Rattle.np_tree.proofs.HoldsLemmas.{Holds-raise}
 use Rattle.np_tree.proofs.inner.Inner.raise_counter.Goals as goal
 

@@ -1,0 +1,34 @@
+use Rattle.std.proofs.Common.{◌∙◌, ◌≤◌, List, length, sym, subst, arith}
+use Rattle.np_tree_nodes.specs.TreeState.{TreeState}
+use Rattle.np_changes.specs.Prelude.{Entry, Runs}
+use Rattle.np_keeper.specs.Keeper.{Holds}
+use Rattle.np_planned.specs.Stale.{StaleHasParent}
+use Rattle.np_board.specs.Outstanding.{Planning, planning_of}
+use Rattle.np_board.specs.PlanTaken.{IsBarred}
+use Rattle.np_board.proofs.PlanLemmas.{plan-few, plan-out, plan-parent}
+use Rattle.np_board.proofs.board.Board.test.Goals as goal
+
+pub stale_spot-requires-clause-few : goal.stale_spot-requires-clause-few
+stale_spot-requires-clause-few c =
+    let m = c.self.inside.machine in
+    let runs : Runs m.configuration m.journal m.state = subst (λ (k : Planning). Runs k.configuration k.journal k.state) (sym c.self.view_is) c.know_soundness.ensures.runs in
+    let holds : Holds m.configuration m.state m.store = subst (λ (t : TreeState). Holds m.configuration m.state t) c.store.ensures.same c.store.ensures.held in
+    plan-few (planning_of m c.self.inside.commits c.self.inside.plans) c.args.pool c.in-Some.watched.now c.self.invariant.1 (sym c.in-Some.ensures) c.spots_have_paths.ensures.paths runs holds
+
+pub stale_spot-requires-clause-paths : goal.stale_spot-requires-clause-paths
+stale_spot-requires-clause-paths c =
+    (plan-out (planning_of c.self.inside.machine c.self.inside.commits c.self.inside.plans) c.args.pool c.in-Some.watched.now c.self.invariant.1 (sym c.in-Some.ensures)).paths
+
+pub stale_spot-requires-clause-parent : goal.stale_spot-requires-clause-parent
+stale_spot-requires-clause-parent c =
+    let m = c.self.inside.machine in
+    let runs : Runs m.configuration m.journal m.state = subst (λ (k : Planning). Runs k.configuration k.journal k.state) (sym c.self.view_is) c.know_soundness.ensures.runs in
+    let holds : Holds m.configuration m.state m.store = subst (λ (t : TreeState). Holds m.configuration m.state t) c.store.ensures.same c.store.ensures.held in
+    subst (λ (t : TreeState). StaleHasParent t c.in-Some.watched.now.plan.at c.in-Some.watched.now.paths) (sym (c.tree-tree.ensures ∙ c.store.ensures.same))
+    (plan-parent (planning_of m c.self.inside.commits c.self.inside.plans) c.args.pool c.in-Some.watched.now c.self.invariant.1 (sym c.in-Some.ensures) c.spots_have_paths.ensures.parents runs holds)
+
+pub returns-then-journal-ge-JOURNAL_ENTRIES : goal.returns-then-journal-ge-JOURNAL_ENTRIES
+returns-then-journal-ge-JOURNAL_ENTRIES c =
+    let told : 262144 ≤ length c.journal.result.now = omega (arith, c.if-journal-ge-JOURNAL_ENTRIES.true) in
+    subst (λ (k : Planning). IsBarred k c.args.pool) c.self.view_is
+    (record { plan = c.in-Some.watched.now; there = sym c.in-Some.ensures; full = subst (λ (xs : List Entry). 262144 ≤ length xs) c.journal.ensures told })

@@ -1,0 +1,9 @@
+use Rattle.np_changes.proofs.Made.{kept-every_step}
+use Rattle.np_changes.proofs.Rightful.{fenced-every_step}
+use Rattle.np_changes.proofs.kept.every_run_is_kept_and_fenced_after_every_step.Goals as goal
+
+pub returns-clause-kept : goal.returns-clause-kept
+returns-clause-kept c = kept-every_step
+
+pub returns-clause-fenced : goal.returns-clause-fenced
+returns-clause-fenced c = fenced-every_step

@@ -1,8 +1,0 @@
-use Rattle.np_rules.proofs.RunLemmas.{RunsOn-fits, RunsOn-reached}
-use Rattle.np_cost_tests.proofs.scenes.soundness.Goals as goal
-
-pub returns-clause-reached : goal.returns-clause-reached
-returns-clause-reached c = RunsOn-reached _ _ _ _ c.soundness.ensures.runs
-
-pub returns-clause-fits : goal.returns-clause-fits
-returns-clause-fits c = RunsOn-fits _ _ _ _ c.soundness.ensures.site c.soundness.ensures.runs

@@ -1,9 +1,0 @@
-use Rattle.std.proofs.Common.{subst}
-use Rattle.np_config.specs.Sound.{IsSound}
-use Rattle.np_counts.proofs.Noted.{amounts-after}
-use Rattle.np_counts.proofs.awaited.Awaited.note.Goals as goal
-
-pub returns : goal.returns
-returns g c site s ch reached planned stay before same_site later was =
-    amounts-after site (g.R.Rows.site c.args.rows.now) s (g.R.Rows.state c.args.rows.now) ch c.args.requests.now c.args.before c.first_rest-after.result c.args.self.now _
-    (subst IsSound c.config.ensures c.soundness.ensures) reached planned stay before c.first_rest-after.ensures same_site later c.exchange.ensures was

@@ -1,5 +1,0 @@
-use Rattle.np_counts.proofs.Made.{AreUpTo}
-use Rattle.np_counts.proofs.awaited.Awaited.rebuild.Given as goal
-
-abbrev pub invariant-loop-at : goal.invariant-loop-at
-invariant-loop-at g l = AreUpTo (g.R.Rows.site l.rows) (g.R.Rows.state l.rows) l.at l.amounts.items

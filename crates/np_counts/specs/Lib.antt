@@ -1,6 +1,0 @@
-pub mod Taken
-pub mod Waiting
-pub mod Thirds
-pub mod Sets
-pub mod TenantGroups
-pub mod Awaited

@@ -1,5 +1,0 @@
-use Rattle.np_enact.proofs.Starts.{starts-are-carried}
-use Rattle.np_enact.proofs.ready.every_start_is_carried.Goals as goal
-
-pub returns : goal.returns
-returns c = starts-are-carried

@@ -1,5 +1,0 @@
-use Rattle.np_enact.proofs.Carried.{steps-are-carried}
-use Rattle.np_enact.proofs.ready.every_step_is_carried.Goals as goal
-
-pub returns : goal.returns
-returns c = steps-are-carried

@@ -1,0 +1,6 @@
+use Rattle.np_event.proofs.Prelude.{arith}
+use Rattle.std.proofs.Common.{rules}
+use Rattle.np_event.proofs.field.has_word.Goals as goal
+
+pub returns-in-Pool : goal.returns-in-Pool
+returns-in-Pool c = rw c.in-Pool.is (λ _. omega arith, λ _. search rules)

@@ -1,0 +1,177 @@
+-- The lines of events, replies and entries (own; the words are Nodepool's and Zuul's).
+use Rattle.std.specs.Prelude.{ℕ, ◌+◌, Bool, false, ◌&&◌, ◌==◌, nat_le, if◌then◌else◌, List, [], ◌∷◌, ◌++◌, length, drop, codes, Option, Some, None, Result, Ok, Err}
+use Rattle.std.specs.List.{find}
+use Rattle.std.specs.Option.{option_map}
+use Rattle.std.specs.Result.{result_ok}
+use Rattle.std.specs.Str.{bytes_eq}
+use Rattle.np_text.specs.Sections.{behind}
+use Rattle.np_text.specs.declared.id.Role.TheVariants as role
+use Rattle.np_event.specs.declared.entry.Entry.{Entry}
+use Rattle.np_event.specs.declared.event.Event.{Event}
+use Rattle.np_event.specs.declared.event.Event.TheVariants as ev
+use Rattle.np_event.specs.declared.event_form.EventForm.{EventForm}
+use Rattle.np_event.specs.declared.fault.LineFault.{LineFault}
+use Rattle.np_event.specs.declared.fault.LineFault.TheVariants.{UnknownEvent, WrongCount, BadArgument}
+use Rattle.np_event.specs.declared.kind.Fields.{Fields}
+use Rattle.np_event.specs.declared.reply.Done.{Done}
+use Rattle.np_event.specs.declared.reply.Refusal.{Refusal}
+use Rattle.np_event.specs.declared.reply.Refusal.TheVariants as no
+use Rattle.np_event.specs.declared.reply.Reply.{Reply}
+use Rattle.np_event.specs.declared.reply.Reply.TheVariants as reply
+use Rattle.np_event.specs.EventForm.{event_forms, event_of, event_parts, event_row}
+use Rattle.np_event.specs.Reading.{HaveWords, row_fields, row_line, stand}
+use Rattle.np_event.specs.ReplyForm.{done_forms, done_of, done_fields, done_row, refusal_forms, refusal_of, refusal_fields, refusal_row, told_found}
+use Rattle.np_event.specs.Words.{words_of}
+
+-- ## Events
+
+-- an event's one line (own)
+abbrev pub event_line : Event → List ℕ
+event_line e = row_line (event_row (event_parts e).0) (event_parts e).1
+
+-- no line opens a reaper's session
+abbrev pub OpensNoReaper : Event → Type 0
+OpensNoReaper (ev.OpenSession role.Reaper) = ⊥
+OpensNoReaper e = Unit {0}
+
+-- an event has a line: it opens no reaper's session, its numbers are within their types, its requests have three digits, and a job may have its relative priority
+pub record HasEventLine (e : Event) : Type 0 where
+  pub role : OpensNoReaper e
+  pub words : HaveWords (event_row (event_parts e).0).kinds (event_parts e).1
+
+-- the line begins with the form's first word
+abbrev pub is_headed : List ℕ → EventForm → Bool
+is_headed first form = bytes_eq first (event_row form).head
+
+-- the line has the form's first word and its fixed words
+abbrev pub is_agreed : List ℕ → List (List ℕ) → EventForm → Bool
+is_agreed first rest form = is_headed first form && stand (event_row form).kinds rest
+
+-- no form of this first word agrees. If a later word chooses the form, too few words reach it, or
+-- it is unknown there; otherwise the forms have one count, and the first of them is taken, so that
+-- the count and then the words are judged by it
+abbrev pub undecided : EventForm → List (List ℕ) → Option ℕ → Result EventForm LineFault
+undecided form rest None = Ok form
+undecided form rest (Some place) = if nat_le place (length rest) then Err (BadArgument (place + 1)) else Err WrongCount
+
+-- the first form that agrees; otherwise the first that begins so, if it may be taken; otherwise no
+-- event has this name
+abbrev pub chosen : List (List ℕ) → Option EventForm → Option EventForm → Result EventForm LineFault
+chosen rest (Some agreed) headed = Ok agreed
+chosen rest None (Some headed) = undecided headed rest (event_row headed).decided_at
+chosen rest None None = Err UnknownEvent
+
+-- the form that the words choose
+abbrev pub event_form_of : List ℕ → List (List ℕ) → Result EventForm LineFault
+event_form_of first rest = chosen rest (find (is_agreed first rest) event_forms) (find (is_headed first) event_forms)
+
+-- the event of a form and what its words say
+abbrev pub with_fields : EventForm → Result Fields LineFault → Result Event LineFault
+with_fields form (Ok f) = Ok (event_of form f)
+with_fields form (Err fault) = Err fault
+
+-- the event of the words after the first, by their form
+abbrev pub with_form : List (List ℕ) → Result EventForm LineFault → Result Event LineFault
+with_form rest (Ok form) = with_fields form (row_fields (event_row form).kinds rest)
+with_form rest (Err fault) = Err fault
+
+-- the event of a line's words, or their first fault: no such event, another count, the first word that does not fit
+unfoldable pub event_in : List (List ℕ) → Result Event LineFault
+event_in [] = Err UnknownEvent
+event_in (first ∷ rest) = with_form rest (event_form_of first rest)
+
+-- ## Replies
+
+-- what the line of an accepted event says
+abbrev pub done_line : Done → List ℕ
+done_line d = row_line (done_row d) (done_fields d)
+
+-- what follows the word `refused`
+abbrev pub refusal_line : Refusal → List ℕ
+refusal_line r = row_line (refusal_row r) (refusal_fields r)
+
+-- a reply's one line (own)
+abbrev pub reply_line : Reply → List ℕ
+reply_line (reply.Done d) = done_line d
+reply_line (reply.Refused r) = codes "refused " ++ refusal_line r
+
+-- a reply has a line: its requests have three digits, and it reports no withdrawn job
+abbrev pub HasReplyLine : Reply → Type 0
+HasReplyLine (reply.Done d) = HaveWords (done_row d).kinds (done_fields d)
+HasReplyLine (reply.Refused r) = HaveWords (refusal_row r).kinds (refusal_fields r)
+
+-- the reply begins with the form's first word
+abbrev pub is_headed_done : List ℕ → Done → Bool
+is_headed_done first form = bytes_eq first (done_row form).head
+
+-- the refusal begins with the form's first word
+abbrev pub is_headed_refusal : List ℕ → Refusal → Bool
+is_headed_refusal first form = bytes_eq first (refusal_row form).head
+
+-- the reply of a done form and the words after its first
+abbrev pub done_with : List (List ℕ) → Option Done → Option Reply
+done_with rest None = None
+done_with rest (Some form) = option_map (λ f. reply.Done (done_of form f)) (result_ok (row_fields (done_row form).kinds rest))
+
+-- the reply of a refusal's form and the words after its first
+abbrev pub refusal_with : List (List ℕ) → Option Refusal → Option Reply
+refusal_with rest None = None
+refusal_with rest (Some form) = option_map (λ f. reply.Refused (refusal_of form f)) (result_ok (row_fields (refusal_row form).kinds rest))
+
+-- the refusal of the words after `refused`
+abbrev pub refusal_in : List (List ℕ) → Option Reply
+refusal_in [] = None
+refusal_in (first ∷ rest) = refusal_with rest (find (is_headed_refusal first) refusal_forms)
+
+-- the reply of these words
+unfoldable pub reply_in : List (List ℕ) → Option Reply
+reply_in [] = None
+reply_in (first ∷ rest) = if bytes_eq first (codes "refused") then refusal_in rest else done_with rest (find (is_headed_done first) done_forms)
+
+-- the reply as its line is read: a failed node and a failed request share one word, which is read
+-- as the request's
+abbrev pub told : Reply → Reply
+told (reply.Refused (no.WrongState found)) = reply.Refused (no.WrongState (told_found found))
+told other = other
+
+-- ## Entries
+
+-- an entry's line: the event, ` = ` and the reply
+abbrev pub entry_line : Entry → List ℕ
+entry_line e = event_line e.event ++ codes " = " ++ reply_line e.reply
+
+-- the entry as its line is read
+abbrev pub told_entry : Entry → Entry
+told_entry e = record { event = e.event; reply = told e.reply }
+
+-- an entry has a line if its event and its reply have one
+pub record HasEntryLine (e : Entry) : Type 0 where
+  pub event : HasEventLine e.event
+  pub reply : HasReplyLine e.reply
+
+-- ` = ` is here
+abbrev pub begins_reply : List ℕ → Bool
+begins_reply [] = false
+begins_reply (a ∷ []) = false
+begins_reply (a ∷ b ∷ []) = false
+begins_reply (a ∷ b ∷ c ∷ rest) = (a == 32) && (b == 61) && (c == 32)
+
+-- what comes before and after the first ` = `
+unfoldable pub sides_of : List ℕ → Option (List ℕ × List ℕ)
+sides_of [] = None
+sides_of (b ∷ bs) = if begins_reply (b ∷ bs) then Some ([], drop 3 (b ∷ bs)) else behind (b ∷ []) (sides_of bs)
+
+-- the entry of an event and a reply, if both were read
+abbrev pub entry_from : Result Event LineFault → Option Reply → Option Entry
+entry_from (Ok event) (Some reply) = Some (record { event = event; reply = reply })
+entry_from (Ok event) None = None
+entry_from (Err fault) reply = None
+
+-- the entry of the two sides of a line
+abbrev pub entry_with : Option (List ℕ × List ℕ) → Option Entry
+entry_with None = None
+entry_with (Some sides) = entry_from (event_in (words_of sides.0)) (reply_in (words_of sides.1))
+
+-- the entry of a line
+unfoldable pub entry_in : List ℕ → Option Entry
+entry_in line = entry_with (sides_of line)

@@ -1,5 +1,0 @@
-use Rattle.std.proofs.Common.{arith, rules}
-use Rattle.np_event_lines.proofs.field.has_word.Goals as goal
-
-pub returns-in-Pool : goal.returns-in-Pool
-returns-in-Pool c = rw c.in-Pool.is (λ _. omega arith, λ _. search rules)

@@ -1,7 +1,0 @@
-use Rattle.std.proofs.Common.{◌∙◌, sym}
-use Rattle.np_event_lines.proofs.EntryLemmas.{HasEntryLine-read}
-use Rattle.np_event_lines.proofs.line.read_entry.Goals as goal
-
-pub returns-clause-has_line : goal.returns-clause-has_line
-returns-clause-has_line c =
-    HasEntryLine-read _ _ c.in_ok-event.reply.now _ _ (sym c.ok.ensures.value ∙ c.in_ok-event-2.was) c.read_event.ensures.has_line c.read_reply.ensures c.in_ok-reply.was

@@ -1,6 +1,0 @@
-use Rattle.np_event_lines.proofs.EventLemmas.{HasEventLine-read}
-use Rattle.np_event_lines.proofs.line.read_event.Goals as goal
-
-pub returns-clause-has_line : goal.returns-clause-has_line
-returns-clause-has_line c =
-    HasEventLine-read c.in_ok-form.form _ _ _ c.in_ok-fields.fields _ c.row.ensures.kinds c.row_fields.ensures c.in_ok-fields.was c.event_of.ensures

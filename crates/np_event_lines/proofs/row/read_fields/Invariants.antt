@@ -1,9 +1,0 @@
-use Rattle.std.proofs.Common.{◌≡◌, ◌+◌, drop}
-use Rattle.std.specs.Option.{option_copied}
-use Rattle.np_event_lines.specs.Reading.{fields_from}
-use Rattle.np_event_lines.specs.Row.{blank}
-use Rattle.np_event_lines.specs.Words.{left_of}
-use Rattle.np_event_lines.proofs.row.read_fields.Given as goal
-
-abbrev pub invariant-loop-at : goal.invariant-loop-at
-invariant-loop-at l = fields_from (l.at + 2) (drop l.at l.kinds) (left_of (option_copied l.left)) l.fields ≡ fields_from 2 l.kinds (left_of (option_copied l.fn.words)) blank

@@ -1,0 +1,26 @@
+use Rattle.std.proofs.Common.{◌<◌, ◌∙◌, length, sym, arith}
+use Rattle.std.proofs.lemmas.Option.{slice_get_within}
+use Rattle.np_machine.specs.Tables.{node_queue}
+use Rattle.np_look.proofs.Seen.{queue-fits}
+use Rattle.np_keeper.proofs.Copying.{copied_next, take_past}
+use Rattle.np_keeper.proofs.queue.node_queue_of.Goals as goal
+
+pub overflow_add-at : goal.overflow_add-at
+overflow_add-at g c =
+    omega (arith, c.loop-session.invariant.within, queue-fits (g.R.Rows.site c.args.rows.now) (g.R.Rows.state c.args.rows.now) c.args.node c.requires)
+
+pub loop-session-smaller : goal.loop-session-smaller
+loop-session-smaller g c =
+    let within : c.loop-session.at < length (node_queue c.args.node (g.R.Rows.state c.args.rows.now).nodes) = slice_get_within _ c.loop-session.at c.in-Some.session (sym c.in-Some.ensures) in
+    omega (arith, within)
+
+pub loop-session-preserved : goal.loop-session-preserved
+loop-session-preserved g c =
+    let within : c.loop-session.at < length (node_queue c.args.node (g.R.Rows.state c.args.rows.now).nodes) = slice_get_within _ c.loop-session.at c.in-Some.session (sym c.in-Some.ensures) in
+    record {
+      within = omega (arith, within);
+      copied = copied_next _ _ _ c.loop-session.at c.in-Some.session c.in-Some.ensures c.loop-session.invariant.copied c.in_ok-push.ensures.ok;
+    }
+
+pub returns : goal.returns
+returns g c = c.loop-session.invariant.copied ∙ take_past _ c.loop-session.at c.in_default.ensures

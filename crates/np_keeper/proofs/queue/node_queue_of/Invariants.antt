@@ -1,0 +1,12 @@
+use Rattle.std.proofs.Common.{◌≡◌, ◌≤◌, ◌-◌, take, length}
+use Rattle.np_machine.specs.Tables.{node_queue}
+use Rattle.np_keeper.proofs.queue.node_queue_of.Given as goal
+
+abbrev pub invariant-loop-session : goal.invariant-loop-session
+invariant-loop-session g l = record {
+  within : l.at ≤ length (node_queue l.node (g.R.Rows.state l.rows).nodes);
+  copied : l.queue ≡ take l.at (node_queue l.node (g.R.Rows.state l.rows).nodes);
+}
+
+abbrev pub decreases-loop-session : goal.decreases-loop-session
+decreases-loop-session g l = length (node_queue l.node (g.R.Rows.state l.rows).nodes) - l.at

@@ -1,5 +1,0 @@
-use Rattle.np_laws.proofs.Runs.{safe-every_step}
-use Rattle.np_laws.proofs.safe.every_run_is_safe_after_every_step.Goals as goal
-
-pub returns : goal.returns
-returns c = safe-every_step

@@ -1,5 +1,0 @@
-use Rattle.np_laws.proofs.Runs.{invariant-Runs}
-use Rattle.np_laws.proofs.safe.every_state_of_a_run_is_as_the_parts_say.Goals as goal
-
-pub returns : goal.returns
-returns c = invariant-Runs

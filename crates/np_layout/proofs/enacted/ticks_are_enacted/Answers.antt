@@ -1,0 +1,5 @@
+use Rattle.np_layout.proofs.RecordParts.{ticks-enact}
+use Rattle.np_layout.proofs.enacted.ticks_are_enacted.Goals as goal
+
+pub returns : goal.returns
+returns c = ticks-enact

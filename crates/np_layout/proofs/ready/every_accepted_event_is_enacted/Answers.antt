@@ -1,0 +1,25 @@
+use Rattle.np_changes.proofs.PlanLaws.{plan-next}
+use Rattle.np_layout.proofs.Events.{events-enact}
+use Rattle.np_layout.proofs.GrowthParts.{growths-enact}
+use Rattle.np_layout.proofs.HandleParts.{handles-enact}
+use Rattle.np_layout.proofs.NodeParts.{nodes-enact}
+use Rattle.np_layout.proofs.RecordParts.{deeds-enact, jobs-enact, sessions-enact, ticks-enact}
+use Rattle.np_layout.proofs.RequestParts.{requests-enact}
+use Rattle.np_layout.proofs.Carried.{steps-are-carried}
+use Rattle.np_layout.proofs.Enacts.{events-are-enacted}
+use Rattle.np_layout.proofs.Readies.{events-are-ready}
+use Rattle.np_layout.proofs.Spelled.{records-are-spelled}
+use Rattle.np_layout.proofs.ready.every_accepted_event_is_enacted.Goals as goal
+
+pub returns : goal.returns
+returns c = events-are-enacted
+    (events-enact growths-enact (record {
+      requests = requests-enact;
+      nodes = nodes-enact;
+      jobs = jobs-enact;
+      handles = handles-enact;
+      deeds = deeds-enact;
+      sessions = sessions-enact;
+      ticks = ticks-enact;
+    }))
+    (events-are-ready records-are-spelled) steps-are-carried plan-next

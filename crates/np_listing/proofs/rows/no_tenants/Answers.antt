@@ -1,0 +1,7 @@
+use Rattle.std.proofs.Common.{[]}
+use Rattle.np_listing.specs.Tally.{tenant_row}
+use Rattle.np_listing.proofs.Numbered.{one-more}
+use Rattle.np_listing.proofs.rows.no_tenants.Goals as goal
+
+pub loop-at-preserved : goal.loop-at-preserved
+loop-at-preserved c = one-more (tenant_row c.args.config.now []) c.loop-at.rows.items c.push.new.self.items c.loop-at.at c.loop-at.invariant c.in_ok-push.ensures.items

@@ -1,0 +1,7 @@
+use Rattle.std.proofs.Common.{◌≡◌, [], map}
+use Rattle.std.specs.List.{range_with_len}
+use Rattle.np_listing.specs.Tally.{tenant_row}
+use Rattle.np_listing.proofs.rows.no_tenants.Given as goal
+
+abbrev pub invariant-loop-at : goal.invariant-loop-at
+invariant-loop-at l = l.rows.items ≡ map (tenant_row l.config []) (range_with_len 0 l.at)

@@ -1,0 +1,11 @@
+use Rattle.std.proofs.Common.{◌∙◌, ap, sym}
+use Rattle.np_changes.specs.Prelude.{State, after}
+use Rattle.np_listing.specs.Summary.{text_of}
+use Rattle.np_listing.proofs.tally.Tally.summary.Goals as goal
+
+pub returns : goal.returns
+returns g c = λ journal runs same.
+    let site = g.R.Rows.site c.args.rows.now in
+    c.in_ok-text.ensures
+    ∙ ap (λ (s : State). text_of site s c.args.self.now) (sym runs.ends)
+    ∙ ap (text_of site (after site journal)) same

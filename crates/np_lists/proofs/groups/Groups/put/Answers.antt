@@ -1,0 +1,23 @@
+use Rattle.std.proofs.Common.{sym, ◌∙◌, ap}
+use Rattle.np_lists.specs.Groups.{with_member}
+use Rattle.np_lists.proofs.Search.{member-there, member-insert, member-insert-rises}
+use Rattle.np_lists.proofs.groups.Groups.put.Goals as goal
+
+pub returns-then-is_at-clause-members : goal.returns-then-is_at-clause-members
+returns-then-is_at-clause-members g c =
+    ap (λ known. known.members) (sym c.self.view_is)
+    ∙ member-there g.O.Order.before g.O.Order.same c.args.group c.args.id c.self.inside.rows.items c.split_of-at.result c.if-is_at.ensures.yes
+    ∙ ap (λ known. with_member g.O.Order.before g.O.Order.same c.args.group c.args.id known.members) c.self.view_is
+
+pub invariant_of-self : goal.invariant_of-self
+invariant_of-self g c =
+    rw c.insert.ensures.items (
+    member-insert-rises g.O.Order.before g.O.Order.same g.met.O.Order.transitive g.met.O.Order.one_way g.met.O.Order.some_way
+    c.args.group c.args.id c.self.inside.rows.items c.split_of-at.result c.split_of-at.ensures.within c.split_of-at.ensures.point c.if-is_at.ensures.no c.self.invariant)
+
+pub returns-clause-members : goal.returns-clause-members
+returns-clause-members g c =
+    c.insert.ensures.items
+    ∙ member-insert g.O.Order.before g.O.Order.same g.met.O.Order.transitive g.met.O.Order.one_way g.met.O.Order.some_way
+    c.args.group c.args.id c.self.inside.rows.items c.split_of-at.result c.split_of-at.ensures.within c.split_of-at.ensures.point c.if-is_at.ensures.no
+    ∙ ap (λ known. with_member g.O.Order.before g.O.Order.same c.args.group c.args.id known.members) c.self.view_is

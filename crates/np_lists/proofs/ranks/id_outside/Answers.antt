@@ -1,0 +1,28 @@
+-- the id at the last place has the rank, or none has it
+use Rattle.std.proofs.Common.{◌∙◌, sym}
+use Rattle.np_lists.proofs.MemberLemmas.{id-wanted, no_id-inner, no_id-other}
+use Rattle.np_lists.proofs.ranks.id_outside.Goals as goal
+use Rattle.np_lists.proofs.ranks.id_outside.Goals.{then-rank_at-at-via-then-rank_at-at, then-rank_at-at-via-else-rank_at-at+then-has}
+
+pub returns-then-rank_at-at : goal.returns-then-rank_at-at
+returns-then-rank_at-at g c = λ ranked.
+    elim c.then-rank_at-at.branch [
+      | then-rank_at-at-via-then-rank_at-at w ↦
+          no_id-other g.O.Order.before g.O.Order.same g.met.O.Order.one_way g.met.O.Order.some_way g.met.O.Order.equal
+          c.args.inner c.args.groups.now.members (g.I.Ids.ids c.args.ids.now) ranked c.args.at c.last_place-place.result
+          (record { most = c.last_place-place.ensures.most ranked; last = c.last_place-place.ensures.last ranked })
+          c.in_ok-id.id (sym c.at.ensures ∙ c.in_ok-id.was) c.rank_at.result c.rank_at.ensures w.if-rank_at-at.true
+      | then-rank_at-at-via-else-rank_at-at+then-has w ↦
+          no_id-inner g.O.Order.before g.O.Order.same g.met.O.Order.one_way g.met.O.Order.some_way g.met.O.Order.equal
+          c.args.inner c.args.groups.now.members (g.I.Ids.ids c.args.ids.now) ranked c.args.at c.last_place-place.result
+          (record { most = c.last_place-place.ensures.most ranked; last = c.last_place-place.ensures.last ranked })
+          c.in_ok-id.id (sym c.at.ensures ∙ c.in_ok-id.was) c.rank_at.result c.rank_at.ensures (sym w.has.ensures ∙ w.if-has.true)
+    ]
+
+pub returns : goal.returns
+returns g c = λ ranked.
+    id-wanted g.O.Order.before g.O.Order.same g.met.O.Order.one_way g.met.O.Order.some_way g.met.O.Order.equal
+    c.args.inner c.args.groups.now.members (g.I.Ids.ids c.args.ids.now) ranked c.args.at c.last_place-place.result
+    (record { most = c.last_place-place.ensures.most ranked; last = c.last_place-place.ensures.last ranked })
+    c.in_ok-id.id (sym c.at.ensures ∙ c.in_ok-id.was) c.rank_at.result c.rank_at.ensures c.if-rank_at-at.false
+    (sym c.has.ensures ∙ c.if-has.false)

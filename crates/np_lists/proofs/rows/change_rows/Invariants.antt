@@ -1,0 +1,5 @@
+use Rattle.std.proofs.Common.{◌≡◌, ◌++◌, take, drop, map}
+use Rattle.np_lists.proofs.rows.change_rows.Given as goal
+
+abbrev pub invariant-loop-row : goal.invariant-loop-row
+invariant-loop-row g l = l.row-items ≡ map (g.C.RowChange.after l.change) (take l.row-index l.initial.row-items) ++ drop l.row-index l.initial.row-items

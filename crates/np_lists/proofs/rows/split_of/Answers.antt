@@ -1,0 +1,11 @@
+-- the rows before the key come first, so a binary search finds where they end
+use Rattle.std.proofs.Common.{rules}
+use Rattle.std.proofs.lemmas.List.Sorted.{IsPartitionPoint-from_clause}
+use Rattle.np_lists.proofs.KeyLemmas.{keys_partitioned}
+use Rattle.np_lists.proofs.rows.split_of.Goals as goal
+
+pub returns-clause-point : goal.returns-clause-point
+returns-clause-point g c =
+    IsPartitionPoint-from_clause (λ row. g.O.Order.before (g.O.Order.key row) c.args.key) c.args.rows.now c.partition_point.result c.partition_point.ensures.partitioned
+    (keys_partitioned g.O.Order.key g.O.Order.before g.O.Order.same g.met.O.Order.transitive g.met.O.Order.one_way g.met.O.Order.equal c.args.key c.args.rows.now c.requires)
+    (λ a r f' k. search rules)

@@ -1,0 +1,17 @@
+use Rattle.std.proofs.Common.{◌≡◌, ◌∙◌, sym, ap, slice_get, Some, None}
+use Rattle.std.specs.Option.{option_copied}
+use Rattle.np_lists.proofs.RowLemmas.{row-at, no_row-at}
+use Rattle.np_lists.proofs.stock.Stock.at.Goals as goal
+
+pub returns-in_err-at : goal.returns-in_err-at
+returns-in_err-at g c =
+    let none : slice_get c.self.inside.rows c.args.place ≡ None = sym c.at.ensures ∙ ap option_copied c.in_err-at.was in
+    c.from_residual.ensures
+    ∙ no_row-at c.self.inside.rows c.args.place c.self.invariant.filled none
+    ∙ ap (λ stock. slice_get stock.items c.args.place) c.self.view_is
+
+pub returns : goal.returns
+returns g c =
+    let there : slice_get c.self.inside.rows c.args.place ≡ Some c.in_ok-at.field-0.now = sym c.at.ensures ∙ ap option_copied c.in_ok-at.was in
+    row-at c.self.inside.rows c.args.place c.in_ok-at.field-0.now c.self.invariant.filled there
+    ∙ ap (λ stock. slice_get stock.items c.args.place) c.self.view_is

@@ -1,0 +1,4 @@
+use Rattle.np_lists.proofs.table.KeyTable.place.Goals as goal
+
+pub place_of-requires : goal.place_of-requires
+place_of-requires g c = rw c.as_slice.ensures.value c.self.invariant

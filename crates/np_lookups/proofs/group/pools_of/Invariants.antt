@@ -1,0 +1,5 @@
+use Rattle.np_lookups.proofs.OpenPrelude.{length, ◌≤◌}
+use Rattle.np_lookups.proofs.group.pools_of.Given as goal
+
+abbrev pub invariant-loop-number : goal.invariant-loop-number
+invariant-loop-number l = l.number ≤ length l.config.pools

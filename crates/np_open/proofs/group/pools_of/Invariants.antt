@@ -1,5 +1,0 @@
-use Rattle.std.proofs.Common.{◌≤◌, length}
-use Rattle.np_open.proofs.group.pools_of.Given as goal
-
-abbrev pub invariant-loop-number : goal.invariant-loop-number
-invariant-loop-number l = l.number ≤ length l.config.pools

@@ -1,9 +1,0 @@
-use Rattle.std.proofs.Common.{length, take}
-use Rattle.np_open.specs.Lines.{line_of}
-use Rattle.np_open.specs.Moves.{AreBy}
-use Rattle.np_open.proofs.RebuildLemmas.{is_row_in}
-use Rattle.np_open.proofs.requests.all_requests.Given as goal
-
-abbrev pub invariant-loop-at : goal.invariant-loop-at
-invariant-loop-at g l =
-    AreBy (is_row_in (length (g.R.Rows.site l.rows).pools) (line_of (g.R.Rows.site l.rows) l.lines) (take l.at (g.R.Rows.state l.rows).requests)) l.groups.members

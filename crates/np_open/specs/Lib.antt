@@ -1,6 +1,0 @@
-pub mod Ranks
-pub mod Lines
-pub mod Open
-pub mod Prepared
-pub mod Moves
-pub mod Runs

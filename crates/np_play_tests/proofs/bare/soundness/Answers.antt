@@ -1,6 +1,0 @@
-use Rattle.np_changes.proofs.FitsRuns.{Fits-Runs}
-use Rattle.np_changes.proofs.Sites.{sound_fits}
-use Rattle.np_play_tests.proofs.bare.soundness.Goals as goal
-
-pub returns-clause-fits : goal.returns-clause-fits
-returns-clause-fits c = Fits-Runs _ _ _ (sound_fits c.args.config.now c.soundness.ensures) c.requires.runs

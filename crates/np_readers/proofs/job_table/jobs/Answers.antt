@@ -1,6 +1,0 @@
-use Rattle.std.proofs.Common.{◌∙◌}
-use Rattle.np_readers.proofs.Stored.{jobs-counted}
-use Rattle.np_readers.proofs.job_table.jobs.Goals as goal
-
-pub returns : goal.returns
-returns c config s stored = c.count_at.ensures ∙ jobs-counted config s c.args.tree.now stored

@@ -1,6 +1,0 @@
-use Rattle.std.proofs.Common.{◌∙◌}
-use Rattle.np_readers.proofs.NodeReads.{nodes-counted}
-use Rattle.np_readers.proofs.node_table.nodes.Goals as goal
-
-pub returns : goal.returns
-returns c config s stored = c.count_at.ensures ∙ nodes-counted config s c.args.tree.now stored

@@ -1,6 +1,0 @@
-use Rattle.std.proofs.Common.{◌∙◌}
-use Rattle.np_readers.proofs.RequestReads.{requests-counted}
-use Rattle.np_readers.proofs.request_table.requests.Goals as goal
-
-pub returns : goal.returns
-returns c config s stored = c.count_at.ensures ∙ requests-counted config s c.args.tree.now stored

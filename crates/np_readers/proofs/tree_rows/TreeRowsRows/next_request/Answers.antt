@@ -1,9 +1,0 @@
-use Rattle.std.proofs.Common.{ap, ◌∙◌}
-use Rattle.np_layout.specs.Decoded.{decoded}
-use Rattle.np_readers.specs.Rows.{SiteState}
-use Rattle.np_readers.proofs.tree_rows.TreeRowsRows.next_request.Goals as goal
-
-pub returns : goal.returns
-returns c =
-    c.next_request.ensures c.self.inside.config.now (decoded c.self.inside.config.now c.self.inside.tree.now) c.self.invariant.stored
-    ∙ ap (λ (k : SiteState). k.state.next_request) c.self.view_is

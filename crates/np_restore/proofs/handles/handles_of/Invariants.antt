@@ -1,6 +1,0 @@
-use Rattle.std.proofs.Common.{◌≡◌, take}
-use Rattle.np_machine.specs.Tables.{handles_of}
-use Rattle.np_restore.proofs.handles.handles_of.Given as goal
-
-abbrev pub invariant-loop-at : goal.invariant-loop-at
-invariant-loop-at g l = l.table.rows ≡ take l.at (handles_of l.semaphore (g.R.Rows.state l.rows).handles)

@@ -1,9 +1,0 @@
-use Rattle.np_look.specs.Views.{node_view}
-use Rattle.np_restore.proofs.Queued.{none_seen, node_there}
-use Rattle.np_restore.proofs.locked.node_entry.Goals as goal
-
-pub returns-in_default : goal.returns-in_default
-returns-in_default g c = none_seen node_view _ c.in_default.ensures
-
-pub returns : goal.returns
-returns g c = node_there (g.R.Rows.site c.args.rows.now) (g.R.Rows.state c.args.rows.now) c.requires.reached c.args.at c.in-Some.view c.in_ok-queue.queue c.in-Some.ensures c.in_ok-queue.ensures

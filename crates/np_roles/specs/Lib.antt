@@ -1,4 +1,0 @@
-pub mod Kinds
-pub mod Choices
-pub mod Passing
-pub mod Candidates

@@ -1,4 +1,0 @@
-use Rattle.np_table.proofs.table.KeyTable.has.Goals as goal
-
-pub has_row-requires : goal.has_row-requires
-has_row-requires g c = rw c.as_slice.ensures.value c.self.invariant

@@ -1,5 +1,0 @@
-pub mod Numbered
-pub mod Counting
-pub mod Peaks
-pub mod Full
-pub mod Lists

@@ -1,7 +1,0 @@
-use Rattle.std.proofs.Common.{◌≡◌, ◌++◌, drop}
-use Rattle.std.specs.List.{flat_map}
-use Rattle.np_tally.specs.Summary.{tenant_line}
-use Rattle.np_tally.proofs.lines.put_tenants.Given as goal
-
-abbrev pub invariant-loop-row : goal.invariant-loop-row
-invariant-loop-row l = l.out.items ++ flat_map (tenant_line l.config) (drop l.row-index l.rows) ≡ l.fn.out.items ++ flat_map (tenant_line l.config) l.rows

@@ -1,6 +1,0 @@
-use Rattle.std.proofs.Common.{◌≡◌, ◌++◌, take, drop, map}
-use Rattle.np_tally.specs.Noting.{raised_pool}
-use Rattle.np_tally.proofs.notes.raise_pools.Given as goal
-
-abbrev pub invariant-loop-row : goal.invariant-loop-row
-invariant-loop-row g l = l.row-items ≡ map (raised_pool (g.L.Look.site l.look) (g.L.Look.state l.look)) (take l.row-index l.initial.row-items) ++ drop l.row-index l.initial.row-items

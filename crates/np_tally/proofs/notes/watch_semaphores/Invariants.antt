@@ -1,6 +1,0 @@
-use Rattle.std.proofs.Common.{◌≡◌, ◌++◌, take, drop, map}
-use Rattle.np_tally.specs.Noting.{watched}
-use Rattle.np_tally.proofs.notes.watch_semaphores.Given as goal
-
-abbrev pub invariant-loop-time : goal.invariant-loop-time
-invariant-loop-time g l = l.time-items ≡ map (watched (g.R.Rows.site l.rows) (g.R.Rows.state l.rows)) (take l.time-index l.initial.time-items) ++ drop l.time-index l.initial.time-items

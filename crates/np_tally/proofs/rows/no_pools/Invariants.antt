@@ -1,7 +1,0 @@
-use Rattle.std.proofs.Common.{◌≡◌, [], map}
-use Rattle.std.specs.List.{range_with_len}
-use Rattle.np_tally.specs.Tally.{pool_row}
-use Rattle.np_tally.proofs.rows.no_pools.Given as goal
-
-abbrev pub invariant-loop-at : goal.invariant-loop-at
-invariant-loop-at l = l.rows.items ≡ map (pool_row l.config []) (range_with_len 0 l.at)

@@ -1,4 +1,0 @@
-pub mod Kind
-pub mod Tally
-pub mod Noting
-pub mod Summary

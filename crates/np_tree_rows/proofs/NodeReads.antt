@@ -1,0 +1,184 @@
+-- what is read of the nodes of a stored state
+use Rattle.std.proofs.Common.{◌≡◌, ℕ, ◌<◌, ◌^◌, true, false, List, [], length, Option, Some, None, Result, Ok, refl, sym, ap, ◌∙◌, subst}
+use Rattle.std.specs.Prelude.{IfSome, slice_get}
+use Rattle.np_changes.specs.Prelude.{AllByRecursion, AllZip, Configuration, NodeEntry, NodeId, NodeRecord, Rises, SessionId, State, node_entry, node_in, node_queue, option_map, option_map_or, ten_digits_of}
+use Rattle.np_lists.proofs.Each.{all-at, all-find}
+use Rattle.np_layout.specs.Prelude.{BadRecord, IsGood, IsStored, Row, TreeState, bytes_at, find_named, is_named, path_of, place_name, rows_at}
+use Rattle.np_tree.proofs.RelationLemmas.{rows-rise}
+use Rattle.np_tree.proofs.SiblingLemmas.{other-name}
+use Rattle.np_spelling.specs.Spelling.{SpellsNode}
+use Rattle.np_layout.specs.declared.place.Place.TheVariants.{Node, NodeLock, Nodes}
+use Rattle.np_layout.specs.Layout.{HasNodeLock, IsNodeRow, HasQueue, IsWait, under}
+use Rattle.np_layout.specs.Rows.{persistent}
+use Rattle.np_layout.proofs.CreateNodeWaits.{node_before, rises-zip}
+use Rattle.np_layout.proofs.DeleteNodeWaits.{found-node, is_node_it, node-tells}
+use Rattle.np_layout.proofs.SetNodes.{named-by}
+use Rattle.np_look.specs.Views.{node_view}
+use Rattle.np_tree_rows.proofs.Beside.{Beside, beside-at, beside-found, found-there, if-at, length-beside}
+use Rattle.np_tree_rows.proofs.RequestReads.{IsRead}
+use Rattle.np_tree_rows.proofs.Shown.{bytes-named}
+use Rattle.np_tree_rows.proofs.Waits.{nothing-under}
+use Rattle.np_machine.proofs.Ids.{node-itself}
+
+-- a node is there, and its number is spelled by ten digits
+pub record IsSpelled (name : List ℕ) (o : Option NodeId) : Type 0 where
+  pub number : ℕ
+  pub small : number < 2 ^ 32
+  pub digits : name ≡ ten_digits_of number
+  pub there : o ≡ Some (record { 0 = number })
+
+-- what is read from the digits is the node's number
+pub spelled-some : (name : List ℕ) (o : Option NodeId) (read : ℕ) → IsSpelled name o → ((n : ℕ) → n < 2 ^ 32 → name ≡ ten_digits_of n → Some read ≡ Some n) → Some (record { 0 = read }) ≡ o
+spelled-some name o read spelled reads =
+    let same : read ≡ spelled.number = let is = reads spelled.number spelled.small spelled.digits in cc in
+    ap (λ (n : ℕ). Some (record { 0 = n })) same ∙ sym spelled.there
+
+-- and if nothing is read there is no node
+pub spelled-none : (name : List ℕ) (o : Option NodeId) → IsSpelled name o → ((n : ℕ) → n < 2 ^ 32 → name ≡ ten_digits_of n → None ≡ Some n) → None ≡ o
+spelled-none name o spelled reads = absurd (let is = reads spelled.number spelled.small spelled.digits in cc)
+
+module _ (c : Configuration) (s : State) (t : TreeState) (stored : IsStored c s t) where
+  abbrev HasId : NodeEntry → Type 0
+  HasId e = IsGood (Node e.id)
+
+  has-ids : AllByRecursion HasId s.nodes
+  has-ids = stored.carried.good.nodes
+
+  node-rows : AllZip IsNodeRow (under Nodes t) s.nodes
+  node-rows = stored.lays.nodes.rows
+
+  -- as many rows as nodes
+  pub nodes-counted : length (rows_at t (path_of Nodes)) ≡ length s.nodes
+  nodes-counted = length-beside IsNodeRow (under Nodes t) s.nodes node-rows
+
+  -- ## by place
+
+  named-at : (name : List ℕ) (o : Option Row) (p : Option NodeEntry) → Beside IsNodeRow o p → IfSome p HasId → Some name ≡ option_map (λ (row : Row). row.name) o → IsSpelled name (option_map (λ (e : NodeEntry). e.id) p)
+  named-at name None None beside good is = absurd cc
+  named-at name None (Some e) beside good is = absurd beside
+  named-at name (Some row) None beside good is = absurd beside
+  named-at name (Some row) (Some e) beside good is =
+      let here : name ≡ row.name = cc in
+      record { number = e.id.0; small = good; digits = here ∙ ap (λ (r : Row). r.name) beside.is; there = refl }
+
+  -- the name of a row spells the number of the node there
+  pub node-named : (at : ℕ) (name : List ℕ) → Some name ≡ option_map (λ (row : Row). row.name) (slice_get (under Nodes t) at) → IsSpelled name (option_map (λ (e : NodeEntry). e.id) (slice_get s.nodes at))
+  node-named at name is =
+      named-at name (slice_get (under Nodes t) at) (slice_get s.nodes at) (beside-at IsNodeRow (under Nodes t) s.nodes at node-rows) (if-at HasId s.nodes at has-ids) is
+
+  unnamed-at : (o : Option Row) (p : Option NodeEntry) → Beside IsNodeRow o p → None ≡ option_map (λ (row : Row). row.name) o → None ≡ option_map (λ (e : NodeEntry). e.id) p
+  unnamed-at None None beside is = refl
+  unnamed-at None (Some e) beside is = absurd beside
+  unnamed-at (Some row) p beside is = absurd cc
+
+  -- and where there is no row there is no node
+  pub node-unnamed : (at : ℕ) → None ≡ option_map (λ (row : Row). row.name) (slice_get (under Nodes t) at) → None ≡ option_map (λ (e : NodeEntry). e.id) (slice_get s.nodes at)
+  node-unnamed at is = unnamed-at (slice_get (under Nodes t) at) (slice_get s.nodes at) (beside-at IsNodeRow (under Nodes t) s.nodes at node-rows) is
+
+  -- ## by id
+
+  module _ (n : NodeId) (good : n.0 < 2 ^ 32) where
+    row-found : Beside IsNodeRow (find_named (place_name (Node n)) (under Nodes t)) (node_entry n s.nodes)
+    row-found = beside-found IsNodeRow (is_named (place_name (Node n))) (is_node_it n) (under Nodes t) s.nodes (node-tells n (under Nodes t) s.nodes good has-ids node-rows) node-rows
+
+    read-by : (bytes : List ℕ) (read : Result NodeRecord BadRecord) (o : Option Row) (p : Option NodeEntry) → Beside IsNodeRow o p → Some bytes ≡ option_map (λ (row : Row). row.bytes) o →
+        ((v : NodeRecord) → SpellsNode v bytes → read ≡ Ok v) → IsRead (option_map (λ (e : NodeEntry). e.kept) p) read
+    read-by bytes read None None beside is all = absurd cc
+    read-by bytes read None (Some e) beside is all = absurd beside
+    read-by bytes read (Some row) None beside is all = absurd beside
+    read-by bytes read (Some row) (Some e) beside is all =
+        let here : row.bytes ≡ bytes = cc in
+        record { kept = e.kept; there = refl; reads = all e.kept (subst (λ (b : List ℕ). SpellsNode e.kept b) here beside.spells) }
+
+    -- its record is read from its bytes, whichever way they spell it
+    pub node-read : (bytes : List ℕ) (read : Result NodeRecord BadRecord) → Some bytes ≡ bytes_at t (path_of (Node n)) → ((v : NodeRecord) → SpellsNode v bytes → read ≡ Ok v) → IsRead (node_in n s.nodes) read
+    node-read bytes read is all =
+        read-by bytes read (find_named (place_name (Node n)) (under Nodes t)) (node_entry n s.nodes) row-found (is ∙ bytes-named t (Node n) Nodes stored.whole good refl) all
+
+    unread-by : (o : Option Row) (p : Option NodeEntry) → Beside IsNodeRow o p → None ≡ option_map (λ (row : Row). row.bytes) o → None ≡ option_map (λ (e : NodeEntry). e.kept) p
+    unread-by None None beside is = refl
+    unread-by None (Some e) beside is = absurd beside
+    unread-by (Some row) p beside is = absurd cc
+
+    -- and where there are none it is not there
+    pub node-unread : None ≡ bytes_at t (path_of (Node n)) → None ≡ node_in n s.nodes
+    node-unread is = unread-by (find_named (place_name (Node n)) (under Nodes t)) (node_entry n s.nodes) row-found (is ∙ bytes-named t (Node n) Nodes stored.whole good refl)
+
+    -- ## its queue
+
+    none-beside : (o : Option Row) → Beside IsNodeRow o None → o ≡ None
+    none-beside None beside = refl
+    none-beside (Some row) beside = absurd beside
+
+    waits-by : (o : Option NodeEntry) → node_entry n s.nodes ≡ o → (next : ℕ) × AllZip (IsWait next) (under (NodeLock n) t) (node_queue n s.nodes)
+    waits-by None there =
+        let none = none-beside (find_named (place_name (Node n)) (under Nodes t)) (subst (λ (o : Option NodeEntry). Beside IsNodeRow (find_named (place_name (Node n)) (under Nodes t)) o) there row-found) in
+        let bare = nothing-under t (Node n) Nodes stored.whole good refl none in
+        let empty = nothing-under t (NodeLock n) (Node n) stored.whole good refl (ap (find_named (place_name (NodeLock n))) bare) in
+        let queue : node_queue n s.nodes ≡ [] = ap (λ (o : Option NodeEntry). option_map_or (λ (e : NodeEntry). e.queue) o []) there in
+        (0, subst (λ (rows : List Row). AllZip (IsWait 0) rows (node_queue n s.nodes)) (sym empty) (subst (λ (list : List SessionId). AllZip (IsWait 0) [] list) (sym queue) tt))
+    waits-by (Some e) there =
+        let lock = all-find (HasNodeLock t) (is_node_it n) s.nodes e stored.lays.node_locks there in
+        let same : node_queue n s.nodes ≡ e.queue = ap (λ (o : Option NodeEntry). option_map_or (λ (x : NodeEntry). x.queue) o []) there in
+        let queue : HasQueue (NodeLock n) (node_queue n s.nodes) t =
+        subst (λ (list : List SessionId). HasQueue (NodeLock n) list t) (sym same) (subst (λ (id : NodeId). HasQueue (NodeLock id) e.queue t) (found-node n s.nodes e there) lock.queue) in
+        (queue.next, queue.waits)
+
+    -- the rows of its lock are its queue
+    pub node-waits : (next : ℕ) × AllZip (IsWait next) (under (NodeLock n) t) (node_queue n s.nodes)
+    node-waits = waits-by (node_entry n s.nodes) refl
+
+  -- ## the node at a place
+
+  rises : Rises node_before s.nodes
+  rises = rises-zip (under Nodes t) s.nodes node-rows (rows-rise t (path_of Nodes) stored.whole)
+
+  apart : (e : NodeEntry) → HasId e → (x : NodeEntry) → HasId x → node_before x e ≡ true → is_node_it e.id x ≡ false
+  apart e e_good x x_good before = sym (named-by e.id x.id (is_node_it e.id x) refl e_good x_good) ∙ other-name (persistent (Node x.id) []) (persistent (Node e.id) []) before
+
+  -- is found by its id
+  entry-at : (at : ℕ) (e : NodeEntry) → slice_get s.nodes at ≡ Some e → node_entry e.id s.nodes ≡ Some e
+  entry-at at e there =
+      found-there node_before HasId (is_node_it e.id) e (node-itself e.id) (apart e (all-at HasId s.nodes at e has-ids there)) s.nodes at rises has-ids there
+
+  abbrev viewed_at : ℕ → Option NodeId
+  viewed_at at = option_map (λ (e : NodeEntry). e.id) (slice_get s.nodes at)
+
+  unviewed-by : (o : Option NodeEntry) → None ≡ option_map (λ (e : NodeEntry). e.id) o → None ≡ option_map node_view o
+  unviewed-by None is = refl
+  unviewed-by (Some e) is = absurd cc
+
+  -- there is no view where there is no node
+  pub node-unviewed : (at : ℕ) → None ≡ viewed_at at → None ≡ option_map node_view (slice_get s.nodes at)
+  node-unviewed at is = unviewed-by (slice_get s.nodes at) is
+
+  kept-by : (at : ℕ) (id : NodeId) (o : Option NodeEntry) → slice_get s.nodes at ≡ o → Some id ≡ option_map (λ (e : NodeEntry). e.id) o → o ≡ node_entry id s.nodes
+  kept-by at id None there is = absurd cc
+  kept-by at id (Some e) there is =
+      let same : id ≡ e.id = cc in
+      sym (ap (λ (n : NodeId). node_entry n s.nodes) same ∙ entry-at at e there)
+
+  view-by : (id : NodeId) (kept : NodeRecord) (holder : Option SessionId) (o p : Option NodeEntry) → o ≡ p → Some id ≡ option_map (λ (e : NodeEntry). e.id) o → Some kept ≡ option_map (λ (e : NodeEntry). e.kept) p → holder ≡ slice_get (option_map_or (λ (e : NodeEntry). e.queue) p []) 0 →
+      Some (record { id = id; kept = kept; holder = holder }) ≡ option_map node_view o
+  view-by id kept holder None p same is is_kept holds = absurd cc
+  view-by id kept holder (Some e) None same is is_kept holds = absurd cc
+  view-by id kept holder (Some e) (Some x) same is is_kept holds =
+      let this : e ≡ x = cc in
+      let first : id ≡ e.id = cc in
+      let second : kept ≡ x.kept = cc in
+      rw (first, second, holds, sym this) refl
+
+  -- the view of the node that is there
+  pub node-viewed : (at : ℕ) (id : NodeId) (kept : NodeRecord) (holder : Option SessionId) → Some id ≡ viewed_at at → Some kept ≡ node_in id s.nodes → holder ≡ slice_get (node_queue id s.nodes) 0 →
+      Some (record { id = id; kept = kept; holder = holder }) ≡ option_map node_view (slice_get s.nodes at)
+  node-viewed at id kept holder is is_kept holds =
+      view-by id kept holder (slice_get s.nodes at) (node_entry id s.nodes) (kept-by at id (slice_get s.nodes at) refl is) is is_kept holds
+
+  lost-by : (o p : Option NodeEntry) (id : NodeId) → o ≡ p → Some id ≡ option_map (λ (e : NodeEntry). e.id) o → None ≡ option_map (λ (e : NodeEntry). e.kept) p → None ≡ option_map node_view o
+  lost-by None p id same is none = refl
+  lost-by (Some e) None id same is none = absurd cc
+  lost-by (Some e) (Some x) id same is none = absurd cc
+
+  -- the node that is there has a record
+  pub node-kept : (at : ℕ) (id : NodeId) → Some id ≡ viewed_at at → None ≡ node_in id s.nodes → None ≡ option_map node_view (slice_get s.nodes at)
+  node-kept at id is none = lost-by (slice_get s.nodes at) (node_entry id s.nodes) id (kept-by at id (slice_get s.nodes at) refl is) is none

@@ -1,0 +1,355 @@
+-- the bytes of the records of a stored state, and how many there are of each kind
+use Rattle.std.proofs.Common.{◌≡◌, ℕ, zero, suc, ◌+◌, ◌-◌, ◌<◌, ◌≤◌, Bool, true, false, ◌||◌, cond, List, [], ◌∷◌, ◌++◌, length, map, Option, Some, None, Result, Ok, refl, sym, ap, ◌∙◌, subst, arith}
+use Rattle.std.specs.Fmt.{decimal}
+use Rattle.std.specs.Prelude.{slice_get, ◌==◌, IfSome}
+use Rattle.np_changes.specs.Prelude.{AllByRecursion, Configuration, JobId, JobRecord, NonePass, PoolId, RequesterId, Role, RoleRecord, SessionFacts, SessionId, SessionRecord, State, is_some, list_any, number_of, option_map, range_with_len, role_in, session_of}
+use Rattle.std.proofs.lemmas.Bool.{eqb-false, eqb-true}
+use Rattle.std.proofs.lemmas.List.{length-map}
+use Rattle.std.proofs.lemmas.List.Folds.{list_any-append}
+use Rattle.np_text.specs.declared.id.Role.TheVariants as role
+use Rattle.np_text.proofs.SpellingLemmas.{number_of-decimal}
+use Rattle.np_lists.proofs.Each.{all-at, all-weaker, length-insert_before}
+use Rattle.np_lists.proofs.FilterLemmas.{list_any-none}
+use Rattle.np_layout.specs.Prelude.{BadRecord, IsGood, IsJob, IsRole, IsSession, IsSessionRole, IsStored, Row, TreeState, above, bytes_at, find_named, is_in, is_named, job_text, path_of, place_name, place_of_role, role_text, row_before, rows_at, session_text, under, with_row}
+use Rattle.np_layout.specs.declared.place.Place.{Place}
+use Rattle.np_layout.specs.declared.place.Place.TheVariants.{Jobs, Job, Launchers, LauncherRole, JanitorRole, RequesterRole, Poolsim, Roles, Sessions, Session, Tick}
+use Rattle.np_layout.specs.Rows.{by_name, janitor_role_row, job_row, launcher_role_row, launcher_row, requester_role_row, rows_from, session_row}
+use Rattle.np_layout.proofs.FirstKinds.{rows_put}
+use Rattle.np_layout.proofs.SetSteps.{named-here, named-other}
+use Rattle.np_layout.proofs.Leaves.{all-joined}
+use Rattle.np_tree_rows.proofs.Shown.{IsOnly, bytes-named, find-only, find-ordered, past-any, past-only, table-any, table-only}
+
+-- ## how many rows
+
+-- a list has as many rows as members
+pub length-rows_from : {A : Type 0} (row : ℕ → A → Row) (list : List A) (at : ℕ) → length (rows_from row at list) ≡ length list
+length-rows_from row [] at = refl
+length-rows_from row (a ∷ list) at = ap suc (length-rows_from row list (at + 1))
+
+length-put : (rows sorted : List Row) → length (rows_put sorted rows) ≡ length sorted + length rows
+length-put [] sorted = omega arith
+length-put (row ∷ rows) sorted =
+    let more : length (with_row row sorted) ≡ suc (length sorted) = length-insert_before (λ other. row_before row other) row sorted in
+    let rest = length-put rows (with_row row sorted) in
+    omega arith
+
+-- the order of rows does not change how many there are
+pub length-by_name : (rows : List Row) → length (by_name rows) ≡ length rows
+length-by_name rows = let all = length-put rows [] in omega arith
+
+module _ (c : Configuration) (s : State) (t : TreeState) (stored : IsStored c s t) where
+  -- the rows of each directory are as many as the members of its table
+  pub jobs-counted : length (rows_at t (path_of Jobs)) ≡ length s.jobs
+  jobs-counted = ap length stored.lays.jobs.rows ∙ length-by_name (rows_from job_row 0 s.jobs) ∙ length-rows_from job_row s.jobs 0
+
+  -- so are those of sessions
+  pub sessions-counted : length (rows_at t (path_of Sessions)) ≡ length s.sessions
+  sessions-counted = ap length stored.lays.sessions.rows ∙ length-rows_from session_row s.sessions 1
+
+  -- and those of registrations
+  pub registrations-counted : length (rows_at t (path_of Launchers)) ≡ length s.registrations
+  registrations-counted = ap length stored.lays.launchers ∙ length-by_name (map launcher_row s.registrations) ∙ length-map s.registrations launcher_row
+
+  -- ## the tick
+
+  find-tick : find_named (place_name Tick) (under Poolsim t) ≡ Some (record { name = place_name Tick; bytes = decimal s.tick; owner = None })
+  find-tick = ap (find_named (place_name Tick)) stored.lays.frame.poolsim
+
+  tick-bytes : bytes_at t (path_of Tick) ≡ Some (decimal s.tick)
+  tick-bytes = bytes-named t Tick Poolsim stored.whole tt refl ∙ ap (option_map (λ (row : Row). row.bytes)) find-tick
+
+  -- the bytes of the tick spell it
+  pub tick-reads : (bytes : List ℕ) → Some bytes ≡ bytes_at t (path_of Tick) → number_of 4_294_967_295 bytes ≡ Some s.tick
+  tick-reads bytes is =
+      let same : bytes ≡ decimal s.tick = let told : Some bytes ≡ Some (decimal s.tick) = is ∙ tick-bytes in cc in
+      let few = stored.carried.tick in
+      ap (number_of 4_294_967_295) same ∙ number_of-decimal 4_294_967_295 s.tick (omega arith) (omega arith)
+
+  -- and they are there
+  pub tick-there : None ≡ bytes_at t (path_of Tick) → ⊥
+  tick-there is = absurd (let told : None ≡ Some (decimal s.tick) = is ∙ tick-bytes in cc)
+
+-- ## the bytes of a record
+
+map-bytes : {A : Type 0} (row : A → Row) (text : A → List ℕ) → ((a : A) → (row a).bytes ≡ text a) → (o : Option A) → option_map (λ (r : Row). r.bytes) (option_map row o) ≡ option_map text o
+map-bytes row text same None = refl
+map-bytes row text same (Some a) = ap Some (same a)
+
+-- what is true of each member is true of the one at a place
+pub get-if : {A : Type 0} (P : A → Type 0) (list : List A) (at : ℕ) → AllByRecursion P list → IfSome (slice_get list at) P
+get-if P list at all = by (slice_get list at) refl where
+  by : (o : Option _) → slice_get list at ≡ o → IfSome o P
+  by None there = tt
+  by (Some a) there = all-at P list at a all there
+
+-- a record is read from its own text
+pub record Reads {A : Type 0} (o : Option A) (r : Result A BadRecord) : Type 0 where
+  pub kept : A
+  pub there : o ≡ Some kept
+  pub reads : r ≡ Ok kept
+
+module _ {A : Type 0} (Is : A → Type 0) (text : A → List ℕ) where
+  -- there are no bytes only if there is no record
+  pub text-none : (o : Option A) → None ≡ option_map text o → None ≡ o
+  text-none None is = refl
+  text-none (Some a) is = absurd cc
+
+  -- and the bytes that are there are read as the record
+  pub text-some : (o : Option A) (bytes : List ℕ) (r : Result A BadRecord) → IfSome o Is → Some bytes ≡ option_map text o → ((v : A) → Is v × (bytes ≡ text v) → r ≡ Ok v) → Reads o r
+  text-some None bytes r sound is all = absurd cc
+  text-some (Some a) bytes r sound is all =
+      let same : bytes ≡ text a = cc in
+      record { kept = a; there = refl; reads = all a (sound, same) }
+
+-- so what is read is the record
+pub read-some : {A : Type 0} (o : Option A) (a : A) → Reads o (Ok a) → Some a ≡ o
+read-some o a reads = let same : a ≡ reads.kept = let is = reads.reads in cc in ap Some same ∙ sym reads.there
+
+-- and something is read
+pub read-none : {A : Type 0} (o : Option A) (bad : BadRecord) (B : Type 0) → Reads o (Result.Err bad) → B
+read-none o bad B reads = absurd (let is = reads.reads in cc)
+
+-- ## one member of a table
+
+-- none of the rows of a list has a name
+none-from : {A : Type 0} (row : ℕ → A → Row) (name : List ℕ) (limit : ℕ) → ((n : ℕ) (a : A) → n < limit → is_named name (row n a) ≡ false) → (list : List A) (at : ℕ) → at + length list ≤ limit → NonePass (is_named name) (rows_from row at list)
+none-from row name limit others [] at within = tt
+none-from row name limit others (a ∷ list) at within = (others at a (omega arith), none-from row name limit others list (at + 1) (omega arith))
+
+none-only : (name : List ℕ) (o : Option Row) (rows : List Row) → NonePass (is_named name) rows → IsOnly name o rows
+none-only name o rows none = all-weaker (λ row. is_named name row ≡ false) (λ row. is_named name row ≡ true → Some row ≡ o) (λ row no is. absurd cc) rows none
+
+abbrev job_at : ℕ → Place
+job_at n = Job (record { 0 = n })
+
+abbrev session_at : ℕ → Place
+session_at n = Session (record { 0 = n })
+
+abbrev launcher_at : ℕ → Place
+launcher_at n = LauncherRole (record { 0 = n })
+
+abbrev janitor_at : ℕ → Place
+janitor_at n = JanitorRole (record { 0 = n })
+
+abbrev requester_at : ℕ → Place
+requester_at n = RequesterRole (record { 0 = n })
+
+-- the number of a place
+abbrev number_in : Place → ℕ
+number_in (Job j) = j.0
+number_in (Session k) = k.0
+number_in (LauncherRole p) = p.0
+number_in (JanitorRole p) = p.0
+number_in (RequesterRole q) = q.0
+number_in other = 0
+
+-- what is in the record of a session
+abbrev pub kept_of : SessionFacts → SessionRecord
+kept_of facts = record { mute = facts.mute; role = facts.role }
+
+session-row : (k : ℕ) (o : Option SessionFacts) → option_map (λ (r : Row). r.bytes) (option_map (session_row k) o) ≡ option_map session_text (option_map kept_of o)
+session-row k None = refl
+session-row k (Some facts) = refl
+
+-- a flag for each session is that of its number
+flag-at : (f : ℕ → Bool) (sessions : List SessionFacts) (from at : ℕ) (facts : SessionFacts) → map f (range_with_len from (length sessions)) ≡ map (λ (x : SessionFacts). x.live) sessions → slice_get sessions at ≡ Some facts → f (from + at) ≡ facts.live
+flag-at f [] from at facts each there = absurd cc
+flag-at f (x ∷ sessions) from zero facts each there =
+    let head : f from ≡ x.live = cc in
+    let same : x ≡ facts = cc in
+    let here : from + 0 ≡ from = omega arith in
+    ap f here ∙ head ∙ ap (λ (y : SessionFacts). y.live) same
+flag-at f (x ∷ sessions) from (suc at) facts each there =
+    let tail : map f (range_with_len (from + 1) (length sessions)) ≡ map (λ (y : SessionFacts). y.live) sessions = cc in
+    let next : from + suc at ≡ from + 1 + at = omega arith in
+    ap f next ∙ flag-at f sessions (from + 1) at facts tail there
+
+known-by : (k : SessionId) (kept : SessionRecord) (live : Bool) (o : Option SessionFacts) → Some kept ≡ option_map kept_of o → IfSome o (λ facts. live ≡ facts.live) → Some (record { role = kept.role; live = live; mute = kept.mute }) ≡ o
+known-by k kept live None is flag = absurd cc
+known-by k kept live (Some facts) is flag =
+    let same : kept ≡ kept_of facts = cc in
+    ap (λ (x : SessionRecord). Some (record { role = x.role; live = live; mute = x.mute })) same
+    ∙ ap (λ (b : Bool). Some (record { role = facts.role; live = b; mute = facts.mute })) flag
+
+-- no record is no session
+pub session-none : (o : Option SessionFacts) → None ≡ option_map kept_of o → None ≡ o
+session-none None is = refl
+session-none (Some facts) is = absurd cc
+
+sound-by : (o : Option SessionFacts) → IfSome o (λ facts. IsSessionRole facts.role) → IfSome (option_map kept_of o) IsSession
+sound-by None sound = tt
+sound-by (Some facts) sound = sound
+
+if-cond : {A : Type 0} (P : A → Type 0) (b : Bool) (o : Option A) → (b ≡ false → IfSome o P) → IfSome (cond b None o) P
+if-cond P true o is = tt
+if-cond P false o is = is refl
+
+-- three tables in one directory
+or-first : (x y z b : Bool) → x ≡ b → y ≡ false → z ≡ false → ((x || y) || z) ≡ b
+or-first true y z b here away apart = here
+or-first false true z b here away apart = absurd cc
+or-first false false z b here away apart = apart ∙ here
+
+or-second : (x y z b : Bool) → x ≡ false → y ≡ b → z ≡ false → ((x || y) || z) ≡ b
+or-second true y z b away here apart = absurd cc
+or-second false true z b away here apart = here
+or-second false false z b away here apart = apart ∙ here
+
+or-third : (x y z b : Bool) → x ≡ false → y ≡ false → z ≡ b → ((x || y) || z) ≡ b
+or-third true y z b away apart here = absurd cc
+or-third false true z b away apart here = absurd cc
+or-third false false z b away apart here = here
+
+module _ (name : List ℕ) (o : Option Row) (first second third : List Row) where
+  find-three : IsOnly name o first → IsOnly name o second → IsOnly name o third → ((list_any (is_named name) first || list_any (is_named name) second) || list_any (is_named name) third) ≡ is_some o → find_named name (by_name (first ++ second ++ third)) ≡ o
+  find-three a b c any =
+      find-ordered name (first ++ second ++ third) o
+      (all-joined (λ (row : Row). is_named name row ≡ true → Some row ≡ o) (first ++ second) third (all-joined (λ (row : Row). is_named name row ≡ true → Some row ≡ o) first second a b) c)
+      (list_any-append (is_named name) (first ++ second) third ∙ ap (λ (b : Bool). b || list_any (is_named name) third) (list_any-append (is_named name) first second) ∙ any)
+
+module _ (c : Configuration) (s : State) (t : TreeState) (stored : IsStored c s t) where
+  -- ## jobs
+
+  job-others : (j : JobId) → IsGood (Job j) → (n : ℕ) (kept : JobRecord) → n < length s.jobs → (n ≡ j.0 → ⊥) → is_named (place_name (Job j)) (job_row n kept) ≡ false
+  job-others j good n kept low apart = named-other (Job j) (job_at n) good (let few = stored.carried.good.jobs in omega arith) refl (λ equal. apart (ap number_in equal))
+
+  -- a job's bytes are the text of its record
+  pub job-bytes : (j : JobId) → IsGood (Job j) → bytes_at t (path_of (Job j)) ≡ option_map job_text (slice_get s.jobs j.0)
+  job-bytes j good =
+      bytes-named t (Job j) Jobs stored.whole good refl
+      ∙ ap (option_map (λ (row : Row). row.bytes)) (ap (find_named (place_name (Job j))) stored.lays.jobs.rows
+      ∙ find-ordered (place_name (Job j)) (rows_from job_row 0 s.jobs) (option_map (job_row j.0) (slice_get s.jobs j.0))
+      (table-only job_row (place_name (Job j)) j.0 (length s.jobs) (job-others j good) (λ kept. named-here (Job j)) s.jobs 0 j.0 (omega arith) (omega arith))
+      (table-any job_row (place_name (Job j)) j.0 (length s.jobs) (job-others j good) (λ kept. named-here (Job j)) s.jobs 0 j.0 (omega arith) (omega arith)))
+      ∙ map-bytes (job_row j.0) job_text (λ kept. refl) (slice_get s.jobs j.0)
+
+  -- and the record has a spelling
+  pub job-sound : (j : JobId) → IfSome (slice_get s.jobs j.0) IsJob
+  job-sound j = get-if IsJob s.jobs j.0 stored.carried.spelled.jobs
+
+  -- ## sessions
+
+  session-others : (k : SessionId) → IsGood (Session k) → (n : ℕ) (facts : SessionFacts) → n < 1 + length s.sessions → (n ≡ k.0 → ⊥) → is_named (place_name (Session k)) (session_row n facts) ≡ false
+  session-others k good n facts low apart = named-other (Session k) (session_at n) good (let few = stored.carried.good.sessions in omega arith) refl (λ equal. apart (ap number_in equal))
+
+  session-find : (k : SessionId) → IsGood (Session k) → (b : Bool) → (k.0 == 0) ≡ b → find_named (place_name (Session k)) (rows_from session_row 1 s.sessions) ≡ option_map (session_row k.0) (cond b None (slice_get s.sessions (k.0 - 1)))
+  session-find k good true is =
+      let zero_is = eqb-true k.0 0 is in
+      find-only (place_name (Session k)) (rows_from session_row 1 s.sessions) None
+      (past-only session_row (place_name (Session k)) k.0 (1 + length s.sessions) (session-others k good) (λ facts. named-here (Session k)) s.sessions 1 None (omega arith) (omega arith))
+      (past-any session_row (place_name (Session k)) k.0 (1 + length s.sessions) (session-others k good) (λ facts. named-here (Session k)) s.sessions 1 (omega arith) (omega arith))
+  session-find k good false is =
+      let not_zero = eqb-false k.0 0 is in
+      find-only (place_name (Session k)) (rows_from session_row 1 s.sessions) (option_map (session_row k.0) (slice_get s.sessions (k.0 - 1)))
+      (table-only session_row (place_name (Session k)) k.0 (1 + length s.sessions) (session-others k good) (λ facts. named-here (Session k)) s.sessions 1 (k.0 - 1) (omega arith) (omega arith))
+      (table-any session_row (place_name (Session k)) k.0 (1 + length s.sessions) (session-others k good) (λ facts. named-here (Session k)) s.sessions 1 (k.0 - 1) (omega arith) (omega arith))
+
+  -- a session's bytes are the text of its record
+  pub session-bytes : (k : SessionId) → IsGood (Session k) → bytes_at t (path_of (Session k)) ≡ option_map session_text (option_map kept_of (session_of k s))
+  session-bytes k good =
+      bytes-named t (Session k) Sessions stored.whole good refl
+      ∙ ap (option_map (λ (row : Row). row.bytes)) (ap (find_named (place_name (Session k))) stored.lays.sessions.rows ∙ session-find k good (k.0 == 0) refl)
+      ∙ session-row k.0 (session_of k s)
+
+  -- and the record has a spelling
+  pub session-sound : (k : SessionId) → IfSome (option_map kept_of (session_of k s)) IsSession
+  session-sound k = sound-by (session_of k s) (if-cond (λ facts. IsSessionRole facts.role) (k.0 == 0) (slice_get s.sessions (k.0 - 1)) (λ is. get-if (λ (facts : SessionFacts). IsSessionRole facts.role) s.sessions (k.0 - 1) stored.carried.spelled.sessions))
+
+  live-by : (k : SessionId) (o : Option SessionFacts) → slice_get s.sessions (k.0 - 1) ≡ o → (k.0 ≡ 0 → ⊥) → IfSome o (λ facts. is_in t.live (k.0 + 1) ≡ facts.live)
+  live-by k None there not_zero = tt
+  live-by k (Some facts) there not_zero =
+      let number : k.0 + 1 ≡ 2 + (k.0 - 1) = omega arith in
+      ap (is_in t.live) number ∙ flag-at (is_in t.live) s.sessions 2 (k.0 - 1) facts stored.lays.live.each there
+
+  session-live : (k : SessionId) → IfSome (session_of k s) (λ facts. is_in t.live (k.0 + 1) ≡ facts.live)
+  session-live k = if-cond (λ facts. is_in t.live (k.0 + 1) ≡ facts.live) (k.0 == 0) (slice_get s.sessions (k.0 - 1)) (λ is. live-by k (slice_get s.sessions (k.0 - 1)) refl (eqb-false k.0 0 is))
+
+  -- what is in the record, and whether the tree's session is live, is what is known of the session
+  pub session-known : (k : SessionId) (kept : SessionRecord) → Some kept ≡ option_map kept_of (session_of k s) → Some (record { role = kept.role; live = is_in t.live (k.0 + 1); mute = kept.mute }) ≡ session_of k s
+  session-known k kept is = known-by k kept (is_in t.live (k.0 + 1)) (session_of k s) is (session-live k)
+
+  -- ## roles
+
+  launchers-none : (p : Place) → IsGood p → above p ≡ Some Roles → ((n : ℕ) → launcher_at n ≡ p → ⊥) → NonePass (is_named (place_name p)) (rows_from launcher_role_row 0 s.launchers)
+  launchers-none p good over apart = none-from launcher_role_row (place_name p) (length s.launchers) (λ n kept low. named-other p (launcher_at n) good (let few = stored.carried.good.launchers in omega arith) (sym over) (apart n)) s.launchers 0 (omega arith)
+
+  janitors-none : (p : Place) → IsGood p → above p ≡ Some Roles → ((n : ℕ) → janitor_at n ≡ p → ⊥) → NonePass (is_named (place_name p)) (rows_from janitor_role_row 0 s.janitors)
+  janitors-none p good over apart = none-from janitor_role_row (place_name p) (length s.janitors) (λ n kept low. named-other p (janitor_at n) good (let few = stored.carried.good.janitors in omega arith) (sym over) (apart n)) s.janitors 0 (omega arith)
+
+  requesters-none : (p : Place) → IsGood p → above p ≡ Some Roles → ((n : ℕ) → requester_at n ≡ p → ⊥) → NonePass (is_named (place_name p)) (rows_from requester_role_row 0 s.requesters)
+  requesters-none p good over apart = none-from requester_role_row (place_name p) (length s.requesters) (λ n kept low. named-other p (requester_at n) good (let few = stored.carried.good.requesters in omega arith) (sym over) (apart n)) s.requesters 0 (omega arith)
+
+  -- the bytes at a place are those of the row of its name among all roles
+  role-found : (p : Place) (o : Option RoleRecord) (row : RoleRecord → Row) → ((kept : RoleRecord) → (row kept).bytes ≡ role_text kept) → IsGood p → above p ≡ Some Roles →
+      find_named (place_name p) (by_name (rows_from launcher_role_row 0 s.launchers ++ rows_from janitor_role_row 0 s.janitors ++ rows_from requester_role_row 0 s.requesters)) ≡ option_map row o →
+      bytes_at t (path_of p) ≡ option_map role_text o
+  role-found p o row same good over found =
+      bytes-named t p Roles stored.whole good over
+      ∙ ap (option_map (λ (r : Row). r.bytes)) (ap (find_named (place_name p)) stored.lays.roles.rows ∙ found)
+      ∙ map-bytes row role_text same o
+
+  launcher-bytes : (p : PoolId) → IsGood (LauncherRole p) → bytes_at t (path_of (LauncherRole p)) ≡ option_map role_text (slice_get s.launchers p.0)
+  launcher-bytes p good =
+      let name : List ℕ = place_name (LauncherRole p) in
+      let o : Option Row = option_map (launcher_role_row p.0) (slice_get s.launchers p.0) in
+      let others : (n : ℕ) (kept : RoleRecord) → n < length s.launchers → (n ≡ p.0 → ⊥) → is_named name (launcher_role_row n kept) ≡ false = λ n kept low apart. named-other (LauncherRole p) (launcher_at n) good (let few = stored.carried.good.launchers in omega arith) refl (λ equal. apart (ap number_in equal)) in
+      let janitors = janitors-none (LauncherRole p) good refl (λ n same. cc) in
+      let requesters = requesters-none (LauncherRole p) good refl (λ n same. cc) in
+      role-found (LauncherRole p) (slice_get s.launchers p.0) (launcher_role_row p.0) (λ kept. refl) good refl
+      (find-three name o (rows_from launcher_role_row 0 s.launchers) (rows_from janitor_role_row 0 s.janitors) (rows_from requester_role_row 0 s.requesters)
+      (table-only launcher_role_row name p.0 (length s.launchers) others (λ kept. named-here (LauncherRole p)) s.launchers 0 p.0 (omega arith) (omega arith))
+      (none-only name o (rows_from janitor_role_row 0 s.janitors) janitors)
+      (none-only name o (rows_from requester_role_row 0 s.requesters) requesters)
+      (or-first _ _ _ (is_some o) (table-any launcher_role_row name p.0 (length s.launchers) others (λ kept. named-here (LauncherRole p)) s.launchers 0 p.0 (omega arith) (omega arith))
+      (list_any-none (is_named name) (rows_from janitor_role_row 0 s.janitors) janitors)
+      (list_any-none (is_named name) (rows_from requester_role_row 0 s.requesters) requesters)))
+
+  janitor-bytes : (p : PoolId) → IsGood (JanitorRole p) → bytes_at t (path_of (JanitorRole p)) ≡ option_map role_text (slice_get s.janitors p.0)
+  janitor-bytes p good =
+      let name : List ℕ = place_name (JanitorRole p) in
+      let o : Option Row = option_map (janitor_role_row p.0) (slice_get s.janitors p.0) in
+      let others : (n : ℕ) (kept : RoleRecord) → n < length s.janitors → (n ≡ p.0 → ⊥) → is_named name (janitor_role_row n kept) ≡ false = λ n kept low apart. named-other (JanitorRole p) (janitor_at n) good (let few = stored.carried.good.janitors in omega arith) refl (λ equal. apart (ap number_in equal)) in
+      let launchers = launchers-none (JanitorRole p) good refl (λ n same. cc) in
+      let requesters = requesters-none (JanitorRole p) good refl (λ n same. cc) in
+      role-found (JanitorRole p) (slice_get s.janitors p.0) (janitor_role_row p.0) (λ kept. refl) good refl
+      (find-three name o (rows_from launcher_role_row 0 s.launchers) (rows_from janitor_role_row 0 s.janitors) (rows_from requester_role_row 0 s.requesters)
+      (none-only name o (rows_from launcher_role_row 0 s.launchers) launchers)
+      (table-only janitor_role_row name p.0 (length s.janitors) others (λ kept. named-here (JanitorRole p)) s.janitors 0 p.0 (omega arith) (omega arith))
+      (none-only name o (rows_from requester_role_row 0 s.requesters) requesters)
+      (or-second _ _ _ (is_some o) (list_any-none (is_named name) (rows_from launcher_role_row 0 s.launchers) launchers)
+      (table-any janitor_role_row name p.0 (length s.janitors) others (λ kept. named-here (JanitorRole p)) s.janitors 0 p.0 (omega arith) (omega arith))
+      (list_any-none (is_named name) (rows_from requester_role_row 0 s.requesters) requesters)))
+
+  requester-bytes : (q : RequesterId) → IsGood (RequesterRole q) → bytes_at t (path_of (RequesterRole q)) ≡ option_map role_text (slice_get s.requesters q.0)
+  requester-bytes q good =
+      let name : List ℕ = place_name (RequesterRole q) in
+      let o : Option Row = option_map (requester_role_row q.0) (slice_get s.requesters q.0) in
+      let others : (n : ℕ) (kept : RoleRecord) → n < length s.requesters → (n ≡ q.0 → ⊥) → is_named name (requester_role_row n kept) ≡ false = λ n kept low apart. named-other (RequesterRole q) (requester_at n) good (let few = stored.carried.good.requesters in omega arith) refl (λ equal. apart (ap number_in equal)) in
+      let launchers = launchers-none (RequesterRole q) good refl (λ n same. cc) in
+      let janitors = janitors-none (RequesterRole q) good refl (λ n same. cc) in
+      role-found (RequesterRole q) (slice_get s.requesters q.0) (requester_role_row q.0) (λ kept. refl) good refl
+      (find-three name o (rows_from launcher_role_row 0 s.launchers) (rows_from janitor_role_row 0 s.janitors) (rows_from requester_role_row 0 s.requesters)
+      (none-only name o (rows_from launcher_role_row 0 s.launchers) launchers)
+      (none-only name o (rows_from janitor_role_row 0 s.janitors) janitors)
+      (table-only requester_role_row name q.0 (length s.requesters) others (λ kept. named-here (RequesterRole q)) s.requesters 0 q.0 (omega arith) (omega arith))
+      (or-third _ _ _ (is_some o) (list_any-none (is_named name) (rows_from launcher_role_row 0 s.launchers) launchers)
+      (list_any-none (is_named name) (rows_from janitor_role_row 0 s.janitors) janitors)
+      (table-any requester_role_row name q.0 (length s.requesters) others (λ kept. named-here (RequesterRole q)) s.requesters 0 q.0 (omega arith) (omega arith))))
+
+  -- what is at the place of a role
+  abbrev IsShown : Role → Place → Type 0
+  IsShown r p = bytes_at t (path_of p) ≡ option_map role_text (role_in r s)
+
+  -- a role's bytes are the text of its record
+  pub role-bytes : (r : Role) (p : Place) → Some p ≡ place_of_role r → IsGood p → bytes_at t (path_of p) ≡ option_map role_text (role_in r s)
+  role-bytes (role.Launcher pool) p is good = let same : p ≡ LauncherRole pool = cc in subst (IsShown (role.Launcher pool)) (sym same) (launcher-bytes pool (subst IsGood same good))
+  role-bytes (role.Janitor pool) p is good = let same : p ≡ JanitorRole pool = cc in subst (IsShown (role.Janitor pool)) (sym same) (janitor-bytes pool (subst IsGood same good))
+  role-bytes (role.Requester q) p is good = let same : p ≡ RequesterRole q = cc in subst (IsShown (role.Requester q)) (sym same) (requester-bytes q (subst IsGood same good))
+  role-bytes role.Reaper p is good = absurd cc
+
+  -- and the record has a spelling
+  pub role-sound : (r : Role) → IfSome (role_in r s) IsRole
+  role-sound (role.Launcher pool) = get-if IsRole s.launchers pool.0 stored.carried.spelled.launchers
+  role-sound (role.Janitor pool) = get-if IsRole s.janitors pool.0 stored.carried.spelled.janitors
+  role-sound (role.Requester q) = get-if IsRole s.requesters q.0 stored.carried.spelled.requesters
+  role-sound role.Reaper = tt

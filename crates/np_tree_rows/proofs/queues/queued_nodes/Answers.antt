@@ -1,0 +1,32 @@
+use Rattle.std.proofs.Common.{◌≡◌, ◌∙◌, ◌≤◌, ap, List, ℕ, Some, None, length, arith}
+use Rattle.np_tree.specs.Views.{rows_at}
+use Rattle.np_changes.specs.Prelude.{NodeEntry, is_queued}
+use Rattle.np_tree_rows.proofs.QueueRows.{nodes-counted}
+use Rattle.np_tree_rows.proofs.Steps.{count-step, passing-past}
+use Rattle.np_tree_rows.proofs.queues.queued_nodes.Goals as goal
+
+pub loop-at-preserved-in_default : goal.loop-at-preserved-in_default
+loop-at-preserved-in_default c = record {
+  few = omega arith;
+  all = λ config s stored.
+      let step = count-step (λ (e : NodeEntry). is_queued c.args.session e.queue) (λ (e : NodeEntry). e.id) s.nodes c.loop-at.at None (c.in_default.ensures config s stored) in
+      let before = c.loop-at.invariant.all config s stored in
+      omega (arith, step, before);
+}
+
+pub loop-at-preserved : goal.loop-at-preserved
+loop-at-preserved c = record {
+  few = omega arith;
+  all = λ config s stored.
+      let step = count-step (λ (e : NodeEntry). is_queued c.args.session e.queue) (λ (e : NodeEntry). e.id) s.nodes c.loop-at.at (Some c.in-Some.field-0) (c.in-Some.ensures config s stored) in
+      let before = c.loop-at.invariant.all config s stored in
+      omega (arith, step, before);
+}
+
+pub returns : goal.returns
+returns c config s stored =
+    let counted : c.children-at-end.result ≡ length s.nodes = c.children-at-end.ensures ∙ ap (λ (p : List ℕ). length (rows_at c.args.tree.now p)) (c.text.ensures ∙ c.of.ensures) ∙ nodes-counted config s c.args.tree.now stored in
+    let past : length s.nodes ≤ c.loop-at.at = (let end = c.loop-at-test.false in omega (arith, counted, end)) in
+    let none = ap length (passing-past (λ (e : NodeEntry). is_queued c.args.session e.queue) (λ (e : NodeEntry). e.id) s.nodes c.loop-at.at past) in
+    let before = c.loop-at.invariant.all config s stored in
+    omega (arith, none, before)

@@ -1,0 +1,12 @@
+use Rattle.std.proofs.Common.{◌≡◌, ◌≤◌, ◌+◌, length}
+use Rattle.np_changes.specs.Prelude.{Configuration, State}
+use Rattle.np_look.specs.Readers.{queued_nodes}
+use Rattle.np_layout.specs.Carried.{IsStored}
+use Rattle.np_tree_rows.proofs.QueueRows.{nodes_from}
+use Rattle.np_tree_rows.proofs.queues.queued_nodes.Given as goal
+
+abbrev pub invariant-loop-at : goal.invariant-loop-at
+invariant-loop-at l = record {
+  few : l.count ≤ l.at;
+  all : (c : Configuration) (s : State) → IsStored c s l.tree → l.count + length (nodes_from l.session l.at s) ≡ length (queued_nodes l.session s);
+}

@@ -1,0 +1,25 @@
+use Rattle.std.proofs.Common.{◌≡◌, ◌∙◌, ◌≤◌, sym, ap, List, ℕ, length, add-one, arith}
+use Rattle.std.specs.Prelude.{slice_get}
+use Rattle.np_changes.specs.Prelude.{RequestEntry, RequestId, is_queued}
+use Rattle.np_tree.specs.Views.{rows_at}
+use Rattle.np_tree_rows.proofs.QueueRows.{requests-counted}
+use Rattle.np_tree_rows.proofs.Steps.{first-here, first-later, first-over, passing-past}
+use Rattle.np_tree_rows.proofs.queues.queued_request_at.Goals as goal
+
+pub loop-place-preserved-in_default : goal.loop-place-preserved-in_default
+loop-place-preserved-in_default c config s stored =
+    rw add-one (sym (first-over (λ (e : RequestEntry). is_queued c.args.session e.queue) (λ (e : RequestEntry). e.id) s.requests c.loop-place.place c.loop-place.left (c.in_default.ensures config s stored)) ∙ c.loop-place.invariant config s stored)
+
+pub returns-then-left-eq0 : goal.returns-then-left-eq0
+returns-then-left-eq0 c config s stored =
+    sym (sym (c.loop-place.invariant config s stored) ∙ first-here (λ (e : RequestEntry). is_queued c.args.session e.queue) (λ (e : RequestEntry). e.id) s.requests c.loop-place.place c.loop-place.left c.in-Some.request (c.in-Some.ensures config s stored) c.if-left-eq0.true)
+
+pub loop-place-preserved : goal.loop-place-preserved
+loop-place-preserved c config s stored =
+    rw add-one (sym (first-later (λ (e : RequestEntry). is_queued c.args.session e.queue) (λ (e : RequestEntry). e.id) s.requests c.loop-place.place c.loop-place.left c.in-Some.request (c.in-Some.ensures config s stored) c.if-left-eq0.false) ∙ c.loop-place.invariant config s stored)
+
+pub returns : goal.returns
+returns c config s stored =
+    let counted : c.children-place-end.result ≡ length s.requests = c.children-place-end.ensures ∙ ap (λ (p : List ℕ). length (rows_at c.args.tree.now p)) (c.text.ensures ∙ c.of.ensures) ∙ requests-counted config s c.args.tree.now stored in
+    let past : length s.requests ≤ c.loop-place.place = (let end = c.loop-place-test.false in omega (arith, counted, end)) in
+    sym (ap (λ (ids : List RequestId). slice_get ids c.loop-place.left) (passing-past (λ (e : RequestEntry). is_queued c.args.session e.queue) (λ (e : RequestEntry). e.id) s.requests c.loop-place.place past)) ∙ c.loop-place.invariant config s stored

@@ -1,0 +1,14 @@
+use Rattle.std.proofs.Common.{◌∙◌}
+use Rattle.np_tree_rows.proofs.RequestReads.{request-kept, request-unviewed, request-viewed}
+use Rattle.np_tree_rows.proofs.request_table.request_view.Goals as goal
+
+pub returns-in_err-id : goal.returns-in_err-id
+returns-in_err-id c config s stored = c.from_residual.ensures ∙ request-unviewed config s c.args.tree.now stored c.args.at (c.in_err-id.ensures.request config s stored)
+
+pub returns-in_err-kept : goal.returns-in_err-kept
+returns-in_err-kept c config s stored = c.from_residual-in_err-kept.ensures ∙ request-kept config s c.args.tree.now stored c.args.at c.in_ok-id.id (c.in_ok-id.ensures.request config s stored) (c.in_err-kept.ensures config s stored)
+
+pub returns : goal.returns
+returns c config s stored =
+    request-viewed config s c.args.tree.now stored c.args.at c.in_ok-id.id c.in_ok-kept.kept c.request_queue-holder.result
+    (c.in_ok-id.ensures.request config s stored) (c.in_ok-kept.ensures config s stored) (c.request_queue-holder.ensures config s stored)

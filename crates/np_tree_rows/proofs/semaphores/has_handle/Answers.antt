@@ -1,0 +1,12 @@
+use Rattle.std.proofs.Common.{◌∙◌, ap, List, ℕ, rules}
+use Rattle.np_layout.specs.Prelude.{IsGood, is_some, stat_at}
+use Rattle.np_layout.specs.declared.place.Place.TheVariants.{Handle}
+use Rattle.np_tree_rows.proofs.HandleRows.{handle-there}
+use Rattle.np_tree_rows.proofs.semaphores.has_handle.Goals as goal
+
+pub returns : goal.returns
+returns c config s stored =
+    let good : IsGood (Handle c.args.semaphore c.args.job) = search rules in
+    let path = c.text.ensures ∙ c.of-path.ensures in
+    c.is_some.ensures ∙ ap is_some c.exists.ensures ∙ ap (λ (p : List ℕ). is_some (stat_at c.args.tree.now p)) path
+    ∙ handle-there config s c.args.tree.now c.args.semaphore c.args.job stored good

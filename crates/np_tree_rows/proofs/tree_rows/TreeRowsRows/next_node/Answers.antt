@@ -1,0 +1,9 @@
+use Rattle.std.proofs.Common.{ap, ◌∙◌}
+use Rattle.np_layout.specs.Decoded.{decoded}
+use Rattle.np_tree_rows.specs.Rows.{SiteState}
+use Rattle.np_tree_rows.proofs.tree_rows.TreeRowsRows.next_node.Goals as goal
+
+pub returns : goal.returns
+returns c =
+    c.next_node.ensures c.self.inside.config.now (decoded c.self.inside.config.now c.self.inside.tree.now) c.self.invariant.stored
+    ∙ ap (λ (k : SiteState). k.state.next_node) c.self.view_is
