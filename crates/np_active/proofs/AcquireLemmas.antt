@@ -1,8 +1,6 @@
 -- the first of a requester's jobs that may acquire its handles
 use Rattle.np_active.proofs.Prelude.{ActiveOf, AreActive, Bool, Configuration, IsBest, JobId, JobRecord, None, Option, RequesterId, State, ap, comes_first, false, first_full, inl, inr, is_job_in, is_job_to_acquire, is_none, is_supplied, job_to_acquire, lacking_group, lacking_ones, may_acquire, not, refl, request_state_of, sym, true, was_given, ℕ, ◌&&◌, ◌∙◌, ◌≡◌, ◌⊎◌}
-use Rattle.np_active.proofs.FirstFound.{AreLined, best-all, is_passed}
-use Rattle.np_active.proofs.Lined.{Waits, is_lined, lined-free, lined-in, own-where}
-use Rattle.np_active.proofs.OwnJobs.{IsOwn, is_such, such-own, such-turned, waits_in}
+use Rattle.np_active.proofs.Searches.{AreLined, IsOwn, Waits, best-all, is_lined, is_passed, is_such, lined-free, lined-in, own-where, such-own, such-turned, waits_in}
 
 module _ (c : Configuration) (s : State) (q : RequesterId) (active : ActiveOf) (are : AreActive c s active) where
   abbrev given : JobRecord → Bool

@@ -1,6 +1,6 @@
 -- the groups of jobs and of sessions, and what a state says of them
-use Rattle.std.specs.Prelude.{◌≡◌, ◌≤◌, ◌==◌, ◌&&◌, ◌||◌, ℕ, List, Bool, true, false, not, if◌then◌else◌, Option, Some, None, option_and_then, slice_get}
-use Rattle.np_changes.specs.Prelude.{Configuration, Janitor, Job, JobId, JobRecord, Launcher, Reaper, RequestId, Requester, RequesterId, Rises, Role, SessionFacts, SessionId, State, is_new, is_requesters, option_map_or, request_in, session_of, speaks_for}
+use Rattle.std.specs.Prelude.{◌≡◌, ◌≤◌, ◌==◌, ◌&&◌, ◌||◌, ℕ, List, Bool, false, not, if◌then◌else◌, Some, slice_get}
+use Rattle.np_changes.specs.Prelude.{Configuration, Janitor, Job, JobId, JobRecord, Launcher, Reaper, Requester, RequesterId, Rises, Role, SessionFacts, SessionId, State, is_new, is_requesters, option_map_or, session_of, speaks_for}
 use Rattle.np_look.specs.Readers.{request_state_of}
 use Rattle.np_lists.specs.declared.groups.Group.{Group}
 use Rattle.np_lists.specs.declared.groups.Member.{Member}

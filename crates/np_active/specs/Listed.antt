@@ -6,9 +6,6 @@ use Rattle.np_changes.specs.declared.changes.JobsChange.{JobsChange}
 use Rattle.np_changes.specs.declared.changes.RequestEdit.{RequestEdit}
 use Rattle.np_changes.specs.declared.changes.RequestsChange.{RequestsChange}
 use Rattle.np_look.specs.Keys.{same_node}
-use Rattle.np_changes.specs.declared.changes.JobsChange.TheVariants as jobs
-use Rattle.np_changes.specs.declared.changes.RequestEdit.TheVariants as edit
-use Rattle.np_changes.specs.declared.changes.RequestsChange.TheVariants as requests
 use Rattle.np_classes.specs.Touched.{touches_node}
 
 -- the nodes of the request with this id
@@ -17,20 +14,20 @@ nodes_of_request s r = option_map_or (λ k. k.nodes) (request_in r s.requests) [
 
 -- the edit may change the state of the request
 abbrev pub changes_state : RequestEdit → Bool
-changes_state (edit.Serve p) = true
-changes_state (edit.AddNode n) = false
-changes_state (edit.Decline p why failed) = true
-changes_state edit.Fulfil = true
-changes_state edit.GiveBack = true
-changes_state edit.Fail = true
-changes_state (edit.Revise relative) = false
+changes_state (RequestEdit.Serve p) = true
+changes_state (RequestEdit.AddNode n) = false
+changes_state (RequestEdit.Decline p why failed) = true
+changes_state RequestEdit.Fulfil = true
+changes_state RequestEdit.GiveBack = true
+changes_state RequestEdit.Fail = true
+changes_state (RequestEdit.Revise relative) = false
 
 -- the nodes of the request whose state changes
 abbrev pub nodes_by_state : RequestsChange → State → List NodeId
-nodes_by_state requests.Same s = []
-nodes_by_state (requests.Edit r change) s = if changes_state change then nodes_of_request s r else []
-nodes_by_state (requests.Remove r) s = []
-nodes_by_state (requests.Leave r) s = []
+nodes_by_state RequestsChange.Same s = []
+nodes_by_state (RequestsChange.Edit r change) s = if changes_state change then nodes_of_request s r else []
+nodes_by_state (RequestsChange.Remove r) s = []
+nodes_by_state (RequestsChange.Leave r) s = []
 
 -- the nodes of the request of a job with this record
 abbrev pub nodes_of_job : State → JobRecord → List NodeId
@@ -38,9 +35,9 @@ nodes_of_job s kept = option_map_or (nodes_of_request s) kept.request []
 
 -- the nodes of the request of the job whose record is put
 abbrev pub nodes_by_job : JobsChange → State → List NodeId
-nodes_by_job jobs.Same s = []
-nodes_by_job (jobs.Put j kept) s = option_map_or (nodes_of_job s) (slice_get s.jobs j.0) []
-nodes_by_job (jobs.EndNode j n) s = []
+nodes_by_job JobsChange.Same s = []
+nodes_by_job (JobsChange.Put j kept) s = option_map_or (nodes_of_job s) (slice_get s.jobs j.0) []
+nodes_by_job (JobsChange.EndNode j n) s = []
 
 -- the changes may give the node to a requester, take it from one, or lock it
 abbrev pub touches_given : Changes → State → NodeId → Bool

@@ -1,7 +1,6 @@
 -- the groups that a job and a session are in (own)
-use Rattle.std.specs.Prelude.{ℕ, Bool, false, List, [], ◌∷◌, if◌then◌else◌, Option, Some, None, map, slice_get}
-use Rattle.np_changes.specs.Prelude.{Configuration, Job, JobId, JobRecord, Phase, RequestState, Requester, RequesterId, Role, SessionFacts, SessionId, State, has_handle, is_failed, is_fulfilled, list_any, option_map, option_map_or, session_of}
-use Rattle.np_text.specs.declared.word.Phase.TheVariants as phase
+use Rattle.std.specs.Prelude.{Bool, false, List, [], ◌∷◌, if◌then◌else◌, Option, Some, None, map, slice_get}
+use Rattle.np_changes.specs.Prelude.{Configuration, Job, JobId, JobRecord, Phase, RequestState, Requester, Role, SessionFacts, SessionId, State, has_handle, is_failed, is_fulfilled, list_any, option_map, option_map_or, session_of}
 use Rattle.np_look.specs.Jobs.{is_supplied}
 use Rattle.np_look.specs.Readers.{request_state_of}
 use Rattle.np_lists.specs.declared.groups.Group.{Group}
@@ -13,13 +12,13 @@ use Rattle.np_active.specs.Lines.{line_of}
 -- the kind of a job with this row, in this phase and with its request in this state: a job is of one kind
 -- at most
 abbrev pub kind_by : Configuration → State → List JobId → JobId → Job → Option RequestState → Phase → Option JobKind
-kind_by c s lines j row state phase.New = Some (if is_prompt s j row then prompt_ones row.requester else waiting_ones row.requester (line_of c lines j row))
-kind_by c s lines j row state phase.Asked =
+kind_by c s lines j row state Phase.New = Some (if is_prompt s j row then prompt_ones row.requester else waiting_ones row.requester (line_of c lines j row))
+kind_by c s lines j row state Phase.Asked =
     if option_map_or is_fulfilled state false
     then Some (if is_supplied s j row then supplied_ones row.requester else lacking_ones row.requester (line_of c lines j row))
     else (if option_map_or is_failed state false then Some (ending_ones row.requester) else None)
-kind_by c s lines j row state phase.Using = Some (ending_ones row.requester)
-kind_by c s lines j row state phase.Over = if list_any (has_handle j s.handles) row.semaphores then Some (releasing_ones row.requester) else None
+kind_by c s lines j row state Phase.Using = Some (ending_ones row.requester)
+kind_by c s lines j row state Phase.Over = if list_any (has_handle j s.handles) row.semaphores then Some (releasing_ones row.requester) else None
 
 -- by its record
 abbrev pub kind_of_record : Configuration → State → List JobId → JobId → Job → JobRecord → Option JobKind

@@ -5,7 +5,6 @@ use Rattle.np_tree.specs.Dates.{IsLater}
 use Rattle.np_watch.specs.Fresh.{AreFreshPaths}
 use Rattle.np_watch.specs.Watching.{is_fired}
 use Rattle.np_watch.specs.declared.watch.Watch.{Watch}
-use Rattle.np_event.specs.declared.reply.Reply.TheVariants as reply
 use Rattle.np_worker.specs.Prelude.{IsFull, IsReplied, IsUseful, WasUseful, is_planned}
 use Rattle.np_planned.specs.Stale.{IsFirstStale}
 use Rattle.np_planned.specs.declared.spot.Spot.{Spot}
@@ -15,9 +14,8 @@ use Rattle.np_board.specs.Outstanding.{IsNewPlan, Outstanding, Planning, plan_of
 use Rattle.np_board.specs.Taken.{IsTaken}
 use Rattle.np_board.specs.declared.board.plan.Plan.{Plan}
 use Rattle.np_board.specs.declared.board.plan.PlanAsk.{PlanAsk}
-use Rattle.np_board.specs.declared.board.plan.PlanAsk.TheVariants as ask
 use Rattle.np_board.specs.declared.board.plan.PlanTurn.{PlanTurn}
-use Rattle.np_board.specs.declared.board.plan.PlanTurn.TheVariants as turn
+use Rattle.np_event.specs.declared.reply.Reply.{Reply}
 
 -- ## memory ran out
 
@@ -76,7 +74,7 @@ pub record IsCommitted (old : Planning) (p : PoolId) (e : Entry) (new : Planning
   pub was : WasUseful old.configuration old.journal (Launcher p) e.event
   pub replied : IsReplied old.configuration old.journal e
   pub done : Done
-  pub accepted : e.reply ≡ reply.Done done
+  pub accepted : e.reply ≡ Reply.Done done
   pub configuration : new.configuration ≡ old.configuration
   pub journal : new.journal ≡ old.journal ++ e ∷ []
   pub plans : new.plans ≡ with_plan p None old.plans
@@ -103,44 +101,44 @@ pub record IsBarred (old : Planning) (p : PoolId) : Type 0 where
 -- ## any ask
 
 abbrev pub TakenPlain : Planning → Ask → PlanTurn → Planning → Type 0
-TakenPlain old plain (turn.Plain t) new = IsPlain old plain t new
-TakenPlain old plain (turn.Planned plan) new = ⊥
-TakenPlain old plain (turn.Fired spot) new = ⊥
-TakenPlain old plain (turn.Did e) new = ⊥
-TakenPlain old plain (turn.Stale spot change) new = ⊥
-TakenPlain old plain turn.Idle new = ⊥
-TakenPlain old plain turn.Full new = ⊥
+TakenPlain old plain (PlanTurn.Plain t) new = IsPlain old plain t new
+TakenPlain old plain (PlanTurn.Planned plan) new = ⊥
+TakenPlain old plain (PlanTurn.Fired spot) new = ⊥
+TakenPlain old plain (PlanTurn.Did e) new = ⊥
+TakenPlain old plain (PlanTurn.Stale spot change) new = ⊥
+TakenPlain old plain PlanTurn.Idle new = ⊥
+TakenPlain old plain PlanTurn.Full new = ⊥
 
 abbrev pub TakenPeek : Planning → PoolId → PlanTurn → Planning → Type 0
-TakenPeek old p (turn.Plain t) new = ⊥
-TakenPeek old p (turn.Planned plan) new = IsPeeked old p plan new
-TakenPeek old p (turn.Fired spot) new = ⊥
-TakenPeek old p (turn.Did e) new = ⊥
-TakenPeek old p (turn.Stale spot change) new = ⊥
-TakenPeek old p turn.Idle new = HasNone old p × (new ≡ old)
-TakenPeek old p turn.Full new = ⊥
+TakenPeek old p (PlanTurn.Plain t) new = ⊥
+TakenPeek old p (PlanTurn.Planned plan) new = IsPeeked old p plan new
+TakenPeek old p (PlanTurn.Fired spot) new = ⊥
+TakenPeek old p (PlanTurn.Did e) new = ⊥
+TakenPeek old p (PlanTurn.Stale spot change) new = ⊥
+TakenPeek old p PlanTurn.Idle new = HasNone old p × (new ≡ old)
+TakenPeek old p PlanTurn.Full new = ⊥
 
 abbrev pub TakenNews : Planning → PoolId → PlanTurn → Planning → Type 0
-TakenNews old p (turn.Plain t) new = ⊥
-TakenNews old p (turn.Planned plan) new = ⊥
-TakenNews old p (turn.Fired spot) new = IsNews old p spot new
-TakenNews old p (turn.Did e) new = ⊥
-TakenNews old p (turn.Stale spot change) new = ⊥
-TakenNews old p turn.Idle new = HasNoNews old p × (new ≡ old)
-TakenNews old p turn.Full new = ⊥
+TakenNews old p (PlanTurn.Plain t) new = ⊥
+TakenNews old p (PlanTurn.Planned plan) new = ⊥
+TakenNews old p (PlanTurn.Fired spot) new = IsNews old p spot new
+TakenNews old p (PlanTurn.Did e) new = ⊥
+TakenNews old p (PlanTurn.Stale spot change) new = ⊥
+TakenNews old p PlanTurn.Idle new = HasNoNews old p × (new ≡ old)
+TakenNews old p PlanTurn.Full new = ⊥
 
 abbrev pub TakenCommit : Planning → PoolId → PlanTurn → Planning → Type 0
-TakenCommit old p (turn.Plain t) new = ⊥
-TakenCommit old p (turn.Planned plan) new = ⊥
-TakenCommit old p (turn.Fired spot) new = ⊥
-TakenCommit old p (turn.Did e) new = IsCommitted old p e new
-TakenCommit old p (turn.Stale spot change) new = IsStale old p spot change new
-TakenCommit old p turn.Idle new = (plan_of p old.plans ≡ None) × (new ≡ old)
-TakenCommit old p turn.Full new = IsBarred old p × (new ≡ old)
+TakenCommit old p (PlanTurn.Plain t) new = ⊥
+TakenCommit old p (PlanTurn.Planned plan) new = ⊥
+TakenCommit old p (PlanTurn.Fired spot) new = ⊥
+TakenCommit old p (PlanTurn.Did e) new = IsCommitted old p e new
+TakenCommit old p (PlanTurn.Stale spot change) new = IsStale old p spot change new
+TakenCommit old p PlanTurn.Idle new = (plan_of p old.plans ≡ None) × (new ≡ old)
+TakenCommit old p PlanTurn.Full new = IsBarred old p × (new ≡ old)
 
 -- the turn answers the ask, and leaves this (own)
 abbrev pub IsPlanTaken : Planning → PlanAsk → PlanTurn → Planning → Type 0
-IsPlanTaken old (ask.Plain plain) t new = TakenPlain old plain t new
-IsPlanTaken old (ask.Peek p) t new = TakenPeek old p t new
-IsPlanTaken old (ask.News p) t new = TakenNews old p t new
-IsPlanTaken old (ask.Commit p) t new = TakenCommit old p t new
+IsPlanTaken old (PlanAsk.Plain plain) t new = TakenPlain old plain t new
+IsPlanTaken old (PlanAsk.Peek p) t new = TakenPeek old p t new
+IsPlanTaken old (PlanAsk.News p) t new = TakenNews old p t new
+IsPlanTaken old (PlanAsk.Commit p) t new = TakenCommit old p t new

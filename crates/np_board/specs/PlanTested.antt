@@ -9,10 +9,8 @@ use Rattle.np_planned.specs.declared.spot.Spot.{Spot}
 use Rattle.np_board.specs.Outstanding.{Outstanding, Planning, plan_of}
 use Rattle.np_board.specs.PlanTaken.{IsBarred}
 use Rattle.np_board.specs.declared.board.Test.{Test}
-use Rattle.np_board.specs.declared.board.Test.TheVariants as test
 use Rattle.np_board.specs.declared.board.commit.StaleSpot.{StaleSpot}
 use Rattle.np_board.specs.declared.board.plan.PlanTurn.{PlanTurn}
-use Rattle.np_board.specs.declared.board.plan.PlanTurn.TheVariants as turn
 
 -- the first spot that isn't fresh, with its last change, which is later
 pub record IsStaleSpot (t : TreeState) (x : Outstanding) (stale : StaleSpot) : Type 0 where
@@ -27,8 +25,8 @@ fired_spot t x = option_and_then (λ w. slice_get x.plan.spots w.key) (find (is_
 
 -- what is told of it
 abbrev pub told_by : Option Spot → PlanTurn
-told_by None = turn.Idle
-told_by (Some spot) = turn.Fired spot
+told_by None = PlanTurn.Idle
+told_by (Some spot) = PlanTurn.Fired spot
 
 -- ## a commit
 
@@ -49,7 +47,7 @@ pub record IsMayNot (m : Planning) (p : PoolId) (spot : Spot) (change : ℕ) : T
 
 -- what a commit would do
 abbrev pub IsTested : Planning → PoolId → Test → Type 0
-IsTested m p test.Idle = plan_of p m.plans ≡ None
-IsTested m p test.Full = IsBarred m p
-IsTested m p (test.Stale spot change) = IsMayNot m p spot change
-IsTested m p (test.MayDo e) = IsMayDo m p e
+IsTested m p Test.Idle = plan_of p m.plans ≡ None
+IsTested m p Test.Full = IsBarred m p
+IsTested m p (Test.Stale spot change) = IsMayNot m p spot change
+IsTested m p (Test.MayDo e) = IsMayDo m p e

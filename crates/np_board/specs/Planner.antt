@@ -1,19 +1,19 @@
 -- what the turns of a series do to a history, where launchers may commit what was useful before
 use Rattle.std.specs.Prelude.{◌≡◌, ◌⊎◌, ℕ, ◌+◌, List, length, Option, None}
 use Rattle.np_changes.specs.Prelude.{Configuration, Entry}
-use Rattle.np_text.specs.declared.id.Role.TheVariants as role
 use Rattle.np_worker.specs.Prelude.{Sight, Unturned, WasUseful, recorded}
 use Rattle.np_worker.specs.Answers.{Also, answers_also}
 use Rattle.np_worker.specs.declared.ask.Ask.{Ask}
 use Rattle.np_worker.specs.declared.ask.Turn.{Turn}
 use Rattle.np_desk.specs.Series.{Asked, Heard, Walked}
+use Rattle.np_text.specs.declared.id.Role.{Role}
 
 -- of a launcher, what was useful before and is accepted now (own)
 abbrev pub launchers_before : Also
-launchers_before c journal (role.Launcher p) e = WasUseful c journal (role.Launcher p) e
-launchers_before c journal (role.Janitor p) e = ⊥
-launchers_before c journal (role.Requester q) e = ⊥
-launchers_before c journal role.Reaper e = ⊥
+launchers_before c journal (Role.Launcher p) e = WasUseful c journal (Role.Launcher p) e
+launchers_before c journal (Role.Janitor p) e = ⊥
+launchers_before c journal (Role.Requester q) e = ⊥
+launchers_before c journal Role.Reaper e = ⊥
 
 -- the series is over, or may take no more turns
 abbrev pub HasEnded : {S : Type 0} → (S → Option Ask) → S → ℕ → Type 0

@@ -1,5 +1,4 @@
-pub mod Apart
+pub mod Prelude
 pub mod Growing
 pub mod NearViews
 pub mod Places
-pub mod SameIds

@@ -1,23 +1,5 @@
 -- the places of what a fact names
-use Rattle.std.proofs.Common.{◌≡◌, ◌≤◌, ◌<◌, ◌+◌, ◌-◌, ℕ, suc, zero, List, [], ◌∷◌, ◌++◌, length, Option, Some, None, refl, sym, ap, ◌∙◌, arith}
-use Rattle.std.specs.Prelude.{map, slice_get}
-use Rattle.std.proofs.lemmas.Option.{slice_get-map, slice_get-get_or, slice_get_past, slice_get_within}
-use Rattle.std.proofs.lemmas.List.FromFn.{get_or-map-range_with_len, length-map-range_with_len}
-use Rattle.np_changes.specs.Prelude.{Configuration, NodeId, Pool, RequestId, RequestRecord, Role, State, asked_of, option_map, option_map_or, range_with_len, request_in}
-use Rattle.np_changes.specs.declared.asked.Asked.{Asked}
-use Rattle.np_causes.specs.Names.{a_node, if_live, nodes_in, offers_for, sessions_for}
-use Rattle.np_causes.specs.declared.fact.Thing.TheVariants as thing
-
--- ## a list that begins with one thing, and with two
-
-pub after_first : {X : Type 0} (x : X) (xs : List X) (at : ℕ) → (at ≡ 0 → ⊥) → slice_get (x ∷ xs) at ≡ slice_get xs (at - 1)
-after_first x xs zero none = absurd (none refl)
-after_first x xs (suc at) none = ap (λ (k : ℕ). slice_get xs k) (omega arith)
-
-pub after_second : {X : Type 0} (x y : X) (xs : List X) (at : ℕ) → (at ≡ 0 → ⊥) → (at ≡ 1 → ⊥) → slice_get (x ∷ y ∷ xs) at ≡ slice_get xs (at - 2)
-after_second x y xs zero none one = absurd (none refl)
-after_second x y xs (suc zero) none one = absurd (one (omega arith))
-after_second x y xs (suc (suc at)) none one = ap (λ (k : ℕ). slice_get xs k) (omega arith)
+use Rattle.np_causes.proofs.Prelude.{Asked, Configuration, List, NodeId, None, Option, Pool, RequestId, RequestRecord, Role, Some, State, Thing, a_node, ap, arith, asked_of, get_or-map-range_with_len, if_live, length, length-map-range_with_len, map, nodes_in, offers_for, option_map, option_map_or, range_with_len, refl, request_in, sessions_for, slice_get, slice_get-get_or, slice_get-map, slice_get_past, slice_get_within, suc, sym, zero, ℕ, [], ◌++◌, ◌+◌, ◌-◌, ◌<◌, ◌∙◌, ◌∷◌, ◌≡◌, ◌≤◌}
 
 -- ## one list and then another
 
@@ -53,14 +35,14 @@ pub range_past : {X : Type 0} (f : ℕ → X) (a n at : ℕ) → n ≤ at → sl
 range_past f a n at past = slice_get_past (map f (range_with_len a n)) at (omega (arith, length-map-range_with_len f a n))
 
 pub offer_there : (c : Configuration) (r : RequestId) (at : ℕ) (p : Pool) → slice_get c.pools at ≡ Some p
-    → slice_get (offers_for c r) at ≡ Some (Some (thing.Offer r (record { 0 = at })))
+    → slice_get (offers_for c r) at ≡ Some (Some (Thing.Offer r (record { 0 = at })))
 offer_there c r at p there =
     let same : 0 + at ≡ at = omega arith in
-    range_at (λ (k : ℕ). Some (thing.Offer r (record { 0 = k }))) 0 (length c.pools) at (slice_get_within c.pools at p there)
-    ∙ ap (λ (k : ℕ). Some (Some (thing.Offer r (record { 0 = k })))) same
+    range_at (λ (k : ℕ). Some (Thing.Offer r (record { 0 = k }))) 0 (length c.pools) at (slice_get_within c.pools at p there)
+    ∙ ap (λ (k : ℕ). Some (Some (Thing.Offer r (record { 0 = k })))) same
 
 pub no_offer : (c : Configuration) (r : RequestId) (at : ℕ) → length c.pools ≤ at → slice_get (offers_for c r) at ≡ None
-no_offer c r at past = range_past (λ (k : ℕ). Some (thing.Offer r (record { 0 = k }))) 0 (length c.pools) at past
+no_offer c r at past = range_past (λ (k : ℕ). Some (Thing.Offer r (record { 0 = k }))) 0 (length c.pools) at past
 
 pub session_there : (role : Role) (s : State) (at : ℕ) → at < length s.sessions → slice_get (sessions_for role s) at ≡ Some (if_live role s (record { 0 = at + 1 }))
 session_there role s at less =
@@ -74,10 +56,10 @@ no_session role s at past = range_past (λ (k : ℕ). if_live role s (record { 0
 -- ## the nodes of a request
 
 pub node_there : (r : RequestId) (s : State) (at : ℕ) (a : Asked) (n : NodeId) → Some a ≡ option_map asked_of (request_in r s.requests) → Some n ≡ slice_get a.nodes at
-    → Some (Some (thing.Node n)) ≡ slice_get (map a_node (nodes_in r s)) at
+    → Some (Some (Thing.Node n)) ≡ slice_get (map a_node (nodes_in r s)) at
 node_there r s at a n asked there = by (request_in r s.requests) asked
   where
-    by : (o : Option RequestRecord) → Some a ≡ option_map asked_of o → Some (Some (thing.Node n)) ≡ slice_get (map a_node (option_map_or (λ request. request.nodes) o [])) at
+    by : (o : Option RequestRecord) → Some a ≡ option_map asked_of o → Some (Some (Thing.Node n)) ≡ slice_get (map a_node (option_map_or (λ request. request.nodes) o [])) at
     by None is = absurd cc
     by (Some k) is =
         let whole : a ≡ asked_of k = cc in

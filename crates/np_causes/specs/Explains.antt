@@ -4,7 +4,6 @@ use Rattle.np_changes.specs.Prelude.{Configuration, EachAfter, JobId, State, is_
 use Rattle.np_causes.specs.Fact.{about_of, IsTrueOf}
 use Rattle.np_causes.specs.Names.{named_by}
 use Rattle.np_causes.specs.declared.fact.Thing.{Thing}
-use Rattle.np_causes.specs.declared.fact.Thing.TheVariants as thing
 use Rattle.np_causes.specs.declared.fact.Fact.{Fact}
 
 -- the job is there, and not over
@@ -28,7 +27,7 @@ pub record IsNamed (c : Configuration) (s : State) (facts : List Fact) (it : Thi
 
 -- the fact is about the job, or about a thing that one of the facts before it names
 abbrev pub Follows : Configuration → State → JobId → List Fact → Fact → Type 0
-Follows c s j earlier f = (about_of f ≡ thing.Job j) ⊎ IsNamed c s earlier (about_of f)
+Follows c s j earlier f = (about_of f ≡ Thing.Job j) ⊎ IsNamed c s earlier (about_of f)
 
 -- each fact is true, and follows from the job
 pub record IsSound (c : Configuration) (s : State) (j : JobId) (facts : List Fact) : Type 0 where
@@ -38,7 +37,7 @@ pub record IsSound (c : Configuration) (s : State) (j : JobId) (facts : List Fac
 -- and one of them is about the job, and one about each thing that one of them names
 pub record Explains (c : Configuration) (s : State) (j : JobId) (facts : List Fact) : Type 0 where
   pub sound : IsSound c s j facts
-  pub begun : IsTold facts (thing.Job j)
+  pub begun : IsTold facts (Thing.Job j)
   pub each : (it : Thing) → IsNamed c s facts it → IsTold facts it
 
 -- ## while a list grows

@@ -1,14 +1,13 @@
 -- worked cases: the facts that explain a wait, in states of worked journals
 use Rattle.std.specs.Prelude.{ℕ, List, [], ◌∷◌, true, false}
 use Rattle.np_changes.specs.Prelude.{AllByRecursion, Amount, Configuration, Entry, Role, SessionFacts}
-use Rattle.np_text.specs.declared.word.NodeState.TheVariants as node_state
-use Rattle.np_text.specs.declared.word.Phase.TheVariants as phase
-use Rattle.np_text.specs.declared.word.Reason.TheVariants as reason
 use Rattle.np_worked.specs.Examples.{after_first}
 use Rattle.np_worked.specs.Site.{job, janitor, label, launcher, node, pool, request, requester, semaphore, session, tenant}
 use Rattle.np_causes.specs.Fact.{IsTrueOf}
 use Rattle.np_causes.specs.declared.fact.Fact.{Fact}
-use Rattle.np_causes.specs.declared.fact.Fact.TheVariants as fact
+use Rattle.np_text.specs.declared.word.NodeState.{NodeState}
+use Rattle.np_text.specs.declared.word.Phase.{Phase}
+use Rattle.np_text.specs.declared.word.Reason.{Reason}
 
 -- in the state after so many entries of a journal each of these facts is true
 abbrev pub TrueAfter : ℕ → Configuration → List Entry → List Fact → Type 0
@@ -32,111 +31,111 @@ used servers ram = record { instances = servers; cores = servers; ram = ram }
 -- j1 lacks x1, which j0 has
 abbrev pub full_semaphore : List Fact
 full_semaphore =
-    fact.InPhase (job 1) phase.New
-    ∷ fact.OfRequester (job 1) (record { 0 = 0 })
-    ∷ fact.InWindow (job 1)
-    ∷ fact.Full (job 1) (semaphore 1)
-    ∷ fact.Current (requester 0) (session 1)
-    ∷ fact.Handles (semaphore 1) 1
-    ∷ fact.HasHandle (semaphore 1) (job 0)
-    ∷ fact.InPhase (job 0) phase.New
-    ∷ fact.Supplied (job 0)
+    Fact.InPhase (job 1) Phase.New
+    ∷ Fact.OfRequester (job 1) (record { 0 = 0 })
+    ∷ Fact.InWindow (job 1)
+    ∷ Fact.Full (job 1) (semaphore 1)
+    ∷ Fact.Current (requester 0) (session 1)
+    ∷ Fact.Handles (semaphore 1) 1
+    ∷ Fact.HasHandle (semaphore 1) (job 0)
+    ∷ Fact.InPhase (job 0) Phase.New
+    ∷ Fact.Supplied (job 0)
     ∷ []
 
 -- the window of j1's requester has room for j0 alone
 abbrev pub full_window : List Fact
 full_window =
-    fact.InPhase (job 1) phase.New
-    ∷ fact.OfRequester (job 1) (record { 0 = 0 })
-    ∷ fact.PastWindow (job 1) (job 0)
-    ∷ fact.Supplied (job 1)
+    Fact.InPhase (job 1) Phase.New
+    ∷ Fact.OfRequester (job 1) (record { 0 = 0 })
+    ∷ Fact.PastWindow (job 1) (job 0)
+    ∷ Fact.Supplied (job 1)
     ∷ []
 
 -- nobody acts for the requester, whose session crashed
 abbrev pub silent_requester : List Fact
 silent_requester =
-    fact.InPhase (job 0) phase.Using
-    ∷ fact.OfRequester (job 0) (record { 0 = 0 })
-    ∷ fact.MayOpen (requester 0)
-    ∷ fact.Known (session 2) (crashed (requester 0))
+    Fact.InPhase (job 0) Phase.Using
+    ∷ Fact.OfRequester (job 0) (record { 0 = 0 })
+    ∷ Fact.MayOpen (requester 0)
+    ∷ Fact.Known (session 2) (crashed (requester 0))
     ∷ []
 
 -- the launcher may take up the request
 abbrev pub first_request : List Fact
 first_request =
-    fact.InPhase (job 0) phase.Asked
-    ∷ fact.Open (request 200 0)
-    ∷ fact.First (request 200 0) (pool 0)
-    ∷ fact.Registered (pool 0) (session 1)
-    ∷ fact.Known (session 1) (live (launcher 0))
-    ∷ fact.Idle (pool 0)
+    Fact.InPhase (job 0) Phase.Asked
+    ∷ Fact.Open (request 200 0)
+    ∷ Fact.First (request 200 0) (pool 0)
+    ∷ Fact.Registered (pool 0) (session 1)
+    ∷ Fact.Known (session 1) (live (launcher 0))
+    ∷ Fact.Idle (pool 0)
     ∷ []
 
 -- the launcher has taken it up
 abbrev pub taken_up : List Fact
-taken_up = fact.TakenUp (request 200 0) (session 1) ∷ fact.Known (session 1) (live (launcher 0)) ∷ []
+taken_up = Fact.TakenUp (request 200 0) (session 1) ∷ Fact.Known (session 1) (live (launcher 0)) ∷ []
 
 -- one pool declined the request, and no launcher is registered
 abbrev pub nobody_registered : List Fact
 nobody_registered =
-    fact.Open (request 200 0)
-    ∷ fact.Declined (request 200 0) (pool 0) (reason.NoLabel (label 0))
-    ∷ fact.First (request 200 0) (pool 1)
-    ∷ fact.Unregistered (pool 1)
-    ∷ fact.MayOpen (launcher 1)
+    Fact.Open (request 200 0)
+    ∷ Fact.Declined (request 200 0) (pool 0) (Reason.NoLabel (label 0))
+    ∷ Fact.First (request 200 0) (pool 1)
+    ∷ Fact.Unregistered (pool 1)
+    ∷ Fact.MayOpen (launcher 1)
     ∷ []
 
 -- the tenant has no room for the request
 abbrev pub full_tenant : List Fact
 full_tenant =
-    fact.Open (request 200 1)
-    ∷ fact.Blocked (request 200 1) (pool 0) (tenant 1)
-    ∷ fact.TenantUses (tenant 1) (used 2 2048)
+    Fact.Open (request 200 1)
+    ∷ Fact.Blocked (request 200 1) (pool 0) (tenant 1)
+    ∷ Fact.TenantUses (tenant 1) (used 2 2048)
     ∷ []
 
 -- another request comes first, and the launcher is at work on a third
 abbrev pub behind_another : List Fact
 behind_another =
-    fact.Behind (request 200 3) (pool 0) (request 200 2)
-    ∷ fact.Busy (pool 0)
-    ∷ fact.Served (request 200 0) (session 1)
-    ∷ fact.Lacks (request 200 0) (label 0)
+    Fact.Behind (request 200 3) (pool 0) (request 200 2)
+    ∷ Fact.Busy (pool 0)
+    ∷ Fact.Served (request 200 0) (session 1)
+    ∷ Fact.Lacks (request 200 0) (label 0)
     ∷ []
 
 -- the pool has no room, since its one server is of a node for another label, which its janitor holds
 abbrev pub full_pool : List Fact
 full_pool =
-    fact.InPhase (job 0) phase.Asked
-    ∷ fact.Served (request 200 1) (session 1)
-    ∷ fact.NoRoom (request 200 1) (pool 0) (label 1)
-    ∷ fact.PoolUses (pool 0) (used 1 1024)
-    ∷ fact.Stands (node 0) node_state.Ready 1
-    ∷ fact.Held (node 0) (session 2)
-    ∷ fact.Known (session 2) (live (janitor 0))
-    ∷ fact.Free (node 0)
+    Fact.InPhase (job 0) Phase.Asked
+    ∷ Fact.Served (request 200 1) (session 1)
+    ∷ Fact.NoRoom (request 200 1) (pool 0) (label 1)
+    ∷ Fact.PoolUses (pool 0) (used 1 1024)
+    ∷ Fact.Stands (node 0) NodeState.Ready 1
+    ∷ Fact.Held (node 0) (session 2)
+    ∷ Fact.Known (session 2) (live (janitor 0))
+    ∷ Fact.Free (node 0)
     ∷ []
 
 -- the node is launched for the second time
 abbrev pub second_launch : List Fact
 second_launch =
-    fact.Served (request 200 0) (session 1)
-    ∷ fact.Complete (request 200 0)
-    ∷ fact.Stands (node 0) node_state.Building 2
-    ∷ fact.Held (node 0) (session 1)
-    ∷ fact.Allocated (node 0) (request 200 0)
+    Fact.Served (request 200 0) (session 1)
+    ∷ Fact.Complete (request 200 0)
+    ∷ Fact.Stands (node 0) NodeState.Building 2
+    ∷ Fact.Held (node 0) (session 1)
+    ∷ Fact.Allocated (node 0) (request 200 0)
     ∷ []
 
 -- the launcher's session expired while its pool served the request
 abbrev pub lost_launcher : List Fact
-lost_launcher = fact.Abandoned (request 200 0) ∷ fact.MayOpen (janitor 0) ∷ []
+lost_launcher = Fact.Abandoned (request 200 0) ∷ Fact.MayOpen (janitor 0) ∷ []
 
 -- the nodes are there, and the launcher holds the one that the requester has to take
 abbrev pub not_taken : List Fact
 not_taken =
-    fact.Fulfilled (request 200 0)
-    ∷ fact.OfRequester (job 0) (record { 0 = 0 })
-    ∷ fact.Current (requester 0) (session 2)
-    ∷ fact.Supplied (job 0)
-    ∷ fact.Stands (node 0) node_state.Ready 1
-    ∷ fact.Held (node 0) (session 1)
+    Fact.Fulfilled (request 200 0)
+    ∷ Fact.OfRequester (job 0) (record { 0 = 0 })
+    ∷ Fact.Current (requester 0) (session 2)
+    ∷ Fact.Supplied (job 0)
+    ∷ Fact.Stands (node 0) NodeState.Ready 1
+    ∷ Fact.Held (node 0) (session 1)
     ∷ []

@@ -11,7 +11,7 @@ use np_text::{
 };
 
 /// What a fact is about.
-#[derive(Clone, Copy)]
+#[derive(Clone, Copy, PartialEq, Eq)]
 pub enum Thing {
     /// How far the job is.
     Job(JobId),

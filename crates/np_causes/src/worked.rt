@@ -5,14 +5,9 @@ ghost use Rattle.np_text.specs.declared.word.NodeState.TheVariants as node_state
 ghost use Rattle.np_text.specs.declared.word.Reason.TheVariants as reason;
 ghost use Rattle.np_config.specs.declared.row.FaultKind.TheVariants as kind;
 ghost use Rattle.np_worked.specs.Examples.{after_first, struck, struck_site, two_jobs, window_site};
-ghost use Rattle.np_worked.specs.CrashedRequester as crashed_requester;
-ghost use Rattle.np_worked.specs.ExpiryDuringALaunch as expiry_during_a_launch;
-ghost use Rattle.np_worked.specs.FailDeclined as fail_declined;
-ghost use Rattle.np_worked.specs.PausedPool as paused_pool;
-ghost use Rattle.np_worked.specs.PlainPath as plain_path;
-ghost use Rattle.np_worked.specs.RetriesSpent as retries_spent;
-ghost use Rattle.np_worked.specs.SemaphoresAllOrNone as semaphores;
-ghost use Rattle.np_worked.specs.TenantLimit as tenant_limit;
+ghost use Rattle.np_worked.specs.Jobs.{crashed_requester, fail_declined, plain_path, retries_spent};
+ghost use Rattle.np_worked.specs.Nodes.{expiry_during_a_launch};
+ghost use Rattle.np_worked.specs.Shares.{paused_pool, semaphores_all_or_none, tenant_limit};
 ghost use Rattle.np_worked.specs.Site.{job, label, launcher, node, pool, request, requester, semaphore, session, tenant};
 ghost use Rattle.np_causes.specs.Fact.{IsTrueOf};
 ghost use Rattle.np_causes.specs.Worked.{FalseAfter, TrueAfter, behind_another, first_request, full_pool, full_semaphore, full_tenant, full_window, lost_launcher, nobody_registered, not_taken, second_launch, silent_requester, taken_up, used};
@@ -21,10 +16,10 @@ ghost use Rattle.np_causes.specs.declared.fact.Fact.TheVariants as fact;
 /// A semaphore that the job lacks is full: the first such one, and its holder has all that it
 /// needs.
 pub fn a_semaphore_is_full()
-    ensures chain { TrueAfter 8 semaphores.site semaphores.journal full_semaphore }
-    ensures other { FalseAfter 8 semaphores.site semaphores.journal
+    ensures chain { TrueAfter 8 semaphores_all_or_none.site semaphores_all_or_none.journal full_semaphore }
+    ensures other { FalseAfter 8 semaphores_all_or_none.site semaphores_all_or_none.journal
         (fact.Full (job 1) (semaphore 0)) }
-    ensures holder { FalseAfter 8 semaphores.site semaphores.journal
+    ensures holder { FalseAfter 8 semaphores_all_or_none.site semaphores_all_or_none.journal
         (fact.HasHandle (semaphore 1) (job 1)) }
 {}
 

@@ -1,14 +1,227 @@
--- each job is as its phase says, and a request that names a job is its only one
-use Rattle.np_changes.proofs.Prelude.{Asked, AsksForJob, AsksToKeep, Bool, Changes, Configuration, FinishesJob, Growth, GrowthPremise, IsAsking, IsNumbered, JobId, JobIn, JobRecord, JobsChange, JobsOrPinned, JobsStand, List, Maker, None, Option, Phase, Premises, RequestEdit, RequestEntry, RequestId, RequestRecord, RequestsChange, RequestsPremise, RequestsStand, Rises, Some, State, TakesOver, Withdraws, ap, arith, asked_for, changed, cond, edited, false, grown, inl, inr, is_asked, is_id_before, is_new, is_none, is_some, jobs_changed, joined, left, map, nat_tests, new_record, next_id, option_map, refl, request-equal, request-itself, request_after_withdraw, request_in, request_queue, requests_changed, same_request, set-here, slice_get, subst, sym, true, unended, [], ℕ, ◌<◌, ◌||◌, ◌∙◌, ◌≡◌, ◌⊎◌}
-use Rattle.np_text.specs.declared.word.Ending.TheVariants as ending
-use Rattle.np_text.specs.declared.word.Phase.TheVariants as phase
-use Rattle.np_changes.specs.declared.changes.Growth.TheVariants as grow
-use Rattle.np_changes.specs.declared.changes.RequestsChange.TheVariants as requests
-use Rattle.np_changes.specs.declared.changes.JobsChange.TheVariants as jobs
-use Rattle.np_changes.proofs.Lookups.{request_in-edit, request_in-queue, request_in-insert, request_in-new, request_in-remove, request_in-removed, request_in-later, request_in-below}
-use Rattle.np_changes.proofs.Numbered.{grown-numbered}
-use Rattle.np_changes.proofs.After.{left-request, found-grown}
-use Rattle.np_changes.proofs.JobsLater.{bare, JobLater, job-back, job-on, jobs-grown}
+-- each job is as its phase says, with its handles of semaphores and its one request
+use Rattle.np_changes.proofs.Prelude.{AllByRecursion, Bool, Changes, Configuration, Growth, GrowthPremise, HandlesChange, HasRoom, Invariant, Job, JobId, List, NoRepeat, None, Option, Premises, Sem, SemId, Some, State, WithinMax, [], all-filter, all-from_at, all-weaker, ap, arith, change_at, changed, cond, false, filter, first_full, fold, grown, handles_changed, handles_of, has_handle, inl, inr, insert_before, is_among, is_full, length, length-filter_at_most, length-insert_before, list_any-insert_before, list_any-none, map, nat_lt, nat_tests, none-find, none-list_any, not, option_map_or, or_from, or_parts, refl, semaphores_of, slice_get, start, subst, suc, sym, true, unwrap_or, with_handle, without_handle, zero, ℕ, ◌&&◌, ◌<◌, ◌==◌, ◌∙◌, ◌∷◌, ◌≡◌, ◌≤◌, ◌⊎◌, JobRecord, JobsChange, JobsPremise, Maker, NodeId, PutsJob, jobs_changed, option_map, registers, set-here, set-other, slice_set, with_mark, ◌≢◌, Asked, AsksForJob, AsksToKeep, Ending, FinishesJob, IsAsking, IsNumbered, JobIn, JobsOrPinned, JobsStand, Phase, RequestEdit, RequestEntry, RequestId, RequestRecord, RequestsChange, RequestsPremise, RequestsStand, TakesOver, Withdraws, asked_for, edited, is_asked, is_new, is_none, is_some, left, new_record, next_id, request-equal, request-itself, request_after_withdraw, request_in, request_queue, requests_changed, same_request, unended, ◌||◌}
+use Rattle.np_changes.proofs.Lookups.{found-grown, left-request, made-look, request_in-below, request_in-edit, request_in-later, request_in-new, request_in-queue, request_in-remove, same_semaphore}
+use Rattle.np_changes.proofs.Shapes.{among-insert}
+use Rattle.np_changes.proofs.Turns.{CameBy, came}
+
+-- # no semaphore exceeds its max, and no job has two handles of one
+
+-- ## a job more, a job less
+
+other_way : (a b : ℕ) → (a == b) ≡ false → (b == a) ≡ false
+other_way a b other = grind (arith, nat_tests)
+
+repeat-by : (j k : JobId) (jobs rest : List JobId) (b : Bool) → is_among j (k ∷ jobs) ≡ false → NoRepeat (k ∷ jobs) → is_among k rest ≡ false → NoRepeat rest → NoRepeat (cond b (j ∷ k ∷ jobs) (k ∷ rest))
+repeat-by j k jobs rest true out apart first later = (out, apart)
+repeat-by j k jobs rest false out apart first later = (first, later)
+
+NoRepeat-insert_before : (p : JobId → Bool) (j : JobId) (jobs : List JobId) → is_among j jobs ≡ false → NoRepeat jobs → NoRepeat (insert_before p j jobs)
+NoRepeat-insert_before p j [] out apart = (refl, tt)
+NoRepeat-insert_before p j (k ∷ jobs) out apart =
+    let parts = or_parts (k.0 == j.0) (is_among j jobs) out in
+    repeat-by j k jobs (insert_before p j jobs) (p k) out apart
+    (list_any-insert_before (λ (other : JobId). other.0 == k.0) p j jobs ∙ or_from (j.0 == k.0) (is_among k jobs) (other_way k.0 j.0 parts.0) apart.0)
+    (NoRepeat-insert_before p j jobs parts.1 apart.1)
+
+filter-by : (k : JobId) (rest : List JobId) (b : Bool) → is_among k rest ≡ false → NoRepeat rest → NoRepeat (cond b (k ∷ rest) rest)
+filter-by k rest true first later = (first, later)
+filter-by k rest false first later = later
+
+is_among-filter : (p : JobId → Bool) (k : JobId) (jobs : List JobId) → is_among k jobs ≡ false → is_among k (filter p jobs) ≡ false
+is_among-filter p k jobs out =
+    list_any-none (λ (other : JobId). other.0 == k.0) (filter p jobs)
+    (all-filter (λ (other : JobId). (other.0 == k.0) ≡ false) p jobs (none-list_any (λ (other : JobId). other.0 == k.0) jobs out))
+
+NoRepeat-filter : (p : JobId → Bool) (jobs : List JobId) → NoRepeat jobs → NoRepeat (filter p jobs)
+NoRepeat-filter p [] apart = tt
+NoRepeat-filter p (k ∷ jobs) apart = filter-by k (filter p jobs) (p k) (is_among-filter p k jobs apart.0) (NoRepeat-filter p jobs apart.1)
+
+-- ## the jobs of one semaphore, when jobs of some change
+
+change-at : (P : List JobId → Type 0) (f : List JobId → List JobId) (i j : ℕ) (rows : List (List JobId)) → (i ≡ j → (jobs : List JobId) → P jobs → P (f jobs))
+    → P (unwrap_or (slice_get rows j) []) → P (unwrap_or (slice_get (change_at i f rows) j) [])
+change-at P f i j [] each old = old
+change-at P f zero zero (jobs ∷ rows) each old = each refl jobs old
+change-at P f zero (suc j) (jobs ∷ rows) each old = old
+change-at P f (suc i) zero (jobs ∷ rows) each old = old
+change-at P f (suc i) (suc j) (jobs ∷ rows) each old = change-at P f i j rows (λ same. each (ap suc same)) old
+
+changed-all : (P : List JobId → Type 0) (f : List JobId → List JobId) (x : SemId) (semaphores : List SemId) (rows : List (List JobId))
+    → AllByRecursion (λ y. y.0 ≡ x.0 → (jobs : List JobId) → P jobs → P (f jobs)) semaphores → P (handles_of x rows) → P (handles_of x (fold (λ hs y. change_at y.0 f hs) rows semaphores))
+changed-all P f x [] rows each old = old
+changed-all P f x (y ∷ semaphores) rows each old = changed-all P f x semaphores (change_at y.0 f rows) each.1 (change-at P f y.0 x.0 rows each.0 old)
+
+-- each job once, and no more jobs than allowed
+record AreFew (most : ℕ) (jobs : List JobId) : Type 0 where
+  apart : NoRepeat jobs
+  few : length jobs ≤ most
+
+-- ## a job gives its handles back
+
+without-within : (most : ℕ) (j : JobId) (jobs : List JobId) → AreFew most jobs → AreFew most (without_handle j jobs)
+without-within most j jobs within = record {
+  apart = NoRepeat-filter (λ (other : JobId). not (other.0 == j.0)) jobs within.apart;
+  few = let fewer = length-filter_at_most (λ (other : JobId). not (other.0 == j.0)) jobs in omega (arith, fewer, within.few);
+}
+
+settled-within : (c : Configuration) (x : SemId) (most : ℕ) (change : HandlesChange) (rows : List (List JobId)) → AreFew most (handles_of x rows) → AreFew most (handles_of x (handles_changed c change rows))
+settled-within c x most HandlesChange.Same rows within = within
+settled-within c x most (HandlesChange.Release j) rows within =
+    changed-all (AreFew most) (without_handle j) x (semaphores_of c j) rows
+    (all-from_at (λ (y : SemId). y.0 ≡ x.0 → (jobs : List JobId) → AreFew most jobs → AreFew most (without_handle j jobs)) (semaphores_of c j) (λ i y there same jobs old. without-within most j jobs old)) within
+
+-- ## a job takes handles
+
+-- the job is there already, or there is room
+abbrev HasPlace : JobId → ℕ → List JobId → Type 0
+HasPlace j most jobs = (is_among j jobs ≡ true) ⊎ (length jobs < most)
+
+module _ (j : JobId) (most : ℕ) (Ready : Type 0) where
+  -- within the maximum, and with a place for the job if the job may have one
+  record MayTake (jobs : List JobId) : Type 0 where
+    within : AreFew most jobs
+    place : Ready → HasPlace j most jobs
+
+  new-by : (jobs : List JobId) → is_among j jobs ≡ false → AreFew most jobs → HasPlace j most jobs → MayTake (insert_before (λ other. nat_lt j.0 other.0) j jobs)
+  new-by jobs out within (inl there) = absurd cc
+  new-by jobs out within (inr room) = record {
+    within = record {
+      apart = NoRepeat-insert_before (λ (other : JobId). nat_lt j.0 other.0) j jobs out within.apart;
+      few = let longer = length-insert_before (λ (other : JobId). nat_lt j.0 other.0) j jobs in omega (arith, longer, room);
+    };
+    place = λ _. inl (among-insert (λ (other : JobId). nat_lt j.0 other.0) j jobs);
+  }
+
+  with-by : (jobs : List JobId) (b : Bool) → is_among j jobs ≡ b → Ready → MayTake jobs → MayTake (cond b jobs (insert_before (λ other. nat_lt j.0 other.0) j jobs))
+  with-by jobs true there ready old = old
+  with-by jobs false out ready old = new-by jobs out old.within (old.place ready)
+
+  with-may : (jobs : List JobId) → Ready → MayTake jobs → MayTake (with_handle j jobs)
+  with-may jobs ready old = with-by jobs (is_among j jobs) refl ready old
+
+-- a semaphore that is not full of others has a place for the job
+place-by : (c : Configuration) (s : State) (j : JobId) (x : SemId) (sem : Sem) → slice_get c.semaphores x.0 ≡ Some sem → (not (has_handle j s.handles x) && is_full c s x) ≡ false → HasPlace j sem.max (handles_of x s.handles)
+place-by c s j x sem row free = grind (arith, nat_tests)
+
+-- ## all growths
+
+module _ (c : Configuration) (s : State) (x : SemId) (sem : Sem) (row : slice_get c.semaphores x.0 ≡ Some sem) where
+  taken-by : (j : JobId) (job : Job) → slice_get c.jobs j.0 ≡ Some job → first_full c s j job ≡ None → AreFew sem.max (handles_of x s.handles)
+      → MayTake j sem.max (HasPlace j sem.max (handles_of x s.handles)) (handles_of x (fold (λ hs y. change_at y.0 (with_handle j) hs) s.handles job.semaphores))
+  taken-by j job there none_full old =
+      changed-all (MayTake j sem.max (HasPlace j sem.max (handles_of x s.handles))) (with_handle j) x job.semaphores s.handles
+      (all-weaker (λ (y : SemId). (not (has_handle j s.handles y) && is_full c s y) ≡ false)
+      (λ (y : SemId). y.0 ≡ x.0 → (jobs : List JobId) → MayTake j sem.max (HasPlace j sem.max (handles_of x s.handles)) jobs → MayTake j sem.max (HasPlace j sem.max (handles_of x s.handles)) (with_handle j jobs))
+      (λ y free same jobs may.
+      with-may j sem.max (HasPlace j sem.max (handles_of x s.handles)) jobs
+      (place-by c s j x sem row (subst (λ (z : SemId). (not (has_handle j s.handles z) && is_full c s z) ≡ false) (same_semaphore y x same) free)) may)
+      job.semaphores (none-find (λ (y : SemId). not (has_handle j s.handles y) && is_full c s y) job.semaphores none_full))
+      (record { within = old; place = λ ready. ready })
+
+  handles-within : (j : JobId) → HasRoom c s j → AreFew sem.max (handles_of x s.handles) → AreFew sem.max (handles_of x (fold (λ hs y. change_at y.0 (with_handle j) hs) s.handles (semaphores_of c j)))
+  handles-within j room old =
+      let of_job : semaphores_of c j ≡ room.job.semaphores = ap (λ (o : Option Job). option_map_or (λ (job : Job). job.semaphores) o []) room.row in
+      subst (λ (semaphores : List SemId). AreFew sem.max (handles_of x (fold (λ hs y. change_at y.0 (with_handle j) hs) s.handles semaphores))) (sym of_job)
+      (let all = taken-by j room.job room.row room.none_full old in all.within)
+
+  grown-within : (ch : Changes) (g : Growth) → GrowthPremise c s ch g → AreFew sem.max (handles_of x s.handles) → AreFew sem.max (handles_of x (grown c ch.maker g s).handles)
+  grown-within ch (Growth.Registration p) premise old = grind (arith, nat_tests)
+  grown-within ch (Growth.Handles j) premise old = handles-within j premise old
+  grown-within ch _ premise old = old
+
+pub within-max : (c : Configuration) (s : State) (ch : Changes) → Invariant c s → Premises c s ch → WithinMax c (changed c ch s)
+within-max c s ch invariant premises = λ x sem row.
+    let old : AreFew sem.max (handles_of x s.handles) = record { apart = (invariant.within.max x sem row).0; few = (invariant.within.max x sem row).1 } in
+    let now = settled-within c x sem.max ch.handles (grown c ch.maker ch.grows s).handles (grown-within c s x sem row ch ch.grows premises.grows old) in
+    (now.apart, now.few)
+
+-- ## the first state
+
+abbrev nobody : Sem → List JobId
+nobody sem = []
+
+first-handles : (i : ℕ) (semaphores : List Sem) → unwrap_or (slice_get (map nobody semaphores) i) [] ≡ []
+first-handles i [] = refl
+first-handles zero (sem ∷ semaphores) = refl
+first-handles (suc i) (sem ∷ semaphores) = first-handles i semaphores
+
+pub within-max_first : (c : Configuration) → WithinMax c (start c)
+within-max_first c = λ x sem row.
+    let none : handles_of x (start c).handles ≡ [] = first-handles x.0 c.semaphores in
+    let within : AreFew sem.max (handles_of x (start c).handles) = subst (AreFew sem.max) (sym none) (record { apart = tt; few = omega arith }) in
+    (within.apart, within.few)
+
+-- # what a job was before the changes of an event, and what it becomes by them
+
+-- ## one job more or less changed
+
+get-set : {X : Type 0} (xs : List X) (i j : ℕ) (x y : X) → slice_get (slice_set xs i x) j ≡ Some y → ((i ≡ j) × (x ≡ y)) ⊎ ((i ≢ j) × (slice_get xs j ≡ Some y))
+get-set [] i j x y is = absurd cc
+get-set (z ∷ xs) zero zero x y is = let same : x ≡ y = cc in inl (refl, same)
+get-set (z ∷ xs) (suc i) (suc j) x y is = by (get-set xs i j x y is) where
+  by : ((i ≡ j) × (x ≡ y)) ⊎ ((i ≢ j) × (slice_get xs j ≡ Some y)) → ((suc i ≡ suc j) × (x ≡ y)) ⊎ ((suc i ≢ suc j) × (slice_get xs j ≡ Some y))
+  by (inl (at, same)) = inl (ap suc at, same)
+  by (inr (other, there)) = inr (λ same. other (let e : i ≡ j = cc in e), there)
+get-set (z ∷ xs) _ _ x y is = inr (λ same. absurd cc, is)
+
+-- a job without its nodes
+abbrev pub bare : JobRecord → JobRecord
+bare job = record job { nodes = [] }
+
+get-marked : (n : NodeId) (rows : List JobRecord) (i j : ℕ) → option_map bare (slice_get (change_at i (with_mark n) rows) j) ≡ option_map bare (slice_get rows j)
+get-marked n [] i j = refl
+get-marked n (job ∷ rows) zero zero = refl
+get-marked n (job ∷ rows) zero (suc j) = refl
+get-marked n (job ∷ rows) (suc i) zero = refl
+get-marked n (job ∷ rows) (suc i) (suc j) = get-marked n rows i j
+
+some-bare : (o : Option JobRecord) (job : JobRecord) → option_map bare o ≡ Some (bare job) → (x : JobRecord) × ((o ≡ Some x) × (bare x ≡ bare job))
+some-bare None job is = absurd cc
+some-bare (Some x) job is = (x, (refl, let same : bare x ≡ bare job = cc in same))
+
+-- a job later: as it was except for marks, or put
+abbrev pub JobLater : Configuration → State → Changes → JobId → JobRecord → JobRecord → Type 0
+JobLater c s ch j job later =
+    ((bare later ≡ bare job) × ((put : JobRecord) → ch.jobs ≡ JobsChange.Put j put → ⊥)) ⊎ ((put : PutsJob c s ch j later) × ((ch.jobs ≡ JobsChange.Put j later) × (put.kept ≡ job)))
+
+module _ (c : Configuration) (s : State) (ch : Changes) where
+  -- what a job was
+  pub job-back : (change : JobsChange) → ch.jobs ≡ change → JobsPremise c s ch change → (j : JobId) (later : JobRecord) → slice_get (jobs_changed change s.jobs) j.0 ≡ Some later → (job : JobRecord) × ((slice_get s.jobs j.0 ≡ Some job) × JobLater c s ch j job later)
+  job-back JobsChange.Same at premise j later is = (later, (is, inl (refl, λ put puts. let e : JobsChange.Same ≡ JobsChange.Put j put = sym at ∙ puts in absurd cc)))
+  job-back (JobsChange.Put i put) at premise j later is = by (get-set s.jobs i.0 j.0 put later is) where
+    by : ((i.0 ≡ j.0) × (put ≡ later)) ⊎ ((i.0 ≢ j.0) × (slice_get s.jobs j.0 ≡ Some later)) → (job : JobRecord) × ((slice_get s.jobs j.0 ≡ Some job) × JobLater c s ch j job later)
+    by (inl (number, same)) =
+        let id : i ≡ j = ap (λ (n : ℕ). record { 0 = n }) number in
+        let puts : PutsJob c s ch j later = subst (λ (x : JobId). PutsJob c s ch x later) id (subst (λ (x : JobRecord). PutsJob c s ch i x) same premise) in
+        let at_j : ch.jobs ≡ JobsChange.Put j later = at ∙ ap (λ (x : JobId). JobsChange.Put x put) id ∙ ap (λ (x : JobRecord). JobsChange.Put j x) same in
+        (puts.kept, (puts.stands, inr (puts, (at_j, refl))))
+    by (inr (other, there)) = (later, (there, inl (refl, λ x puts. let e : JobsChange.Put i put ≡ JobsChange.Put j x = sym at ∙ puts in let same : i ≡ j = cc in other (ap (λ (k : JobId). k.0) same))))
+  job-back (JobsChange.EndNode i n) at premise j later is = by (some-bare (slice_get s.jobs j.0) later (sym (get-marked n s.jobs i.0 j.0) ∙ ap (λ (o : Option JobRecord). option_map bare o) is)) where
+    by : (x : JobRecord) × ((slice_get s.jobs j.0 ≡ Some x) × (bare x ≡ bare later)) → (job : JobRecord) × ((slice_get s.jobs j.0 ≡ Some job) × JobLater c s ch j job later)
+    by (x, (there, same)) = (x, (there, inl (sym same, λ put puts. let e : JobsChange.EndNode i n ≡ JobsChange.Put j put = sym at ∙ puts in absurd cc)))
+
+  -- what a job becomes
+  pub job-on : (change : JobsChange) → ch.jobs ≡ change → JobsPremise c s ch change → (j : JobId) (job : JobRecord) → slice_get s.jobs j.0 ≡ Some job → (later : JobRecord) × ((slice_get (jobs_changed change s.jobs) j.0 ≡ Some later) × JobLater c s ch j job later)
+  job-on JobsChange.Same at premise j job is = (job, (is, inl (refl, λ put puts. let e : JobsChange.Same ≡ JobsChange.Put j put = sym at ∙ puts in absurd cc)))
+  job-on (JobsChange.Put i put) at premise j job is = by (i.0 == j.0) refl where
+    by : (b : Bool) → (i.0 == j.0) ≡ b → (later : JobRecord) × ((slice_get (slice_set s.jobs i.0 put) j.0 ≡ Some later) × JobLater c s ch j job later)
+    by true which =
+        let number : i.0 ≡ j.0 = grind (arith, nat_tests) in
+        let id : i ≡ j = ap (λ (n : ℕ). record { 0 = n }) number in
+        let puts : PutsJob c s ch j put = subst (λ (x : JobId). PutsJob c s ch x put) id premise in
+        let at_j : ch.jobs ≡ JobsChange.Put j put = at ∙ ap (λ (x : JobId). JobsChange.Put x put) id in
+        (put, (subst (λ (n : ℕ). slice_get (slice_set s.jobs n put) j.0 ≡ Some put) (sym number) (set-here s.jobs j.0 put job is), inr (puts, (at_j, (let both : Some puts.kept ≡ Some job = sym puts.stands ∙ is in let same : puts.kept ≡ job = cc in same)))))
+    by false which = (job, (set-other s.jobs i.0 j.0 put (λ same. absurd (grind (arith, nat_tests))) ∙ is, inl (refl, λ x puts. let e : JobsChange.Put i put ≡ JobsChange.Put j x = sym at ∙ puts in let same : i ≡ j = cc in let number : i.0 ≡ j.0 = ap (λ (k : JobId). k.0) same in absurd (grind (arith, nat_tests)))))
+  job-on (JobsChange.EndNode i n) at premise j job is = by (some-bare (slice_get (change_at i.0 (with_mark n) s.jobs) j.0) job (get-marked n s.jobs i.0 j.0 ∙ ap (λ (o : Option JobRecord). option_map bare o) is)) where
+    by : (x : JobRecord) × ((slice_get (change_at i.0 (with_mark n) s.jobs) j.0 ≡ Some x) × (bare x ≡ bare job)) → (later : JobRecord) × ((slice_get (change_at i.0 (with_mark n) s.jobs) j.0 ≡ Some later) × JobLater c s ch j job later)
+    by (x, (there, same)) = (x, (there, inl (same, λ put puts. let e : JobsChange.EndNode i n ≡ JobsChange.Put j put = sym at ∙ puts in absurd cc)))
+
+-- growth leaves jobs as they are
+pub jobs-grown : (c : Configuration) (maker : Option Maker) (growth : Growth) (s : State) → (grown c maker growth s).jobs ≡ s.jobs
+jobs-grown c maker (Growth.Registration p) s = made-look (λ (t : State). t.jobs) maker (λ session t. registers t session p) s (λ session t. refl)
+jobs-grown c maker _ s = refl
+
+-- # each job is as its phase says, and a request that names a job is its only one
 
 -- ## which job names a request
 
@@ -24,7 +237,7 @@ module _ (c : Configuration) (s : State) (ch : Changes) (numbered : IsNumbered s
   asked_open kept is = grind (arith, nat_tests)
 
   -- a request that is removed is no request of a job whose record stays
-  goes-not : (r : RequestId) (q : RequestRecord) (j : JobId) → ((later : JobRecord) → ch.jobs ≡ jobs.Put j later → ⊥) → request_in r s.requests ≡ Some q → q.job ≡ Some j → RequestsPremise c s ch (requests.Remove r) → ⊥
+  goes-not : (r : RequestId) (q : RequestRecord) (j : JobId) → ((later : JobRecord) → ch.jobs ≡ JobsChange.Put j later → ⊥) → request_in r s.requests ≡ Some q → q.job ≡ Some j → RequestsPremise c s ch (RequestsChange.Remove r) → ⊥
   goes-not r q j stays there names (inl goes) =
       let found : Some goes.fulfils.request ≡ Some q = sym goes.fulfils.worked_on.stands ∙ there in
       let same : goes.fulfils.request ≡ q = cc in
@@ -38,27 +251,27 @@ module _ (c : Configuration) (s : State) (ch : Changes) (numbered : IsNumbered s
       by (Some x) some none = absurd cc
   goes-not r q j stays there names (inr (inl takes)) =
       let same : takes.number ≡ j = named-by r q j takes.number takes.kept there names takes.stands takes.of_job (asked_open takes.kept takes.asked) in
-      stays _ (takes.puts ∙ ap (λ (x : JobId). jobs.Put x (record takes.kept { nodes = map unended takes.request.nodes; phase = phase.Using; pool = takes.request.pool })) same)
+      stays _ (takes.puts ∙ ap (λ (x : JobId). JobsChange.Put x (record takes.kept { nodes = map unended takes.request.nodes; phase = Phase.Using; pool = takes.request.pool })) same)
   goes-not r q j stays there names (inr (inr goes)) =
       let same : goes.number ≡ j = named-by r q j goes.number goes.kept there names goes.withdraws.stands goes.of_job goes.withdraws.unstarted in
-      stays _ (goes.withdraws.puts ∙ ap (λ (x : JobId). jobs.Put x (record goes.kept { ending = Some ending.Withdrawn; phase = phase.Over })) same)
+      stays _ (goes.withdraws.puts ∙ ap (λ (x : JobId). JobsChange.Put x (record goes.kept { ending = Some Ending.Withdrawn; phase = Phase.Over })) same)
 
   -- if the record of a job stays, its request stays
-  request-on : (maker : Option Maker) (rows : List RequestEntry) (r : RequestId) (q : RequestRecord) (j : JobId) → ((later : JobRecord) → ch.jobs ≡ jobs.Put j later → ⊥) → request_in r rows ≡ request_in r s.requests → request_in r s.requests ≡ Some q → q.job ≡ Some j
+  request-on : (maker : Option Maker) (rows : List RequestEntry) (r : RequestId) (q : RequestRecord) (j : JobId) → ((later : JobRecord) → ch.jobs ≡ JobsChange.Put j later → ⊥) → request_in r rows ≡ request_in r s.requests → request_in r s.requests ≡ Some q → q.job ≡ Some j
       → (change : RequestsChange) → RequestsPremise c s ch change → (later : RequestRecord) × ((request_in r (requests_changed maker change rows) ≡ Some later) × (later.job ≡ Some j))
-  request-on maker rows r q j stays same there names (requests.Edit x e) premise = by (same_request x r) refl where
-    by : (b : Bool) → same_request x r ≡ b → (later : RequestRecord) × ((request_in r (requests_changed maker (requests.Edit x e) rows) ≡ Some later) × (later.job ≡ Some j))
+  request-on maker rows r q j stays same there names (RequestsChange.Edit x e) premise = by (same_request x r) refl where
+    by : (b : Bool) → same_request x r ≡ b → (later : RequestRecord) × ((request_in r (requests_changed maker (RequestsChange.Edit x e) rows) ≡ Some later) × (later.job ≡ Some j))
     by true which = (edited e q, (request_in-edit x r (edited e) rows ∙ ap (λ (o : Option RequestRecord). option_map (λ k. cond (same_request x r) (edited e k) k) o) (same ∙ there) ∙ ap (λ (b : Bool). Some (cond b (edited e q) q)) which, edited-job e q ∙ names))
     by false which = (q, (request_in-edit x r (edited e) rows ∙ ap (λ (o : Option RequestRecord). option_map (λ k. cond (same_request x r) (edited e k) k) o) (same ∙ there) ∙ ap (λ (b : Bool). Some (cond b (edited e q) q)) which, names))
-  request-on maker rows r q j stays same there names (requests.Remove x) premise = by (same_request x r) refl where
-    by : (b : Bool) → same_request x r ≡ b → (later : RequestRecord) × ((request_in r (requests_changed maker (requests.Remove x) rows) ≡ Some later) × (later.job ≡ Some j))
-    by true which = absurd (goes-not r q j stays there names (subst (λ (y : RequestId). RequestsPremise c s ch (requests.Remove y)) (request-equal x r which) premise))
+  request-on maker rows r q j stays same there names (RequestsChange.Remove x) premise = by (same_request x r) refl where
+    by : (b : Bool) → same_request x r ≡ b → (later : RequestRecord) × ((request_in r (requests_changed maker (RequestsChange.Remove x) rows) ≡ Some later) × (later.job ≡ Some j))
+    by true which = absurd (goes-not r q j stays there names (subst (λ (y : RequestId). RequestsPremise c s ch (RequestsChange.Remove y)) (request-equal x r which) premise))
     by false which = (q, (request_in-remove x r rows which ∙ same ∙ there, names))
-  request-on (Some maker) rows r q j stays same there names (requests.Leave x) premise = (q, (request_in-queue x r (left maker.session (request_queue x rows)) rows ∙ same ∙ there, names))
+  request-on (Some maker) rows r q j stays same there names (RequestsChange.Leave x) premise = (q, (request_in-queue x r (left maker.session (request_queue x rows)) rows ∙ same ∙ there, names))
   request-on maker rows r q j stays same there names _ premise = (q, (same ∙ there, names))
 
   -- if a request grows, nothing happens to others
-  alone : (priority : ℕ) (asked : Asked) → ch.grows ≡ grow.Request priority asked → (change : RequestsChange) → RequestsPremise c s ch change → change ≡ requests.Same
+  alone : (priority : ℕ) (asked : Asked) → ch.grows ≡ Growth.Request priority asked → (change : RequestsChange) → RequestsPremise c s ch change → change ≡ RequestsChange.Same
   alone priority asked grows x3 premise = grind (arith, nat_tests)
 
   abbrev t : State
@@ -67,30 +280,30 @@ module _ (c : Configuration) (s : State) (ch : Changes) (numbered : IsNumbered s
   -- ## each job
 
   bare-in : (j : JobId) (job : JobRecord) (p : Phase) → JobIn t j job p → JobIn t j (bare job) p
-  bare-in j job phase.Asked is = (record { id = is.0.id; request = is.0.request; asks = is.0.asks; stands = is.0.stands; names = is.0.names }, is.1)
+  bare-in j job Phase.Asked is = (record { id = is.0.id; request = is.0.request; asks = is.0.asks; stands = is.0.stands; names = is.0.names }, is.1)
   bare-in j job _ is = is
 
   in-bare : (j : JobId) (job : JobRecord) (p : Phase) → JobIn t j (bare job) p → JobIn t j job p
-  in-bare j job phase.Asked is = (record { id = is.0.id; request = is.0.request; asks = is.0.asks; stands = is.0.stands; names = is.0.names }, is.1)
+  in-bare j job Phase.Asked is = (record { id = is.0.id; request = is.0.request; asks = is.0.asks; stands = is.0.stands; names = is.0.names }, is.1)
   in-bare j job _ is = is
 
-  asking-on : (j : JobId) (job : JobRecord) → ((put : JobRecord) → ch.jobs ≡ jobs.Put j put → ⊥) → IsAsking s j job → IsAsking t j job
+  asking-on : (j : JobId) (job : JobRecord) → ((put : JobRecord) → ch.jobs ≡ JobsChange.Put j put → ⊥) → IsAsking s j job → IsAsking t j job
   asking-on j job stays is =
       let g : State = grown c ch.maker ch.grows s in
       let low : is.id.seq < s.next_request = request_in-below is.id s.next_request is.request s.requests numbered.requests_below is.stands in
       let on = request-on ch.maker g.requests is.id is.request j stays (found-grown c s ch.maker ch.grows is.id low) is.stands is.names ch.requests premises.requests in
       record { id = is.id; request = on.0; asks = is.asks; stands = left-request ch.sessions is.id (requests_changed ch.maker ch.requests g.requests) ∙ on.1.0; names = on.1.1 }
 
-  in-on : (j : JobId) (job : JobRecord) (p : Phase) → ((put : JobRecord) → ch.jobs ≡ jobs.Put j put → ⊥) → JobIn s j job p → JobIn t j job p
-  in-on j job phase.Asked stays is = (asking-on j job stays is.0, is.1)
+  in-on : (j : JobId) (job : JobRecord) (p : Phase) → ((put : JobRecord) → ch.jobs ≡ JobsChange.Put j put → ⊥) → JobIn s j job p → JobIn t j job p
+  in-on j job Phase.Asked stays is = (asking-on j job stays is.0, is.1)
   in-on j job _ stays is = is
 
-  new_phase : (p : Phase) → is_new p ≡ true → p ≡ phase.New
-  new_phase phase.New is = refl
+  new_phase : (p : Phase) → is_new p ≡ true → p ≡ Phase.New
+  new_phase Phase.New is = refl
   new_phase _ is = absurd cc
 
   -- a new request is there later
-  asks-in : (priority : ℕ) (asked : Asked) → AsksForJob c s ch priority asked → ch.grows ≡ grow.Request priority asked → request_in (next_id priority s) t.requests ≡ Some (new_record asked)
+  asks-in : (priority : ℕ) (asked : Asked) → AsksForJob c s ch priority asked → ch.grows ≡ Growth.Request priority asked → request_in (next_id priority s) t.requests ≡ Some (new_record asked)
   asks-in priority asked asks grows =
       let g : State = grown c ch.maker ch.grows s in
       let id : RequestId = next_id priority s in
@@ -99,31 +312,31 @@ module _ (c : Configuration) (s : State) (ch : Changes) (numbered : IsNumbered s
       let same : requests_changed ch.maker ch.requests g.requests ≡ g.requests = ap (λ (x : RequestsChange). requests_changed ch.maker x g.requests) (alone priority asked grows ch.requests premises.requests) in
       left-request ch.sessions id (requests_changed ch.maker ch.requests g.requests) ∙ ap (λ (rows : List RequestEntry). request_in id rows) same ∙ now
 
-  asked-in : (j : JobId) (later : JobRecord) (priority : ℕ) (asked : Asked) (asks : AsksForJob c s ch priority asked) → ch.grows ≡ grow.Request priority asked → asks.number ≡ j → ch.jobs ≡ jobs.Put j later → JobIn t j later later.phase
+  asked-in : (j : JobId) (later : JobRecord) (priority : ℕ) (asked : Asked) (asks : AsksForJob c s ch priority asked) → ch.grows ≡ Growth.Request priority asked → asks.number ≡ j → ch.jobs ≡ JobsChange.Put j later → JobIn t j later later.phase
   asked-in j later priority asked asks grows number at =
-      let both : jobs.Put j later ≡ jobs.Put asks.number (record asks.kept { phase = phase.Asked; request = Some (next_id asks.job.priority s) }) = sym at ∙ asks.puts in
-      let same : later ≡ record asks.kept { phase = phase.Asked; request = Some (next_id asks.job.priority s) } = cc in
-      let was : JobIn s asks.number asks.kept phase.New = subst (λ (p : Phase). JobIn s asks.number asks.kept p) (new_phase asks.kept.phase asks.new) (old.each asks.number asks.kept asks.stands) in
+      let both : JobsChange.Put j later ≡ JobsChange.Put asks.number (record asks.kept { phase = Phase.Asked; request = Some (next_id asks.job.priority s) }) = sym at ∙ asks.puts in
+      let same : later ≡ record asks.kept { phase = Phase.Asked; request = Some (next_id asks.job.priority s) } = cc in
+      let was : JobIn s asks.number asks.kept Phase.New = subst (λ (p : Phase). JobIn s asks.number asks.kept p) (new_phase asks.kept.phase asks.new) (old.each asks.number asks.kept asks.stands) in
       let there : request_in (next_id asks.job.priority s) t.requests ≡ Some (new_record (asked_for asks.number asks.job)) =
       ap (λ (p : ℕ). request_in (next_id p s) t.requests) (sym asks.of_job) ∙ asks-in priority asked asks grows ∙ ap (λ (a : Asked). Some (new_record a)) asks.asks in
       subst (λ (x : JobRecord). JobIn t j x x.phase) (sym same)
       (record { id = next_id asks.job.priority s; request = new_record (asked_for asks.number asks.job); asks = refl; stands = there; names = ap Some number }, (was.1.0, was.1.1))
 
-  taken-in : RequestsStand s → (j : JobId) (later : JobRecord) (r : RequestId) (takes : TakesOver c s ch r) → ch.jobs ≡ jobs.Put j later → JobIn t j later later.phase
+  taken-in : RequestsStand s → (j : JobId) (later : JobRecord) (r : RequestId) (takes : TakesOver c s ch r) → ch.jobs ≡ JobsChange.Put j later → JobIn t j later later.phase
   taken-in stand j later r takes at = grind (arith, nat_tests)
 
   finished-in : (j : JobId) (kept later : JobRecord) → slice_get s.jobs j.0 ≡ Some kept → FinishesJob c s ch j kept later → JobIn t j later later.phase
   finished-in j kept later there finishes = grind (arith, nat_tests)
 
-  withdrawn-in : (j : JobId) (kept later : JobRecord) → Withdraws s ch j kept → ch.jobs ≡ jobs.Put j later → JobIn t j later later.phase
+  withdrawn-in : (j : JobId) (kept later : JobRecord) → Withdraws s ch j kept → ch.jobs ≡ JobsChange.Put j later → JobIn t j later later.phase
   withdrawn-in j kept later withdraws at = grind (arith, nat_tests)
 
   later-in : RequestsStand s → (j : JobId) (job later : JobRecord) → slice_get s.jobs j.0 ≡ Some job → JobLater c s ch j job later → JobIn t j later later.phase
   later-in stand j job later there (inl (same, stays)) =
       in-bare j later later.phase (subst (λ (b : JobRecord). JobIn t j b b.phase) (sym same) (bare-in j job job.phase (in-on j job job.phase stays (old.each j job there))))
   later-in stand j job later there (inr (put, (at, was))) = by put.way where
-    by : ((priority : ℕ) × (asked : Asked) × (asks : AsksForJob c s ch priority asked) × ((ch.grows ≡ grow.Request priority asked) × (asks.number ≡ j)))
-        ⊎ (((r : RequestId) × (takes : TakesOver c s ch r) × ((ch.requests ≡ requests.Remove r) × (takes.number ≡ j)))
+    by : ((priority : ℕ) × (asked : Asked) × (asks : AsksForJob c s ch priority asked) × ((ch.grows ≡ Growth.Request priority asked) × (asks.number ≡ j)))
+        ⊎ (((r : RequestId) × (takes : TakesOver c s ch r) × ((ch.requests ≡ RequestsChange.Remove r) × (takes.number ≡ j)))
         ⊎ (FinishesJob c s ch j put.kept later
         ⊎ (Withdraws s ch j put.kept × (ch.requests ≡ request_after_withdraw put.kept.request))))
         → JobIn t j later later.phase
@@ -138,52 +351,6 @@ module _ (c : Configuration) (s : State) (ch : Changes) (numbered : IsNumbered s
   request-kept : (j : JobId) (job later : JobRecord) (r : RequestId) → slice_get s.jobs j.0 ≡ Some job → job.request ≡ Some r → JobLater c s ch j job later → later.request ≡ Some r
   request-kept j job later r there asks x6 = grind (arith, nat_tests)
 
-  -- a request later: one that was there for the same job, or a new one
-  abbrev RequestWas : RequestId → RequestRecord → Type 0
-  RequestWas r q =
-      ((was : RequestRecord) × ((request_in r s.requests ≡ Some was) × (was.job ≡ q.job)))
-      ⊎ ((priority : ℕ) × (asked : Asked) × ((ch.grows ≡ grow.Request priority asked) × ((next_id priority s ≡ r) × (q ≡ new_record asked))))
-
-  was-grown : (growth : Growth) → ch.grows ≡ growth → (r : RequestId) (q : RequestRecord) → request_in r (grown c ch.maker growth s).requests ≡ Some q → RequestWas r q
-  was-grown (grow.Registration p) at r q is = by ch.maker is where
-    by : (maker : Option Maker) → request_in r (grown c maker (grow.Registration p) s).requests ≡ Some q → RequestWas r q
-    by None there = inl (q, (there, refl))
-    by (Some maker) there = inl (q, (there, refl))
-  was-grown (grow.Request priority asked) at r q is = by (same_request (next_id priority s) r) refl where
-    by : (b : Bool) → same_request (next_id priority s) r ≡ b → RequestWas r q
-    by true which =
-        let id : next_id priority s ≡ r = request-equal (next_id priority s) r which in
-        let none : request_in r s.requests ≡ None = request_in-later r s.next_request s.requests numbered.requests_below (let seq : s.next_request ≡ r.seq = ap (λ (x : RequestId). x.seq) id in omega arith) in
-        let now : Some q ≡ Some (new_record asked) = sym is ∙ request_in-new (record { id = next_id priority s; kept = new_record asked; queue = [] }) r s.requests which none in
-        let same : q ≡ new_record asked = cc in
-        inr (priority, asked, (at, (id, same)))
-    by false which = inl (q, (sym (request_in-insert (record { id = next_id priority s; kept = new_record asked; queue = [] }) r s.requests which) ∙ is, refl))
-  was-grown (grow.JoinRequest x) at r q is = by ch.maker is where
-    by : (maker : Option Maker) → request_in r (grown c maker (grow.JoinRequest x) s).requests ≡ Some q → RequestWas r q
-    by None there = inl (q, (there, refl))
-    by (Some maker) there = inl (q, (sym (request_in-queue x r (joined maker.session (request_queue x s.requests)) s.requests) ∙ there, refl))
-  was-grown _ at r q is = inl (q, (is, refl))
-
-  -- a request after a change of requests was there before it, for the same job
-  was-changed : (maker : Option Maker) (rows : List RequestEntry) → Rises (λ a b. is_id_before a.id b.id) rows → (change : RequestsChange) (r : RequestId) (q : RequestRecord) → request_in r (requests_changed maker change rows) ≡ Some q → (was : RequestRecord) × ((request_in r rows ≡ Some was) × (was.job ≡ q.job))
-  was-changed maker rows rises (requests.Edit x e) r q is = by (request_in r rows) refl (same_request x r) (sym is ∙ request_in-edit x r (edited e) rows) where
-    by : (o : Option RequestRecord) → request_in r rows ≡ o → (b : Bool) → Some q ≡ option_map (λ k. cond b (edited e k) k) (request_in r rows) → (was : RequestRecord) × ((request_in r rows ≡ Some was) × (was.job ≡ q.job))
-    by None here b now = absurd (let none : Some q ≡ None = now ∙ ap (λ (o : Option RequestRecord). option_map (λ k. cond b (edited e k) k) o) here in cc)
-    by (Some k) here true now =
-        let found : Some q ≡ Some (edited e k) = now ∙ ap (λ (o : Option RequestRecord). option_map (λ k. edited e k) o) here in
-        let same : q ≡ edited e k = cc in
-        (k, (here, sym (edited-job e k) ∙ ap (λ (y : RequestRecord). y.job) (sym same)))
-    by (Some k) here false now =
-        let found : Some q ≡ Some k = now ∙ ap (λ (o : Option RequestRecord). option_map (λ k. k) o) here in
-        let same : q ≡ k = cc in
-        (k, (here, ap (λ (y : RequestRecord). y.job) (sym same)))
-  was-changed maker rows rises (requests.Remove x) r q is = by (same_request x r) refl where
-    by : (b : Bool) → same_request x r ≡ b → (was : RequestRecord) × ((request_in r rows ≡ Some was) × (was.job ≡ q.job))
-    by true which = absurd (let none : Some q ≡ None = sym is ∙ request_in-removed x r rows rises which in cc)
-    by false which = (q, (sym (request_in-remove x r rows which) ∙ is, refl))
-  was-changed (Some maker) rows rises (requests.Leave x) r q is = (q, (sym (request_in-queue x r (left maker.session (request_queue x rows)) rows) ∙ is, refl))
-  was-changed maker rows rises _ r q is = (q, (is, refl))
-
   -- the job that a request names has it for its request
   abbrev HasRequest : State → JobId → RequestId → Type 0
   HasRequest u j r = (job : JobRecord) × ((slice_get u.jobs j.0 ≡ Some job) × (job.request ≡ Some r))
@@ -193,14 +360,14 @@ module _ (c : Configuration) (s : State) (ch : Changes) (numbered : IsNumbered s
       let on = job-on c s ch ch.jobs refl premises.jobs j job there in
       (on.0, (ap (λ (rows : List JobRecord). slice_get (jobs_changed ch.jobs rows) j.0) (jobs-grown c ch.maker ch.grows s) ∙ on.1.0, request-kept j job on.0 r there asks on.1.1))
 
-  new-has : (j : JobId) (r : RequestId) (priority : ℕ) (asked : Asked) → ch.grows ≡ grow.Request priority asked → next_id priority s ≡ r → (new_record asked).job ≡ Some j → HasRequest t j r
+  new-has : (j : JobId) (r : RequestId) (priority : ℕ) (asked : Asked) → ch.grows ≡ Growth.Request priority asked → next_id priority s ≡ r → (new_record asked).job ≡ Some j → HasRequest t j r
   new-has j r priority asked grows id names = by (subst (λ (g : Growth). GrowthPremise c s ch g) grows premises.grows) where
     by : AsksForJob c s ch priority asked ⊎ AsksToKeep c s ch priority asked → HasRequest t j r
     by (inr keeps) = absurd (let none : None ≡ Some j = sym (ap (λ (a : Asked). a.job) keeps.asks) ∙ names in cc)
     by (inl asks) =
         let both : Some asks.number ≡ Some j = sym (ap (λ (a : Asked). a.job) asks.asks) ∙ names in
         let number : asks.number ≡ j = cc in
-        let put : JobRecord = record asks.kept { phase = phase.Asked; request = Some (next_id asks.job.priority s) } in
+        let put : JobRecord = record asks.kept { phase = Phase.Asked; request = Some (next_id asks.job.priority s) } in
         let here : slice_get t.jobs asks.number.0 ≡ Some put = ap (λ (rows : List JobRecord). slice_get (jobs_changed ch.jobs rows) asks.number.0) (jobs-grown c ch.maker ch.grows s) ∙ ap (λ (change : JobsChange). slice_get (jobs_changed change s.jobs) asks.number.0) asks.puts ∙ set-here s.jobs asks.number.0 put asks.kept asks.stands in
         (put, (ap (λ (k : JobId). slice_get t.jobs k.0) (sym number) ∙ here, ap (λ (p : ℕ). Some (next_id p s)) (sym asks.of_job) ∙ ap Some id))
 
@@ -209,13 +376,32 @@ module _ (c : Configuration) (s : State) (ch : Changes) (numbered : IsNumbered s
     each : (j : JobId) (later : JobRecord) → slice_get t.jobs j.0 ≡ Some later → JobIn t j later later.phase
     each j later is = let back = job-back c s ch ch.jobs refl premises.jobs j later (sym (ap (λ (rows : List JobRecord). slice_get (jobs_changed ch.jobs rows) j.0) (jobs-grown c ch.maker ch.grows s)) ∙ is) in later-in stand j back.0 later back.1.0 back.1.1
 
-    by : (r : RequestId) (q : RequestRecord) (j : JobId) → q.job ≡ Some j → RequestWas r q → HasRequest t j r
-    by r q j names (inl (was, (there, same))) = has-on j r (old.of_request r was j there (same ∙ names))
-    by r q j names (inr (priority, asked, (grows, (id, same)))) = new-has j r priority asked grows id (ap (λ (y : RequestRecord). y.job) (sym same) ∙ names)
+    by : (r : RequestId) (q : RequestRecord) (j : JobId) → q.job ≡ Some j → CameBy s ch r q → HasRequest t j r
+    by r q j names (inl there) = has-on j r (old.of_request r q j there names)
+    by r q j names (inr (inl was)) = has-on j r (old.of_request r was.old j was.stood (sym (edited-job was.how was.old) ∙ ap (λ (y : RequestRecord). y.job) (sym was.is) ∙ names))
+    by r q j names (inr (inr new)) = new-has j r new.priority new.asked new.grows new.id (ap (λ (y : RequestRecord). y.job) (sym new.is) ∙ names)
 
     of_request : (r : RequestId) (q : RequestRecord) (j : JobId) → request_in r t.requests ≡ Some q → q.job ≡ Some j → HasRequest t j r
-    of_request r q j is names =
-        let g : State = grown c ch.maker ch.grows s in
-        let g_numbered : IsNumbered g = grown-numbered c s ch.maker ch.grows numbered in
-        let was = was-changed ch.maker g.requests g_numbered.requests_rise ch.requests r q (sym (left-request ch.sessions r _) ∙ is) in
-        by r was.0 j (was.1.1 ∙ names) (was-grown ch.grows refl r was.0 was.1.0)
+    of_request r q j is names = by r q j names (came c s ch numbered premises r q is)
+
+-- # each request has a job or is pinned, after the changes of an accepted event
+
+-- a job, or pinned to a pool
+abbrev IsWhose : RequestRecord → Type 0
+IsWhose q = is_some q.job ≡ is_none q.pinned
+
+edited-whose : (e : RequestEdit) (q : RequestRecord) → IsWhose q → IsWhose (edited e q)
+edited-whose x0 q whose = grind (arith, nat_tests)
+
+asked-whose : (c : Configuration) (s : State) (ch : Changes) (priority : ℕ) (asked : Asked) → AsksForJob c s ch priority asked ⊎ AsksToKeep c s ch priority asked → IsWhose (new_record asked)
+asked-whose c s ch priority asked (inl asks) = subst (λ (a : Asked). IsWhose (new_record a)) (sym asks.asks) refl
+asked-whose c s ch priority asked (inr asks) = subst (λ (a : Asked). IsWhose (new_record a)) (sym asks.asks) refl
+
+pub jobs_or_pinned : (c : Configuration) (s : State) (ch : Changes) → Invariant c s → Premises c s ch → JobsOrPinned (changed c ch s)
+jobs_or_pinned c s ch inv pre r q is = by (came c s ch inv.numbered pre r q is) where
+  by : CameBy s ch r q → IsWhose q
+  by (inl there) = inv.owned.whose r q there
+  by (inr (inl was)) = subst (λ (x : RequestRecord). IsWhose x) (sym was.is) (edited-whose was.how was.old (inv.owned.whose r was.old was.stood))
+  by (inr (inr new)) =
+      let asks = subst (λ (g : Growth). GrowthPremise c s ch g) new.grows pre.grows in
+      subst (λ (x : RequestRecord). IsWhose x) (sym new.is) (asked-whose c s ch new.priority new.asked asks)

@@ -1,9 +1,7 @@
 -- what the pending requests of a tenant wait for, after a change
-use Rattle.np_changes.proofs.Prelude.{Amount, Bool, Configuration, IsAtMost, IsAtMost-refl, IsAtMost-trans, LabelId, List, Maker, NodeId, None, Option, PoolId, Reason, RequestEdit, RequestEntry, RequestId, RequestRecord, SessionId, SessionsChange, Some, TenantId, amount_of, amount_of_all, and_parts, ap, arith, by_maker, change_first, cond, drop, edited, false, insert_request, is_id_before, is_pending, is_pending_by, is_pool, is_tenant, length, length-append, next_label, nothing, nothing-plus, option_map_or, plus, plus-comm, put_request_queue, refl, remove_request, request_entry, request_in, request_left, request_queue, requests_left, same_request, slice_get, subst, suc, sym, tenant_of_request, true, with_node, [], ℕ, ◌&&◌, ◌++◌, ◌∙◌, ◌∷◌, ◌≡◌}
-use Rattle.np_changes.specs.declared.changes.RequestEdit.TheVariants as edit
-use Rattle.np_changes.specs.declared.changes.SessionsChange.TheVariants as sessions
-use Rattle.np_changes.proofs.Ids.{same_pool, row-of, kept-is}
-use Rattle.np_changes.proofs.Sums.{at_most-same, nothing-at_most, part-at_most, plus-nothing, sum_of, sum_of-insert_before, sum_of-remove_first, sum_of-drop, sum_of-next, sum_of-map, sum_of-rise, sum_of-keep, sum_of-fall}
+use Rattle.np_changes.proofs.Prelude.{Amount, Bool, Configuration, IsAtMost, IsAtMost-refl, IsAtMost-trans, LabelId, List, Maker, NodeId, None, Option, PoolId, Reason, RequestEdit, RequestEntry, RequestId, RequestRecord, SessionId, SessionsChange, Some, TenantId, [], amount_of, amount_of_all, and_parts, ap, arith, by_maker, change_first, cond, drop, edited, false, insert_request, is_id_before, is_pending, is_pending_by, is_pool, is_tenant, length, length-append, next_label, nothing, nothing-plus, option_map_or, plus, plus-comm, put_request_queue, refl, remove_request, request_entry, request_in, request_left, request_queue, requests_left, same_request, slice_get, subst, suc, sym, tenant_of_request, true, with_node, ℕ, ◌&&◌, ◌++◌, ◌∙◌, ◌∷◌, ◌≡◌}
+use Rattle.np_changes.proofs.Lookups.{same_pool, row-of, kept-is}
+use Rattle.np_changes.proofs.NodeAmounts.{at_most-same, nothing-at_most, part-at_most, plus-nothing, sum_of, sum_of-insert_before, sum_of-remove_first, sum_of-drop, sum_of-next, sum_of-map, sum_of-rise, sum_of-keep, sum_of-fall}
 
 -- what the labels from a place on take of the pool that serves, if the request is pending and of
 -- the tenant
@@ -64,12 +62,12 @@ module _ (c : Configuration) (t : TenantId) where
   serves-by old rest all true least = IsAtMost-trans rest all (plus old all) least (part-at_most old all)
   serves-by old rest all false least = nothing-at_most (plus old nothing)
 
-  serves-rises : (k : RequestRecord) (p : PoolId) → IsAtMost (waits c t (edited (edit.Serve p) k)) (plus (waits c t k) (whole c t p k))
+  serves-rises : (k : RequestRecord) (p : PoolId) → IsAtMost (waits c t (edited (RequestEdit.Serve p) k)) (plus (waits c t k) (whole c t p k))
   serves-rises k p =
       serves-by (waits c t k) (amount_of_all c p (drop (length k.nodes) k.labels)) (amount_of_all c p k.labels) (is_tenant t (tenant_of_request c k))
       (sum_of-drop (amount_of c p) (length k.nodes) k.labels)
 
-  declines-keeps : (k : RequestRecord) (p : PoolId) (why : Reason) (failed : Bool) → IsAtMost (waits c t (edited (edit.Decline p why failed) k)) (waits c t k)
+  declines-keeps : (k : RequestRecord) (p : PoolId) (why : Reason) (failed : Bool) → IsAtMost (waits c t (edited (RequestEdit.Decline p why failed) k)) (waits c t k)
   declines-keeps k p why true = nothing-at_most (waits c t k)
   declines-keeps k p why false = nothing-at_most (waits c t k)
 
@@ -93,7 +91,7 @@ module _ (c : Configuration) (t : TenantId) where
       sum_of-keep (waits_in c t) (λ (e : RequestEntry). same_request e.id r) (λ e. record e { queue = change maker.session (request_queue r rows) }) rows (λ e _. IsAtMost-refl (waits_in c t e))
 
   pub left-keeps : (change : SessionsChange) (rows : List RequestEntry) → IsAtMost (waited c t (requests_left change rows)) (waited c t rows)
-  left-keeps (sessions.End session) rows = sum_of-map (waits_in c t) (request_left session) rows (λ e. IsAtMost-refl (waits_in c t e))
+  left-keeps (SessionsChange.End session) rows = sum_of-map (waits_in c t) (request_left session) rows (λ e. IsAtMost-refl (waits_in c t e))
   left-keeps _ rows = IsAtMost-refl (waited c t rows)
 
   pub remove-keeps : (r : RequestId) (rows : List RequestEntry) → IsAtMost (waited c t (remove_request r rows)) (waited c t rows)
@@ -105,35 +103,35 @@ module _ (c : Configuration) (t : TenantId) where
 
   -- a request that is declined, fulfilled, given back or failed waits for nothing, and a revised
   -- one for as much as before
-  pub decline-keeps : (p : PoolId) (why : Reason) (failed : Bool) (r : RequestId) (rows : List RequestEntry) → IsAtMost (waited c t (edited_in (edit.Decline p why failed) r rows)) (waited c t rows)
-  decline-keeps p why failed r rows = edit-keeps (edit.Decline p why failed) r rows (λ k. declines-keeps k p why failed)
+  pub decline-keeps : (p : PoolId) (why : Reason) (failed : Bool) (r : RequestId) (rows : List RequestEntry) → IsAtMost (waited c t (edited_in (RequestEdit.Decline p why failed) r rows)) (waited c t rows)
+  decline-keeps p why failed r rows = edit-keeps (RequestEdit.Decline p why failed) r rows (λ k. declines-keeps k p why failed)
 
-  pub fulfil-keeps : (r : RequestId) (rows : List RequestEntry) → IsAtMost (waited c t (edited_in edit.Fulfil r rows)) (waited c t rows)
-  fulfil-keeps r rows = edit-keeps edit.Fulfil r rows (λ k. nothing-at_most (waits c t k))
+  pub fulfil-keeps : (r : RequestId) (rows : List RequestEntry) → IsAtMost (waited c t (edited_in RequestEdit.Fulfil r rows)) (waited c t rows)
+  fulfil-keeps r rows = edit-keeps RequestEdit.Fulfil r rows (λ k. nothing-at_most (waits c t k))
 
-  pub give_back-keeps : (r : RequestId) (rows : List RequestEntry) → IsAtMost (waited c t (edited_in edit.GiveBack r rows)) (waited c t rows)
-  give_back-keeps r rows = edit-keeps edit.GiveBack r rows (λ k. nothing-at_most (waits c t k))
+  pub give_back-keeps : (r : RequestId) (rows : List RequestEntry) → IsAtMost (waited c t (edited_in RequestEdit.GiveBack r rows)) (waited c t rows)
+  give_back-keeps r rows = edit-keeps RequestEdit.GiveBack r rows (λ k. nothing-at_most (waits c t k))
 
-  pub fail-keeps : (r : RequestId) (rows : List RequestEntry) → IsAtMost (waited c t (edited_in edit.Fail r rows)) (waited c t rows)
-  fail-keeps r rows = edit-keeps edit.Fail r rows (λ k. nothing-at_most (waits c t k))
+  pub fail-keeps : (r : RequestId) (rows : List RequestEntry) → IsAtMost (waited c t (edited_in RequestEdit.Fail r rows)) (waited c t rows)
+  fail-keeps r rows = edit-keeps RequestEdit.Fail r rows (λ k. nothing-at_most (waits c t k))
 
-  pub revise-keeps : (relative : ℕ) (r : RequestId) (rows : List RequestEntry) → IsAtMost (waited c t (edited_in (edit.Revise relative) r rows)) (waited c t rows)
-  revise-keeps relative r rows = edit-keeps (edit.Revise relative) r rows (λ k. IsAtMost-refl (waits c t k))
+  pub revise-keeps : (relative : ℕ) (r : RequestId) (rows : List RequestEntry) → IsAtMost (waited c t (edited_in (RequestEdit.Revise relative) r rows)) (waited c t rows)
+  revise-keeps relative r rows = edit-keeps (RequestEdit.Revise relative) r rows (λ k. IsAtMost-refl (waits c t k))
 
   -- a request that gets its next node waits for that much less
   pub gain-falls : (n : NodeId) (p : PoolId) (l : LabelId) (r : RequestId) (k : RequestRecord) (rows : List RequestEntry) → request_in r rows ≡ Some k → is_pending_by p k ≡ true → next_label k ≡ Some l
-      → IsAtMost (plus (waited c t (edited_in (edit.AddNode n) r rows)) (part c t p l k)) (waited c t rows)
+      → IsAtMost (plus (waited c t (edited_in (RequestEdit.AddNode n) r rows)) (part c t p l k)) (waited c t rows)
   gain-falls n p l r k rows has pending next =
       let row = row-of (λ (x : RequestEntry). x.kept) (request_entry r rows) k has in
       let same : row.0.kept ≡ k = kept-is (λ (x : RequestEntry). x.kept) (request_entry r rows) k row.0 has row.1 in
-      sum_of-fall (waits_in c t) (λ (e : RequestEntry). same_request e.id r) (λ e. record e { kept = edited (edit.AddNode n) e.kept }) rows row.0 (part c t p l k) row.1
+      sum_of-fall (waits_in c t) (λ (e : RequestEntry). same_request e.id r) (λ e. record e { kept = edited (RequestEdit.AddNode n) e.kept }) rows row.0 (part c t p l k) row.1
       (subst (λ (z : RequestRecord). IsAtMost (plus (waits c t (with_node z n)) (part c t p l k)) (waits c t z)) (sym same) (gains-falls k n p l pending next))
 
   -- a request that a pool begins to serve waits for no more than all its labels
   pub serve-rises : (p : PoolId) (r : RequestId) (k : RequestRecord) (rows : List RequestEntry) → request_in r rows ≡ Some k
-      → IsAtMost (waited c t (edited_in (edit.Serve p) r rows)) (plus (waited c t rows) (whole c t p k))
+      → IsAtMost (waited c t (edited_in (RequestEdit.Serve p) r rows)) (plus (waited c t rows) (whole c t p k))
   serve-rises p r k rows has =
-      sum_of-rise (waits_in c t) (λ (e : RequestEntry). same_request e.id r) (λ e. record e { kept = edited (edit.Serve p) e.kept }) rows (whole c t p k)
+      sum_of-rise (waits_in c t) (λ (e : RequestEntry). same_request e.id r) (λ e. record e { kept = edited (RequestEdit.Serve p) e.kept }) rows (whole c t p k)
       (λ e is.
       let same : e.kept ≡ k = kept-is (λ (x : RequestEntry). x.kept) (request_entry r rows) k e has is in
-      subst (λ (z : RequestRecord). IsAtMost (waits c t (edited (edit.Serve p) z)) (plus (waits c t z) (whole c t p k))) (sym same) (serves-rises k p))
+      subst (λ (z : RequestRecord). IsAtMost (waits c t (edited (RequestEdit.Serve p) z)) (plus (waits c t z) (whole c t p k))) (sym same) (serves-rises k p))

@@ -1,10 +1,8 @@
 -- what holds of every state that a run leads to, part by part
 use Rattle.std.specs.Prelude.{◌≡◌, ◌<◌, ◌≤◌, ℕ, ◌==◌, true, false, List, [], ◌∷◌, Some, None, is_some, is_none, length, slice_get, nat_lt}
 use Rattle.np_changes.specs.Prelude.{AllByRecursion, Configuration, JobId, JobRecord, LabelId, Launcher, NodeId, NodeRecord, Phase, PoolId, RequestId, RequestRecord, RequestState, Rises, SessionFacts, SessionId, State, is_building, is_failed_node, is_id_before, is_queued, is_request, list_any, node_in, request_in, retries_of, session_of}
-use Rattle.np_text.specs.declared.word.Ending.TheVariants as ending
-use Rattle.np_text.specs.declared.word.Phase.TheVariants as phase
-use Rattle.np_text.specs.declared.word.RequestState.TheVariants as request_state
 use Rattle.np_machine.specs.Safe.{WithinQuota, WithinMax, WithinTenantQuota, DistinctNodes, OwnsItsLabels}
+use Rattle.np_text.specs.declared.word.Ending.{Ending}
 
 -- ## numbers
 
@@ -86,10 +84,10 @@ pub record IsServed (s : State) (r : RequestId) (request : RequestRecord) : Type
 
 -- requested or failed: at rest; pending: served; fulfilled: it owns its labels
 abbrev pub StandsIn : State → RequestId → RequestRecord → RequestState → Type 0
-StandsIn s r request request_state.Requested = IsAtRest request
-StandsIn s r request request_state.Pending = IsServed s r request
-StandsIn s r request request_state.Fulfilled = OwnsItsLabels s r request
-StandsIn s r request request_state.Failed = IsAtRest request
+StandsIn s r request RequestState.Requested = IsAtRest request
+StandsIn s r request RequestState.Pending = IsServed s r request
+StandsIn s r request RequestState.Fulfilled = OwnsItsLabels s r request
+StandsIn s r request RequestState.Failed = IsAtRest request
 
 -- each request is as its state says
 abbrev pub RequestsStand : State → Type 0
@@ -140,10 +138,10 @@ pub record IsAsking (s : State) (j : JobId) (job : JobRecord) : Type 0 where
 -- new: nothing yet; asked: its request exists; using: a pool served it; over: it has an ending, and
 -- a pool served it if the ending is served
 abbrev pub JobIn : State → JobId → JobRecord → Phase → Type 0
-JobIn s j job phase.New = (job.request ≡ None) × ((job.ending ≡ None) × (job.pool ≡ None))
-JobIn s j job phase.Asked = IsAsking s j job × ((job.ending ≡ None) × (job.pool ≡ None))
-JobIn s j job phase.Using = (is_some job.pool ≡ true) × (job.ending ≡ None)
-JobIn s j job phase.Over = (is_some job.ending ≡ true) × (job.ending ≡ Some ending.Served → is_some job.pool ≡ true)
+JobIn s j job Phase.New = (job.request ≡ None) × ((job.ending ≡ None) × (job.pool ≡ None))
+JobIn s j job Phase.Asked = IsAsking s j job × ((job.ending ≡ None) × (job.pool ≡ None))
+JobIn s j job Phase.Using = (is_some job.pool ≡ true) × (job.ending ≡ None)
+JobIn s j job Phase.Over = (is_some job.ending ≡ true) × (job.ending ≡ Some Ending.Served → is_some job.pool ≡ true)
 
 -- each job is as its phase says, and a request that names a job is the only one of it
 pub record JobsStand (s : State) : Type 0 where

@@ -1,37 +1,33 @@
 -- what each accepted event changes, as data
 use Rattle.std.specs.Prelude.{ℕ, [], ◌∷◌, ◌+◌, Bool, true, false, ◌||◌, if◌then◌else◌, Option, Some, None, Result, Ok, Err, is_some, map, slice_get}
 use Rattle.np_machine.specs.Prelude.{Configuration, EndAs, Event, Janitor, Job, JobId, JobRecord, LabelId, Launcher, NodeId, NodeRecord, Outcome, PoolId, Reason, Refusal, RequestId, RequestRecord, Requester, Role, SessionId, State, ended_as, ending_of, freed, is_wanted, janitor, launched, launcher, maker, next_id, next_label, node_in, request_in, request_of_job, requester, retries_of, session_of, starts_of, tenant_of_request, unended}
-use Rattle.np_text.specs.declared.word.Ending.TheVariants as ending
-use Rattle.np_text.specs.declared.word.RequestState.TheVariants as request_state
-use Rattle.np_text.specs.declared.word.NodeState.TheVariants as node_state
-use Rattle.np_text.specs.declared.word.Phase.TheVariants as phase
-use Rattle.np_event.specs.declared.event.Event.TheVariants as ev
 use Rattle.np_changes.specs.Readers.{is_last_pool, owner_of}
 use Rattle.np_changes.specs.declared.asked.Asked.{Asked}
 use Rattle.np_changes.specs.declared.changes.Changes.{Changes}
-use Rattle.np_changes.specs.declared.changes.Growth.TheVariants as grow
-use Rattle.np_changes.specs.declared.changes.RequestEdit.TheVariants as edit
 use Rattle.np_changes.specs.declared.changes.RequestsChange.{RequestsChange}
-use Rattle.np_changes.specs.declared.changes.RequestsChange.TheVariants as requests
 use Rattle.np_changes.specs.declared.changes.NodesChange.{NodesChange}
-use Rattle.np_changes.specs.declared.changes.NodesChange.TheVariants as nodes
 use Rattle.np_changes.specs.declared.changes.JobsChange.{JobsChange}
-use Rattle.np_changes.specs.declared.changes.JobsChange.TheVariants as jobs
-use Rattle.np_changes.specs.declared.changes.HandlesChange.TheVariants as handles
-use Rattle.np_changes.specs.declared.changes.Deed.TheVariants as deed
-use Rattle.np_changes.specs.declared.changes.SessionsChange.TheVariants as sessions
+use Rattle.np_text.specs.declared.word.Ending.{Ending}
+use Rattle.np_text.specs.declared.word.RequestState.{RequestState}
+use Rattle.np_text.specs.declared.word.NodeState.{NodeState}
+use Rattle.np_text.specs.declared.word.Phase.{Phase}
+use Rattle.np_changes.specs.declared.changes.Growth.{Growth}
+use Rattle.np_changes.specs.declared.changes.RequestEdit.{RequestEdit}
+use Rattle.np_changes.specs.declared.changes.HandlesChange.{HandlesChange}
+use Rattle.np_changes.specs.declared.changes.Deed.{Deed}
+use Rattle.np_changes.specs.declared.changes.SessionsChange.{SessionsChange}
 
 -- nothing at all
 abbrev pub same : Changes
 same = record {
   maker = None;
-  grows = grow.Nothing;
-  requests = requests.Same;
-  nodes = nodes.Same;
-  jobs = jobs.Same;
-  handles = handles.Same;
+  grows = Growth.Nothing;
+  requests = RequestsChange.Same;
+  nodes = NodesChange.Same;
+  jobs = JobsChange.Same;
+  handles = HandlesChange.Same;
   deed = None;
-  sessions = sessions.Same;
+  sessions = SessionsChange.Same;
   ticks = false;
 }
 
@@ -46,7 +42,7 @@ with_given (Ok a) change = change a
 
 -- the session makes the event, which is one act of its role
 abbrev pub made_by : SessionId → Role → Changes → Changes
-made_by session role ch = record ch { maker = Some (record { session = session; role = role }); deed = Some deed.Acts }
+made_by session role ch = record ch { maker = Some (record { session = session; role = role }); deed = Some Deed.Acts }
 
 abbrev pub by_launcher : State → SessionId → (PoolId → Changes) → Changes
 by_launcher s session change = with_given (launcher s session) (λ p. made_by session (Launcher p) (change p))
@@ -66,18 +62,18 @@ abbrev pub plan_tick : Changes
 plan_tick = record same { ticks = true }
 
 abbrev pub plan_open : Role → Changes
-plan_open role = record same { grows = grow.Session role }
+plan_open role = record same { grows = Growth.Session role }
 
 abbrev pub plan_crash : State → SessionId → Changes
-plan_crash s session = with_found (session_of session s) (λ facts. record same { sessions = sessions.Mute session; deed = Some (deed.Strikes facts.role false) })
+plan_crash s session = with_found (session_of session s) (λ facts. record same { sessions = SessionsChange.Mute session; deed = Some (Deed.Strikes facts.role false) })
 
 abbrev pub plan_expire : State → SessionId → Changes
-plan_expire s session = with_found (session_of session s) (λ facts. record same { sessions = sessions.End session; deed = Some (deed.Strikes facts.role facts.mute) })
+plan_expire s session = with_found (session_of session s) (λ facts. record same { sessions = SessionsChange.End session; deed = Some (Deed.Strikes facts.role facts.mute) })
 
 -- ## requests
 
 abbrev pub plan_register : State → SessionId → Changes
-plan_register s session = by_launcher s session (λ p. record same { grows = grow.Registration p })
+plan_register s session = by_launcher s session (λ p. record same { grows = Growth.Registration p })
 
 -- what a job requests
 abbrev pub asked_for : JobId → Job → Asked
@@ -88,21 +84,21 @@ asked_for j job = record {
   pinned = None;
   pool = None;
   relative_priority = job.relative_priority;
-  state = request_state.Requested;
+  state = RequestState.Requested;
 }
 
 abbrev pub submit_as : State → JobId → Job → Changes
 submit_as s j job = with_found (slice_get s.jobs j.0) (λ kept.
     record same {
-      grows = grow.Request job.priority (asked_for j job);
-      jobs = jobs.Put j (record kept { phase = phase.Asked; request = Some (next_id job.priority s) });
+      grows = Growth.Request job.priority (asked_for j job);
+      jobs = JobsChange.Put j (record kept { phase = Phase.Asked; request = Some (next_id job.priority s) });
     })
 
 abbrev pub plan_submit : Configuration → State → SessionId → JobId → Changes
 plan_submit c s session j = by_requester s session (with_found (slice_get c.jobs j.0) (submit_as s j))
 
 abbrev pub revise_to : ℕ → RequestId → Changes
-revise_to relative r = record same { requests = requests.Edit r (edit.Revise relative) }
+revise_to relative r = record same { requests = RequestsChange.Edit r (RequestEdit.Revise relative) }
 
 abbrev pub plan_revise : State → SessionId → JobId → ℕ → Changes
 plan_revise s session j relative = by_requester s session (with_found (request_of_job j s) (revise_to relative))
@@ -116,37 +112,37 @@ asked_to_keep p l = record {
   pinned = Some p;
   pool = None;
   relative_priority = 0;
-  state = request_state.Requested;
+  state = RequestState.Requested;
 }
 
 abbrev pub plan_min_ready : State → SessionId → LabelId → Changes
-plan_min_ready s session l = by_launcher s session (λ p. record same { grows = grow.Request 400 (asked_to_keep p l) })
+plan_min_ready s session l = by_launcher s session (λ p. record same { grows = Growth.Request 400 (asked_to_keep p l) })
 
 abbrev pub plan_lock_request : State → SessionId → RequestId → Changes
-plan_lock_request s session r = by_any s session (record same { grows = grow.JoinRequest r })
+plan_lock_request s session r = by_any s session (record same { grows = Growth.JoinRequest r })
 
 abbrev pub plan_unlock_request : State → SessionId → RequestId → Changes
-plan_unlock_request s session r = by_any s session (record same { requests = requests.Leave r })
+plan_unlock_request s session r = by_any s session (record same { requests = RequestsChange.Leave r })
 
 abbrev pub plan_accept : State → SessionId → RequestId → Changes
-plan_accept s session r = by_launcher s session (λ p. record same { requests = requests.Edit r (edit.Serve p) })
+plan_accept s session r = by_launcher s session (λ p. record same { requests = RequestsChange.Edit r (RequestEdit.Serve p) })
 
 abbrev pub plan_decline : State → SessionId → RequestId → Reason → Changes
 plan_decline s session r why =
     by_launcher s session (λ p. with_found (request_in r s.requests) (λ request.
     record same {
-      requests = requests.Edit r (edit.Decline p why (is_some request.pinned || is_last_pool s.registrations request p));
-      nodes = nodes.FreeAll r;
+      requests = RequestsChange.Edit r (RequestEdit.Decline p why (is_some request.pinned || is_last_pool s.registrations request p));
+      nodes = NodesChange.FreeAll r;
     }))
 
 -- a min-ready request goes, and its node is free
 abbrev pub request_after_fulfil : RequestId → Bool → RequestsChange
-request_after_fulfil r true = requests.Remove r
-request_after_fulfil r false = requests.Edit r edit.Fulfil
+request_after_fulfil r true = RequestsChange.Remove r
+request_after_fulfil r false = RequestsChange.Edit r RequestEdit.Fulfil
 
 abbrev pub nodes_after_fulfil : RequestId → Bool → NodesChange
-nodes_after_fulfil r true = nodes.FreeAll r
-nodes_after_fulfil r false = nodes.Same
+nodes_after_fulfil r true = NodesChange.FreeAll r
+nodes_after_fulfil r false = NodesChange.Same
 
 abbrev pub plan_fulfil : State → SessionId → RequestId → Changes
 plan_fulfil s session r =
@@ -159,17 +155,17 @@ plan_fulfil s session r =
 abbrev pub plan_reset : State → SessionId → RequestId → Changes
 plan_reset s session r =
     by_janitor s session (with_found (request_in r s.requests) (λ request.
-    record same { requests = requests.Edit r edit.GiveBack; nodes = nodes.FreeAll r }))
+    record same { requests = RequestsChange.Edit r RequestEdit.GiveBack; nodes = NodesChange.FreeAll r }))
 
 abbrev pub plan_fail_declined : State → SessionId → RequestId → Changes
-plan_fail_declined s session r = by_janitor s session (record same { requests = requests.Edit r edit.Fail })
+plan_fail_declined s session r = by_janitor s session (record same { requests = RequestsChange.Edit r RequestEdit.Fail })
 
 -- ## nodes
 
 abbrev pub plan_take_ready : Configuration → State → SessionId → RequestId → NodeId → Changes
 plan_take_ready c s session r n =
     by_launcher s session (λ p. with_found (request_in r s.requests) (λ request.
-    record same { grows = grow.Allocate n r (tenant_of_request c request); requests = requests.Edit r (edit.AddNode n) }))
+    record same { grows = Growth.Allocate n r (tenant_of_request c request); requests = RequestsChange.Edit r (RequestEdit.AddNode n) }))
 
 -- a node that nobody has launched yet, for the tenant of the request's job
 abbrev pub new_node : Configuration → State → RequestId → PoolId → RequestRecord → LabelId → NodeRecord
@@ -182,13 +178,13 @@ new_node c s r p request l = record {
   server = None;
   since = s.tick;
   start = 0;
-  state = node_state.Building;
+  state = NodeState.Building;
   tenant = tenant_of_request c request;
 }
 
 abbrev pub create_for_next : Configuration → State → RequestId → PoolId → RequestRecord → Changes
 create_for_next c s r p request = with_found (next_label request) (λ l.
-    record same { grows = grow.Node (new_node c s r p request l); requests = requests.Edit r (edit.AddNode (record { 0 = s.next_node })) })
+    record same { grows = Growth.Node (new_node c s r p request l); requests = RequestsChange.Edit r (RequestEdit.AddNode (record { 0 = s.next_node })) })
 
 abbrev pub plan_create : Configuration → State → SessionId → RequestId → Changes
 plan_create c s session r = by_launcher s session (λ p. with_found (request_in r s.requests) (create_for_next c s r p))
@@ -197,8 +193,8 @@ plan_create c s session r = by_launcher s session (λ p. with_found (request_in 
 abbrev pub start_change : State → SessionId → NodeId → PoolId → NodeRecord → Changes
 start_change s session n p k = record same {
   maker = Some (record { session = session; role = Launcher p });
-  nodes = nodes.Put n (record k { attempts = k.attempts + 1; in_flight = true; start = starts_of p s + 1 });
-  deed = Some (deed.StartsAndActs p);
+  nodes = NodesChange.Put n (record k { attempts = k.attempts + 1; in_flight = true; start = starts_of p s + 1 });
+  deed = Some (Deed.StartsAndActs p);
 }
 
 abbrev pub plan_start : State → SessionId → NodeId → Changes
@@ -207,53 +203,53 @@ plan_start s session n = with_given (launcher s session) (λ p. with_found (node
 abbrev pub plan_done : Configuration → State → SessionId → NodeId → Outcome → Changes
 plan_done c s session n o =
     by_launcher s session (λ p. with_found (node_in n s.nodes) (λ k.
-    record same { nodes = nodes.Put n (launched (retries_of c k.pool) s.tick o k) }))
+    record same { nodes = NodesChange.Put n (launched (retries_of c k.pool) s.tick o k) }))
 
 abbrev pub plan_lock_node : State → SessionId → NodeId → Changes
-plan_lock_node s session n = by_any s session (record same { grows = grow.JoinNode n })
+plan_lock_node s session n = by_any s session (record same { grows = Growth.JoinNode n })
 
 abbrev pub plan_unlock_node : State → SessionId → NodeId → Changes
-plan_unlock_node s session n = by_any s session (record same { nodes = nodes.Leave n })
+plan_unlock_node s session n = by_any s session (record same { nodes = NodesChange.Leave n })
 
 -- the node is marked ended in the first job that has it
 abbrev pub end_in : Option JobId → NodeId → JobsChange
-end_in None n = jobs.Same
-end_in (Some j) n = jobs.EndNode j n
+end_in None n = JobsChange.Same
+end_in (Some j) n = JobsChange.EndNode j n
 
 abbrev pub plan_end_node : State → SessionId → NodeId → EndAs → Changes
 plan_end_node s session n as_what =
     by_requester s session (with_found (node_in n s.nodes) (λ k.
     record same {
-      nodes = nodes.Put n (record k { since = s.tick; state = ended_as as_what });
+      nodes = NodesChange.Put n (record k { since = s.tick; state = ended_as as_what });
       jobs = end_in (owner_of n s.jobs) n;
     }))
 
 abbrev pub plan_mark_deleting : State → SessionId → NodeId → Changes
 plan_mark_deleting s session n =
     by_janitor s session (with_found (node_in n s.nodes) (λ k.
-    record same { nodes = nodes.Put n (record k { in_flight = false; state = node_state.Deleting }) }))
+    record same { nodes = NodesChange.Put n (record k { in_flight = false; state = NodeState.Deleting }) }))
 
 abbrev pub plan_gone : State → SessionId → NodeId → Changes
-plan_gone s session n = by_janitor s session (record same { nodes = nodes.Remove n })
+plan_gone s session n = by_janitor s session (record same { nodes = NodesChange.Remove n })
 
 abbrev pub plan_free_node : State → SessionId → NodeId → Changes
 plan_free_node s session n =
-    by_janitor s session (with_found (node_in n s.nodes) (λ k. record same { nodes = nodes.Put n (freed k) }))
+    by_janitor s session (with_found (node_in n s.nodes) (λ k. record same { nodes = NodesChange.Put n (freed k) }))
 
 abbrev pub plan_sweep : State → SessionId → NodeId → ℕ → Changes
-plan_sweep s session n x = by_janitor s session (record same { grows = if is_wanted s n x then grow.Nothing else grow.Swept n x })
+plan_sweep s session n x = by_janitor s session (record same { grows = if is_wanted s n x then Growth.Nothing else Growth.Swept n x })
 
 -- ## semaphores and jobs
 
 abbrev pub plan_acquire : State → SessionId → JobId → Changes
-plan_acquire s session j = by_requester s session (record same { grows = grow.Handles j })
+plan_acquire s session j = by_requester s session (record same { grows = Growth.Handles j })
 
 abbrev pub take_nodes : State → JobId → JobRecord → RequestId → Changes
 take_nodes s j kept r = with_found (request_in r s.requests) (λ request.
     record same {
-      requests = requests.Remove r;
-      nodes = nodes.TakeOver request.nodes;
-      jobs = jobs.Put j (record kept { nodes = map unended request.nodes; phase = phase.Using; pool = request.pool });
+      requests = RequestsChange.Remove r;
+      nodes = NodesChange.TakeOver request.nodes;
+      jobs = JobsChange.Put j (record kept { nodes = map unended request.nodes; phase = Phase.Using; pool = request.pool });
     })
 
 abbrev pub take_as : State → JobId → JobRecord → Changes
@@ -265,15 +261,15 @@ plan_take s session j = by_requester s session (with_found (slice_get s.jobs j.0
 abbrev pub plan_finish : State → SessionId → JobId → Changes
 plan_finish s session j =
     by_any s session (with_found (slice_get s.jobs j.0) (λ kept.
-    record same { jobs = jobs.Put j (record kept { ending = Some (ending_of kept); phase = phase.Over }) }))
+    record same { jobs = JobsChange.Put j (record kept { ending = Some (ending_of kept); phase = Phase.Over }) }))
 
 -- the request goes, if there is one
 abbrev pub request_after_withdraw : Option RequestId → RequestsChange
-request_after_withdraw None = requests.Same
-request_after_withdraw (Some r) = requests.Remove r
+request_after_withdraw None = RequestsChange.Same
+request_after_withdraw (Some r) = RequestsChange.Remove r
 
 abbrev pub job_after_withdraw : JobId → JobRecord → JobsChange
-job_after_withdraw j kept = jobs.Put j (record kept { ending = Some ending.Withdrawn; phase = phase.Over })
+job_after_withdraw j kept = JobsChange.Put j (record kept { ending = Some Ending.Withdrawn; phase = Phase.Over })
 
 abbrev pub plan_withdraw : State → SessionId → JobId → Changes
 plan_withdraw s session j =
@@ -281,39 +277,39 @@ plan_withdraw s session j =
     record same { requests = request_after_withdraw kept.request; jobs = job_after_withdraw j kept }))
 
 abbrev pub plan_release : State → SessionId → JobId → Changes
-plan_release s session j = by_any s session (record same { handles = handles.Release j })
+plan_release s session j = by_any s session (record same { handles = HandlesChange.Release j })
 
 -- ## all events
 
 abbrev pub plan : Configuration → State → Event → Changes
-plan c s ev.Tick = plan_tick
-plan c s (ev.OpenSession role) = plan_open role
-plan c s (ev.Crash session) = plan_crash s session
-plan c s (ev.Expire session) = plan_expire s session
-plan c s (ev.Register session) = plan_register s session
-plan c s (ev.Submit session j) = plan_submit c s session j
-plan c s (ev.Revise session j relative) = plan_revise s session j relative
-plan c s (ev.MinReady session l) = plan_min_ready s session l
-plan c s (ev.LockRequest session r) = plan_lock_request s session r
-plan c s (ev.UnlockRequest session r) = plan_unlock_request s session r
-plan c s (ev.Accept session r) = plan_accept s session r
-plan c s (ev.Decline session r why) = plan_decline s session r why
-plan c s (ev.TakeReady session r n) = plan_take_ready c s session r n
-plan c s (ev.Create session r) = plan_create c s session r
-plan c s (ev.Start session n) = plan_start s session n
-plan c s (ev.Done session n attempt o) = plan_done c s session n o
-plan c s (ev.Fulfil session r) = plan_fulfil s session r
-plan c s (ev.LockNode session n) = plan_lock_node s session n
-plan c s (ev.UnlockNode session n) = plan_unlock_node s session n
-plan c s (ev.Acquire session j) = plan_acquire s session j
-plan c s (ev.Take session j) = plan_take s session j
-plan c s (ev.EndNode session n as_what) = plan_end_node s session n as_what
-plan c s (ev.Finish session j) = plan_finish s session j
-plan c s (ev.Withdraw session j) = plan_withdraw s session j
-plan c s (ev.Release session j) = plan_release s session j
-plan c s (ev.MarkDeleting session n) = plan_mark_deleting s session n
-plan c s (ev.Gone session n) = plan_gone s session n
-plan c s (ev.Reset session r) = plan_reset s session r
-plan c s (ev.FreeNode session n) = plan_free_node s session n
-plan c s (ev.FailDeclined session r) = plan_fail_declined s session r
-plan c s (ev.Sweep session n x) = plan_sweep s session n x
+plan c s Event.Tick = plan_tick
+plan c s (Event.OpenSession role) = plan_open role
+plan c s (Event.Crash session) = plan_crash s session
+plan c s (Event.Expire session) = plan_expire s session
+plan c s (Event.Register session) = plan_register s session
+plan c s (Event.Submit session j) = plan_submit c s session j
+plan c s (Event.Revise session j relative) = plan_revise s session j relative
+plan c s (Event.MinReady session l) = plan_min_ready s session l
+plan c s (Event.LockRequest session r) = plan_lock_request s session r
+plan c s (Event.UnlockRequest session r) = plan_unlock_request s session r
+plan c s (Event.Accept session r) = plan_accept s session r
+plan c s (Event.Decline session r why) = plan_decline s session r why
+plan c s (Event.TakeReady session r n) = plan_take_ready c s session r n
+plan c s (Event.Create session r) = plan_create c s session r
+plan c s (Event.Start session n) = plan_start s session n
+plan c s (Event.Done session n attempt o) = plan_done c s session n o
+plan c s (Event.Fulfil session r) = plan_fulfil s session r
+plan c s (Event.LockNode session n) = plan_lock_node s session n
+plan c s (Event.UnlockNode session n) = plan_unlock_node s session n
+plan c s (Event.Acquire session j) = plan_acquire s session j
+plan c s (Event.Take session j) = plan_take s session j
+plan c s (Event.EndNode session n as_what) = plan_end_node s session n as_what
+plan c s (Event.Finish session j) = plan_finish s session j
+plan c s (Event.Withdraw session j) = plan_withdraw s session j
+plan c s (Event.Release session j) = plan_release s session j
+plan c s (Event.MarkDeleting session n) = plan_mark_deleting s session n
+plan c s (Event.Gone session n) = plan_gone s session n
+plan c s (Event.Reset session r) = plan_reset s session r
+plan c s (Event.FreeNode session n) = plan_free_node s session n
+plan c s (Event.FailDeclined session r) = plan_fail_declined s session r
+plan c s (Event.Sweep session n x) = plan_sweep s session n x

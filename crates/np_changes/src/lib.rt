@@ -16,12 +16,12 @@
 //! the lemmas of one part, by the kind of change.
 //!
 //! `kept`: no crash and no expiry loses a record, and a node is changed by its holder alone (`Kept`
-//! and `Fenced` of np_machine). `proofs/Goes` says what each event removes.
+//! and `Fenced` of np_machine). `proofs/Accepted` says what each event removes.
 //!
-//! `caused`: a request fails only with its cause (`Caused` of np_machine). `proofs/Due` says what
+//! `caused`: a request fails only with its cause (`Caused` of np_machine). `proofs/Turns` says what
 //! holds for the past turns and the state after them: that each decline was made, how a pinned
-//! request is, and how many reports each node had. A file of `proofs` shows that each of them is kept,
-//! and `proofs/Causes` finds the cause of a turn by them.
+//! request is, and how many reports each node had. It shows that each of them is kept, and finds the
+//! cause of a turn by them.
 #![tactic(auto)]
 
 mod asked;

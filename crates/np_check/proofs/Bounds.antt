@@ -1,4 +1,4 @@
-use Rattle.std.proofs.Common.{ℕ, ◌<◌, ◌≤◌, ◌*◌, ◌^◌, arith}
+use Rattle.np_check.proofs.Prelude.{arith, ℕ, ◌*◌, ◌<◌, ◌^◌, ◌≤◌}
 
 -- a product of a number of 32 bits and one of at most a million
 pub times_fit : (n a : ℕ) → n < 2 ^ 32 → a ≤ 1000000 → n * a < 2 ^ 64

@@ -1,7 +1,4 @@
-use Rattle.std.proofs.Common.{◌≡◌, ◌∙◌, sym, ap, refl, List, [], ◌∷◌, ◌++◌, Bool, map, append_assoc}
-use Rattle.std.specs.Prelude.{filter}
-use Rattle.std.specs.List.{flat_map}
-use Rattle.std.proofs.lemmas.List.Elements.{filter-append}
+use Rattle.np_check.proofs.Prelude.{Bool, List, ap, append_assoc, filter, filter-append, flat_map, map, refl, sym, [], ◌++◌, ◌∙◌, ◌∷◌, ◌≡◌}
 
 -- what passes of two lists, behind another list
 pub joined : {A : Type 0} (p : A → Bool) (before xs ys : List A) → (before ++ filter p xs) ++ filter p ys ≡ before ++ filter p (xs ++ ys)

@@ -1,2 +1,3 @@
+pub mod Prelude
 pub mod Joined
 pub mod Bounds

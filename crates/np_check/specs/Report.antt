@@ -1,7 +1,6 @@
 -- what is printed about a configuration's text
 use Rattle.std.specs.Prelude.{◌≡◌, ◌≤◌, ℕ, List, [], ◌∷◌, ◌++◌, codes, decimal, length, Result, Ok, Err}
 use Rattle.np_json.specs.declared.fault.ConfigKind.{ConfigKind}
-use Rattle.np_json.specs.declared.fault.ConfigKind.TheVariants as kind
 use Rattle.np_json.specs.declared.fault.ConfigFault.{ConfigFault}
 use Rattle.np_config.specs.Configuration.{Configuration}
 use Rattle.np_check.specs.declared.finding.Finding.{Finding}
@@ -14,15 +13,15 @@ use Rattle.np_check.specs.Finding.{findings}
 use Rattle.np_check.specs.Line.{finding_lines}
 
 abbrev pub kind_text : ConfigKind → List ℕ
-kind_text kind.NotJson = codes "not-json"
-kind_text kind.Missing = codes "missing"
-kind_text kind.UnknownKey = codes "unknown-key"
-kind_text kind.WrongType = codes "wrong-type"
-kind_text kind.OutOfRange = codes "out-of-range"
-kind_text kind.BadName = codes "bad-name"
-kind_text kind.Repeated = codes "repeated"
-kind_text kind.UnknownName = codes "unknown-name"
-kind_text kind.TooMany = codes "too-many"
+kind_text ConfigKind.NotJson = codes "not-json"
+kind_text ConfigKind.Missing = codes "missing"
+kind_text ConfigKind.UnknownKey = codes "unknown-key"
+kind_text ConfigKind.WrongType = codes "wrong-type"
+kind_text ConfigKind.OutOfRange = codes "out-of-range"
+kind_text ConfigKind.BadName = codes "bad-name"
+kind_text ConfigKind.Repeated = codes "repeated"
+kind_text ConfigKind.UnknownName = codes "unknown-name"
+kind_text ConfigKind.TooMany = codes "too-many"
 
 -- a fault of the text, with its place
 abbrev pub fault_text : ConfigFault → Spot → List ℕ

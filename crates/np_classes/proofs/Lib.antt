@@ -1,11 +1,4 @@
-pub mod Apart
-pub mod Rows
-pub mod Declines
-pub mod Unheld
-pub mod Noted
-pub mod Rebuilt
+pub mod Prelude
+pub mod MemberLemmas
 pub mod Untouched
 pub mod Listed
-pub mod Grouped
-pub mod JobsUntouched
-pub mod SessionsUntouched

@@ -1,30 +1,5 @@
 -- all that the changes of an event touch is listed before it
-use Rattle.std.proofs.Common.{◌≡◌, ◌≤◌, ◌∙◌, ◌⊎◌, inl, inr, ℕ, Bool, true, false, cond, List, [], ◌∷◌, ◌++◌, Option, None, Some, length, refl, sym, ap, subst, arith}
-use Rattle.std.specs.Prelude.{◌==◌, ◌||◌, map, filter, find}
-use Rattle.np_changes.specs.Prelude.{Configuration, IsPlanned, IsReached, NodeEntry, NodeId, NodeRecord, Phase, RequestEntry, RequestId, RequestRecord, SessionId, State, is_asked, is_new, is_queued, is_request, list_any, new_node, node_in, option_map_or, request_in, same_request, tenant_of_request}
-use Rattle.np_changes.specs.declared.asked.Asked.{Asked}
-use Rattle.np_changes.specs.declared.changes.Changes.{Changes}
-use Rattle.np_changes.specs.declared.changes.Growth.{Growth}
-use Rattle.np_changes.specs.declared.changes.NodesChange.{NodesChange}
-use Rattle.np_changes.specs.declared.changes.RequestEdit.{RequestEdit}
-use Rattle.np_changes.specs.declared.changes.RequestsChange.{RequestsChange}
-use Rattle.np_changes.specs.declared.changes.SessionsChange.{SessionsChange}
-use Rattle.np_look.specs.Readers.{queued_nodes, queued_requests}
-use Rattle.np_text.specs.declared.word.Phase.TheVariants as phase
-use Rattle.np_look.specs.Keys.{same_node, request_equal}
-use Rattle.np_changes.specs.declared.changes.Growth.TheVariants as grow
-use Rattle.np_changes.specs.declared.changes.RequestEdit.TheVariants as edit
-use Rattle.np_changes.specs.declared.changes.RequestsChange.TheVariants as requests
-use Rattle.np_changes.specs.declared.changes.NodesChange.TheVariants as nodes
-use Rattle.np_changes.specs.declared.changes.SessionsChange.TheVariants as sessions
-use Rattle.np_changes.specs.Premises.{Premises, NodesPremise, RequestsPremise, EditPremise, GoesWithdrawn, EmptiesRequest, IsTaken, IsMade}
-use Rattle.np_changes.proofs.PremisesOf.{premises}
-use Rattle.np_changes.specs.Parts.{AllocationsListed, Invariant, IsAsking, JobIn, JobsStand}
-use Rattle.np_changes.proofs.Runs.{invariant-Runs}
-use Rattle.np_classes.specs.Touched.{touched_jobs, touched_sessions, grows_node, changes_node, ends_at_node, unclaims_node, touches_node, grows_request, changes_request, touches_request, grows_request_queue, leaves_request_queue, ends_at_request, touches_request_queue}
-use Rattle.np_classes.specs.Listed.{IsTouched, TouchedOf, ended, grown_nodes, changed_nodes, unclaimed_nodes, touched_nodes, grown_requests, changed_requests, touched_requests, grown_queues, left_queues, touched_queues}
-use Rattle.np_lists.proofs.Plain.{or_false, or_true}
-use Rattle.np_changes.proofs.Facts.{remove-alone}
+use Rattle.np_classes.proofs.Prelude.{AllocationsListed, Asked, Bool, Changes, Configuration, EditPremise, EmptiesRequest, GoesWithdrawn, Growth, Invariant, IsAsking, IsMade, IsPlanned, IsReached, IsTaken, IsTouched, JobIn, JobsStand, List, NodeEntry, NodeId, NodeRecord, NodesChange, NodesPremise, None, Option, Phase, Premises, RequestEdit, RequestEntry, RequestId, RequestRecord, RequestsChange, RequestsPremise, SessionId, SessionsChange, Some, State, TouchedOf, ap, arith, changed_nodes, changed_requests, changes_node, changes_request, cond, ended, ends_at_node, ends_at_request, false, filter, find, grown_nodes, grown_queues, grown_requests, grows_node, grows_request, grows_request_queue, inl, inr, invariant-Runs, is_asked, is_new, is_queued, is_request, leaves_request_queue, left_queues, length, list_any, map, new_node, node_in, option_map_or, or_false, or_true, premises, queued_nodes, queued_requests, refl, remove-alone, request_equal, request_in, same_node, same_request, subst, sym, tenant_of_request, touched_jobs, touched_nodes, touched_queues, touched_requests, touched_sessions, touches_node, touches_request, touches_request_queue, true, unclaimed_nodes, unclaims_node, ℕ, [], ◌++◌, ◌==◌, ◌||◌, ◌∙◌, ◌∷◌, ◌≡◌, ◌≤◌, ◌⊎◌}
 
 -- ## lists
 
@@ -46,16 +21,16 @@ either-listed n true b xs ys first second is = list_any-append (λ m. same_node 
 either-listed n false b xs ys first second is = list_any-append (λ m. same_node m n) xs ys ∙ ap (λ (v : Bool). listed n xs || v) (second is) ∙ or_true (listed n xs)
 
 grown-listed : (g : Growth) (s : State) (n : NodeId) → grows_node g s n ≡ true → listed n (grown_nodes g s) ≡ true
-grown-listed grow.Nothing s n is = is
-grown-listed (grow.Session role) s n is = is
-grown-listed (grow.Registration p) s n is = is
-grown-listed (grow.Request priority asked) s n is = is
-grown-listed (grow.Node kept) s n is = or_false (s.next_node == n.0) ∙ is
-grown-listed (grow.JoinRequest r) s n is = is
-grown-listed (grow.JoinNode m) s n is = or_false (m.0 == n.0) ∙ is
-grown-listed (grow.Allocate m r tenant) s n is = or_false (m.0 == n.0) ∙ is
-grown-listed (grow.Handles j) s n is = is
-grown-listed (grow.Swept m x) s n is = is
+grown-listed Growth.Nothing s n is = is
+grown-listed (Growth.Session role) s n is = is
+grown-listed (Growth.Registration p) s n is = is
+grown-listed (Growth.Request priority asked) s n is = is
+grown-listed (Growth.Node kept) s n is = or_false (s.next_node == n.0) ∙ is
+grown-listed (Growth.JoinRequest r) s n is = is
+grown-listed (Growth.JoinNode m) s n is = or_false (m.0 == n.0) ∙ is
+grown-listed (Growth.Allocate m r tenant) s n is = or_false (m.0 == n.0) ∙ is
+grown-listed (Growth.Handles j) s n is = is
+grown-listed (Growth.Swept m x) s n is = is
 
 -- a node that is allocated to a request that is there is in its list
 freed-listed : (s : State) (r : RequestId) (n : NodeId) (request : RequestRecord) → AllocationsListed s → request_in r s.requests ≡ Some request
@@ -72,24 +47,24 @@ freed-listed s r n request allocations stands (Some k) at is = by k.allocated_to
 withdrawn-stands : (s : State) (ch : Changes) (r : RequestId) → JobsStand s → GoesWithdrawn s ch r → (request : RequestRecord) × (request_in r s.requests ≡ Some request)
 withdrawn-stands s ch r stand goes = by goes.kept.phase goes.withdraws.unstarted (stand.each goes.number goes.kept goes.withdraws.stands) where
   by : (p : Phase) → (is_new p || is_asked p) ≡ true → JobIn s goes.number goes.kept p → (request : RequestRecord) × (request_in r s.requests ≡ Some request)
-  by phase.New unstarted job =
+  by Phase.New unstarted job =
       let none : goes.kept.request ≡ None = job.0 in
       absurd (cc (none, goes.of_job))
-  by phase.Asked unstarted job =
+  by Phase.Asked unstarted job =
       let asking : IsAsking s goes.number goes.kept = job.0 in
       let same : asking.id ≡ r = cc (asking.asks, goes.of_job) in
       (asking.request, subst (λ (x : RequestId). request_in x s.requests ≡ Some asking.request) same asking.stands)
-  by phase.Using unstarted job = absurd cc
-  by phase.Over unstarted job = absurd cc
+  by Phase.Using unstarted job = absurd cc
+  by Phase.Over unstarted job = absurd cc
 
 -- a request that is removed is there before
-removed-stands : (c : Configuration) (s : State) (ch : Changes) (r : RequestId) → JobsStand s → RequestsPremise c s ch (requests.Remove r) → (request : RequestRecord) × (request_in r s.requests ≡ Some request)
+removed-stands : (c : Configuration) (s : State) (ch : Changes) (r : RequestId) → JobsStand s → RequestsPremise c s ch (RequestsChange.Remove r) → (request : RequestRecord) × (request_in r s.requests ≡ Some request)
 removed-stands c s ch r stand (inl goes) = (goes.fulfils.request, goes.fulfils.worked_on.stands)
 removed-stands c s ch r stand (inr (inl takes)) = (takes.request, takes.request_stands)
 removed-stands c s ch r stand (inr (inr goes)) = withdrawn-stands s ch r stand goes
 
 -- the request whose nodes are freed is there
-freed-stands : (c : Configuration) (s : State) (ch : Changes) (r : RequestId) → JobsStand s → Premises c s ch → ch.nodes ≡ nodes.FreeAll r → (request : RequestRecord) × (request_in r s.requests ≡ Some request)
+freed-stands : (c : Configuration) (s : State) (ch : Changes) (r : RequestId) → JobsStand s → Premises c s ch → ch.nodes ≡ NodesChange.FreeAll r → (request : RequestRecord) × (request_in r s.requests ≡ Some request)
 freed-stands c s ch r stand given frees = by (subst (λ (change : NodesChange). NodesPremise c s ch change) frees given.nodes) where
   by : EmptiesRequest r ch.requests → (request : RequestRecord) × (request_in r s.requests ≡ Some request)
   by (inl is) = removed-stands c s ch r stand (subst (λ (change : RequestsChange). RequestsPremise c s ch change) is given.requests)
@@ -105,21 +80,21 @@ own-listed s r n allocations there is =
 
 changed-listed : (c : Configuration) (s : State) (ch : Changes) (n : NodeId) → AllocationsListed s → JobsStand s → Premises c s ch
     → (change : NodesChange) → ch.nodes ≡ change → changes_node change s n ≡ true → listed n (changed_nodes change s) ≡ true
-changed-listed c s ch n allocations stand given nodes.Same this is = is
-changed-listed c s ch n allocations stand given (nodes.Put m kept) this is = or_false (m.0 == n.0) ∙ is
-changed-listed c s ch n allocations stand given (nodes.Remove m) this is = or_false (m.0 == n.0) ∙ is
-changed-listed c s ch n allocations stand given (nodes.Leave m) this is = or_false (m.0 == n.0) ∙ is
-changed-listed c s ch n allocations stand given (nodes.FreeAll r) this is = own-listed s r n allocations (freed-stands c s ch r stand given this) is
-changed-listed c s ch n allocations stand given (nodes.TakeOver numbers) this is = is
+changed-listed c s ch n allocations stand given NodesChange.Same this is = is
+changed-listed c s ch n allocations stand given (NodesChange.Put m kept) this is = or_false (m.0 == n.0) ∙ is
+changed-listed c s ch n allocations stand given (NodesChange.Remove m) this is = or_false (m.0 == n.0) ∙ is
+changed-listed c s ch n allocations stand given (NodesChange.Leave m) this is = or_false (m.0 == n.0) ∙ is
+changed-listed c s ch n allocations stand given (NodesChange.FreeAll r) this is = own-listed s r n allocations (freed-stands c s ch r stand given this) is
+changed-listed c s ch n allocations stand given (NodesChange.TakeOver numbers) this is = is
 
 -- a node whose request goes away
 unclaimed-listed : (c : Configuration) (s : State) (ch : Changes) (n : NodeId) → AllocationsListed s → JobsStand s → Premises c s ch
     → (change : RequestsChange) → ch.requests ≡ change → unclaims_node change s n ≡ true → listed n (unclaimed_nodes change s) ≡ true
-unclaimed-listed c s ch n allocations stand given requests.Same this is = is
-unclaimed-listed c s ch n allocations stand given (requests.Edit r edit) this is = is
-unclaimed-listed c s ch n allocations stand given (requests.Remove r) this is =
+unclaimed-listed c s ch n allocations stand given RequestsChange.Same this is = is
+unclaimed-listed c s ch n allocations stand given (RequestsChange.Edit r edit) this is = is
+unclaimed-listed c s ch n allocations stand given (RequestsChange.Remove r) this is =
     own-listed s r n allocations (removed-stands c s ch r stand (subst (λ (change : RequestsChange). RequestsPremise c s ch change) this given.requests)) is
-unclaimed-listed c s ch n allocations stand given (requests.Leave r) this is = is
+unclaimed-listed c s ch n allocations stand given (RequestsChange.Leave r) this is = is
 
 -- ## sessions that end
 
@@ -153,11 +128,11 @@ module _ {K E : Type 0} (id : E → K) (queue : E → List SessionId) (session :
     by false at is others = later (is_queued session (queue e)) (others is)
 
 -- a node in whose queue the session is
-ended-listed : (s : State) (queued : List NodeId) (n : NodeId) (change : SessionsChange) → ((session : SessionId) → change ≡ sessions.End session → queued ≡ queued_nodes session s)
+ended-listed : (s : State) (queued : List NodeId) (n : NodeId) (change : SessionsChange) → ((session : SessionId) → change ≡ SessionsChange.End session → queued ≡ queued_nodes session s)
     → ends_at_node change s n ≡ true → listed n (ended change queued) ≡ true
-ended-listed s queued n sessions.Same all is = is
-ended-listed s queued n (sessions.Mute session) all is = is
-ended-listed s queued n (sessions.End session) all is = ap (listed n) (all session refl) ∙ waiting-listed (λ (e : NodeEntry). e.id) (λ (e : NodeEntry). e.queue) session (λ m. same_node m n) s.nodes is
+ended-listed s queued n SessionsChange.Same all is = is
+ended-listed s queued n (SessionsChange.Mute session) all is = is
+ended-listed s queued n (SessionsChange.End session) all is = ap (listed n) (all session refl) ∙ waiting-listed (λ (e : NodeEntry). e.id) (λ (e : NodeEntry). e.queue) session (λ m. same_node m n) s.nodes is
 
 -- ## requests
 
@@ -165,22 +140,22 @@ abbrev listed_request : RequestId → List RequestId → Bool
 listed_request r rs = list_any (λ x. same_request x r) rs
 
 grown_request-listed : (g : Growth) (s : State) (r : RequestId) → grows_request g s r ≡ listed_request r (grown_requests g s)
-grown_request-listed grow.Nothing s r = refl
-grown_request-listed (grow.Session role) s r = refl
-grown_request-listed (grow.Registration p) s r = refl
-grown_request-listed (grow.Request priority asked) s r = sym (or_false _)
-grown_request-listed (grow.Node kept) s r = refl
-grown_request-listed (grow.JoinRequest x) s r = refl
-grown_request-listed (grow.JoinNode m) s r = refl
-grown_request-listed (grow.Allocate m x tenant) s r = refl
-grown_request-listed (grow.Handles j) s r = refl
-grown_request-listed (grow.Swept m x) s r = refl
+grown_request-listed Growth.Nothing s r = refl
+grown_request-listed (Growth.Session role) s r = refl
+grown_request-listed (Growth.Registration p) s r = refl
+grown_request-listed (Growth.Request priority asked) s r = sym (or_false _)
+grown_request-listed (Growth.Node kept) s r = refl
+grown_request-listed (Growth.JoinRequest x) s r = refl
+grown_request-listed (Growth.JoinNode m) s r = refl
+grown_request-listed (Growth.Allocate m x tenant) s r = refl
+grown_request-listed (Growth.Handles j) s r = refl
+grown_request-listed (Growth.Swept m x) s r = refl
 
 changed_request-listed : (change : RequestsChange) (r : RequestId) → changes_request change r ≡ listed_request r (changed_requests change)
-changed_request-listed requests.Same r = refl
-changed_request-listed (requests.Edit x change) r = sym (or_false (same_request x r))
-changed_request-listed (requests.Remove x) r = sym (or_false (same_request x r))
-changed_request-listed (requests.Leave x) r = refl
+changed_request-listed RequestsChange.Same r = refl
+changed_request-listed (RequestsChange.Edit x change) r = sym (or_false (same_request x r))
+changed_request-listed (RequestsChange.Remove x) r = sym (or_false (same_request x r))
+changed_request-listed (RequestsChange.Leave x) r = refl
 
 pub request-listed : (s : State) (ch : Changes) (r : RequestId) → touches_request ch s r ≡ true → listed_request r (touched_requests ch s) ≡ true
 request-listed s ch r is =
@@ -196,31 +171,31 @@ either-queued r false b xs ys first second is =
     list_any-append (λ x. same_request x r) xs ys ∙ ap (λ (v : Bool). listed_request r xs || v) (second is) ∙ or_true (listed_request r xs)
 
 grown_queue-listed : (g : Growth) (r : RequestId) → grows_request_queue g r ≡ true → listed_request r (grown_queues g) ≡ true
-grown_queue-listed (grow.JoinRequest x) r is = or_false (same_request x r) ∙ is
-grown_queue-listed grow.Nothing r is = is
-grown_queue-listed (grow.Session role) r is = is
-grown_queue-listed (grow.Registration p) r is = is
-grown_queue-listed (grow.Request priority asked) r is = is
-grown_queue-listed (grow.Node kept) r is = is
-grown_queue-listed (grow.JoinNode m) r is = is
-grown_queue-listed (grow.Allocate m x tenant) r is = is
-grown_queue-listed (grow.Handles j) r is = is
-grown_queue-listed (grow.Swept m x) r is = is
+grown_queue-listed (Growth.JoinRequest x) r is = or_false (same_request x r) ∙ is
+grown_queue-listed Growth.Nothing r is = is
+grown_queue-listed (Growth.Session role) r is = is
+grown_queue-listed (Growth.Registration p) r is = is
+grown_queue-listed (Growth.Request priority asked) r is = is
+grown_queue-listed (Growth.Node kept) r is = is
+grown_queue-listed (Growth.JoinNode m) r is = is
+grown_queue-listed (Growth.Allocate m x tenant) r is = is
+grown_queue-listed (Growth.Handles j) r is = is
+grown_queue-listed (Growth.Swept m x) r is = is
 
 left_queue-listed : (change : RequestsChange) (r : RequestId) → leaves_request_queue change r ≡ true → listed_request r (left_queues change) ≡ true
-left_queue-listed requests.Same r is = is
-left_queue-listed (requests.Edit x change) r is = is
-left_queue-listed (requests.Remove x) r is = is
-left_queue-listed (requests.Leave x) r is = or_false (same_request x r) ∙ is
+left_queue-listed RequestsChange.Same r is = is
+left_queue-listed (RequestsChange.Edit x change) r is = is
+left_queue-listed (RequestsChange.Remove x) r is = is
+left_queue-listed (RequestsChange.Leave x) r is = or_false (same_request x r) ∙ is
 
-ended_queue-listed : (s : State) (queued : List RequestId) (r : RequestId) (change : SessionsChange) → ((session : SessionId) → change ≡ sessions.End session → queued ≡ queued_requests session s)
+ended_queue-listed : (s : State) (queued : List RequestId) (r : RequestId) (change : SessionsChange) → ((session : SessionId) → change ≡ SessionsChange.End session → queued ≡ queued_requests session s)
     → ends_at_request change s r ≡ true → listed_request r (ended change queued) ≡ true
-ended_queue-listed s queued r sessions.Same all is = is
-ended_queue-listed s queued r (sessions.Mute session) all is = is
-ended_queue-listed s queued r (sessions.End session) all is =
+ended_queue-listed s queued r SessionsChange.Same all is = is
+ended_queue-listed s queued r (SessionsChange.Mute session) all is = is
+ended_queue-listed s queued r (SessionsChange.End session) all is =
     ap (listed_request r) (all session refl) ∙ waiting-listed (λ (e : RequestEntry). e.id) (λ (e : RequestEntry). e.queue) session (λ x. same_request x r) s.requests is
 
-queue-listed : (s : State) (ch : Changes) (queued : List RequestId) → ((session : SessionId) → ch.sessions ≡ sessions.End session → queued ≡ queued_requests session s)
+queue-listed : (s : State) (ch : Changes) (queued : List RequestId) → ((session : SessionId) → ch.sessions ≡ SessionsChange.End session → queued ≡ queued_requests session s)
     → (r : RequestId) → touches_request_queue ch s r ≡ true → listed_request r (touched_queues ch queued) ≡ true
 queue-listed s ch queued all r is =
     either-queued r _ _ _ (ended ch.sessions queued)
@@ -231,41 +206,41 @@ queue-listed s ch queued all r is =
 -- ## one request at most
 
 -- no request grows beside an edit of one
-edit-alone : (c : Configuration) (s : State) (ch : Changes) (r : RequestId) (change : RequestEdit) → EditPremise c s ch r change → (priority : ℕ) (asked : Asked) → ch.grows ≡ grow.Request priority asked → ⊥
-edit-alone c s ch r (edit.Serve p) may priority asked is = let none : ch.grows ≡ grow.Nothing = may.same_size in cc
-edit-alone c s ch r (edit.AddNode n) may priority asked is = by may.0.from where
+edit-alone : (c : Configuration) (s : State) (ch : Changes) (r : RequestId) (change : RequestEdit) → EditPremise c s ch r change → (priority : ℕ) (asked : Asked) → ch.grows ≡ Growth.Request priority asked → ⊥
+edit-alone c s ch r (RequestEdit.Serve p) may priority asked is = let none : ch.grows ≡ Growth.Nothing = may.same_size in cc
+edit-alone c s ch r (RequestEdit.AddNode n) may priority asked is = by may.0.from where
   by : IsTaken c s ch may.0.pool r may.0.request may.0.label n ⊎ IsMade c s ch may.0.pool r may.0.request may.0.label n → ⊥
-  by (inl taken) = let other : ch.grows ≡ grow.Allocate n r (tenant_of_request c may.0.request) = taken.grows in cc
-  by (inr made) = let other : ch.grows ≡ grow.Node (new_node c s r may.0.pool may.0.request may.0.label) = made.grows in cc
-edit-alone c s ch r (edit.Decline p why failed) may priority asked is = let none : ch.grows ≡ grow.Nothing = may.same_size in cc
-edit-alone c s ch r edit.Fulfil may priority asked is = let none : ch.grows ≡ grow.Nothing = may.0.same_size in cc
-edit-alone c s ch r edit.GiveBack may priority asked is = let none : ch.grows ≡ grow.Nothing = may.same_size in cc
-edit-alone c s ch r edit.Fail may priority asked is = let none : ch.grows ≡ grow.Nothing = may.same_size in cc
-edit-alone c s ch r (edit.Revise relative) may priority asked is = let none : ch.grows ≡ grow.Nothing = may.same_size in cc
+  by (inl taken) = let other : ch.grows ≡ Growth.Allocate n r (tenant_of_request c may.0.request) = taken.grows in cc
+  by (inr made) = let other : ch.grows ≡ Growth.Node (new_node c s r may.0.pool may.0.request may.0.label) = made.grows in cc
+edit-alone c s ch r (RequestEdit.Decline p why failed) may priority asked is = let none : ch.grows ≡ Growth.Nothing = may.same_size in cc
+edit-alone c s ch r RequestEdit.Fulfil may priority asked is = let none : ch.grows ≡ Growth.Nothing = may.0.same_size in cc
+edit-alone c s ch r RequestEdit.GiveBack may priority asked is = let none : ch.grows ≡ Growth.Nothing = may.same_size in cc
+edit-alone c s ch r RequestEdit.Fail may priority asked is = let none : ch.grows ≡ Growth.Nothing = may.same_size in cc
+edit-alone c s ch r (RequestEdit.Revise relative) may priority asked is = let none : ch.grows ≡ Growth.Nothing = may.same_size in cc
 
 grown-one : (g : Growth) (s : State) → length (grown_requests g s ++ []) ≤ 1
-grown-one grow.Nothing s = omega arith
-grown-one (grow.Session role) s = omega arith
-grown-one (grow.Registration p) s = omega arith
-grown-one (grow.Request priority asked) s = omega arith
-grown-one (grow.Node kept) s = omega arith
-grown-one (grow.JoinRequest r) s = omega arith
-grown-one (grow.JoinNode m) s = omega arith
-grown-one (grow.Allocate m r tenant) s = omega arith
-grown-one (grow.Handles j) s = omega arith
-grown-one (grow.Swept m x) s = omega arith
+grown-one Growth.Nothing s = omega arith
+grown-one (Growth.Session role) s = omega arith
+grown-one (Growth.Registration p) s = omega arith
+grown-one (Growth.Request priority asked) s = omega arith
+grown-one (Growth.Node kept) s = omega arith
+grown-one (Growth.JoinRequest r) s = omega arith
+grown-one (Growth.JoinNode m) s = omega arith
+grown-one (Growth.Allocate m r tenant) s = omega arith
+grown-one (Growth.Handles j) s = omega arith
+grown-one (Growth.Swept m x) s = omega arith
 
-grown-none : (g : Growth) (s : State) → ((priority : ℕ) (asked : Asked) → g ≡ grow.Request priority asked → ⊥) → grown_requests g s ≡ []
-grown-none grow.Nothing s out = refl
-grown-none (grow.Session role) s out = refl
-grown-none (grow.Registration p) s out = refl
-grown-none (grow.Request priority asked) s out = absurd (out priority asked refl)
-grown-none (grow.Node kept) s out = refl
-grown-none (grow.JoinRequest r) s out = refl
-grown-none (grow.JoinNode m) s out = refl
-grown-none (grow.Allocate m r tenant) s out = refl
-grown-none (grow.Handles j) s out = refl
-grown-none (grow.Swept m x) s out = refl
+grown-none : (g : Growth) (s : State) → ((priority : ℕ) (asked : Asked) → g ≡ Growth.Request priority asked → ⊥) → grown_requests g s ≡ []
+grown-none Growth.Nothing s out = refl
+grown-none (Growth.Session role) s out = refl
+grown-none (Growth.Registration p) s out = refl
+grown-none (Growth.Request priority asked) s out = absurd (out priority asked refl)
+grown-none (Growth.Node kept) s out = refl
+grown-none (Growth.JoinRequest r) s out = refl
+grown-none (Growth.JoinNode m) s out = refl
+grown-none (Growth.Allocate m r tenant) s out = refl
+grown-none (Growth.Handles j) s out = refl
+grown-none (Growth.Swept m x) s out = refl
 
 touched-once : (c : Configuration) (s : State) (ch : Changes) → Premises c s ch → length (touched_requests ch s) ≤ 1
 touched-once c s ch given = by ch.requests given.requests where
@@ -273,16 +248,16 @@ touched-once c s ch given = by ch.requests given.requests where
   one r none = let single : length (grown_requests ch.grows s ++ r ∷ []) ≡ 1 = ap (λ (rs : List RequestId). length (rs ++ r ∷ [])) none in omega (arith, single)
 
   by : (change : RequestsChange) → RequestsPremise c s ch change → length (grown_requests ch.grows s ++ changed_requests change) ≤ 1
-  by requests.Same may = grown-one ch.grows s
-  by (requests.Edit r change) may = one r (grown-none ch.grows s (edit-alone c s ch r change may))
-  by (requests.Remove r) may = one r (ap (λ (g : Growth). grown_requests g s) (remove-alone c s ch r may))
-  by (requests.Leave r) may = grown-one ch.grows s
+  by RequestsChange.Same may = grown-one ch.grows s
+  by (RequestsChange.Edit r change) may = one r (grown-none ch.grows s (edit-alone c s ch r change may))
+  by (RequestsChange.Remove r) may = one r (ap (λ (g : Growth). grown_requests g s) (remove-alone c s ch r may))
+  by (RequestsChange.Leave r) may = grown-one ch.grows s
 
 -- ## all of it
 
 module _ (c : Configuration) (s : State) (ch : Changes) (queued_nodes_are : List NodeId) (queued_requests_are : List RequestId) (reached : IsReached c s) (planned : IsPlanned c s ch)
-    (all_nodes : (session : SessionId) → ch.sessions ≡ sessions.End session → queued_nodes_are ≡ queued_nodes session s)
-    (all_requests : (session : SessionId) → ch.sessions ≡ sessions.End session → queued_requests_are ≡ queued_requests session s) where
+    (all_nodes : (session : SessionId) → ch.sessions ≡ SessionsChange.End session → queued_nodes_are ≡ queued_nodes session s)
+    (all_requests : (session : SessionId) → ch.sessions ≡ SessionsChange.End session → queued_requests_are ≡ queued_requests session s) where
   given : Premises c s ch
   given = subst (Premises c s) (sym planned.plan) (premises c s planned.event planned.accepted)
 

@@ -1,27 +1,8 @@
--- what the changes of an event do not touch is found after them as before
-use Rattle.std.proofs.Common.{◌≡◌, ◌∙◌, sym, ℕ, List, refl, ap, Option, Some, None, Bool, true, false, cond, subst}
-use Rattle.std.specs.Prelude.{◌==◌, ◌||◌, is_none}
-use Rattle.np_changes.specs.Prelude.{Configuration, NodeEntry, NodeId, NodeRecord, RequestEntry, RequestId, RequestRecord, SessionId, State, TenantId, allocated, change_first, changed, edited, freed, grown, is_queued, is_request, is_session, joined, left, list_any, node_in, node_queue, nodes_changed, nodes_left, option_map, option_map_or, put_node_queue, put_request_queue, request_in, request_queue, requests_changed, requests_left, same_request, standing}
-use Rattle.np_changes.specs.declared.changes.Changes.{Changes}
-use Rattle.np_changes.specs.declared.changes.Growth.{Growth}
-use Rattle.np_changes.specs.declared.changes.Maker.{Maker}
-use Rattle.np_changes.specs.declared.changes.NodesChange.{NodesChange}
-use Rattle.np_changes.specs.declared.changes.RequestsChange.{RequestsChange}
-use Rattle.np_changes.specs.declared.changes.SessionsChange.{SessionsChange}
-use Rattle.np_look.specs.Readers.{is_unclaimed}
-use Rattle.np_lists.proofs.FilterLemmas.{none-list_any, filter-not_none}
-use Rattle.np_look.specs.Keys.{request_equal}
-use Rattle.np_changes.specs.declared.changes.Growth.TheVariants as grow
-use Rattle.np_changes.specs.declared.changes.RequestsChange.TheVariants as requests
-use Rattle.np_changes.specs.declared.changes.NodesChange.TheVariants as nodes
-use Rattle.np_changes.specs.declared.changes.SessionsChange.TheVariants as sessions
-use Rattle.np_changes.specs.Parts.{AllocationsListed}
-use Rattle.np_changes.proofs.Lookups.{request_in-edit, request_in-insert, request_in-queue, request_in-remove, request_queue-edit, request_queue-insert, request_queue-left, request_queue-nowhere, request_queue-queue, request_queue-remove, used_from, node_in-put, node_in-allocated, node_in-queue, node_in-left, node_in-freed, node_in-in_use, node_in-other, node_in-remove, node_queue-put, node_queue-freed, node_queue-in_use, node_queue-allocated, node_queue-queue, node_queue-nowhere, node_queue-left, node_queue-other, node_queue-remove}
-use Rattle.np_changes.proofs.After.{found-grown, grown-request, calm-request, left-request}
-use Rattle.np_classes.specs.Touched.{grows_node, changes_node, ends_at_node, unclaims_node, touches_node, grows_request, changes_request, touches_request, grows_request_queue, leaves_request_queue, ends_at_request, touches_request_queue}
-use Rattle.std.proofs.lemmas.Bool.{or_parts}
-use Rattle.np_lists.proofs.Plain.{contrapositive}
-use Rattle.np_classes.specs.Listed.{IsTouched, TouchedOf}
+-- what the changes of an event do not touch, nodes, requests, jobs and sessions, is after them as before
+use Rattle.np_classes.proofs.Prelude.{AllocationsListed, Bool, Changes, Configuration, Growth, HandlesChange, Invariant, IsAsking, IsReached, IsTouched, JobId, JobIn, JobRecord, JobsChange, List, Maker, NodeEntry, NodeId, NodeRecord, NodesChange, None, Option, Phase, RequestEntry, RequestId, RequestRecord, RequestsChange, SemId, SessionFacts, SessionId, SessionsChange, Some, State, TenantId, TouchedOf, allocated, ap, arith, asker_of, beginning, calm-request, change_at, change_first, changed, changed_job, changes_node, changes_request, cond, contrapositive, edited, ends_at_node, ends_at_request, facts_in, false, filter-not_none, fold, found-grown, freed, grown, grown-request, grows_node, grows_request, grows_request_queue, handles_changed, has_handle, insert_before, invariant-Runs, is_asked, is_none, is_queued, is_request, is_session, is_unclaimed, job_equal, job_of_request, jobs-grown, jobs_changed, joined, kept-change_at, leaves_request_queue, left, left-request, length, list_any, list_any-append, list_any-insert_before, made-look, muted, nat_lt, nat_tests, node_in, node_in-allocated, node_in-freed, node_in-in_use, node_in-left, node_in-other, node_in-put, node_in-queue, node_in-remove, node_queue, node_queue-allocated, node_queue-freed, node_queue-in_use, node_queue-left, node_queue-nowhere, node_queue-other, node_queue-put, node_queue-queue, node_queue-remove, nodes_changed, nodes_left, none-list_any, not, option_and_then, option_map, option_map_or, option_to_list, or_false, or_parts, put_node_queue, put_request_queue, refl, registers, releasing, request_equal, request_in, request_in-below, request_in-edit, request_in-insert, request_in-queue, request_in-remove, request_queue, request_queue-edit, request_queue-insert, request_queue-left, request_queue-nowhere, request_queue-queue, request_queue-remove, requests_changed, requests_left, same_job, same_request, same_session, semaphores_of, session_of, sessions_changed, set-other, slice_get, slice_get-change_at_other, standing, stopping, subst, suc, sym, taking, touches_job, touches_node, touches_request, touches_request_queue, touches_session, true, unclaims_node, unwrap_or, used_from, with_handle, with_mark, without_handle, zero, ℕ, [], ◌++◌, ◌+◌, ◌-◌, ◌<◌, ◌==◌, ◌||◌, ◌∙◌, ◌∷◌, ◌≡◌, ◌≢◌}
+use Rattle.np_changes.specs.Prelude.{is_among, ended}
+
+-- # what the changes of an event do not touch is found after them as before
 
 -- what a test that fails would change stays
 unchanged : {K : Type 0} (b : Bool) (f : K → K) (o : Option K) → b ≡ false → option_map (λ k. cond b (f k) k) o ≡ o
@@ -57,13 +38,13 @@ allocated-untouched n0 n r tenant session rows other = (same, by (node_in n rows
 
 -- a growth of something else
 grown-untouched : (c : Configuration) (maker : Option Maker) (g : Growth) (s : State) (n : NodeId) → grows_node g s n ≡ false → Alike n (grown c maker g s).nodes s.nodes
-grown-untouched c maker (grow.Node kept) s n other = (node_in-other _ n s.nodes other, node_queue-other _ n s.nodes other)
-grown-untouched c None (grow.JoinNode n0) s n other = (refl, refl)
-grown-untouched c (Some by) (grow.JoinNode n0) s n other = put-untouched n0 n (joined by.session (node_queue n0 s.nodes)) s.nodes other
-grown-untouched c None (grow.Allocate n0 r tenant) s n other = (refl, refl)
-grown-untouched c (Some by) (grow.Allocate n0 r tenant) s n other = allocated-untouched n0 n r tenant by.session s.nodes other
-grown-untouched c None (grow.Registration p) s n other = (refl, refl)
-grown-untouched c (Some by) (grow.Registration p) s n other = (refl, refl)
+grown-untouched c maker (Growth.Node kept) s n other = (node_in-other _ n s.nodes other, node_queue-other _ n s.nodes other)
+grown-untouched c None (Growth.JoinNode n0) s n other = (refl, refl)
+grown-untouched c (Some by) (Growth.JoinNode n0) s n other = put-untouched n0 n (joined by.session (node_queue n0 s.nodes)) s.nodes other
+grown-untouched c None (Growth.Allocate n0 r tenant) s n other = (refl, refl)
+grown-untouched c (Some by) (Growth.Allocate n0 r tenant) s n other = allocated-untouched n0 n r tenant by.session s.nodes other
+grown-untouched c None (Growth.Registration p) s n other = (refl, refl)
+grown-untouched c (Some by) (Growth.Registration p) s n other = (refl, refl)
 grown-untouched c maker _ s n other = (refl, refl)
 
 -- a node that is not allocated to the request is not freed
@@ -73,15 +54,15 @@ not-freed r (Some k) out = rw out refl
 
 -- a change of other nodes; the nodes may have grown, with this one as in the state
 changed-untouched : (maker : Option Maker) (tick : ℕ) (change : NodesChange) (s : State) (n : NodeId) (rows : List NodeEntry) → node_in n rows ≡ node_in n s.nodes → changes_node change s n ≡ false → Alike n (nodes_changed maker tick change rows) rows
-changed-untouched maker tick nodes.Same s n rows same other = (refl, refl)
-changed-untouched maker tick (nodes.Put n0 kept) s n rows same other =
+changed-untouched maker tick NodesChange.Same s n rows same other = (refl, refl)
+changed-untouched maker tick (NodesChange.Put n0 kept) s n rows same other =
     (node_in-put n0 n kept rows ∙ unchanged (n0.0 == n.0) (λ _. kept) (node_in n rows) other, node_queue-put n0 n kept rows)
-changed-untouched maker tick (nodes.Remove n0) s n rows same other = (node_in-remove n0 n rows other, node_queue-remove n0 n rows other)
-changed-untouched None tick (nodes.Leave n0) s n rows same other = (refl, refl)
-changed-untouched (Some by) tick (nodes.Leave n0) s n rows same other = put-untouched n0 n (left by.session (node_queue n0 rows)) rows other
-changed-untouched maker tick (nodes.FreeAll r) s n rows same other =
+changed-untouched maker tick (NodesChange.Remove n0) s n rows same other = (node_in-remove n0 n rows other, node_queue-remove n0 n rows other)
+changed-untouched None tick (NodesChange.Leave n0) s n rows same other = (refl, refl)
+changed-untouched (Some by) tick (NodesChange.Leave n0) s n rows same other = put-untouched n0 n (left by.session (node_queue n0 rows)) rows other
+changed-untouched maker tick (NodesChange.FreeAll r) s n rows same other =
     (node_in-freed r n rows ∙ not-freed r (node_in n rows) (ap (λ (o : Option NodeRecord). option_map_or (λ k. is_request r k.allocated_to) o false) same ∙ other), node_queue-freed r n rows)
-changed-untouched maker tick (nodes.TakeOver numbers) s n rows same other =
+changed-untouched maker tick (NodesChange.TakeOver numbers) s n rows same other =
     (node_in-in_use tick numbers n rows ∙ unchanged (list_any (λ m. m.0 == n.0) numbers) (used_from tick) (node_in n rows) other, node_queue-in_use tick numbers n rows)
 
 -- a queue that the session is not in stays when it leaves
@@ -90,9 +71,9 @@ left-same session queue out = filter-not_none (λ other. is_session other sessio
 
 -- the end of a session that is not in the node's queue
 left-untouched : (ended : SessionsChange) (s : State) (n : NodeId) (rows : List NodeEntry) → node_queue n rows ≡ node_queue n s.nodes → ends_at_node ended s n ≡ false → Alike n (nodes_left ended rows) rows
-left-untouched sessions.Same s n rows same out = (refl, refl)
-left-untouched (sessions.Mute session) s n rows same out = (refl, refl)
-left-untouched (sessions.End session) s n rows same out =
+left-untouched SessionsChange.Same s n rows same out = (refl, refl)
+left-untouched (SessionsChange.Mute session) s n rows same out = (refl, refl)
+left-untouched (SessionsChange.End session) s n rows same out =
     (node_in-left session n rows, node_queue-left session n rows ∙ left-same session (node_queue n rows) (ap (λ (queue : List SessionId). is_queued session queue) same ∙ out))
 
 -- a node that the changes do not touch has the same record and the same queue after them
@@ -111,13 +92,13 @@ node-untouched c ch s n out =
 
 -- a growth of something else
 request-grown : (c : Configuration) (maker : Option Maker) (g : Growth) (s : State) (r : RequestId) → grows_request g s r ≡ false → request_in r (grown c maker g s).requests ≡ request_in r s.requests
-request-grown c maker (grow.Request priority asked) s r other = request_in-insert _ r s.requests other
+request-grown c maker (Growth.Request priority asked) s r other = request_in-insert _ r s.requests other
 request-grown c maker g s r other = grown-request c maker g s r tt
 
 -- a change of another request, or of a queue
 request-changed : (maker : Option Maker) (change : RequestsChange) (r : RequestId) (rows : List RequestEntry) → changes_request change r ≡ false → request_in r (requests_changed maker change rows) ≡ request_in r rows
-request-changed maker (requests.Edit r0 edit) r rows other = request_in-edit r0 r (edited edit) rows ∙ unchanged (same_request r0 r) (edited edit) (request_in r rows) other
-request-changed maker (requests.Remove r0) r rows other = request_in-remove r0 r rows other
+request-changed maker (RequestsChange.Edit r0 edit) r rows other = request_in-edit r0 r (edited edit) rows ∙ unchanged (same_request r0 r) (edited edit) (request_in r rows) other
+request-changed maker (RequestsChange.Remove r0) r rows other = request_in-remove r0 r rows other
 request-changed maker change r rows other = calm-request maker change r rows tt
 
 -- a request that the changes do not touch has the same record after them
@@ -146,28 +127,28 @@ request_queue-put r0 r queue rows other = by (request_in r rows) refl where
 -- a growth of something else
 queue-grown : (c : Configuration) (maker : Option Maker) (g : Growth) (s : State) (r : RequestId) → grows_request g s r ≡ false → grows_request_queue g r ≡ false
     → request_queue r (grown c maker g s).requests ≡ request_queue r s.requests
-queue-grown c maker (grow.Request priority asked) s r other calm = request_queue-insert _ r s.requests other
-queue-grown c None (grow.JoinRequest r0) s r other calm = refl
-queue-grown c (Some by) (grow.JoinRequest r0) s r other calm = request_queue-put r0 r (joined by.session (request_queue r0 s.requests)) s.requests calm
-queue-grown c None (grow.Registration p) s r other calm = refl
-queue-grown c (Some by) (grow.Registration p) s r other calm = refl
+queue-grown c maker (Growth.Request priority asked) s r other calm = request_queue-insert _ r s.requests other
+queue-grown c None (Growth.JoinRequest r0) s r other calm = refl
+queue-grown c (Some by) (Growth.JoinRequest r0) s r other calm = request_queue-put r0 r (joined by.session (request_queue r0 s.requests)) s.requests calm
+queue-grown c None (Growth.Registration p) s r other calm = refl
+queue-grown c (Some by) (Growth.Registration p) s r other calm = refl
 queue-grown c maker _ s r other calm = refl
 
 -- a change of another request or of its queue
 queue-changed : (maker : Option Maker) (change : RequestsChange) (r : RequestId) (rows : List RequestEntry) → changes_request change r ≡ false → leaves_request_queue change r ≡ false
     → request_queue r (requests_changed maker change rows) ≡ request_queue r rows
-queue-changed maker requests.Same r rows other calm = refl
-queue-changed maker (requests.Edit r0 edit) r rows other calm = request_queue-edit r0 r (edited edit) rows
-queue-changed maker (requests.Remove r0) r rows other calm = request_queue-remove r0 r rows other
-queue-changed None (requests.Leave r0) r rows other calm = refl
-queue-changed (Some by) (requests.Leave r0) r rows other calm = request_queue-put r0 r (left by.session (request_queue r0 rows)) rows calm
+queue-changed maker RequestsChange.Same r rows other calm = refl
+queue-changed maker (RequestsChange.Edit r0 edit) r rows other calm = request_queue-edit r0 r (edited edit) rows
+queue-changed maker (RequestsChange.Remove r0) r rows other calm = request_queue-remove r0 r rows other
+queue-changed None (RequestsChange.Leave r0) r rows other calm = refl
+queue-changed (Some by) (RequestsChange.Leave r0) r rows other calm = request_queue-put r0 r (left by.session (request_queue r0 rows)) rows calm
 
 -- the end of a session that is not in the request's queue
 queue-left : (ended : SessionsChange) (s : State) (r : RequestId) (rows : List RequestEntry) → request_queue r rows ≡ request_queue r s.requests → ends_at_request ended s r ≡ false
     → request_queue r (requests_left ended rows) ≡ request_queue r rows
-queue-left sessions.Same s r rows same out = refl
-queue-left (sessions.Mute session) s r rows same out = refl
-queue-left (sessions.End session) s r rows same out =
+queue-left SessionsChange.Same s r rows same out = refl
+queue-left (SessionsChange.Mute session) s r rows same out = refl
+queue-left (SessionsChange.End session) s r rows same out =
     request_queue-left session r rows ∙ left-same session (request_queue r rows) (ap (λ (queue : List SessionId). is_queued session queue) same ∙ out)
 
 -- a request of which the changes touch or_parts the record nor the queue has the same queue after them
@@ -203,9 +184,9 @@ apart a b other = by (same_request b a) refl where
 stays-there : (maker : Option Maker) (change : RequestsChange) (s : State) (n : NodeId) (k : NodeRecord) (r : RequestId) (rows : List RequestEntry)
     → node_in n s.nodes ≡ Some k → k.allocated_to ≡ Some r → unclaims_node change s n ≡ false
     → is_none (option_map (λ _. r) (request_in r (requests_changed maker change rows))) ≡ is_none (option_map (λ _. r) (request_in r rows))
-stays-there maker (requests.Edit r0 edit) s n k r rows at to out =
+stays-there maker (RequestsChange.Edit r0 edit) s n k r rows at to out =
     ap (λ (o : Option RequestRecord). is_none (option_map (λ _. r) o)) (request_in-edit r0 r (edited edit) rows) ∙ edited-there (same_request r0 r) (edited edit) r (request_in r rows)
-stays-there maker (requests.Remove r0) s n k r rows at to out =
+stays-there maker (RequestsChange.Remove r0) s n k r rows at to out =
     let claims : is_request r0 k.allocated_to ≡ false = ap (λ (o : Option NodeRecord). option_map_or (λ k. is_request r0 k.allocated_to) o false) (sym at) ∙ out in
     let other : same_request r r0 ≡ false = ap (is_request r0) (sym to) ∙ claims in
     ap (λ (o : Option RequestRecord). is_none (option_map (λ _. r) o)) (request_in-remove r0 r rows (apart r r0 other))
@@ -225,3 +206,180 @@ unclaimed-untouched c ch s n k allocations at out = by k.allocated_to refl where
       ap (λ (o : Option RequestRecord). is_none (option_map (λ _. r) o)) (left-request ch.sessions r (requests_changed ch.maker ch.requests more.requests))
       ∙ stays-there ch.maker ch.requests s n k r more.requests at to stays
       ∙ ap (λ (o : Option RequestRecord). is_none (option_map (λ _. r) o)) (found-grown c s ch.maker ch.grows r (allocations n k r at to).below)
+
+-- # a job that the changes of an event do not touch has the same record, the same handles and, if it has asked for its nodes, the same request after them
+
+-- ## which jobs are named
+
+-- the job is this one
+abbrev is_named : Option JobId → JobId → Bool
+is_named None j = false
+is_named (Some i) j = same_job i j
+
+-- the job is in the list
+abbrev lists_job : JobId → List JobId → Bool
+lists_job j js = list_any (λ i. same_job i j) js
+
+named : (j : JobId) (o : Option JobId) → lists_job j (option_to_list o) ≡ is_named o j
+named j None = refl
+named j (Some i) = or_false (same_job i j)
+
+split : (j : JobId) (js : List JobId) (o : Option JobId) → lists_job j (js ++ option_to_list o) ≡ false → (lists_job j js ≡ false) × (is_named o j ≡ false)
+split j js o out =
+    let parts = or_parts (lists_job j js) (lists_job j (option_to_list o)) (sym (list_any-append (λ i. same_job i j) js (option_to_list o)) ∙ out) in
+    (parts.0, sym (named j o) ∙ parts.1)
+
+-- a job that none of these names
+record IsUnnamed (ch : Changes) (s : State) (j : JobId) : Type 0 where
+  pub takes : is_named (taking ch.grows) j ≡ false
+  pub changes : is_named (changed_job ch.jobs) j ≡ false
+  pub releases : is_named (releasing ch.handles) j ≡ false
+  pub asks : is_named (asker_of ch.requests s) j ≡ false
+
+unnamed : (ch : Changes) (s : State) (j : JobId) → touches_job ch s j ≡ false → IsUnnamed ch s j
+unnamed ch s j out =
+    let asks = split j ((option_to_list (taking ch.grows) ++ option_to_list (changed_job ch.jobs)) ++ option_to_list (releasing ch.handles)) (asker_of ch.requests s) out in
+    let releases = split j (option_to_list (taking ch.grows) ++ option_to_list (changed_job ch.jobs)) (releasing ch.handles) asks.0 in
+    let changes = split j (option_to_list (taking ch.grows)) (changed_job ch.jobs) releases.0 in
+    record { takes = sym (named j (taking ch.grows)) ∙ changes.0; changes = changes.1; releases = releases.1; asks = asks.1 }
+
+-- ## the record
+
+rows-untouched : (change : JobsChange) (j : JobId) (rows : List JobRecord) → is_named (changed_job change) j ≡ false → slice_get (jobs_changed change rows) j.0 ≡ slice_get rows j.0
+rows-untouched JobsChange.Same j rows out = refl
+rows-untouched (JobsChange.Put i kept) j rows out = set-other rows i.0 j.0 kept (λ same. absurd (grind (arith, nat_tests)))
+rows-untouched (JobsChange.EndNode i n) j rows out = slice_get-change_at_other i.0 j.0 (with_mark n) rows (λ same. absurd (grind (arith, nat_tests)))
+
+pub job-untouched : (c : Configuration) (ch : Changes) (s : State) (j : JobId) → touches_job ch s j ≡ false → slice_get (changed c ch s).jobs j.0 ≡ slice_get s.jobs j.0
+job-untouched c ch s j out =
+    rows-untouched ch.jobs j (grown c ch.maker ch.grows s).jobs (unnamed ch s j out).changes
+    ∙ ap (λ (rows : List JobRecord). slice_get rows j.0) (jobs-grown c ch.maker ch.grows s)
+
+-- ## the handles
+
+-- a job more among those of one semaphore leaves the others
+with-other : (i j : JobId) (jobs : List JobId) → same_job i j ≡ false → is_among j (with_handle i jobs) ≡ is_among j jobs
+with-other i j jobs other = by (is_among i jobs) where
+  by : (b : Bool) → is_among j (cond b jobs (insert_before (λ k. nat_lt i.0 k.0) i jobs)) ≡ is_among j jobs
+  by true = refl
+  by false = list_any-insert_before (λ (k : JobId). k.0 == j.0) (λ k. nat_lt i.0 k.0) i jobs ∙ rw other refl
+
+-- and so does a job less
+without-other : (i j : JobId) (jobs : List JobId) → same_job i j ≡ false → is_among j (without_handle i jobs) ≡ is_among j jobs
+without-other i j [] other = refl
+without-other i j (k ∷ jobs) other = by (same_job k i) refl (without-other i j jobs other) where
+  by : (b : Bool) → same_job k i ≡ b → is_among j (without_handle i jobs) ≡ is_among j jobs
+      → is_among j (cond (not b) (k ∷ without_handle i jobs) (without_handle i jobs)) ≡ (same_job k j || is_among j jobs)
+  by true is later = let out : same_job k j ≡ false = subst (λ (l : JobId). same_job l j ≡ false) (sym (job_equal k i is)) other in rw out later
+  by false apart later = ap (λ (b : Bool). same_job k j || b) later
+
+abbrev among : JobId → Option (List JobId) → Bool
+among j o = is_among j (unwrap_or o [])
+
+module _ (c : Configuration) (j : JobId) (x : SemId) where
+  -- a change of other jobs, at some semaphores
+  all-kept : (f : List JobId → List JobId) → ((jobs : List JobId) → is_among j (f jobs) ≡ is_among j jobs) → (semaphores : List SemId) (rows : List (List JobId))
+      → has_handle j (fold (λ hs y. change_at y.0 f hs) rows semaphores) x ≡ has_handle j rows x
+  all-kept f keeps [] rows = refl
+  all-kept f keeps (y ∷ semaphores) rows = all-kept f keeps semaphores (change_at y.0 f rows) ∙ kept-change_at (among j) y.0 x.0 f rows keeps
+
+  handle-grown : (maker : Option Maker) (g : Growth) (s : State) → is_named (taking g) j ≡ false → has_handle j (grown c maker g s).handles x ≡ has_handle j s.handles x
+  handle-grown maker (Growth.Handles i) s out = all-kept (with_handle i) (λ jobs. with-other i j jobs out) (semaphores_of c i) s.handles
+  handle-grown maker (Growth.Registration p) s out = made-look (λ (t : State). has_handle j t.handles x) maker (λ session t. registers t session p) s (λ session t. refl)
+  handle-grown maker _ s out = refl
+
+  handle-left : (change : HandlesChange) (rows : List (List JobId)) → is_named (releasing change) j ≡ false → has_handle j (handles_changed c change rows) x ≡ has_handle j rows x
+  handle-left HandlesChange.Same rows out = refl
+  handle-left (HandlesChange.Release i) rows out = all-kept (without_handle i) (λ jobs. without-other i j jobs out) (semaphores_of c i) rows
+
+  pub handle-untouched : (ch : Changes) (s : State) → touches_job ch s j ≡ false → has_handle j (changed c ch s).handles x ≡ has_handle j s.handles x
+  handle-untouched ch s out =
+      let none = unnamed ch s j out in
+      handle-left ch.handles (grown c ch.maker ch.grows s).handles none.releases ∙ handle-grown ch.maker ch.grows s none.takes
+
+-- ## the request
+
+module _ (s : State) (j : JobId) (kept : JobRecord) (asking : IsAsking s j kept) where
+  -- a change of the request names the job
+  asker-is : (x : RequestId) → same_request x asking.id ≡ true → is_named (job_of_request x s) j ≡ true
+  asker-is x same =
+      ap (λ (r : RequestId). is_named (job_of_request r s) j) (request_equal x asking.id same)
+      ∙ ap (λ (o : Option RequestRecord). is_named (option_and_then (λ request. request.job) o) j) asking.stands
+      ∙ ap (λ (o : Option JobId). is_named o j) asking.names
+      ∙ grind (arith, nat_tests)
+
+  not-asker : (x : RequestId) → is_named (job_of_request x s) j ≡ false → same_request x asking.id ≡ false
+  not-asker x out = by (same_request x asking.id) refl where
+    by : (b : Bool) → same_request x asking.id ≡ b → b ≡ false
+    by true same = sym (asker-is x same) ∙ out
+    by false other = refl
+
+  not-changed : (change : RequestsChange) → is_named (asker_of change s) j ≡ false → changes_request change asking.id ≡ false
+  not-changed RequestsChange.Same out = refl
+  not-changed (RequestsChange.Edit x edit) out = not-asker x out
+  not-changed (RequestsChange.Remove x) out = not-asker x out
+  not-changed (RequestsChange.Leave x) out = refl
+
+-- a request that is there does not grow
+not-grown : (g : Growth) (s : State) (r : RequestId) → r.seq < s.next_request → grows_request g s r ≡ false
+not-grown (Growth.Request priority asked) s r low = grind (arith, nat_tests)
+not-grown _ s r low = refl
+
+pub asked-untouched : (c : Configuration) (ch : Changes) (s : State) (j : JobId) (kept : JobRecord) → IsReached c s → touches_job ch s j ≡ false → slice_get s.jobs j.0 ≡ Some kept → is_asked kept.phase ≡ true
+    → option_and_then (λ r. request_in r (changed c ch s).requests) kept.request ≡ option_and_then (λ r. request_in r s.requests) kept.request
+asked-untouched c ch s j kept reached out stands asked = by kept.phase asked (invariant.jobs.each j kept stands) where
+  invariant : Invariant c s
+  invariant = invariant-Runs c reached.journal s reached.runs
+
+  by : (p : Phase) → is_asked p ≡ true → JobIn s j kept p → option_and_then (λ r. request_in r (changed c ch s).requests) kept.request ≡ option_and_then (λ r. request_in r s.requests) kept.request
+  by Phase.New is job = absurd cc
+  by Phase.Asked is job =
+      let low : job.0.id.seq < s.next_request = request_in-below job.0.id s.next_request job.0.request s.requests invariant.numbered.requests_below job.0.stands in
+      let calm : touches_request ch s job.0.id ≡ false =
+      ap (λ (b : Bool). b || changes_request ch.requests job.0.id) (not-grown ch.grows s job.0.id low) ∙ not-changed s j kept job.0 ch.requests (unnamed ch s j out).asks in
+      ap (λ (o : Option RequestId). option_and_then (λ r. request_in r (changed c ch s).requests) o) job.0.asks
+      ∙ request-untouched c ch s job.0.id calm
+      ∙ sym (ap (λ (o : Option RequestId). option_and_then (λ r. request_in r s.requests) o) job.0.asks)
+  by Phase.Using is job = absurd cc
+  by Phase.Over is job = absurd cc
+
+-- # a session that the changes of an event do not touch is as it was
+
+-- a place other than the new one
+push-other : {X : Type 0} (xs : List X) (new : X) (i : ℕ) → i ≢ length xs → slice_get (xs ++ new ∷ []) i ≡ slice_get xs i
+push-other [] new zero other = absurd (other refl)
+push-other [] new (suc i) other = refl
+push-other (x ∷ xs) new zero other = refl
+push-other (x ∷ xs) new (suc i) other = push-other xs new i (λ same. other (ap suc same))
+
+-- a session with the number 0 is never found
+by-number : {X : Type 0} (number : ℕ) (a b : Option X) → ((number == 0) ≡ false → a ≡ b) → cond (number == 0) None a ≡ cond (number == 0) None b
+by-number number a b same = by (number == 0) refl where
+  by : (z : Bool) → (number == 0) ≡ z → cond z None a ≡ cond z None b
+  by true is = refl
+  by false is = same is
+
+-- the session is in the list
+abbrev lists_session : SessionId → List SessionId → Bool
+lists_session x xs = list_any (λ y. same_session y x) xs
+
+sessions-grown-untouched : (c : Configuration) (maker : Option Maker) (g : Growth) (s : State) (x : SessionId) → lists_session x (option_to_list (beginning g s)) ≡ false → facts_in x (grown c maker g s).sessions ≡ facts_in x s.sessions
+sessions-grown-untouched c maker (Growth.Session role) s x other =
+    by-number x.0 _ _ (λ positive. push-other s.sessions _ (x.0 - 1) (λ same. absurd (grind (arith, nat_tests))))
+sessions-grown-untouched c maker (Growth.Registration p) s x other = made-look (λ (t : State). facts_in x t.sessions) maker (λ session t. registers t session p) s (λ session t. refl)
+sessions-grown-untouched c maker _ s x other = refl
+
+sessions-changed-untouched : (change : SessionsChange) (x : SessionId) (rows : List SessionFacts) → lists_session x (option_to_list (stopping change)) ≡ false → facts_in x (sessions_changed change rows) ≡ facts_in x rows
+sessions-changed-untouched SessionsChange.Same x rows out = refl
+sessions-changed-untouched (SessionsChange.Mute y) x rows out =
+    by-number x.0 _ _ (λ positive. slice_get-change_at_other (y.0 - 1) (x.0 - 1) muted rows (λ same. absurd (grind (arith, nat_tests))))
+sessions-changed-untouched (SessionsChange.End y) x rows out =
+    by-number x.0 _ _ (λ positive. slice_get-change_at_other (y.0 - 1) (x.0 - 1) ended rows (λ same. absurd (grind (arith, nat_tests))))
+
+pub session-untouched : (c : Configuration) (ch : Changes) (s : State) (x : SessionId) → touches_session ch s x ≡ false → session_of x (changed c ch s) ≡ session_of x s
+session-untouched c ch s x out =
+    let parts =
+    or_parts (lists_session x (option_to_list (beginning ch.grows s))) (lists_session x (option_to_list (stopping ch.sessions)))
+    (sym (list_any-append (λ y. same_session y x) (option_to_list (beginning ch.grows s)) (option_to_list (stopping ch.sessions))) ∙ out) in
+    sessions-changed-untouched ch.sessions x (grown c ch.maker ch.grows s).sessions parts.1
+    ∙ sessions-grown-untouched c ch.maker ch.grows s x parts.0

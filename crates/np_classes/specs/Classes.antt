@@ -7,7 +7,6 @@ use Rattle.np_lists.specs.Groups.{has_member, is_member_before}
 pub use Rattle.np_lists.specs.Moves.{is_among}
 use Rattle.np_look.specs.Keys.{same_node, is_node_before}
 use Rattle.np_look.specs.declared.asked.UnheldKind.{UnheldKind}
-use Rattle.np_look.specs.declared.asked.UnheldKind.TheVariants as kind
 use Rattle.np_look.specs.Readers.{due_of, is_unclaimed, unheld_kind}
 
 -- ## groups of nodes (own)
@@ -30,10 +29,10 @@ tenant_group t p l = record { class = 3; first = t.0; second = p.0; third = l.0 
 
 -- the class of the nodes of this kind that nobody holds
 abbrev pub unheld_class : UnheldKind → ℕ
-unheld_class kind.Free = 4
-unheld_class kind.LeftOver = 5
-unheld_class kind.Hold = 6
-unheld_class kind.Abandoned = 7
+unheld_class UnheldKind.Free = 4
+unheld_class UnheldKind.LeftOver = 5
+unheld_class UnheldKind.Hold = 6
+unheld_class UnheldKind.Abandoned = 7
 
 -- the nodes of the pool that nobody holds, of this kind, that are due at this tick
 abbrev pub unheld_group : PoolId → UnheldKind → ℕ → Group

@@ -7,41 +7,37 @@ use Rattle.np_changes.specs.declared.changes.NodesChange.{NodesChange}
 use Rattle.np_changes.specs.declared.changes.RequestsChange.{RequestsChange}
 use Rattle.np_changes.specs.declared.changes.SessionsChange.{SessionsChange}
 use Rattle.np_look.specs.Keys.{same_node}
-use Rattle.np_changes.specs.declared.changes.Growth.TheVariants as grow
-use Rattle.np_changes.specs.declared.changes.RequestsChange.TheVariants as requests
-use Rattle.np_changes.specs.declared.changes.NodesChange.TheVariants as nodes
-use Rattle.np_changes.specs.declared.changes.SessionsChange.TheVariants as sessions
 use Rattle.np_classes.specs.Touched.{touched_jobs, touched_sessions, touches_node, touches_request, touches_request_queue}
 
 -- those in whose queues the session is that ends, if one does
 abbrev pub ended : {K : Type 0} → SessionsChange → List K → List K
-ended sessions.Same queued = []
-ended (sessions.Mute session) queued = []
-ended (sessions.End session) queued = queued
+ended SessionsChange.Same queued = []
+ended (SessionsChange.Mute session) queued = []
+ended (SessionsChange.End session) queued = queued
 
 -- ## nodes
 
 abbrev pub grown_nodes : Growth → State → List NodeId
-grown_nodes (grow.Node kept) s = record { 0 = s.next_node } ∷ []
-grown_nodes (grow.JoinNode n) s = n ∷ []
-grown_nodes (grow.Allocate n r tenant) s = n ∷ []
+grown_nodes (Growth.Node kept) s = record { 0 = s.next_node } ∷ []
+grown_nodes (Growth.JoinNode n) s = n ∷ []
+grown_nodes (Growth.Allocate n r tenant) s = n ∷ []
 grown_nodes growth s = []
 
 -- the nodes that are freed are in their request's list
 abbrev pub changed_nodes : NodesChange → State → List NodeId
-changed_nodes nodes.Same s = []
-changed_nodes (nodes.Put n kept) s = n ∷ []
-changed_nodes (nodes.Remove n) s = n ∷ []
-changed_nodes (nodes.Leave n) s = n ∷ []
-changed_nodes (nodes.FreeAll r) s = option_map_or (λ k. k.nodes) (request_in r s.requests) []
-changed_nodes (nodes.TakeOver numbers) s = numbers
+changed_nodes NodesChange.Same s = []
+changed_nodes (NodesChange.Put n kept) s = n ∷ []
+changed_nodes (NodesChange.Remove n) s = n ∷ []
+changed_nodes (NodesChange.Leave n) s = n ∷ []
+changed_nodes (NodesChange.FreeAll r) s = option_map_or (λ k. k.nodes) (request_in r s.requests) []
+changed_nodes (NodesChange.TakeOver numbers) s = numbers
 
 -- the nodes in the list of the request that goes away
 abbrev pub unclaimed_nodes : RequestsChange → State → List NodeId
-unclaimed_nodes requests.Same s = []
-unclaimed_nodes (requests.Edit r edit) s = []
-unclaimed_nodes (requests.Remove r) s = option_map_or (λ k. k.nodes) (request_in r s.requests) []
-unclaimed_nodes (requests.Leave r) s = []
+unclaimed_nodes RequestsChange.Same s = []
+unclaimed_nodes (RequestsChange.Edit r edit) s = []
+unclaimed_nodes (RequestsChange.Remove r) s = option_map_or (λ k. k.nodes) (request_in r s.requests) []
+unclaimed_nodes (RequestsChange.Leave r) s = []
 
 -- a node that is freed by a request that goes away is listed twice
 abbrev pub touched_nodes : Changes → List NodeId → State → List NodeId
@@ -50,14 +46,14 @@ touched_nodes ch queued s = ((grown_nodes ch.grows s ++ changed_nodes ch.nodes s
 -- ## requests
 
 abbrev pub grown_requests : Growth → State → List RequestId
-grown_requests (grow.Request priority asked) s = next_id priority s ∷ []
+grown_requests (Growth.Request priority asked) s = next_id priority s ∷ []
 grown_requests growth s = []
 
 abbrev pub changed_requests : RequestsChange → List RequestId
-changed_requests requests.Same = []
-changed_requests (requests.Edit r edit) = r ∷ []
-changed_requests (requests.Remove r) = r ∷ []
-changed_requests (requests.Leave r) = []
+changed_requests RequestsChange.Same = []
+changed_requests (RequestsChange.Edit r edit) = r ∷ []
+changed_requests (RequestsChange.Remove r) = r ∷ []
+changed_requests (RequestsChange.Leave r) = []
 
 abbrev pub touched_requests : Changes → State → List RequestId
 touched_requests ch s = grown_requests ch.grows s ++ changed_requests ch.requests
@@ -65,14 +61,14 @@ touched_requests ch s = grown_requests ch.grows s ++ changed_requests ch.request
 -- ## queues of requests
 
 abbrev pub grown_queues : Growth → List RequestId
-grown_queues (grow.JoinRequest r) = r ∷ []
+grown_queues (Growth.JoinRequest r) = r ∷ []
 grown_queues growth = []
 
 abbrev pub left_queues : RequestsChange → List RequestId
-left_queues requests.Same = []
-left_queues (requests.Edit r edit) = []
-left_queues (requests.Remove r) = []
-left_queues (requests.Leave r) = r ∷ []
+left_queues RequestsChange.Same = []
+left_queues (RequestsChange.Edit r edit) = []
+left_queues (RequestsChange.Remove r) = []
+left_queues (RequestsChange.Leave r) = r ∷ []
 
 abbrev pub touched_queues : Changes → List RequestId → List RequestId
 touched_queues ch queued = (grown_queues ch.grows ++ left_queues ch.requests) ++ ended ch.sessions queued

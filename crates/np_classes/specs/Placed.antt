@@ -1,5 +1,5 @@
 -- ids with the groups that they are in
-use Rattle.std.specs.Prelude.{Bool, List, [], ◌∷◌, Option, None, is_none, option_and_then}
+use Rattle.std.specs.Prelude.{List, [], ◌∷◌, Option, None, is_none, option_and_then}
 use Rattle.np_changes.specs.Prelude.{Configuration, NodeId, RequestId, State, node_holder, node_in, option_map_or, request_holder, request_in}
 use Rattle.np_look.specs.Readers.{is_unclaimed}
 use Rattle.np_lists.specs.declared.groups.Group.{Group}

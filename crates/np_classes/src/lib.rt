@@ -2,11 +2,11 @@
 //! the changes of an event touch, for whatever is kept beside a state.
 //!
 //! `specs/Touched` says which nodes, requests, queues of requests, jobs and sessions an event's changes
-//! may change, and `touched_by` lists them before it. `proofs/Untouched`, `proofs/JobsUntouched` and
-//! `proofs/SessionsUntouched` have the law: what isn't touched has the same record and the same queue
-//! after the changes, a job also the same handles and, while it asks for its nodes, the same request.
+//! may change, and `touched_by` lists them before it. `proofs/Untouched` has the law: what isn't
+//! touched has the same record and the same queue after the changes, a job also the same handles and,
+//! while it asks for its nodes, the same request.
 //! `specs/Grouped` says when ids are in groups by the groups of each id (`AreGrouped`), and
-//! `proofs/Grouped` that they still are once those that are touched have moved.
+//! `proofs/MemberLemmas` that they still are once those that are touched have moved.
 //!
 //! `specs/Classes` says which groups a record is in, and when the members of all groups are those
 //! of a state. `Classes` keeps them as each event changes the state: `prepare` lists the nodes and

@@ -2,12 +2,10 @@
 use Rattle.std.specs.Prelude.{◌≡◌, ◌≤◌, ◌==◌, not, ℕ, List, [], ◌∷◌, ◌++◌, filter, Option, Some, None, Result, Ok, Err}
 use Rattle.np_machine.specs.Prelude.{Outcome, option_map}
 use Rattle.np_io.specs.Counts.{Rose}
-use Rattle.np_event.specs.declared.event.Outcome.TheVariants as outcome
 use Rattle.np_cloud.specs.declared.driver.Tag.{Tag}
 use Rattle.np_cloud.specs.declared.driver.Launch.{Launch}
 use Rattle.np_cloud.specs.declared.driver.Server.{Server}
 use Rattle.np_cloud.specs.declared.driver.LaunchFault.{LaunchFault}
-use Rattle.np_cloud.specs.declared.driver.LaunchFault.TheVariants as fault
 use Rattle.np_cloud.specs.declared.driver.RemoveFailed.{RemoveFailed}
 use Rattle.np_cloud.specs.Facts.{DriverFacts}
 
@@ -19,8 +17,8 @@ with_launch tag o launches = launches ++ record { tag = tag; outcome = o } ∷ [
 
 -- the server that a launch made, if any, comes last (own)
 abbrev pub with_launched : Tag → Outcome → List Server → List Server
-with_launched tag (outcome.Launched x) servers = servers ++ record { tag = tag; number = x } ∷ []
-with_launched tag outcome.Failed servers = servers
+with_launched tag (Outcome.Launched x) servers = servers ++ record { tag = tag; number = x } ∷ []
+with_launched tag Outcome.Failed servers = servers
 
 -- the launch was answered: it is the last that was, and its server is there (own)
 pub record Answers (before : DriverFacts) (tag : Tag) (o : Outcome) (now : DriverFacts) : Type 0 where
@@ -30,16 +28,16 @@ pub record Answers (before : DriverFacts) (tag : Tag) (o : Outcome) (now : Drive
 -- a launch returns a server, fails and raises the count of failed launches, or runs out of memory
 -- and changes nothing (own)
 abbrev pub Launches : DriverFacts → Tag → Result ℕ LaunchFault → DriverFacts → Type 0
-Launches before tag (Ok x) now = Answers before tag (outcome.Launched x) now
-Launches before tag (Err fault.Failed) now = Answers before tag outcome.Failed now × Rose before.launch_faults now.launch_faults
-Launches before tag (Err fault.NoMemory) now = now ≡ before
+Launches before tag (Ok x) now = Answers before tag (Outcome.Launched x) now
+Launches before tag (Err LaunchFault.Failed) now = Answers before tag Outcome.Failed now × Rose before.launch_faults now.launch_faults
+Launches before tag (Err LaunchFault.NoMemory) now = now ≡ before
 
 -- what became of the launch is what was planned for it, if anything was (own)
 abbrev pub IsAsPlanned : Option Outcome → Result ℕ LaunchFault → Type 0
 IsAsPlanned None result = Unit {0}
-IsAsPlanned (Some planned) (Ok x) = planned ≡ outcome.Launched x
-IsAsPlanned (Some planned) (Err fault.Failed) = planned ≡ outcome.Failed
-IsAsPlanned (Some planned) (Err fault.NoMemory) = Unit {0}
+IsAsPlanned (Some planned) (Ok x) = planned ≡ Outcome.Launched x
+IsAsPlanned (Some planned) (Err LaunchFault.Failed) = planned ≡ Outcome.Failed
+IsAsPlanned (Some planned) (Err LaunchFault.NoMemory) = Unit {0}
 
 -- ## removals
 

@@ -2,12 +2,10 @@
 use Rattle.std.specs.Prelude.{◌≡◌, ℕ, List, [], Some, Result, Ok, Err}
 use Rattle.np_io.specs.Counts.{counted}
 use Rattle.np_event.specs.declared.event.Outcome.{Outcome}
-use Rattle.np_event.specs.declared.event.Outcome.TheVariants as outcome
 use Rattle.np_cloud.specs.declared.driver.Tag.{Tag}
 use Rattle.np_cloud.specs.declared.driver.Launch.{Launch}
 use Rattle.np_cloud.specs.declared.driver.Server.{Server}
 use Rattle.np_cloud.specs.declared.driver.LaunchFault.{LaunchFault}
-use Rattle.np_cloud.specs.declared.driver.LaunchFault.TheVariants as fault
 use Rattle.np_cloud.specs.Facts.{DriverFacts}
 use Rattle.np_cloud.specs.Calls.{with_launch, with_launched, without_number}
 
@@ -35,8 +33,8 @@ facts_of told remove_faults = record {
 
 -- the count of failed launches after this outcome (own)
 abbrev pub faults_after : Outcome → ℕ → ℕ
-faults_after (outcome.Launched x) faults = faults
-faults_after outcome.Failed faults = counted faults
+faults_after (Outcome.Launched x) faults = faults
+faults_after Outcome.Failed faults = counted faults
 
 -- after a launch with this outcome (own)
 abbrev pub after_launch : Told → Tag → Outcome → Told
@@ -53,6 +51,6 @@ after_removal told x = record told { servers = without_number x told.servers }
 -- a launch has this outcome, which is returned and kept, or it runs out of memory and changes
 -- nothing (own)
 abbrev pub HasOutcome : Outcome → Told → Tag → Result ℕ LaunchFault → Told → Type 0
-HasOutcome o before tag (Ok x) now = (o ≡ outcome.Launched x) × (now ≡ after_launch before tag o)
-HasOutcome o before tag (Err fault.Failed) now = (o ≡ outcome.Failed) × (now ≡ after_launch before tag o)
-HasOutcome o before tag (Err fault.NoMemory) now = now ≡ before
+HasOutcome o before tag (Ok x) now = (o ≡ Outcome.Launched x) × (now ≡ after_launch before tag o)
+HasOutcome o before tag (Err LaunchFault.Failed) now = (o ≡ Outcome.Failed) × (now ≡ after_launch before tag o)
+HasOutcome o before tag (Err LaunchFault.NoMemory) now = now ≡ before

@@ -2,7 +2,6 @@
 use Rattle.std.specs.Prelude.{ℕ, List, Option, Some, None, length, slice_get}
 use Rattle.np_io.specs.Counts.{counted}
 use Rattle.np_event.specs.declared.event.Outcome.{Outcome}
-use Rattle.np_event.specs.declared.event.Outcome.TheVariants as outcome
 use Rattle.np_cloud.specs.Facts.{DriverFacts}
 use Rattle.np_cloud.specs.Inventory.{Told, told_nothing, facts_of, after_removal}
 
@@ -25,9 +24,9 @@ script_of answers failing =
 
 -- what an answer of the list says; past its end every launch fails (own)
 abbrev pub outcome_at : Option (Option ℕ) → Outcome
-outcome_at (Some (Some x)) = outcome.Launched x
-outcome_at (Some None) = outcome.Failed
-outcome_at None = outcome.Failed
+outcome_at (Some (Some x)) = Outcome.Launched x
+outcome_at (Some None) = Outcome.Failed
+outcome_at None = Outcome.Failed
 
 -- the next launch gets the answer whose place is the number of launches answered so far (own)
 abbrev pub next_outcome : Script → Outcome

@@ -1,7 +1,6 @@
 -- the simulated cloud, as contracts see it
 use Rattle.std.specs.Prelude.{ℕ, List, ◌==◌, if◌then◌else◌, Option, Some}
 use Rattle.np_machine.specs.Prelude.{Configuration, Outcome, PoolId, list_any}
-use Rattle.np_event.specs.declared.event.Outcome.TheVariants as outcome
 use Rattle.np_machine.specs.Plan.{fail_starts_of}
 use Rattle.np_cloud.specs.declared.driver.Tag.{Tag}
 use Rattle.np_cloud.specs.Facts.{DriverFacts}
@@ -19,7 +18,7 @@ simulation_of c p = record { fail_starts = fail_starts_of c p; told = told_nothi
 
 -- a planned start fails; any other launches the server of its own number (own)
 abbrev pub simulated_outcome : Simulation → ℕ → Outcome
-simulated_outcome cloud m = if list_any (λ k. k == m) cloud.fail_starts then outcome.Failed else outcome.Launched m
+simulated_outcome cloud m = if list_any (λ k. k == m) cloud.fail_starts then Outcome.Failed else Outcome.Launched m
 
 -- it reports everything, and none of its removals fails (own)
 abbrev pub simulation_facts : Simulation → DriverFacts

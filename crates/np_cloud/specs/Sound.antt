@@ -3,7 +3,6 @@ use Rattle.std.specs.Prelude.{◌≡◌, ◌⊎◌, ◌≤◌, ◌==◌, ℕ, Li
 use Rattle.std.specs.List.{AllByRecursion, list_any}
 use Rattle.np_cloud.specs.declared.driver.Server.{Server}
 use Rattle.np_cloud.specs.declared.driver.LaunchFault.{LaunchFault}
-use Rattle.np_cloud.specs.declared.driver.LaunchFault.TheVariants as fault
 use Rattle.np_cloud.specs.declared.driver.TheConstants.{MOST_LAUNCHES}
 use Rattle.np_cloud.specs.Facts.{DriverFacts}
 
@@ -56,5 +55,5 @@ IsFull facts room = IfSome facts.servers (λ servers. room ≤ length servers)
 -- a launch fails only where the driver was full (own)
 abbrev pub FailsOnlyFull : DriverFacts → ℕ → Result ℕ LaunchFault → Type 0
 FailsOnlyFull before room (Ok x) = Unit {0}
-FailsOnlyFull before room (Err fault.Failed) = IsFull before room
-FailsOnlyFull before room (Err fault.NoMemory) = Unit {0}
+FailsOnlyFull before room (Err LaunchFault.Failed) = IsFull before room
+FailsOnlyFull before room (Err LaunchFault.NoMemory) = Unit {0}

@@ -3,7 +3,7 @@ use Rattle.std.proofs.Common.{◌≡◌, ℕ, ◌+◌, ◌<◌, ◌≤◌, List,
 use Rattle.std.specs.Prelude.{All, filter, nat_lt, ◌==◌}
 use Rattle.std.proofs.lemmas.Bool.Decides.{nat_tests}
 use Rattle.std.proofs.lemmas.List.Elements.{filter-append, All-nil, All-cons, All-head, All-tail, All-append, All-weaker}
-use Rattle.np_lists.proofs.KeptLemmas.{filter-keeps_all, filter-keeps_none}
+use Rattle.np_lists.proofs.Changes.{filter-keeps_all, filter-keeps_none}
 use Rattle.np_lists.specs.EachAfter.{EachAfter}
 use Rattle.np_config.specs.Sound.{StandsByOwner}
 use Rattle.np_lists.proofs.Plain.{same_number, below-apart}

@@ -10,7 +10,6 @@ use Rattle.np_text.specs.declared.limit.TheConstants.{MIN_READY, AGE, LAUNCHES, 
 use Rattle.np_text.specs.declared.id.LabelId.{LabelId}
 use Rattle.np_text.specs.declared.id.SemId.{SemId}
 use Rattle.np_text.specs.declared.id.Role.{Role}
-use Rattle.np_text.specs.declared.id.Role.TheVariants as role
 use Rattle.np_config.specs.declared.row.Label.{Label}
 use Rattle.np_config.specs.declared.row.Provider.{Provider}
 use Rattle.np_config.specs.declared.row.Pool.{Pool}
@@ -126,10 +125,10 @@ pub record IsJob (labels semaphores tenants : ℕ) (earlier : List Job) (j : Job
 
 -- a role that exists, given the numbers of pools and requesters; the reaper has no fault
 abbrev pub IsRole : ℕ → ℕ → Role → Type 0
-IsRole pools requesters (role.Launcher p) = p.0 < pools
-IsRole pools requesters (role.Janitor p) = p.0 < pools
-IsRole pools requesters (role.Requester q) = q.0 < requesters
-IsRole pools requesters role.Reaper = ⊥
+IsRole pools requesters (Role.Launcher p) = p.0 < pools
+IsRole pools requesters (Role.Janitor p) = p.0 < pools
+IsRole pools requesters (Role.Requester q) = q.0 < requesters
+IsRole pools requesters Role.Reaper = ⊥
 
 pub record IsFault (pools requesters : ℕ) (f : Fault) : Type 0 where
   pub role : IsRole pools requesters f.role

@@ -1,25 +1,54 @@
 -- an object without an optional key reads as the object with its default put in
-use Rattle.std.proofs.Common.{ℕ, ◌+◌, ◌≤◌, List, codes, false, length, refl, arith}
-use Rattle.serde_json.specs.Data.{boolean, string}
-use Rattle.np_text.specs.declared.limit.TheConstants.{JOBS}
-use Rattle.np_json.specs.Leaf.{name_at, named_at}
-use Rattle.np_json.specs.Rows.{items_from, list_at, list_required, list_maybe}
-use Rattle.np_config.specs.declared.row.Label.{Label}
-use Rattle.np_config.specs.declared.row.Offer.{Offer}
-use Rattle.np_config.specs.declared.row.Sem.{Sem}
-use Rattle.np_config.specs.declared.row.Tenant.{Tenant}
-use Rattle.np_config_read.specs.declared.providers.PoolsOf.{PoolsOf}
-use Rattle.np_config_read.specs.declared.providers.Providers.{Providers}
-use Rattle.np_config_read.specs.declared.requesters.JobsOf.{JobsOf}
-use Rattle.np_config_read.specs.declared.requesters.Requesters.{Requesters}
-use Rattle.np_config_read.specs.Keys.{top_keys, label_keys, provider_keys, pool_keys, offer_keys, semaphore_keys, requester_keys, job_keys}
-use Rattle.np_config_read.specs.Labels.{label_row, label_at, semaphore_at}
-use Rattle.np_config_read.specs.Providers.{offer_label, offer_amount, offer_at, limit_at, offers_at, starts_at, pool_row, pool_at, provider_row, pools_at, provider_at}
-use Rattle.np_config_read.specs.Requesters.{word_value, wants_at, takes_at, demand_at, job_row, job_at, jobs_at, requester_row, requester_at}
-use Rattle.np_config_read.specs.Walk.{configuration_at}
-use Rattle.np_config_read.specs.Defaults.{count, StandsFor, AllStand, default, no_rows, top_defaults, label_defaults, provider_defaults, pool_defaults, offer_defaults, semaphore_defaults, requester_defaults, job_defaults}
-use Rattle.np_config_read.proofs.Puts.{get-put, get-put_other, keys-put}
-use Rattle.np_lists.proofs.Plain.{is-at_most}
+use Rattle.np_config_read.proofs.Prelude.{AllStand, Data, Equal, Greater, JOBS, JobsOf, Label, Less, List, Members, None, Offer, Option, Ordering, PoolsOf, Providers, Requesters, Sem, Some, StandsFor, Tenant, ap, arith, boolean, bytes_eq, codes, configuration_at, count, default, demand_at, false, get_member, is-at_most, is_eq, items_from, job_at, job_defaults, job_keys, job_row, jobs_at, label_at, label_defaults, label_keys, label_row, length, limit_at, list_any, list_at, list_maybe, list_required, match_ordering, member, name_at, named_at, nat_cmp, no_members, no_rows, offer_amount, offer_at, offer_defaults, offer_keys, offer_label, offers_at, only_keys, pool_at, pool_defaults, pool_keys, pool_row, pools_at, provider_at, provider_defaults, provider_keys, provider_row, put, refl, requester_at, requester_defaults, requester_keys, requester_row, semaphore_at, semaphore_defaults, semaphore_keys, slice_cmp, starts_at, string, takes_at, top_defaults, top_keys, true, wants_at, word_value, ℕ, ◌&&◌, ◌+◌, ◌∙◌, ◌≡◌, ◌≤◌}
+
+-- # what is found in an object with a member put in
+
+abbrev pub other : List ℕ → List ℕ → Type 0
+other k l = is_eq (slice_cmp nat_cmp k l) ≡ false
+
+pub passed : (r : Ordering) (a b : Option Data) → is_eq r ≡ false → match_ordering r a b a ≡ a
+passed Less a b e = refl
+passed Equal a b e = absurd (cc)
+passed Greater a b e = refl
+
+pub reached : (r : Ordering) (a b : Option Data) → is_eq r ≡ true → match_ordering r a b a ≡ b
+reached Less a b e = absurd (cc)
+reached Equal a b e = refl
+reached Greater a b e = absurd (cc)
+
+module _ (k : List ℕ) (d : Data) where
+  pub get-put : (ms : Members) → is_eq (slice_cmp nat_cmp k k) ≡ true → get_member k (put k d ms) ≡ Some d
+  get-put no_members same = reached (slice_cmp nat_cmp k k) None (Some d) same
+  get-put (member l e ms) same = by (slice_cmp nat_cmp k l) refl (get-put ms same)
+    where
+      by : (r : Ordering) → slice_cmp nat_cmp k l ≡ r → get_member k (put k d ms) ≡ Some d
+          → get_member k (match_ordering r (member k d (member l e ms)) (member l d ms) (member l e (put k d ms))) ≡ Some d
+      by Less is rest = reached (slice_cmp nat_cmp k k) (get_member k (member l e ms)) (Some d) same
+      by Equal is rest = reached (slice_cmp nat_cmp k l) (get_member k ms) (Some d) (ap is_eq is)
+      by Greater is rest = passed (slice_cmp nat_cmp k l) (get_member k (put k d ms)) (Some e) (ap is_eq is) ∙ rest
+
+  -- another key finds what it found, if the key was absent
+  pub get-put_other : (j : List ℕ) (ms : Members) → other j k → get_member k ms ≡ None → get_member j (put k d ms) ≡ get_member j ms
+  get-put_other j no_members apart absent = passed (slice_cmp nat_cmp j k) None (Some d) apart
+  get-put_other j (member l e ms) apart absent = by (slice_cmp nat_cmp k l) absent (get-put_other j ms apart)
+    where
+      by : (r : Ordering) → match_ordering r (get_member k ms) (Some e) (get_member k ms) ≡ None → (get_member k ms ≡ None → get_member j (put k d ms) ≡ get_member j ms)
+          → get_member j (match_ordering r (member k d (member l e ms)) (member l d ms) (member l e (put k d ms))) ≡ get_member j (member l e ms)
+      by Less absent rest = passed (slice_cmp nat_cmp j k) (get_member j (member l e ms)) (Some d) apart
+      by Equal absent rest = absurd (cc)
+      by Greater absent rest = ap (λ o. match_ordering (slice_cmp nat_cmp j l) o (Some e) o) (rest absent)
+
+  pub keys-put : (keys : List (List ℕ)) (ms : Members) → list_any (bytes_eq k) keys ≡ true → only_keys keys (put k d ms) ≡ only_keys keys ms
+  keys-put keys no_members known = rw known refl
+  keys-put keys (member l e ms) known = by (slice_cmp nat_cmp k l) (keys-put keys ms known)
+    where
+      by : (r : Ordering) → only_keys keys (put k d ms) ≡ only_keys keys ms
+          → only_keys keys (match_ordering r (member k d (member l e ms)) (member l d ms) (member l e (put k d ms))) ≡ only_keys keys (member l e ms)
+      by Less rest = rw known refl
+      by Equal rest = refl
+      by Greater rest = ap (λ b. list_any (bytes_eq l) keys && b) rest
+
+-- # an object without an optional key reads as the object with its default put in
 
 module _ (at : List ℕ) (earlier : List Label) where
   label-min_ready : StandsFor (label_at at earlier) (default (codes "min-ready") (count 0))

@@ -1,11 +1,5 @@
+pub mod Prelude
 pub mod RowTakes
-pub mod PoolTakes
-pub mod TenantTakes
-pub mod JobTakes
-pub mod FullNames
 pub mod WalkTakes
-pub mod WalkExits
 pub mod Parsed
-pub mod Puts
 pub mod DefaultLemmas
-pub mod OnLiterals

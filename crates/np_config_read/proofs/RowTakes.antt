@@ -1,34 +1,7 @@
--- labels, semaphores, offers and starts that were read
-use Rattle.std.proofs.Common.{◌≡◌, ℕ, ◌+◌, ◌<◌, ◌≤◌, List, [], ◌∷◌, ◌++◌, codes, Bool, true, false, length, length-append, Some, Result, Ok, refl, sym, ap, ◌∙◌, subst, arith}
-use Rattle.std.specs.Prelude.{position, All}
-use Rattle.std.proofs.lemmas.List.Elements.{All-nil, All-push}
-use Rattle.std.specs.List.{list_any}
-use Rattle.std.specs.Str.{bytes_eq}
-use Rattle.std.proofs.lemmas.List.Quantifiers.{position-Some}
-use Rattle.serde_json.specs.Data.{Data}
-use Rattle.np_amount.specs.declared.amount.Amount.{Amount}
-use Rattle.np_text.specs.declared.id.LabelId.{LabelId}
-use Rattle.np_text.specs.Name.{is_name_text}
-use Rattle.np_json.specs.declared.fault.ConfigKind.TheVariants.{OutOfRange, Repeated, UnknownName}
-use Rattle.np_json.specs.declared.fault.ConfigFault.{ConfigFault}
-use Rattle.np_lists.specs.Refusals.{◌>>=◌, ◌>>◌, need}
-use Rattle.np_json.specs.Reading.{fault, below}
-use Rattle.np_json.specs.Leaf.{object_at, required, text_value, named_at, whole_value, whole_or}
-use Rattle.np_lists.proofs.RefusalLemmas.{bind-ok, rest-ok, need-ok, found-ok}
-use Rattle.np_json.proofs.Takes.{ok, same_ok, whole_value-takes, whole_or-takes, named_at-takes, list_required-takes, list_maybe-takes}
-use Rattle.np_text.specs.declared.limit.TheConstants.{LABELS, FAIL_STARTS, MIN_READY, AGE, NODE_CORES, NODE_RAM, START_NUMBER, HANDLES}
-use Rattle.np_json.specs.Leaf.{at_most}
-use Rattle.np_config_read.specs.Keys.{label_keys, offer_keys, semaphore_keys}
-use Rattle.np_config.specs.declared.row.Label.{Label}
-use Rattle.np_config.specs.declared.row.Sem.{Sem}
-use Rattle.np_config.specs.declared.row.Offer.{Offer}
-use Rattle.np_config_read.specs.Names.{label_named}
-use Rattle.np_config_read.specs.Labels.{label_row, label_at, semaphore_at}
-use Rattle.np_config_read.specs.Providers.{label_for, label_value, offer_label, offer_amount, offer_at, start_at, offers_at, starts_at}
-use Rattle.np_config.specs.Sound.{is_unoffered, is_above}
-use Rattle.np_lists.specs.EachAfter.{EachAfter}
-use Rattle.np_config.specs.Sound.{HasNewName, IsLabel, IsSem, IsOffer, IsStart}
-use Rattle.np_lists.proofs.EachAfterLemmas.{EachAfter-push}
+-- the rows of a configuration that were read are sound, from labels and semaphores to pools, tenants and jobs
+use Rattle.np_config_read.proofs.Prelude.{AGE, All, All-append, All-nil, All-push, All-weaker, Amount, AreProviders, AreRequesters, Bool, CONCURRENCY, ConfigFault, Data, Demand, EachAfter, EachAfter-append, EachAfter-push, EndAs, FAIL_STARTS, HANDLES, HasNewName, IfSome, IsJob, IsLabel, IsLimit, IsOffer, IsPool, IsPriority, IsProvider, IsRequester, IsSem, IsStart, IsTaken, IsTenant, IsWanted, JOBS, JOB_LABELS, JOB_SEMAPHORES, Job, JobsOf, LABELS, LAUNCHES, Label, LabelId, Length, Limit, List, MIN_READY, NODE_CORES, NODE_RAM, None, Offer, Ok, Option, OutOfRange, POOLS, POOL_CORES, POOL_RAM, POOL_SERVERS, Pool, PoolsOf, Provider, Providers, RELATIVE_PRIORITY, Repeated, Requester, RequesterId, Requesters, Result, START_NUMBER, Sem, SemId, Some, StandsByOwner, Tenant, TenantId, UnknownName, Used, WINDOW, after_earlier, ap, append-nil, arith, at_most, behind, below, bind-ok, bytes_eq, cases_lt, codes, cond, default_name, demand_at, end_as_of, false, fault, filter, filter-append, filter-keeps_all, flag_or, found-ok, found-some, get, inl, inr, is_above, is_name_text, is_unoffered, is_untaken, job_at, job_keys, job_row, jobs_at, label_at, label_for, label_keys, label_named, label_row, label_value, length, length-append, limit_at, list_any, list_maybe-takes, list_required-takes, meaning_of, named_at, named_at-takes, nat_tests, need, need-ok, not, not-true, object_at, offer_amount, offer_at, offer_keys, offer_label, offers_at, ok, one_to, option_map, option_map_or, pool_at, pool_keys, pool_row, pools_at, position, position-Some, priority_of, provider_at, provider_keys, provider_row, refl, requester_at, requester_keys, requester_row, required, rest-ok, same_ok, semaphore_at, semaphore_for, semaphore_keys, semaphore_named, start_at, starts_at, subst, sym, taken_at, takes_at, tenant_at, tenant_id, tenant_keys, tenant_named, text_value, true, wanted_at, wants_at, whole_maybe, whole_maybe-takes, whole_or, whole_or-takes, whole_value, whole_value-takes, word_or, word_value, ℕ, [], ◌++◌, ◌+◌, ◌<◌, ◌==◌, ◌>>=◌, ◌>>◌, ◌∙◌, ◌∷◌, ◌≡◌, ◌≤◌}
+
+-- # labels, semaphores, offers and starts that were read
 
 -- this many rows, each of which is sound
 abbrev pub Rows : {T : Type 0} → (List T → T → Type 0) → ℕ → List T → Type 0
@@ -179,3 +152,483 @@ RowsAlone-push Q n s t x same rows last = subst (RowsAlone Q (n + 1)) same (All-
 
 pub RowsAlone-none : {T : Type 0} (Q : T → Type 0) → RowsAlone Q 0 []
 RowsAlone-none Q = (All-nil Q, refl)
+
+-- # providers and pools that were read
+
+up_to : (most : ℕ) (o : Option ℕ) → IfSome o (λ n. (0 ≤ n) × (n ≤ most)) → IfSome o (λ n. n ≤ most)
+up_to most None within = tt
+up_to most (Some n) within = within.1
+
+abbrev made_limit : Option ℕ → Option ℕ → Option ℕ → Limit
+made_limit x y z = record { instances = x; cores = y; ram = z }
+
+pub limit_at-takes : (at : List ℕ) (d : Data) (l : Limit) → limit_at at d ≡ Ok l → IsLimit l
+unfolding limit_at
+limit_at-takes at d l e =
+    let servers = whole_maybe at (codes "max-servers") 0 POOL_SERVERS d in
+    let cores = whole_maybe at (codes "max-cores") 0 POOL_CORES d in
+    let ram = whole_maybe at (codes "max-ram") 0 POOL_RAM d in
+    let x = bind-ok servers (λ x. cores >>= λ y. ram >>= λ z. ok (made_limit x y z)) l e in
+    let y = bind-ok cores (λ y. ram >>= λ z. ok (made_limit x.0 y z)) l x.2 in
+    let z = bind-ok ram (λ z. ok (made_limit x.0 y.0 z)) l y.2 in
+    subst IsLimit (same_ok (made_limit x.0 y.0 z.0) l z.2) (record {
+      servers = up_to POOL_SERVERS x.0 (whole_maybe-takes at (codes "max-servers") 0 POOL_SERVERS d x.0 x.1);
+      cores = up_to POOL_CORES y.0 (whole_maybe-takes at (codes "max-cores") 0 POOL_CORES d y.0 y.1);
+      ram = up_to POOL_RAM z.0 (whole_maybe-takes at (codes "max-ram") 0 POOL_RAM d z.0 z.1);
+    })
+
+-- the rest of a pool, without its name
+record IsRest (labels provider : ℕ) (name : List ℕ) (p : Pool) : Type 0 where
+  same_name : p.name ≡ name
+  same_provider : p.provider ≡ provider
+  limit : IsLimit p.limit
+  offers : EachAfter (IsOffer labels) [] p.offers
+  few_offers : length p.offers ≤ LABELS
+  starts : EachAfter IsStart [] p.fail_starts
+  few_starts : length p.fail_starts ≤ FAIL_STARTS
+
+abbrev made_pool : ℕ → List ℕ → Limit → List Offer → List ℕ → Pool
+made_pool provider name l o s = record { provider = provider; name = name; limit = l; offers = o; fail_starts = s }
+
+pool_row-takes : (labels : List Label) (at : List ℕ) (provider : ℕ) (name : List ℕ) (d : Data) (p : Pool) → pool_row labels at provider name d ≡ Ok p → IsRest (length labels) provider name p
+unfolding pool_row
+pool_row-takes labels at provider name d p e =
+    let offers = offers_at labels at d in
+    let starts = starts_at at d in
+    let l = bind-ok (limit_at at d) (λ l. offers >>= λ o. starts >>= λ s. ok (made_pool provider name l o s)) p e in
+    let o = bind-ok offers (λ o. starts >>= λ s. ok (made_pool provider name l.0 o s)) p l.2 in
+    let s = bind-ok starts (λ s. ok (made_pool provider name l.0 o.0 s)) p o.2 in
+    let good_offers = offers_at-takes labels at d o.0 o.1 in
+    let good_starts = starts_at-takes at d s.0 s.1 in
+    subst (IsRest (length labels) provider name) (same_ok (made_pool provider name l.0 o.0 s.0) p s.2) (record {
+      same_name = refl;
+      same_provider = refl;
+      limit = limit_at-takes at d l.0 l.1;
+      offers = good_offers.0;
+      few_offers = good_offers.1;
+      starts = good_starts.0;
+      few_starts = good_starts.1;
+    })
+
+-- this many pools of the provider at a place
+record ArePools (labels provider n : ℕ) (s : PoolsOf) : Type 0 where
+  same_provider : s.provider ≡ provider
+  rows : Rows (IsPool labels) n s.pools
+  owned : All (λ p. p.provider ≡ provider) s.pools
+
+pool_at-takes : (labels : List Label) (k : ℕ) (at : List ℕ) (n : ℕ) (s t : PoolsOf) (d : Data) → ArePools (length labels) k n s → pool_at labels at s d ≡ Ok t → ArePools (length labels) k (n + 1) t
+unfolding pool_at
+pool_at-takes labels k at n s t d are e =
+    let put : Pool → Result PoolsOf ConfigFault = λ p. ok (record s { pools = s.pools ++ p ∷ [] }) in
+    let rest : List ℕ → Result PoolsOf ConfigFault = λ name. pool_row labels at s.provider name d >>= put in
+    let a = bind-ok (named_at (λ (p : Pool). p.name) pool_keys at s.pools d) rest t e in
+    let p = bind-ok (pool_row labels at s.provider a.0 d) put t a.2 in
+    let row = pool_row-takes labels at s.provider a.0 d p.0 p.1 in
+    let is : IsPool (length labels) s.pools p.0 = record {
+      name = new_name (λ (r : Pool). r.name) s.pools p.0 a.0 row.same_name (named_at-takes (λ (r : Pool). r.name) pool_keys at s.pools d a.0 a.1);
+      limit = row.limit;
+      offers = row.offers;
+      few_offers = row.few_offers;
+      starts = row.starts;
+      few_starts = row.few_starts;
+    } in
+    let next : PoolsOf = record s { pools = s.pools ++ p.0 ∷ [] } in
+    subst (ArePools (length labels) k (n + 1)) (same_ok next t p.2) (record {
+      same_provider = are.same_provider;
+      rows = Rows-push (IsPool (length labels)) n s.pools (s.pools ++ p.0 ∷ []) p.0 refl are.rows is;
+      owned = All-push (λ (r : Pool). r.provider ≡ k) s.pools p.0 are.owned (row.same_provider ∙ are.same_provider);
+    })
+
+-- the pools of a provider
+record AreOwn (labels provider earlier : ℕ) (ps : List Pool) : Type 0 where
+  each : EachAfter (IsPool labels) [] ps
+  owned : All (λ p. p.provider ≡ provider) ps
+  some : 1 ≤ length ps
+  few : earlier + length ps ≤ POOLS
+
+pools_at-takes : (labels : List Label) (at : List ℕ) (earlier k : ℕ) (d : Data) (own : PoolsOf) → pools_at labels at earlier k d ≡ Ok own → AreOwn (length labels) k earlier own.pools
+unfolding pools_at
+pools_at-takes labels at earlier k d own e =
+    let l : Length = behind earlier (one_to POOLS) in
+    let none : PoolsOf = record { provider = k; pools = [] } in
+    let start : ArePools (length labels) k 0 none = record { same_provider = refl; rows = (tt, refl); owned = All-nil (λ (p : Pool). p.provider ≡ k) } in
+    let r = list_required-takes (pool_at labels) (ArePools (length labels) k) (pool_at-takes labels k) at (codes "pools") l none own d start e in
+    let count : length own.pools ≡ r.0 = r.3.rows.1 in
+    record { each = r.3.rows.0; owned = r.3.owned; some = omega (arith, r.2); few = omega (arith, r.1) }
+
+abbrev made_provider : List ℕ → ℕ → Option ℕ → Provider
+made_provider name r c = record { name = name; retries = r; concurrency = c }
+
+record IsProviderRest (name : List ℕ) (p : Provider) : Type 0 where
+  same_name : p.name ≡ name
+  some_try : 1 ≤ p.retries
+  retries : p.retries ≤ LAUNCHES
+  concurrency : IfSome p.concurrency (λ n. (1 ≤ n) × (n ≤ CONCURRENCY))
+
+provider_row-takes : (at name : List ℕ) (d : Data) (p : Provider) → provider_row at name d ≡ Ok p → IsProviderRest name p
+unfolding provider_row
+provider_row-takes at name d p e =
+    let limits = whole_maybe at (codes "max-concurrency") 1 CONCURRENCY d in
+    let r = bind-ok (whole_or at (codes "launch-retries") 1 LAUNCHES 3 d) (λ r. limits >>= λ c. ok (made_provider name r c)) p e in
+    let c = bind-ok limits (λ c. ok (made_provider name r.0 c)) p r.2 in
+    let tries = whole_or-takes at (codes "launch-retries") 1 LAUNCHES 3 d r.0 (omega arith) (omega arith) r.1 in
+    subst (IsProviderRest name) (same_ok (made_provider name r.0 c.0) p c.2)
+    (record { same_name = refl; some_try = tries.0; retries = tries.1; concurrency = whole_maybe-takes at (codes "max-concurrency") 1 CONCURRENCY d c.0 c.1 })
+
+-- this many providers, with their pools
+abbrev pub Supply : ℕ → ℕ → Providers → Type 0
+Supply labels n s = AreProviders labels s.providers s.pools × (length s.providers ≡ n)
+
+-- one more provider, with its pools
+supply-more : (labels : ℕ) (providers : List Provider) (pools own : List Pool) (p : Provider) → AreProviders labels providers pools → IsProvider providers p → AreOwn labels (length providers) (length pools) own
+    → AreProviders labels (providers ++ p ∷ []) (pools ++ own)
+supply-more labels providers pools own p old next mine =
+    let k = length providers in
+    let longer : length (providers ++ p ∷ []) ≡ k + 1 = simp length-append (omega arith) in
+    let by_owner = StandsByOwner (λ (q : Pool). q.provider) (IsPool labels) in
+    let after = after_earlier (λ (q : Pool). q.provider) (IsPool labels) k pools [] own old.owned (All-nil (λ (q : Pool). q.provider ≡ k)) mine.owned mine.each in
+    record {
+      each_provider = EachAfter-push IsProvider [] providers p old.each_provider next;
+      each_pool = EachAfter-append by_owner [] pools own old.each_pool (subst (λ (e : List Pool). EachAfter by_owner e own) (append-nil pools) after);
+      few_pools = simp length-append (mine.few);
+      owned = All-append (λ (q : Pool). q.provider < length (providers ++ p ∷ [])) pools own
+          (All-weaker (λ (q : Pool). q.provider < k) (λ (q : Pool). q.provider < length (providers ++ p ∷ [])) (λ q h. omega arith) pools old.owned)
+          (All-weaker (λ (q : Pool). q.provider ≡ k) (λ (q : Pool). q.provider < length (providers ++ p ∷ [])) (λ q h. omega arith) own mine.owned);
+      each_has_one = λ j h.
+          let split : length (filter (λ q. q.provider == j) (pools ++ own)) ≡ length (filter (λ q. q.provider == j) pools) + length (filter (λ q. q.provider == j) own)
+          = ap length (filter-append (λ (q : Pool). q.provider == j) pools own) ∙ length-append (filter (λ q. q.provider == j) pools) (filter (λ q. q.provider == j) own) in
+          elim (cases_lt j k) [
+            | inl less ↦ let had = old.each_has_one j less in omega arith
+            | inr least ↦
+                let same : j ≡ k = omega arith in
+                let all : filter (λ q. q.provider == j) own ≡ own = filter-keeps_all (λ (q : Pool). q.provider == j) own (All-weaker (λ (q : Pool). q.provider ≡ k) (λ (q : Pool). (q.provider == j) ≡ true) (λ q h. grind (arith, nat_tests)) own mine.owned) in
+                let count : length (filter (λ q. q.provider == j) own) ≡ length own = ap length all in
+                let some = mine.some in
+                omega arith
+          ];
+    }
+
+pub provider_at-takes : (labels : List Label) (at : List ℕ) (n : ℕ) (s t : Providers) (d : Data) → Supply (length labels) n s → provider_at labels at s d ≡ Ok t → Supply (length labels) (n + 1) t
+unfolding provider_at
+provider_at-takes labels at n s t d are e =
+    let pools = pools_at labels at (length s.pools) (length s.providers) d in
+    let put : Provider → PoolsOf → Result Providers ConfigFault = λ p own. ok (record { providers = s.providers ++ p ∷ []; pools = s.pools ++ own.pools }) in
+    let rest : List ℕ → Result Providers ConfigFault = λ name. provider_row at name d >>= λ p. pools >>= put p in
+    let a = bind-ok (named_at (λ (p : Provider). p.name) provider_keys at s.providers d) rest t e in
+    let p = bind-ok (provider_row at a.0 d) (λ p. pools >>= put p) t a.2 in
+    let own = bind-ok pools (put p.0) t p.2 in
+    let row = provider_row-takes at a.0 d p.0 p.1 in
+    let is : IsProvider s.providers p.0 = record {
+      name = new_name (λ (r : Provider). r.name) s.providers p.0 a.0 row.same_name (named_at-takes (λ (r : Provider). r.name) provider_keys at s.providers d a.0 a.1);
+      some_try = row.some_try;
+      retries = row.retries;
+      concurrency = row.concurrency;
+    } in
+    let next : Providers = record { providers = s.providers ++ p.0 ∷ []; pools = s.pools ++ own.0.pools } in
+    let mine = pools_at-takes labels at (length s.pools) (length s.providers) d own.0 own.1 in
+    let count = are.1 in
+    subst (Supply (length labels) (n + 1)) (same_ok next t own.2)
+    (supply-more (length labels) s.providers s.pools own.0.pools p.0 are.0 is mine, simp length-append (omega arith))
+
+-- no providers
+pub supply-none : (labels : ℕ) → Supply labels 0 (record { providers = []; pools = [] })
+supply-none labels = (
+  record {
+    each_provider = tt;
+    each_pool = tt;
+    few_pools = omega arith;
+    owned = All-nil (λ (p : Pool). p.provider < 0);
+    each_has_one = λ k h. absurd (omega arith);
+  },
+  refl,
+)
+
+-- # tenants that were read
+
+abbrev made_tenant : List ℕ → Limit → Tenant
+made_tenant name l = record { name = name; limit = l }
+
+pub tenant_at-takes : (at : List ℕ) (n : ℕ) (s t : List Tenant) (d : Data) → Rows IsTenant n s → tenant_at at s d ≡ Ok t → Rows IsTenant (n + 1) t
+unfolding tenant_at
+tenant_at-takes at n s t d rows e =
+    let put : List ℕ → Limit → Result (List Tenant) ConfigFault = λ name l. ok (s ++ made_tenant name l ∷ []) in
+    let taken = fault Repeated (below at (codes "name")) in
+    let rest : List ℕ → Result (List Tenant) ConfigFault = λ name. need (not (bytes_eq name default_name)) taken >> (limit_at at d >>= put name) in
+    let a = bind-ok (named_at (λ (r : Tenant). r.name) tenant_keys at s d) rest t e in
+    let u = need-ok (not (bytes_eq a.0 default_name)) taken (limit_at at d >>= put a.0) t a.2 in
+    let l = bind-ok (limit_at at d) (put a.0) t u.1 in
+    let x = made_tenant a.0 l.0 in
+    let is : IsTenant s x = record {
+      name = new_name (λ (r : Tenant). r.name) s x a.0 refl (named_at-takes (λ (r : Tenant). r.name) tenant_keys at s d a.0 a.1);
+      listed = not-true (bytes_eq a.0 default_name) u.0;
+      limit = limit_at-takes at d l.0 l.1;
+    } in
+    Rows-push IsTenant n s t x (same_ok (s ++ x ∷ []) t l.2) rows is
+
+-- ## The tenant of a job
+
+tenant_named-takes : (tenants : List Tenant) (text : List ℕ) (t : TenantId) → tenant_named tenants text ≡ Some t → t.0 ≤ length tenants
+tenant_named-takes tenants text t e = by (bytes_eq text default_name) (position (λ r. bytes_eq text r.name) tenants) refl e
+  where
+    some : (a b : TenantId) → Some a ≡ Some b → a ≡ b
+    some a b h = cc
+
+    by : (b : Bool) (o : Option ℕ) → position (λ r. bytes_eq text r.name) tenants ≡ o → cond b (Some (tenant_id 0)) (option_map (λ n. tenant_id (n + 1)) o) ≡ Some t → t.0 ≤ length tenants
+    by true o is h = subst (λ (x : TenantId). x.0 ≤ length tenants) (some (tenant_id 0) t h) (omega arith)
+    by false None is h = absurd (cc)
+    by false (Some n) is h =
+        let within : n < length tenants = found_within (λ (r : Tenant). bytes_eq text r.name) tenants n is in
+        subst (λ (x : TenantId). x.0 ≤ length tenants) (some (tenant_id (n + 1)) t h) (omega arith)
+
+pub tenant-takes : (tenants : List Tenant) (at : List ℕ) (d : Data) (t : TenantId) → word_or (tenant_named tenants) at (codes "tenant") (tenant_id 0) d ≡ Ok t → t.0 ≤ length tenants
+unfolding word_value
+tenant-takes tenants at d t e = by (get (codes "tenant") d) e
+  where
+    here : List ℕ
+    here = below at (codes "tenant")
+
+    by : (o : Option Data) → option_map_or (word_value (tenant_named tenants) here) o (ok (tenant_id 0)) ≡ Ok t → t.0 ≤ length tenants
+    by None h = subst (λ (x : TenantId). x.0 ≤ length tenants) (same_ok (tenant_id 0) t h) (omega arith)
+    by (Some v) h =
+        let w = bind-ok (text_value here v) (meaning_of (tenant_named tenants) here) t h in
+        tenant_named-takes tenants w.0 t (found-some (tenant_named tenants w.0) (fault UnknownName here) t w.2)
+
+-- # requesters and jobs that were read
+
+-- ## Labels and semaphores of a job
+
+wanted_at-takes : (labels : List Label) (at : List ℕ) (n : ℕ) (s t : List LabelId) (d : Data) → RowsAlone (IsWanted (length labels)) n s → wanted_at labels at s d ≡ Ok t → RowsAlone (IsWanted (length labels)) (n + 1) t
+unfolding wanted_at
+wanted_at-takes labels at n s t d rows e =
+    let l = bind-ok (label_value labels at d) (λ l. ok (s ++ l ∷ [])) t e in
+    RowsAlone-push (IsWanted (length labels)) n s t l.0 (same_ok (s ++ l.0 ∷ []) t l.2) rows (label_value-takes labels at d l.0 l.1)
+
+wants_at-takes : (labels : List Label) (at : List ℕ) (d : Data) (t : List LabelId) → wants_at labels at d ≡ Ok t → All (IsWanted (length labels)) t × (1 ≤ length t) × (length t ≤ JOB_LABELS)
+unfolding wants_at
+wants_at-takes labels at d t e =
+    let l : Length = one_to JOB_LABELS in
+    let r = list_required-takes (wanted_at labels) (RowsAlone (IsWanted (length labels))) (wanted_at-takes labels) at (codes "labels") l [] t d (RowsAlone-none (IsWanted (length labels))) e in
+    let count : length t ≡ r.0 = r.3.1 in
+    (r.3.0, omega (arith, r.2), omega (arith, r.1))
+
+abbrev sem_id : ℕ → SemId
+sem_id n = record { 0 = n }
+
+semaphore_for-takes : (semaphores : List Sem) (at text : List ℕ) (x : SemId) → semaphore_for semaphores at text ≡ Ok x → x.0 < length semaphores
+unfolding semaphore_for
+semaphore_for-takes semaphores at text x e =
+    let f = found-ok (semaphore_named semaphores text) (fault UnknownName at) (λ n. ok (sem_id n)) x e in
+    subst (λ (y : SemId). y.0 < length semaphores) (same_ok (sem_id f.0) x f.2) (found_within (λ (r : Sem). bytes_eq text r.name) semaphores f.0 f.1)
+
+taken_at-takes : (semaphores : List Sem) (at : List ℕ) (n : ℕ) (s t : List SemId) (d : Data) → Rows (IsTaken (length semaphores)) n s → taken_at semaphores at s d ≡ Ok t → Rows (IsTaken (length semaphores)) (n + 1) t
+unfolding taken_at
+taken_at-takes semaphores at n s t d rows e =
+    let put : SemId → Result (List SemId) ConfigFault = λ x. need (is_untaken s x) (fault Repeated at) >> ok (s ++ x ∷ []) in
+    let w = bind-ok (text_value at d) (λ text. semaphore_for semaphores at text >>= put) t e in
+    let x = bind-ok (semaphore_for semaphores at w.0) put t w.2 in
+    let u = need-ok (is_untaken s x.0) (fault Repeated at) (ok (s ++ x.0 ∷ [])) t x.2 in
+    let is : IsTaken (length semaphores) s x.0 = record { semaphore = semaphore_for-takes semaphores at w.0 x.0 x.1; new = u.0 } in
+    Rows-push (IsTaken (length semaphores)) n s t x.0 (same_ok (s ++ x.0 ∷ []) t u.1) rows is
+
+takes_at-takes : (semaphores : List Sem) (at : List ℕ) (d : Data) (t : List SemId) → takes_at semaphores at d ≡ Ok t → EachAfter (IsTaken (length semaphores)) [] t × (length t ≤ JOB_SEMAPHORES)
+unfolding takes_at
+takes_at-takes semaphores at d t e =
+    let r = list_maybe-takes (taken_at semaphores) (Rows (IsTaken (length semaphores))) (taken_at-takes semaphores) at (codes "semaphores") (at_most JOB_SEMAPHORES) [] t d (omega arith) refl (tt, refl) e in
+    let count : length t ≡ r.0 = r.2.1 in
+    (r.2.0, omega (arith, r.1))
+
+-- ## The rest of a job
+
+priority_of-takes : (word : List ℕ) (n : ℕ) → priority_of word ≡ Some n → IsPriority n
+priority_of-takes word n e = by (bytes_eq word (codes "high")) (bytes_eq word (codes "normal")) (bytes_eq word (codes "low")) e
+  where
+    some : (a b : ℕ) → Some a ≡ Some b → a ≡ b
+    some a b h = cc
+
+    by : (x y z : Bool) → cond x (Some 100) (cond y (Some 200) (cond z (Some 300) None)) ≡ Some n → IsPriority n
+    by true y z h = inl (sym (some 100 n h))
+    by false true z h = inr (inl (sym (some 200 n h)))
+    by false false true h = inr (inr (sym (some 300 n h)))
+    by false false false h = absurd (cc)
+
+priority-takes : (at : List ℕ) (d : Data) (n : ℕ) → word_or priority_of at (codes "priority") 200 d ≡ Ok n → IsPriority n
+unfolding word_value
+priority-takes at d n e = by (get (codes "priority") d) e
+  where
+    here : List ℕ
+    here = below at (codes "priority")
+
+    by : (o : Option Data) → option_map_or (word_value priority_of here) o (ok 200) ≡ Ok n → IsPriority n
+    by None h = inr (inl (sym (same_ok 200 n h)))
+    by (Some v) h =
+        let w = bind-ok (text_value here v) (meaning_of priority_of here) n h in
+        priority_of-takes w.0 n (found-some (priority_of w.0) (fault UnknownName here) n w.2)
+
+record IsDemand (labels : ℕ) (x : Demand) : Type 0 where
+  wanted : All (IsWanted labels) x.labels
+  some_label : 1 ≤ length x.labels
+  few_labels : length x.labels ≤ JOB_LABELS
+  priority : IsPriority x.priority
+  relative : x.relative_priority ≤ RELATIVE_PRIORITY
+
+abbrev made_demand : List LabelId → ℕ → ℕ → Demand
+made_demand w p r = record { labels = w; priority = p; relative_priority = r }
+
+demand_at-takes : (labels : List Label) (at : List ℕ) (d : Data) (x : Demand) → demand_at labels at d ≡ Ok x → IsDemand (length labels) x
+unfolding demand_at
+demand_at-takes labels at d x e =
+    let priorities = word_or priority_of at (codes "priority") 200 d in
+    let relatives = whole_or at (codes "relative-priority") 0 RELATIVE_PRIORITY 0 d in
+    let w = bind-ok (wants_at labels at d) (λ w. priorities >>= λ p. relatives >>= λ r. ok (made_demand w p r)) x e in
+    let p = bind-ok priorities (λ p. relatives >>= λ r. ok (made_demand w.0 p r)) x w.2 in
+    let r = bind-ok relatives (λ r. ok (made_demand w.0 p.0 r)) x p.2 in
+    let wanted = wants_at-takes labels at d w.0 w.1 in
+    let relative = whole_or-takes at (codes "relative-priority") 0 RELATIVE_PRIORITY 0 d r.0 (omega arith) (omega arith) r.1 in
+    subst (IsDemand (length labels)) (same_ok (made_demand w.0 p.0 r.0) x r.2)
+    (record { wanted = wanted.0; some_label = wanted.1; few_labels = wanted.2; priority = priority-takes at d p.0 p.1; relative = relative.1 })
+
+-- a job that was made of its parts
+record IsMade (semaphores tenants : ℕ) (requester : RequesterId) (name : List ℕ) (x : Demand) (j : Job) : Type 0 where
+  same_requester : j.requester ≡ requester
+  same_name : j.name ≡ name
+  same_labels : j.labels ≡ x.labels
+  same_priority : j.priority ≡ x.priority
+  same_relative : j.relative_priority ≡ x.relative_priority
+  taken : EachAfter (IsTaken semaphores) [] j.semaphores
+  few_taken : length j.semaphores ≤ JOB_SEMAPHORES
+  tenant : j.tenant.0 ≤ tenants
+
+abbrev made_job : RequesterId → List ℕ → Demand → List SemId → Bool → EndAs → TenantId → Job
+made_job requester name x taken first end tenant = record { requester = requester; name = name; labels = x.labels; priority = x.priority; relative_priority = x.relative_priority; semaphores = taken; resources_first = first; end = end; tenant = tenant }
+
+job_row-takes : (semaphores : List Sem) (tenants : List Tenant) (at : List ℕ) (requester : RequesterId) (name : List ℕ) (x : Demand) (d : Data) (j : Job) → job_row semaphores tenants at requester name x d ≡ Ok j → IsMade (length semaphores) (length tenants) requester name x j
+unfolding job_row
+job_row-takes semaphores tenants at requester name x d j e =
+    let flags = flag_or at (codes "resources-first") false d in
+    let ends = word_or end_as_of at (codes "end") Used d in
+    let made = made_job requester name x in
+    let theirs = word_or (tenant_named tenants) at (codes "tenant") (tenant_id 0) d in
+    let t = bind-ok (takes_at semaphores at d) (λ t. flags >>= λ f. ends >>= λ u. theirs >>= λ w. ok (made t f u w)) j e in
+    let f = bind-ok flags (λ f. ends >>= λ u. theirs >>= λ w. ok (made t.0 f u w)) j t.2 in
+    let u = bind-ok ends (λ u. theirs >>= λ w. ok (made t.0 f.0 u w)) j f.2 in
+    let w = bind-ok theirs (λ w. ok (made t.0 f.0 u.0 w)) j u.2 in
+    let taken = takes_at-takes semaphores at d t.0 t.1 in
+    subst (IsMade (length semaphores) (length tenants) requester name x) (same_ok (made t.0 f.0 u.0 w.0) j w.2) (record {
+      same_requester = refl;
+      same_name = refl;
+      same_labels = refl;
+      same_priority = refl;
+      same_relative = refl;
+      taken = taken.0;
+      few_taken = taken.1;
+      tenant = tenant-takes tenants at d w.0 w.1;
+    })
+
+record AreJobs (labels semaphores tenants : ℕ) (requester : RequesterId) (n : ℕ) (s : JobsOf) : Type 0 where
+  same_requester : s.requester ≡ requester
+  rows : Rows (IsJob labels semaphores tenants) n s.jobs
+  owned : All (λ j. j.requester.0 ≡ requester.0) s.jobs
+
+job_at-takes : (labels : List Label) (semaphores : List Sem) (tenants : List Tenant) (k : RequesterId) (at : List ℕ) (n : ℕ) (s t : JobsOf) (d : Data) → AreJobs (length labels) (length semaphores) (length tenants) k n s → job_at labels semaphores tenants at s d ≡ Ok t
+    → AreJobs (length labels) (length semaphores) (length tenants) k (n + 1) t
+unfolding job_at
+job_at-takes labels semaphores tenants k at n s t d are e =
+    let put : Job → Result JobsOf ConfigFault = λ j. ok (record s { jobs = s.jobs ++ j ∷ [] }) in
+    let row : List ℕ → Demand → Result JobsOf ConfigFault = λ name x. job_row semaphores tenants at s.requester name x d >>= put in
+    let rest : List ℕ → Result JobsOf ConfigFault = λ name. demand_at labels at d >>= row name in
+    let a = bind-ok (named_at (λ (j : Job). j.name) job_keys at s.jobs d) rest t e in
+    let x = bind-ok (demand_at labels at d) (row a.0) t a.2 in
+    let j = bind-ok (job_row semaphores tenants at s.requester a.0 x.0 d) put t x.2 in
+    let demand = demand_at-takes labels at d x.0 x.1 in
+    let made = job_row-takes semaphores tenants at s.requester a.0 x.0 d j.0 j.1 in
+    let labels_same = sym made.same_labels in
+    let is : IsJob (length labels) (length semaphores) (length tenants) s.jobs j.0 = record {
+      name = new_name (λ (r : Job). r.name) s.jobs j.0 a.0 made.same_name (named_at-takes (λ (r : Job). r.name) job_keys at s.jobs d a.0 a.1);
+      wanted = subst (All (IsWanted (length labels))) labels_same demand.wanted;
+      some_label = subst (λ (ls : List LabelId). 1 ≤ length ls) labels_same demand.some_label;
+      few_labels = subst (λ (ls : List LabelId). length ls ≤ JOB_LABELS) labels_same demand.few_labels;
+      priority = subst IsPriority (sym made.same_priority) demand.priority;
+      relative = subst (λ (m : ℕ). m ≤ RELATIVE_PRIORITY) (sym made.same_relative) demand.relative;
+      taken = made.taken;
+      few_taken = made.few_taken;
+      tenant = made.tenant;
+    } in
+    let next : JobsOf = record s { jobs = s.jobs ++ j.0 ∷ [] } in
+    subst (AreJobs (length labels) (length semaphores) (length tenants) k (n + 1)) (same_ok next t j.2) (record {
+      same_requester = are.same_requester;
+      rows = Rows-push (IsJob (length labels) (length semaphores) (length tenants)) n s.jobs (s.jobs ++ j.0 ∷ []) j.0 refl are.rows is;
+      owned = All-push (λ (r : Job). r.requester.0 ≡ k.0) s.jobs j.0 are.owned (ap (λ (q : RequesterId). q.0) (made.same_requester ∙ are.same_requester));
+    })
+
+record AreOwnJobs (labels semaphores tenants earlier : ℕ) (k : RequesterId) (js : List Job) : Type 0 where
+  each : EachAfter (IsJob labels semaphores tenants) [] js
+  owned : All (λ j. j.requester.0 ≡ k.0) js
+  few : earlier + length js ≤ JOBS
+
+jobs_at-takes : (labels : List Label) (semaphores : List Sem) (tenants : List Tenant) (at : List ℕ) (earlier : ℕ) (k : RequesterId) (d : Data) (own : JobsOf) → earlier ≤ JOBS → jobs_at labels semaphores tenants at earlier k d ≡ Ok own
+    → AreOwnJobs (length labels) (length semaphores) (length tenants) earlier k own.jobs
+unfolding jobs_at
+jobs_at-takes labels semaphores tenants at earlier k d own room e =
+    let l : Length = behind earlier (at_most JOBS) in
+    let none : JobsOf = record { requester = k; jobs = [] } in
+    let start : AreJobs (length labels) (length semaphores) (length tenants) k 0 none = record { same_requester = refl; rows = (tt, refl); owned = All-nil (λ (j : Job). j.requester.0 ≡ k.0) } in
+    let r = list_maybe-takes (job_at labels semaphores tenants) (AreJobs (length labels) (length semaphores) (length tenants) k) (job_at-takes labels semaphores tenants k) at (codes "jobs") l none own d room refl start e in
+    let count : length own.jobs ≡ r.0 = r.2.rows.1 in
+    record { each = r.2.rows.0; owned = r.2.owned; few = omega (arith, r.1) }
+
+abbrev made_requester : List ℕ → ℕ → Requester
+made_requester name w = record { name = name; window = w }
+
+requester_row-takes : (at name : List ℕ) (d : Data) (q : Requester) → requester_row at name d ≡ Ok q → (q.name ≡ name) × (1 ≤ q.window) × (q.window ≤ WINDOW)
+unfolding requester_row
+requester_row-takes at name d q e =
+    let w = bind-ok (whole_or at (codes "window") 1 WINDOW 20 d) (λ w. ok (made_requester name w)) q e in
+    let window = whole_or-takes at (codes "window") 1 WINDOW 20 d w.0 (omega arith) (omega arith) w.1 in
+    subst (λ (x : Requester). (x.name ≡ name) × (1 ≤ x.window) × (x.window ≤ WINDOW)) (same_ok (made_requester name w.0) q w.2) (refl, window.0, window.1)
+
+-- this many requesters, with their jobs
+abbrev pub Demands : ℕ → ℕ → ℕ → ℕ → Requesters → Type 0
+Demands labels semaphores tenants n s = AreRequesters labels semaphores tenants s.requesters s.jobs × (length s.requesters ≡ n)
+
+demands-more : (labels semaphores tenants : ℕ) (requesters : List Requester) (jobs own : List Job) (q : Requester) (k : RequesterId) → k.0 ≡ length requesters → AreRequesters labels semaphores tenants requesters jobs → IsRequester requesters q
+    → AreOwnJobs labels semaphores tenants (length jobs) k own → AreRequesters labels semaphores tenants (requesters ++ q ∷ []) (jobs ++ own)
+demands-more labels semaphores tenants requesters jobs own q k here old next mine =
+    let longer : length (requesters ++ q ∷ []) ≡ length requesters + 1 = simp length-append (omega arith) in
+    let by_owner = StandsByOwner (λ (j : Job). j.requester.0) (IsJob labels semaphores tenants) in
+    let less : All (λ j. j.requester.0 < k.0) jobs = All-weaker (λ (j : Job). j.requester.0 < length requesters) (λ (j : Job). j.requester.0 < k.0) (λ j h. omega arith) jobs old.owned in
+    let after = after_earlier (λ (j : Job). j.requester.0) (IsJob labels semaphores tenants) k.0 jobs [] own less (All-nil (λ (j : Job). j.requester.0 ≡ k.0)) mine.owned mine.each in
+    record {
+      each_requester = EachAfter-push IsRequester [] requesters q old.each_requester next;
+      each_job = EachAfter-append by_owner [] jobs own old.each_job (subst (λ (e : List Job). EachAfter by_owner e own) (append-nil jobs) after);
+      few_jobs = simp length-append (mine.few);
+      owned = All-append (λ (j : Job). j.requester.0 < length (requesters ++ q ∷ [])) jobs own
+          (All-weaker (λ (j : Job). j.requester.0 < length requesters) (λ (j : Job). j.requester.0 < length (requesters ++ q ∷ [])) (λ j h. omega arith) jobs old.owned)
+          (All-weaker (λ (j : Job). j.requester.0 ≡ k.0) (λ (j : Job). j.requester.0 < length (requesters ++ q ∷ [])) (λ j h. omega arith) own mine.owned);
+    }
+
+pub requester_at-takes : (labels : List Label) (semaphores : List Sem) (tenants : List Tenant) (at : List ℕ) (n : ℕ) (s t : Requesters) (d : Data) → Demands (length labels) (length semaphores) (length tenants) n s → requester_at labels semaphores tenants at s d ≡ Ok t
+    → Demands (length labels) (length semaphores) (length tenants) (n + 1) t
+unfolding requester_at
+requester_at-takes labels semaphores tenants at n s t d are e =
+    let k : RequesterId = record { 0 = length s.requesters } in
+    let jobs = jobs_at labels semaphores tenants at (length s.jobs) k d in
+    let put : Requester → JobsOf → Result Requesters ConfigFault = λ q own. ok (record { requesters = s.requesters ++ q ∷ []; jobs = s.jobs ++ own.jobs }) in
+    let rest : List ℕ → Result Requesters ConfigFault = λ name. requester_row at name d >>= λ q. jobs >>= put q in
+    let a = bind-ok (named_at (λ (q : Requester). q.name) requester_keys at s.requesters d) rest t e in
+    let q = bind-ok (requester_row at a.0 d) (λ q. jobs >>= put q) t a.2 in
+    let own = bind-ok jobs (put q.0) t q.2 in
+    let row = requester_row-takes at a.0 d q.0 q.1 in
+    let is : IsRequester s.requesters q.0 = record {
+      name = new_name (λ (r : Requester). r.name) s.requesters q.0 a.0 row.0 (named_at-takes (λ (r : Requester). r.name) requester_keys at s.requesters d a.0 a.1);
+      some = row.1;
+      window = row.2;
+    } in
+    let next : Requesters = record { requesters = s.requesters ++ q.0 ∷ []; jobs = s.jobs ++ own.0.jobs } in
+    let mine = jobs_at-takes labels semaphores tenants at (length s.jobs) k d own.0 are.0.few_jobs own.1 in
+    let count = are.1 in
+    subst (Demands (length labels) (length semaphores) (length tenants) (n + 1)) (same_ok next t own.2)
+    (demands-more (length labels) (length semaphores) (length tenants) s.requesters s.jobs own.0.jobs q.0 k refl are.0 is mine, simp length-append (omega arith))
+
+-- no requesters
+pub demands-none : (labels semaphores tenants : ℕ) → Demands labels semaphores tenants 0 (record { requesters = []; jobs = [] })
+demands-none labels semaphores tenants = (record { each_requester = tt; each_job = tt; few_jobs = omega arith; owned = All-nil (λ (j : Job). j.requester.0 < 0) }, refl)

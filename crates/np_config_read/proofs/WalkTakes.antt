@@ -1,50 +1,156 @@
--- a configuration that was read is sound
-use Rattle.std.proofs.Common.{◌≡◌, ℕ, ◌+◌, ◌<◌, ◌≤◌, List, [], ◌∷◌, ◌++◌, codes, length, Option, Some, Result, Ok, Err, IfOk, refl, subst, arith}
-use Rattle.std.specs.Prelude.{All, ◌^◌}
-use Rattle.std.specs.Str.{bytes_eq}
-use Rattle.std.proofs.lemmas.List.{length-map}
-use Rattle.serde_json.specs.Data.{Data}
-use Rattle.np_text.specs.declared.id.Role.{Role}
-use Rattle.np_text.specs.declared.id.Role.TheVariants as role
-use Rattle.np_json.specs.declared.fault.ConfigKind.TheVariants.{NotJson, UnknownName}
-use Rattle.np_json.specs.declared.fault.ConfigFault.{ConfigFault}
-use Rattle.np_lists.specs.Refusals.{◌>>=◌}
-use Rattle.np_json.specs.declared.fault.ConfigRead.{ConfigRead}
-use Rattle.np_json.specs.Reading.{Gives, fault, below}
-use Rattle.np_json.specs.Leaf.{object_at, required, text_value, whole_or, whole_required}
-use Rattle.np_lists.proofs.RefusalLemmas.{bind-ok, rest-ok, found-ok, found-some}
-use Rattle.np_json.proofs.Takes.{ok, same_ok, whole_or-takes, whole_required-takes, list_required-takes, list_maybe-takes}
-use Rattle.np_text.specs.declared.limit.TheConstants.{LABELS, PROVIDERS, SEMAPHORES, TENANTS, REQUESTERS, FAULTS, AGE, FAULT_ACTS}
-use Rattle.np_json.specs.Leaf.{at_most, one_to}
-use Rattle.np_config_read.specs.Keys.{top_keys, fault_keys}
-use Rattle.np_text.specs.Word.{role_kind_of}
-use Rattle.np_config.specs.Word.{fault_kind_of}
-use Rattle.np_config.specs.declared.row.Label.{Label}
-use Rattle.np_config.specs.declared.row.Sem.{Sem}
-use Rattle.np_config.specs.declared.row.Tenant.{Tenant}
-use Rattle.np_config.specs.declared.row.Requester.{Requester}
-use Rattle.np_config.specs.declared.row.Fault.{Fault}
-use Rattle.np_config.specs.declared.row.FaultKind.{FaultKind}
-use Rattle.np_text.specs.declared.word.RoleKind.{RoleKind}
-use Rattle.np_text.specs.declared.word.RoleKind.TheVariants as kind
-use Rattle.np_config_read.specs.declared.providers.Providers.{Providers}
-use Rattle.np_config_read.specs.declared.requesters.Requesters.{Requesters}
-use Rattle.np_config.specs.Configuration.{Configuration, configuration}
-use Rattle.np_config_read.specs.Names.{pool_names, pool_name, pool_named, requester_named, IsUnused}
-use Rattle.np_config_read.specs.Labels.{label_at, semaphore_at}
-use Rattle.np_config_read.specs.Providers.{provider_at}
-use Rattle.np_config_read.specs.Tenants.{tenant_at}
-use Rattle.np_config_read.specs.Requesters.{meaning_of, word_value, requester_at}
-use Rattle.np_config_read.specs.Faults.{role_named, required_word, role_at, fault_at}
-use Rattle.np_config_read.specs.Walk.{labels_at, providers_at, semaphores_at, tenants_at, requesters_at, faults_at, configuration_at, parsed, reads}
-use Rattle.np_config_read.proofs.FullNames.{pool_names-unused}
-use Rattle.np_lists.specs.EachAfter.{EachAfter}
-use Rattle.np_config.specs.Sound.{IsLabel, IsSem, IsTenant, IsRole, IsFault, IsSound}
-use Rattle.np_config_read.proofs.RowTakes.{Rows, RowsAlone, RowsAlone-push, RowsAlone-none, found_within, label_at-takes, semaphore_at-takes}
-use Rattle.np_config_read.proofs.PoolTakes.{Supply, provider_at-takes, supply-none}
-use Rattle.np_config_read.proofs.TenantTakes.{tenant_at-takes}
-use Rattle.np_config_read.proofs.JobTakes.{Demands, requester_at-takes, demands-none}
-use Rattle.np_lists.proofs.Plain.{from-map_some}
+-- the walk through a whole configuration: where it stops, where it ends, and that what it read is sound
+use Rattle.np_config_read.proofs.Prelude.{AGE, All, All-head, All-tail, AreProviders, Bool, ConfigFault, ConfigRead, Configuration, Data, EachAfter, Err, FAULTS, FAULT_ACTS, Fails, Fault, FaultKind, Gives, IfOk, IsFault, IsLabel, IsPool, IsProvider, IsRole, IsSem, IsSound, IsTenant, IsUnused, LABELS, Label, List, NotJson, Ok, Option, PROVIDERS, Pool, Provider, Providers, REQUESTERS, Requester, Requesters, Result, Role, RoleKind, SEMAPHORES, Sem, Some, StandsByOwner, TENANTS, Tenant, UnknownName, and_false, and_parts, ap, append-nil, append_assoc, arith, at_most, below, bind-ok, binds, bytes_eq, codes, cond, configuration, configuration_at, false, fault, fault_at, fault_keys, fault_kind_of, fault_of, faults_at, filter, found-ok, found-some, from-map_some, get_or, is_name_byte, is_name_text, label_at, labels_at, length, length-map, list_all, list_any, list_maybe-takes, list_required-takes, map, map-append, meaning_of, nat_le, nat_tests, not, object_at, ok, one_to, option_map_or, or_parts, parsed, pool_name, pool_named, pool_names, provider_at, providers_at, reads, refl, requester_at, requester_named, requesters_at, required, required_word, rest-ok, role_at, role_kind_of, role_named, same_ok, semaphore_at, semaphores_at, slice_get, subst, suc, sym, take, tenant_at, tenants_at, text_value, top_keys, true, whole_or, whole_or-takes, whole_required, whole_required-takes, word_value, zero, ℕ, [], ◌&&◌, ◌++◌, ◌+◌, ◌<◌, ◌==◌, ◌>>=◌, ◌^◌, ◌∙◌, ◌∷◌, ◌≡◌, ◌≤◌}
+use Rattle.np_config_read.proofs.RowTakes.{Demands, Rows, RowsAlone, RowsAlone-none, RowsAlone-push, Supply, demands-none, found_within, label_at-takes, provider_at-takes, requester_at-takes, semaphore_at-takes, supply-none, tenant_at-takes}
+
+-- # where the walk through a configuration stops late, and where it ends
+
+module _ (d : Data) (u : Unit {0}) (object : object_at [] top_keys d ≡ Ok u) (ls : List Label) (labels : labels_at d ≡ Ok ls) (a : ℕ) (age : whole_or [] (codes "max-hold-age") 0 AGE 0 d ≡ Ok a)
+    (s : Providers) (providers : providers_at ls d ≡ Ok s) (ss : List Sem) (semaphores : semaphores_at d ≡ Ok ss) where
+  abbrev names : List (List ℕ)
+  names = pool_names s.providers s.pools
+
+  abbrev planned : List Tenant → Requesters → Result Configuration ConfigFault
+  planned ts r = faults_at names r.requesters d >>= λ fs. ok (configuration ls s.providers s.pools ss ts r.requesters r.jobs fs a)
+
+  pub at_tenants : (e : ConfigRead) → Fails e (fault_of (tenants_at d)) → Fails e (fault_of (configuration_at d))
+  unfolding configuration_at
+  at_tenants e fails = rw (object, labels, age, providers, semaphores) (binds e (tenants_at d) (λ ts. requesters_at ls ss ts d >>= planned ts) fails)
+
+  module _ (ts : List Tenant) (tenants : tenants_at d ≡ Ok ts) where
+    pub at_requesters : (e : ConfigRead) → Fails e (fault_of (requesters_at ls ss ts d)) → Fails e (fault_of (configuration_at d))
+    unfolding configuration_at
+    at_requesters e fails = rw (object, labels, age, providers, semaphores, tenants) (binds e (requesters_at ls ss ts d) (planned ts) fails)
+
+    module _ (r : Requesters) (requesters : requesters_at ls ss ts d ≡ Ok r) where
+      pub at_faults : (e : ConfigRead) → Fails e (fault_of (faults_at names r.requesters d)) → Fails e (fault_of (configuration_at d))
+      unfolding configuration_at
+      at_faults e fails =
+          rw (object, labels, age, providers, semaphores, tenants, requesters)
+          (binds e (faults_at names r.requesters d) (λ fs. ok (configuration ls s.providers s.pools ss ts r.requesters r.jobs fs a)) fails)
+
+      pub at_end : (fs : List Fault) → faults_at names r.requesters d ≡ Ok fs → configuration_at d ≡ Ok (configuration ls s.providers s.pools ss ts r.requesters r.jobs fs a)
+      unfolding configuration_at
+      at_end fs faults = rw (object, labels, age, providers, semaphores, tenants, requesters, faults) refl
+
+-- # full names of pools: no two pools have one
+
+abbrev plain : List ℕ → Type 0
+plain text = list_all (λ b. not (b == 47)) text ≡ true
+
+plain_byte : (b : ℕ) → is_name_byte b ≡ true → not (b == 47) ≡ true
+plain_byte b named = grind (arith, nat_tests)
+
+plain_bytes : (text : List ℕ) → list_all is_name_byte text ≡ true → plain text
+plain_bytes [] named = refl
+plain_bytes (b ∷ text) named =
+    let parts = and_parts (is_name_byte b) (list_all is_name_byte text) named in
+    rw (plain_byte b parts.0) (plain_bytes text parts.1)
+
+plain_name : (text : List ℕ) → is_name_text text ≡ true → plain text
+unfolding is_name_text
+plain_name text named = plain_bytes text (and_parts (nat_le 1 (length text) && nat_le (length text) 64) (list_all is_name_byte text) named).1
+
+and_assoc : (a b c : Bool) → (a && (b && c)) ≡ ((a && b) && c)
+and_assoc true b c = refl
+and_assoc false b c = refl
+
+-- two texts before a slash, and what follows it, are compared part by part
+pub bytes_eq-slash : (p q m n : List ℕ) → plain p → plain q → bytes_eq (p ++ 47 ∷ m) (q ++ 47 ∷ n) ≡ (bytes_eq p q && bytes_eq m n)
+bytes_eq-slash [] [] m n no_slash none = refl
+bytes_eq-slash [] (b ∷ q) m n no_slash none =
+    let parts = and_parts (not (b == 47)) (list_all (λ c. not (c == 47)) q) none in
+    let other : (47 == b) ≡ false = grind (arith, nat_tests, parts.0) in
+    rw other refl
+bytes_eq-slash (a ∷ p) [] m n no_slash none =
+    let parts = and_parts (not (a == 47)) (list_all (λ c. not (c == 47)) p) no_slash in
+    let other : (a == 47) ≡ false = grind (arith, nat_tests, parts.0) in
+    rw other refl
+bytes_eq-slash (a ∷ p) (b ∷ q) m n no_slash none =
+    let one = and_parts (not (a == 47)) (list_all (λ c. not (c == 47)) p) no_slash in
+    let two = and_parts (not (b == 47)) (list_all (λ c. not (c == 47)) q) none in
+    ap (λ r. (a == b) && r) (bytes_eq-slash p q m n one.1 two.1) ∙ and_assoc (a == b) (bytes_eq p q) (bytes_eq m n)
+
+-- ## Names of providers
+
+-- the name of the provider at a place
+abbrev pub name_at_place : List Provider → ℕ → List ℕ
+name_at_place providers k = option_map_or (λ q. q.name) (slice_get providers k) []
+
+provider_at_place : (e xs : List Provider) (j : ℕ) → j < length xs → EachAfter IsProvider e xs → (p : Provider) × (slice_get xs j ≡ Some p) × IsProvider (e ++ take j xs) p
+provider_at_place e [] j within each = absurd (omega arith)
+provider_at_place e (x ∷ xs) zero within each = (x, refl, subst (λ (es : List Provider). IsProvider es x) (sym (append-nil e)) each.0)
+provider_at_place e (x ∷ xs) (suc j) within each =
+    let there = provider_at_place (e ++ x ∷ []) xs j (omega arith) each.1 in
+    (there.0, there.1, subst (λ (es : List Provider). IsProvider es there.0) (append_assoc e (x ∷ []) (take j xs)) there.2)
+
+some_same : {T : Type 0} (a b : T) → Some a ≡ Some b → a ≡ b
+some_same a b e = cc
+
+none_before : {T : Type 0} (test : T → Bool) (xs : List T) (j i : ℕ) (q : T) → list_any test (take j xs) ≡ false → i < j → slice_get xs i ≡ Some q → test q ≡ false
+none_before test [] j i q none less there = absurd (cc)
+none_before test (x ∷ xs) zero i q none less there = absurd (omega arith)
+none_before test (x ∷ xs) (suc j) zero q none less there = ap test (sym (some_same x q there)) ∙ (or_parts (test x) (list_any test (take j xs)) none).0
+none_before test (x ∷ xs) (suc j) (suc i) q none less there = none_before test xs j i q (or_parts (test x) (list_any test (take j xs)) none).1 (omega arith) there
+
+pub plain_place : (ps : List Provider) (j : ℕ) → j < length ps → EachAfter IsProvider [] ps → plain (name_at_place ps j)
+plain_place ps j within each =
+    let there = provider_at_place [] ps j within each in
+    rw there.1 (plain_name there.0.name there.2.name.named)
+
+apart_places : (ps : List Provider) (i j : ℕ) → i < j → j < length ps → EachAfter IsProvider [] ps → bytes_eq (name_at_place ps j) (name_at_place ps i) ≡ false
+apart_places ps i j less within each =
+    let late = provider_at_place [] ps j within each in
+    let early = provider_at_place [] ps i (omega arith) each in
+    rw (late.1, early.1) (none_before (λ (row : Provider). bytes_eq late.0.name row.name) ps j i early.0 late.2.name.new less early.1)
+
+-- ## Names of pools
+
+module _ (ps : List Provider) (good : EachAfter IsProvider [] ps) where
+  unused : (x : Pool) (e : List Pool) → x.provider < length ps → All (λ y. y.provider ≤ x.provider) e → list_any (λ r. bytes_eq x.name r.name) (filter (λ y. y.provider == x.provider) e) ≡ false
+      → list_any (bytes_eq (pool_name ps x)) (map (pool_name ps) e) ≡ false
+  unused x [] within before none = refl
+  unused x (y ∷ e) within before none =
+      let less : y.provider ≤ x.provider = All-head (λ (z : Pool). z.provider ≤ x.provider) y e before in
+      let later = All-tail (λ (z : Pool). z.provider ≤ x.provider) y e before in
+      by (y.provider == x.provider) refl none less (λ none'. unused x e within later none')
+    where
+      pieces : bytes_eq (pool_name ps x) (pool_name ps y) ≡ (bytes_eq (name_at_place ps x.provider) (name_at_place ps y.provider) && bytes_eq x.name y.name) → (bytes_eq (name_at_place ps x.provider) (name_at_place ps y.provider) && bytes_eq x.name y.name) ≡ false
+          → list_any (bytes_eq (pool_name ps x)) (map (pool_name ps) e) ≡ false → list_any (bytes_eq (pool_name ps x)) (map (pool_name ps) (y ∷ e)) ≡ false
+      pieces eq apart rest = rw (eq ∙ apart) rest
+
+      by : (b : Bool) → (y.provider == x.provider) ≡ b → list_any (λ r. bytes_eq x.name r.name) (cond b (y ∷ filter (λ z. z.provider == x.provider) e) (filter (λ z. z.provider == x.provider) e)) ≡ false → y.provider ≤ x.provider
+          → (list_any (λ r. bytes_eq x.name r.name) (filter (λ z. z.provider == x.provider) e) ≡ false → list_any (bytes_eq (pool_name ps x)) (map (pool_name ps) e) ≡ false)
+          → list_any (bytes_eq (pool_name ps x)) (map (pool_name ps) (y ∷ e)) ≡ false
+      by true is none' less rest =
+          let parts = or_parts (bytes_eq x.name y.name) (list_any (λ (r : Pool). bytes_eq x.name r.name) (filter (λ (z : Pool). z.provider == x.provider) e)) none' in
+          pieces (bytes_eq-slash (name_at_place ps x.provider) (name_at_place ps y.provider) x.name y.name (plain_place ps x.provider within good) (plain_place ps y.provider (omega arith) good))
+          (ap (λ b. bytes_eq (name_at_place ps x.provider) (name_at_place ps y.provider) && b) parts.0 ∙ and_false (bytes_eq (name_at_place ps x.provider) (name_at_place ps y.provider))) (rest parts.1)
+      by false is none' less rest =
+          let below : y.provider < x.provider = grind (arith, nat_tests) in
+          pieces (bytes_eq-slash (name_at_place ps x.provider) (name_at_place ps y.provider) x.name y.name (plain_place ps x.provider within good) (plain_place ps y.provider (omega arith) good))
+          (ap (λ b. b && bytes_eq x.name y.name) (apart_places ps y.provider x.provider below within good)) (rest none')
+
+  each_unused : (labels : ℕ) (e xs : List Pool) → All (λ p. p.provider < length ps) xs → EachAfter (StandsByOwner (λ (p : Pool). p.provider) (IsPool labels)) e xs → EachAfter IsUnused (map (pool_name ps) e) (map (pool_name ps) xs)
+  each_unused labels e [] owned each = tt
+  each_unused labels e (x ∷ xs) owned each = (
+    unused x e (All-head (λ (p : Pool). p.provider < length ps) x xs owned) each.0.in_order each.0.own.name.new,
+    subst (λ (es : List (List ℕ)). EachAfter IsUnused es (map (pool_name ps) xs)) (map-append (pool_name ps) e (x ∷ [])) (each_unused labels (e ++ x ∷ []) xs (All-tail (λ (p : Pool). p.provider < length ps) x xs owned) each.1),
+  )
+
+-- no two pools have the same full name
+pub pool_names-unused : (labels : ℕ) (ps : List Provider) (pools : List Pool) → AreProviders labels ps pools → EachAfter IsUnused [] (pool_names ps pools)
+pool_names-unused labels ps pools are = each_unused ps are.each_provider labels [] pools are.owned are.each_pool
+
+-- the name of the pool at a place is none of those before it
+pub name-unused : (f : Pool → List ℕ) (e : List (List ℕ)) (pools : List Pool) (i : ℕ) (x : Pool) → i < length pools → x ≡ get_or pools i x → EachAfter IsUnused e (map f pools) → list_any (bytes_eq (f x)) (e ++ map f (take i pools)) ≡ false
+name-unused f e [] i x within is each = absurd (omega arith)
+name-unused f e (y ∷ pools) zero x within is each =
+    let same : f y ≡ f x = ap f (sym is) in
+    ap (λ es. list_any (bytes_eq (f x)) es) (append-nil e) ∙ subst (λ (n : List ℕ). list_any (bytes_eq n) e ≡ false) same each.0
+name-unused f e (y ∷ pools) (suc i) x within is each =
+    ap (λ es. list_any (bytes_eq (f x)) es) (sym (append_assoc e (f y ∷ []) (map f (take i pools)))) ∙ name-unused f (e ++ f y ∷ []) pools i x (omega arith) is each.1
+
+-- # a configuration that was read is sound
 
 -- ## Faults
 
@@ -57,14 +163,14 @@ required_word-takes {A} meaning at key d x e =
     (w.0, found-some (meaning w.0) (fault UnknownName here) x w.2)
 
 role_named-takes : (pools : List (List ℕ)) (requesters : List Requester) (k : RoleKind) (text : List ℕ) (r : Role) → role_named pools requesters k text ≡ Some r → IsRole (length pools) (length requesters) r
-role_named-takes pools requesters kind.Launcher text r e =
-    let x = from-map_some (λ n. role.Launcher (record { 0 = n })) (pool_named pools text) r e in
+role_named-takes pools requesters RoleKind.Launcher text r e =
+    let x = from-map_some (λ n. Role.Launcher (record { 0 = n })) (pool_named pools text) r e in
     subst (IsRole (length pools) (length requesters)) x.2 (found_within (bytes_eq text) pools x.0 x.1)
-role_named-takes pools requesters kind.Janitor text r e =
-    let x = from-map_some (λ n. role.Janitor (record { 0 = n })) (pool_named pools text) r e in
+role_named-takes pools requesters RoleKind.Janitor text r e =
+    let x = from-map_some (λ n. Role.Janitor (record { 0 = n })) (pool_named pools text) r e in
     subst (IsRole (length pools) (length requesters)) x.2 (found_within (bytes_eq text) pools x.0 x.1)
-role_named-takes pools requesters kind.Requester text r e =
-    let x = from-map_some (λ n. role.Requester (record { 0 = n })) (requester_named requesters text) r e in
+role_named-takes pools requesters RoleKind.Requester text r e =
+    let x = from-map_some (λ n. Role.Requester (record { 0 = n })) (requester_named requesters text) r e in
     subst (IsRole (length pools) (length requesters)) x.2 (found_within (λ (q : Requester). bytes_eq text q.name) requesters x.0 x.1)
 
 role_at-takes : (pools : List (List ℕ)) (requesters : List Requester) (at : List ℕ) (d : Data) (r : Role) → role_at pools requesters at d ≡ Ok r → IsRole (length pools) (length requesters) r

@@ -3,7 +3,7 @@ use Rattle.std.specs.Prelude.{◌≡◌, ℕ, List, [], ◌∷◌, codes, false,
 use Rattle.std.specs.List.{AllByRecursion}
 use Rattle.serde_json.specs.Data.{Data, number, unsigned, boolean, string, array, object, no_items, Members, put}
 use Rattle.serde_json.specs.Find.{get}
-use Rattle.np_json.specs.declared.fault.ConfigFault.{ConfigFault}
+use Rattle.np_config_read.specs.Lower.{ConfigFault}
 
 -- a whole number
 abbrev pub count : ℕ → Data

@@ -2,23 +2,11 @@
 use Rattle.std.specs.Prelude.{ℕ, List, [], ◌∷◌, ◌++◌, codes, Option, Result, Ok}
 use Rattle.std.specs.Option.{option_map}
 use Rattle.serde_json.specs.Data.{Data}
-use Rattle.np_text.specs.declared.id.Role.{Role}
-use Rattle.np_text.specs.declared.id.Role.TheVariants as role
-use Rattle.np_text.specs.declared.limit.TheConstants.{FAULT_ACTS}
-use Rattle.np_text.specs.declared.word.RoleKind.{RoleKind}
-use Rattle.np_text.specs.declared.word.RoleKind.TheVariants as kind
-use Rattle.np_text.specs.Word.{role_kind_of}
-use Rattle.np_json.specs.declared.fault.ConfigFault.{ConfigFault}
 use Rattle.np_lists.specs.Refusals.{◌>>=◌, ◌>>◌}
-use Rattle.np_json.specs.Reading.{below}
-use Rattle.np_json.specs.Leaf.{object_at, required, whole_required}
-use Rattle.np_json.specs.Rows.{ReadsItem}
-use Rattle.np_config.specs.declared.row.Requester.{Requester}
-use Rattle.np_config.specs.declared.row.Fault.{Fault}
-use Rattle.np_config.specs.Word.{fault_kind_of}
 use Rattle.np_config_read.specs.Keys.{fault_keys}
 use Rattle.np_config_read.specs.Names.{pool_named, requester_named}
 use Rattle.np_config_read.specs.Requesters.{word_value}
+use Rattle.np_config_read.specs.Lower.{ConfigFault, FAULT_ACTS, Fault, ReadsItem, Requester, Role, RoleKind, below, fault_kind_of, object_at, required, role_kind_of, whole_required}
 
 -- a word with a meaning, which must be there
 unfoldable pub required_word : {A : Type 0} → (List ℕ → Option A) → List ℕ → List ℕ → Data → Result A ConfigFault
@@ -26,9 +14,9 @@ required_word meaning at key d = required at key d >>= word_value meaning (below
 
 -- the role of this kind and name: launchers and janitors go by pools, requesters by themselves
 abbrev pub role_named : List (List ℕ) → List Requester → RoleKind → List ℕ → Option Role
-role_named pools requesters kind.Launcher text = option_map (λ n. role.Launcher (record { 0 = n })) (pool_named pools text)
-role_named pools requesters kind.Janitor text = option_map (λ n. role.Janitor (record { 0 = n })) (pool_named pools text)
-role_named pools requesters kind.Requester text = option_map (λ n. role.Requester (record { 0 = n })) (requester_named requesters text)
+role_named pools requesters RoleKind.Launcher text = option_map (λ n. Role.Launcher (record { 0 = n })) (pool_named pools text)
+role_named pools requesters RoleKind.Janitor text = option_map (λ n. Role.Janitor (record { 0 = n })) (pool_named pools text)
+role_named pools requesters RoleKind.Requester text = option_map (λ n. Role.Requester (record { 0 = n })) (requester_named requesters text)
 
 -- the role of a fault
 unfoldable pub role_at : List (List ℕ) → List Requester → List ℕ → Data → Result Role ConfigFault

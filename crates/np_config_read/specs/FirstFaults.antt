@@ -1,9 +1,7 @@
 -- texts and the first fault of each, for reading: the kinds, which of two comes first, and where it is (own)
 use Rattle.std.specs.Prelude.{◌≡◌, ℕ, ◌==◌, List, [], ◌∷◌, ◌++◌, codes, map, if◌then◌else◌, Err}
-use Rattle.np_json.specs.declared.fault.ConfigKind.{ConfigKind}
-use Rattle.np_json.specs.declared.fault.ConfigKind.TheVariants.{NotJson, Missing, UnknownKey, WrongType, OutOfRange, BadName, Repeated, UnknownName}
-use Rattle.np_json.specs.Reading.{fault}
 use Rattle.np_config_read.specs.Walk.{reads}
+use Rattle.np_config_read.specs.Lower.{BadName, ConfigKind, Missing, NotJson, OutOfRange, Repeated, UnknownKey, UnknownName, WrongType, fault}
 
 pub record Faulty : Type 0 where
   pub text : List ℕ

@@ -1,14 +1,9 @@
 -- labels and semaphores, as they are read
 use Rattle.std.specs.Prelude.{ℕ, List, [], ◌∷◌, ◌++◌, codes, Result, Ok}
 use Rattle.serde_json.specs.Data.{Data}
-use Rattle.np_json.specs.declared.fault.ConfigFault.{ConfigFault}
 use Rattle.np_lists.specs.Refusals.{◌>>=◌}
-use Rattle.np_json.specs.Leaf.{named_at, whole_or}
-use Rattle.np_json.specs.Rows.{ReadsItem}
-use Rattle.np_text.specs.declared.limit.TheConstants.{MIN_READY, AGE, HANDLES}
-use Rattle.np_config.specs.declared.row.Label.{Label}
-use Rattle.np_config.specs.declared.row.Sem.{Sem}
 use Rattle.np_config_read.specs.Keys.{label_keys, semaphore_keys}
+use Rattle.np_config_read.specs.Lower.{AGE, ConfigFault, HANDLES, Label, MIN_READY, ReadsItem, Sem, named_at, whole_or}
 
 -- the rest of a label
 unfoldable pub label_row : List ℕ → List ℕ → Data → Result Label ConfigFault

@@ -1,3 +1,4 @@
+pub mod Lower
 pub mod Keys
 pub mod Names
 pub mod Labels

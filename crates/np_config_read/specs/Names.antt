@@ -3,14 +3,7 @@ use Rattle.std.specs.Prelude.{◌≡◌, false, ℕ, List, [], ◌∷◌, ◌+�
 use Rattle.std.specs.List.{list_any}
 use Rattle.std.specs.Option.{option_map, option_map_or}
 use Rattle.std.specs.Str.{bytes_eq}
-use Rattle.np_text.specs.declared.id.TenantId.{TenantId}
-use Rattle.np_config.specs.declared.row.Label.{Label}
-use Rattle.np_config.specs.declared.row.Provider.{Provider}
-use Rattle.np_config.specs.declared.row.Pool.{Pool}
-use Rattle.np_config.specs.declared.row.Sem.{Sem}
-use Rattle.np_config.specs.declared.row.Tenant.{Tenant}
-use Rattle.np_config.specs.declared.row.Requester.{Requester}
-use Rattle.np_config.specs.Configuration.{default_name}
+use Rattle.np_config_read.specs.Lower.{Label, Pool, Provider, Requester, Sem, Tenant, TenantId, default_name}
 
 -- the place of the label with this name
 abbrev pub label_named : List Label → List ℕ → Option ℕ

@@ -1,25 +1,12 @@
 -- providers and their pools, as they are read
 use Rattle.std.specs.Prelude.{ℕ, List, [], ◌∷◌, ◌++◌, codes, length, Result, Ok}
 use Rattle.serde_json.specs.Data.{Data}
-use Rattle.np_amount.specs.declared.amount.Amount.{Amount}
-use Rattle.np_amount.specs.declared.amount.Limit.{Limit}
-use Rattle.np_text.specs.declared.limit.TheConstants.{LABELS, POOLS, FAIL_STARTS, LAUNCHES, CONCURRENCY, POOL_SERVERS, POOL_CORES, POOL_RAM, NODE_CORES, NODE_RAM, START_NUMBER}
-use Rattle.np_text.specs.declared.id.LabelId.{LabelId}
-use Rattle.np_json.specs.declared.fault.ConfigKind.TheVariants.{OutOfRange, Repeated, UnknownName}
-use Rattle.np_json.specs.declared.fault.ConfigFault.{ConfigFault}
-use Rattle.np_lists.specs.Refusals.{◌>>=◌, ◌>>◌, need, found}
-use Rattle.np_json.specs.Reading.{fault, below}
-use Rattle.np_json.specs.Leaf.{at_most, one_to, behind, object_at, required, text_value, named_at, whole_value, whole_or, whole_maybe}
-use Rattle.np_json.specs.Rows.{ReadsItem, list_required, list_maybe}
-use Rattle.np_config.specs.declared.row.Label.{Label}
-use Rattle.np_config.specs.declared.row.Provider.{Provider}
-use Rattle.np_config.specs.declared.row.Pool.{Pool}
-use Rattle.np_config.specs.declared.row.Offer.{Offer}
+use Rattle.np_lists.specs.Refusals.{◌>>=◌, ◌>>◌}
 use Rattle.np_config_read.specs.declared.providers.PoolsOf.{PoolsOf}
 use Rattle.np_config_read.specs.declared.providers.Providers.{Providers}
-use Rattle.np_config.specs.Sound.{is_unoffered, is_above}
 use Rattle.np_config_read.specs.Keys.{provider_keys, pool_keys, offer_keys}
 use Rattle.np_config_read.specs.Names.{label_named}
+use Rattle.np_config_read.specs.Lower.{Amount, CONCURRENCY, ConfigFault, FAIL_STARTS, LABELS, LAUNCHES, Label, LabelId, Limit, NODE_CORES, NODE_RAM, Offer, OutOfRange, POOLS, POOL_CORES, POOL_RAM, POOL_SERVERS, Pool, Provider, ReadsItem, Repeated, START_NUMBER, UnknownName, at_most, behind, below, fault, found, is_above, is_unoffered, list_maybe, list_required, named_at, need, object_at, one_to, required, text_value, whole_maybe, whole_or, whole_value}
 
 -- the label with this name
 unfoldable pub label_for : List Label → List ℕ → List ℕ → Result LabelId ConfigFault

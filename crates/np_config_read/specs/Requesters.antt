@@ -4,30 +4,14 @@ use Rattle.std.specs.Option.{option_map_or}
 use Rattle.std.specs.Str.{bytes_eq}
 use Rattle.serde_json.specs.Data.{Data}
 use Rattle.serde_json.specs.Find.{get}
-use Rattle.np_text.specs.declared.id.LabelId.{LabelId}
-use Rattle.np_text.specs.declared.id.SemId.{SemId}
-use Rattle.np_text.specs.declared.id.RequesterId.{RequesterId}
-use Rattle.np_text.specs.declared.word.EndAs.TheVariants.{Used}
-use Rattle.np_text.specs.declared.limit.TheConstants.{JOBS, JOB_LABELS, JOB_SEMAPHORES, WINDOW, RELATIVE_PRIORITY}
-use Rattle.np_text.specs.Word.{end_as_of}
-use Rattle.np_json.specs.declared.fault.ConfigKind.TheVariants.{Repeated, UnknownName}
-use Rattle.np_json.specs.declared.fault.ConfigFault.{ConfigFault}
-use Rattle.np_lists.specs.Refusals.{◌>>=◌, ◌>>◌, need, found}
-use Rattle.np_json.specs.Reading.{fault, below}
-use Rattle.np_json.specs.Leaf.{at_most, one_to, behind, text_value, named_at, whole_or, flag_or}
-use Rattle.np_json.specs.Rows.{ReadsItem, list_required, list_maybe}
-use Rattle.np_config.specs.declared.row.Label.{Label}
-use Rattle.np_config.specs.declared.row.Sem.{Sem}
-use Rattle.np_config.specs.declared.row.Tenant.{Tenant}
-use Rattle.np_config.specs.declared.row.Requester.{Requester}
-use Rattle.np_config.specs.declared.row.Job.{Job}
+use Rattle.np_lists.specs.Refusals.{◌>>=◌, ◌>>◌}
 use Rattle.np_config_read.specs.declared.requesters.Demand.{Demand}
 use Rattle.np_config_read.specs.declared.requesters.JobsOf.{JobsOf}
 use Rattle.np_config_read.specs.declared.requesters.Requesters.{Requesters}
-use Rattle.np_config.specs.Sound.{is_untaken}
 use Rattle.np_config_read.specs.Names.{semaphore_named, tenant_id, tenant_named}
 use Rattle.np_config_read.specs.Keys.{requester_keys, job_keys}
 use Rattle.np_config_read.specs.Providers.{label_value}
+use Rattle.np_config_read.specs.Lower.{ConfigFault, JOBS, JOB_LABELS, JOB_SEMAPHORES, Job, Label, LabelId, RELATIVE_PRIORITY, ReadsItem, Repeated, Requester, RequesterId, Sem, SemId, Tenant, UnknownName, Used, WINDOW, at_most, behind, below, end_as_of, fault, flag_or, found, is_untaken, list_maybe, list_required, named_at, need, one_to, text_value, whole_or}
 
 -- one label that a job requests
 unfoldable pub wanted_at : List Label → ReadsItem (List LabelId)

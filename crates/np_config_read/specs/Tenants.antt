@@ -1,15 +1,10 @@
 -- tenants, as they are read (Zuul's word; the keys are own, with the limits of a pool)
 use Rattle.std.specs.Prelude.{List, [], ◌∷◌, ◌++◌, codes, not, Ok}
 use Rattle.std.specs.Str.{bytes_eq}
-use Rattle.np_json.specs.declared.fault.ConfigKind.TheVariants.{Repeated}
-use Rattle.np_lists.specs.Refusals.{◌>>=◌, ◌>>◌, need}
-use Rattle.np_json.specs.Reading.{fault, below}
-use Rattle.np_json.specs.Leaf.{named_at}
-use Rattle.np_json.specs.Rows.{ReadsItem}
-use Rattle.np_config.specs.declared.row.Tenant.{Tenant}
-use Rattle.np_config.specs.Configuration.{default_name}
+use Rattle.np_lists.specs.Refusals.{◌>>=◌, ◌>>◌}
 use Rattle.np_config_read.specs.Keys.{tenant_keys}
 use Rattle.np_config_read.specs.Providers.{limit_at}
+use Rattle.np_config_read.specs.Lower.{ReadsItem, Repeated, Tenant, below, default_name, fault, named_at, need}
 
 -- a tenant, given those before it; the name of the default one counts as taken
 unfoldable pub tenant_at : ReadsItem (List Tenant)

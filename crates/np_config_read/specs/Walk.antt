@@ -3,19 +3,7 @@ use Rattle.std.specs.Prelude.{ℕ, List, [], codes, if◌then◌else◌, Option,
 use Rattle.std.specs.Str.{is_utf8}
 use Rattle.serde_json.specs.Data.{Data}
 use Rattle.serde_json.specs.Read.{read}
-use Rattle.np_json.specs.declared.fault.ConfigKind.TheVariants.{NotJson}
-use Rattle.np_json.specs.declared.fault.ConfigFault.{ConfigFault}
-use Rattle.np_lists.specs.Refusals.{◌>>=◌, ◌>>◌, found}
-use Rattle.np_json.specs.Reading.{fault}
-use Rattle.np_json.specs.Leaf.{at_most, one_to, object_at, whole_or}
-use Rattle.np_json.specs.Rows.{list_required, list_maybe}
-use Rattle.np_text.specs.declared.limit.TheConstants.{LABELS, PROVIDERS, SEMAPHORES, TENANTS, REQUESTERS, FAULTS, AGE}
-use Rattle.np_config.specs.declared.row.Label.{Label}
-use Rattle.np_config.specs.declared.row.Sem.{Sem}
-use Rattle.np_config.specs.declared.row.Tenant.{Tenant}
-use Rattle.np_config.specs.declared.row.Requester.{Requester}
-use Rattle.np_config.specs.declared.row.Fault.{Fault}
-use Rattle.np_config.specs.Configuration.{Configuration, configuration}
+use Rattle.np_lists.specs.Refusals.{◌>>=◌, ◌>>◌}
 use Rattle.np_config_read.specs.declared.providers.Providers.{Providers}
 use Rattle.np_config_read.specs.declared.requesters.Requesters.{Requesters}
 use Rattle.np_config_read.specs.Keys.{top_keys}
@@ -25,6 +13,7 @@ use Rattle.np_config_read.specs.Providers.{provider_at}
 use Rattle.np_config_read.specs.Tenants.{tenant_at}
 use Rattle.np_config_read.specs.Requesters.{requester_at}
 use Rattle.np_config_read.specs.Faults.{fault_at}
+use Rattle.np_config_read.specs.Lower.{AGE, ConfigFault, Configuration, FAULTS, Fault, LABELS, Label, NotJson, PROVIDERS, REQUESTERS, Requester, SEMAPHORES, Sem, TENANTS, Tenant, at_most, configuration, fault, found, list_maybe, list_required, object_at, one_to, whole_or}
 
 -- each table of the top object
 abbrev pub labels_at : Data → Result (List Label) ConfigFault

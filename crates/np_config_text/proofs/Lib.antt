@@ -1,14 +1,5 @@
-pub mod Ascii
-pub mod Values
-pub mod Members
-pub mod Shapes
+pub mod Prelude
 pub mod Again
-pub mod AgainPools
-pub mod AgainProviders
-pub mod AgainTenants
-pub mod AgainJobs
-pub mod AgainFaults
+pub mod Values
 pub mod AgainWhole
-pub mod OnLiterals
-pub mod TextLengths
 pub mod Short

@@ -1,47 +1,73 @@
--- the one text of a sound configuration is shorter than 2^32 bytes: a bound for each row, from
--- the limits of what it has, and far above it
-use Rattle.std.proofs.Common.{◌≡◌, ℕ, ◌+◌, ◌*◌, ◌^◌, ◌<◌, ◌≤◌, zero, suc, Bool, true, false, cond, List, [], ◌∷◌, ◌++◌, codes, map, length, nat_le, Option, Some, None, IfSome, refl, arith, length-append}
-use Rattle.std.specs.Prelude.{All, filter, slice_get, ◌==◌}
-use Rattle.std.specs.Option.{option_map, option_map_or}
-use Rattle.std.proofs.lemmas.Bool.Decides.{nat_tests}
-use Rattle.std.proofs.lemmas.List.{length-map}
-use Rattle.std.proofs.lemmas.List.Elements.{All-nil, All-cons, All-map, All-filter}
-use Rattle.std.proofs.lemmas.List.Sums.{length-filter, count_by-le-length}
-use Rattle.serde_json.specs.Data.{Data, string, array, Members}
-use Rattle.serde_json.specs.View.{items_of}
-use Rattle.np_text.specs.declared.limit.TheConstants.{NAME_BYTES, LABELS, PROVIDERS, POOLS, SEMAPHORES, TENANTS, REQUESTERS, JOBS, JOB_LABELS, JOB_SEMAPHORES, FAULTS, FAIL_STARTS, CONCURRENCY, POOL_SERVERS, POOL_CORES, POOL_RAM}
-use Rattle.np_text.specs.Name.{is_name_text}
-use Rattle.np_text.specs.Word.{end_as_word}
-use Rattle.np_text.specs.declared.word.EndAs.{EndAs}
-use Rattle.np_text.specs.declared.word.EndAs.TheVariants.{Used, Hold}
-use Rattle.np_text.specs.declared.id.LabelId.{LabelId}
-use Rattle.np_text.specs.declared.id.SemId.{SemId}
-use Rattle.np_text.specs.declared.id.TenantId.{TenantId}
-use Rattle.np_text.specs.declared.id.PoolId.{PoolId}
-use Rattle.np_text.specs.declared.id.RequesterId.{RequesterId}
-use Rattle.np_text.specs.declared.id.Role.{Role}
-use Rattle.np_text.specs.declared.id.Role.TheVariants as role
-use Rattle.np_amount.specs.declared.amount.Limit.{Limit}
-use Rattle.np_lists.specs.EachAfter.{EachAfter}
-use Rattle.np_lists.proofs.EachAfterLemmas.{All-from_each}
-use Rattle.np_config.specs.declared.row.Label.{Label}
-use Rattle.np_config.specs.declared.row.Provider.{Provider}
-use Rattle.np_config.specs.declared.row.Pool.{Pool}
-use Rattle.np_config.specs.declared.row.Offer.{Offer}
-use Rattle.np_config.specs.declared.row.Sem.{Sem}
-use Rattle.np_config.specs.declared.row.Tenant.{Tenant}
-use Rattle.np_config.specs.declared.row.Requester.{Requester}
-use Rattle.np_config.specs.declared.row.Job.{Job}
-use Rattle.np_config.specs.declared.row.Fault.{Fault}
-use Rattle.np_config.specs.declared.row.FaultKind.{FaultKind}
-use Rattle.np_config.specs.declared.row.FaultKind.TheVariants.{Expire, Crash, Stop}
-use Rattle.np_config.specs.Word.{fault_kind_word}
-use Rattle.np_config.specs.Configuration.{Configuration, default_tenant}
-use Rattle.np_config.specs.Sound.{StandsByOwner, IsLabel, IsProvider, IsOffer, IsStart, IsLimit, IsPool, IsSem, IsTenant, IsRequester, IsJob, IsFault, IsSound}
-use Rattle.np_config_read.specs.Names.{pool_name}
-use Rattle.np_config_read.specs.Defaults.{count}
-use Rattle.np_config_text.specs.Canonical.{given, given_limit, list_data, list_if_any, label_data, label_name, semaphore_name, tenant_name, requester_name, full_name, offer_data, pool_data, provider_data, placed, semaphore_data, tenant_data, job_tenant, priority_word, job_data, requester_data, role_word, role_name, fault_data, configuration_data, canonical}
-use Rattle.np_config_text.proofs.TextLengths.{TakesAtMost, MembersTake, wider, wider_members, text_takes, number_takes, flag_takes, array_takes, no_members_take, member_takes, object_takes}
+-- how long the one text of a sound configuration is at most
+use Rattle.np_config_text.proofs.Prelude.{All, All-cons, All-filter, All-from_each, All-head, All-map, All-nil, All-tail, Bool, CONCURRENCY, Configuration, Crash, Data, EachAfter, EndAs, Expire, FAIL_STARTS, FAULTS, Fault, FaultKind, Hold, IfSome, IsFault, IsJob, IsLabel, IsLimit, IsOffer, IsPool, IsProvider, IsRequester, IsSem, IsSound, IsStart, IsTenant, JOBS, JOB_LABELS, JOB_SEMAPHORES, Job, LABELS, Label, LabelId, Limit, List, Members, NAME_BYTES, None, Offer, Option, POOLS, POOL_CORES, POOL_RAM, POOL_SERVERS, PROVIDERS, Pool, PoolId, Provider, REQUESTERS, Requester, RequesterId, Role, SEMAPHORES, Sem, SemId, Some, StandsByOwner, Stop, TENANTS, Tenant, TenantId, Used, arith, array, boolean, canonical, codes, comma_if, compact_text, cond, configuration_data, count, count_by-le-length, default_tenant, end_as_word, escape, escape_byte, false, fault_data, fault_kind_word, filter, full_name, given, given_limit, is_name_text, items_of, items_text, job_data, job_tenant, label_data, label_name, length, length-append, length-decimal-le, length-filter, length-map, list_data, list_if_any, map, member, members_text, mul-le, nat_le, nat_tests, no_members, number, object, offer_data, option_map, option_map_or, placed, pool_data, pool_name, priority_word, provider_data, refl, requester_data, requester_name, role_name, role_word, semaphore_data, semaphore_name, slice_get, string, suc, tenant_data, tenant_name, true, unsigned, zero, ℕ, [], ◌*◌, ◌++◌, ◌+◌, ◌<◌, ◌==◌, ◌^◌, ◌∷◌, ◌≡◌, ◌≤◌}
+
+-- # how long the text of a JSON value is at most
+
+-- the value's text has at most n bytes
+pub record TakesAtMost (n : ℕ) (d : Data) : Type 0 where
+  pub most : length (compact_text d) ≤ n
+
+-- so has the members' text, with a comma in front or none, and with the closing bracket
+pub record MembersTake (n : ℕ) (ms : Members) : Type 0 where
+  pub most : (later : Bool) → length (members_text later ms) ≤ n
+
+pub wider : {d : Data} {n : ℕ} (m : ℕ) → n ≤ m → TakesAtMost n d → TakesAtMost m d
+wider m wide takes = record { most = omega arith }
+
+pub wider_members : {ms : Members} {n : ℕ} (m : ℕ) → n ≤ m → MembersTake n ms → MembersTake m ms
+wider_members m wide take = record { most = λ later. omega (arith, take.most later) }
+
+-- ## Texts and numbers
+
+length-escape_byte : (x : ℕ) → length (escape_byte x) ≤ 6
+unfolding escape_byte
+length-escape_byte x = grind arith
+
+length-escape : (s : List ℕ) → length (escape s) ≤ 6 * length s
+length-escape [] = omega arith
+length-escape (x ∷ s) = simp length-append (omega (arith, length-escape_byte x, length-escape s))
+
+pub text_takes : (n : ℕ) (s : List ℕ) → length s ≤ n → TakesAtMost (6 * n + 2) (string s)
+text_takes n s short = record { most = simp length-append (omega (arith, length-escape s)) }
+
+pub number_takes : (n : ℕ) → n < 10 ^ 10 → TakesAtMost 10 (number (unsigned n))
+number_takes n small = record { most = length-decimal-le 10 n (omega arith) small (omega arith) }
+
+pub flag_takes : (b : Bool) → TakesAtMost 5 (boolean b)
+flag_takes true = record { most = omega arith }
+flag_takes false = record { most = omega arith }
+
+-- ## Arrays
+
+length-comma : (later : Bool) → length (comma_if later) ≤ 1
+length-comma true = omega arith
+length-comma false = omega arith
+
+length-items : (n : ℕ) (later : Bool) (ds : List Data) → All (TakesAtMost n) ds → length (items_text later (items_of ds)) ≤ length ds * (n + 1) + 1
+length-items n later [] each = omega arith
+length-items n later (d ∷ ds) each =
+    let first = All-head (TakesAtMost n) d ds each in
+    let rest = length-items n true ds (All-tail (TakesAtMost n) d ds each) in
+    simp length-append (omega (arith, first.most, length-comma later))
+
+pub array_takes : (most n : ℕ) (ds : List Data) → length ds ≤ most → All (TakesAtMost n) ds → TakesAtMost (most * (n + 1) + 2) (array (items_of ds))
+array_takes most n ds few each = record { most = omega (arith, length-items n false ds each, mul-le (length ds) (n + 1) most (n + 1) few (omega arith)) }
+
+-- ## Objects
+
+pub no_members_take : MembersTake 1 no_members
+no_members_take = record { most = λ later. omega arith }
+
+-- a key has at most 20 bytes, so 122 in quotes
+pub member_takes : {n m : ℕ} {d : Data} {ms : Members} (key : List ℕ) → nat_le (length key) 20 ≡ true → TakesAtMost n d → MembersTake m ms → MembersTake (n + m + 124) (member key d ms)
+member_takes key short takes rest =
+    let most : length key ≤ 20 = grind (arith, nat_tests) in
+    record { most = λ later. simp length-append (omega (arith, takes.most, rest.most true, length-escape key, length-comma later)) }
+
+pub object_takes : {n : ℕ} {ms : Members} → MembersTake n ms → TakesAtMost (n + 1) (object ms)
+object_takes take = record { most = omega (arith, take.most false) }
+
+-- # the one text of a sound configuration is shorter than 2^32 bytes: a bound for each row, from the limits of what it has, and far above it
 
 -- ## Names and words
 
@@ -66,10 +92,10 @@ length-fault_kind Crash = omega arith
 length-fault_kind Stop = omega arith
 
 length-role : (r : Role) → length (role_word r) ≤ 10
-length-role (role.Launcher p) = omega arith
-length-role (role.Janitor p) = omega arith
-length-role (role.Requester q) = omega arith
-length-role role.Reaper = omega arith
+length-role (Role.Launcher p) = omega arith
+length-role (Role.Janitor p) = omega arith
+length-role (Role.Requester q) = omega arith
+length-role Role.Reaper = omega arith
 
 length-priority : (n : ℕ) → length (priority_word n) ≤ 10
 length-priority n = by (n == 100) (n == 200)
@@ -181,10 +207,10 @@ module _ (c : Configuration) (sound : IsSound c) where
           omega (arith, length-append (option_map_or (λ (q : Provider). q.name) (slice_get c.providers r.provider) []) (47 ∷ r.name))
 
   length-role_name : (r : Role) → length (role_name c r) ≤ (2 * NAME_BYTES + 1)
-  length-role_name (role.Launcher p) = length-full p
-  length-role_name (role.Janitor p) = length-full p
-  length-role_name (role.Requester q) = omega (arith, length-requester q)
-  length-role_name role.Reaper = omega arith
+  length-role_name (Role.Launcher p) = length-full p
+  length-role_name (Role.Janitor p) = length-full p
+  length-role_name (Role.Requester q) = omega (arith, length-requester q)
+  length-role_name Role.Reaper = omega arith
 
   offer_takes : (e : List Offer) (o : Offer) → IsOffer (length c.labels) e o → TakesAtMost 1000 (offer_data c o)
   offer_takes e o is =

@@ -11,8 +11,6 @@ use Rattle.np_text.specs.declared.id.TenantId.{TenantId}
 use Rattle.np_text.specs.declared.id.PoolId.{PoolId}
 use Rattle.np_text.specs.declared.id.RequesterId.{RequesterId}
 use Rattle.np_text.specs.declared.id.Role.{Role}
-use Rattle.np_text.specs.declared.id.Role.TheVariants as role
-use Rattle.np_text.specs.declared.word.RoleKind.TheVariants as kind
 use Rattle.np_text.specs.Word.{end_as_word, role_kind_word}
 use Rattle.np_amount.specs.declared.amount.Limit.{Limit}
 use Rattle.np_config.specs.declared.row.Label.{Label}
@@ -28,6 +26,7 @@ use Rattle.np_config.specs.Word.{fault_kind_word}
 use Rattle.np_config.specs.Configuration.{Configuration, tenant_of}
 use Rattle.np_config_read.specs.Names.{pool_name}
 use Rattle.np_config_read.specs.Defaults.{count}
+use Rattle.np_text.specs.declared.word.RoleKind.{RoleKind}
 
 -- a member that may be absent
 abbrev pub given : List ℕ → Option Data → Members → Members
@@ -129,17 +128,17 @@ requester_data c k q = object (member (codes "jobs") (list_data (job_data c) (jo
 
 -- the word of the kind of a role; the reaper has no fault
 abbrev pub role_word : Role → List ℕ
-role_word (role.Launcher p) = role_kind_word kind.Launcher
-role_word (role.Janitor p) = role_kind_word kind.Janitor
-role_word (role.Requester q) = role_kind_word kind.Requester
-role_word role.Reaper = []
+role_word (Role.Launcher p) = role_kind_word RoleKind.Launcher
+role_word (Role.Janitor p) = role_kind_word RoleKind.Janitor
+role_word (Role.Requester q) = role_kind_word RoleKind.Requester
+role_word Role.Reaper = []
 
 -- the name that a fault's role goes by
 abbrev pub role_name : Configuration → Role → List ℕ
-role_name c (role.Launcher p) = full_name c p
-role_name c (role.Janitor p) = full_name c p
-role_name c (role.Requester q) = requester_name c q
-role_name c role.Reaper = []
+role_name c (Role.Launcher p) = full_name c p
+role_name c (Role.Janitor p) = full_name c p
+role_name c (Role.Requester q) = requester_name c q
+role_name c Role.Reaper = []
 
 abbrev pub fault_data : Configuration → Fault → Data
 fault_data c f = object (

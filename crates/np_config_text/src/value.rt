@@ -16,7 +16,7 @@ use std::alloc::{AllocError, Global};
 use std::str;
 
 /// A text of ASCII bytes as a value.
-#[tactic(auto, using(crate::proofs::Ascii::utf8))]
+#[tactic(auto, using(crate::proofs::Again::utf8))]
 pub(crate) fn text_value(alloc: Global, text: &[u8]) -> Result<Value, AllocError>
     requires { IsAscii text.now }
     ensures { IfOk result (λ v. view v ≡ string text.now) }

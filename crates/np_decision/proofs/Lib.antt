@@ -1,3 +1,4 @@
+pub mod Prelude
 pub mod PlaceLemmas
 pub mod Reasons
 pub mod Room

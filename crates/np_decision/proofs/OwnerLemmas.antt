@@ -1,11 +1,5 @@
 -- the owner of a node, by its place among the jobs
-use Rattle.std.proofs.Common.{◌≡◌, ℕ, suc, List, [], ◌∷◌, refl, sym, ◌∙◌, Option, Some, None, Bool, true, false}
-use Rattle.std.specs.Prelude.{slice_get, option_and_then, if◌then◌else◌}
-use Rattle.std.specs.List.{position}
-use Rattle.np_config.specs.declared.row.Job.{Job}
-use Rattle.np_changes.specs.Prelude.{JobId, JobRecord, NodeId, is_marked, option_map, owner_of}
-use Rattle.np_machine.specs.Node.{owner_from}
-use Rattle.np_look.proofs.OwnerLemmas.{position-here, position-later}
+use Rattle.np_decision.proofs.Prelude.{Bool, Job, JobId, JobRecord, List, NodeId, None, Option, Some, false, if◌then◌else◌, is_marked, option_and_then, option_map, owner_from, owner_of, position, position-here, position-later, refl, slice_get, suc, sym, true, ℕ, [], ◌∙◌, ◌∷◌, ◌≡◌}
 
 nowhere : (o : Option ℕ) → option_and_then (λ (i : ℕ). slice_get {X = Job} [] i) o ≡ None
 nowhere None = refl

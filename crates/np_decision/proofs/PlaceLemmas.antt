@@ -1,8 +1,5 @@
 -- the places of a request, one after another
-use Rattle.std.proofs.Common.{◌≡◌, ◌<◌, ℕ, zero, suc, ◌+◌, List, [], ◌∷◌, length, drop, refl, arith, None}
-use Rattle.std.specs.Prelude.{slice_get}
-use Rattle.np_changes.specs.Prelude.{LabelId, NodeEntry, NodeId, PoolId, RequestId, SessionId, unfilled}
-use Rattle.np_decision.specs.Places.{lack_at}
+use Rattle.np_decision.proofs.Prelude.{LabelId, List, NodeEntry, NodeId, None, PoolId, RequestId, SessionId, arith, drop, lack_at, length, refl, slice_get, suc, unfilled, zero, ℕ, [], ◌+◌, ◌<◌, ◌∷◌, ◌≡◌}
 
 unfilled-none : (p : PoolId) (session : SessionId) (r : RequestId) (nodes : List NodeEntry) (labels : List LabelId) (i : ℕ) → i < length labels →
     unfilled p session r nodes (drop i labels) [] ≡ lack_at p session r nodes (slice_get labels i) None + unfilled p session r nodes (drop (suc i) labels) []

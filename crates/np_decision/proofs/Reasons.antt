@@ -1,10 +1,5 @@
 -- a decline that finds the request in another state
-use Rattle.std.proofs.Common.{◌≡◌, refl, sym, ap, ◌∙◌, Option, Some, None, Ok, Err}
-use Rattle.np_changes.specs.Prelude.{Configuration, PoolId, Reason, Refusal, RequestId, RequestRecord, SessionId, State, asked_of, by_registrant, by_request_holder, found, in_state_for, judge_decline, launcher, new_record, request_at, request_in}
-use Rattle.np_text.specs.declared.word.Reason.TheVariants.{NoLabel, NeverFits, TenantNeverFits, Spent}
-use Rattle.np_event.specs.declared.reply.Refusal.TheVariants as no
-use Rattle.np_changes.specs.declared.asked.Asked.{Asked}
-use Rattle.np_decision.specs.Verdicts.{without_declines}
+use Rattle.np_decision.proofs.Prelude.{Asked, Configuration, Err, NeverFits, NoLabel, None, Ok, Option, PoolId, Reason, Refusal, RequestId, RequestRecord, SessionId, Some, Spent, State, TenantNeverFits, ap, asked_of, by_registrant, by_request_holder, found, in_state_for, judge_decline, launcher, new_record, refl, request_at, request_in, sym, without_declines, ◌∙◌, ◌≡◌}
 
 -- a reason does not depend on a request's declines
 in_state_for-asked : (p : PoolId) (k : RequestRecord) (why : Reason) → in_state_for p (new_record (asked_of k)) why ≡ in_state_for p k why
@@ -13,11 +8,11 @@ in_state_for-asked p k NeverFits = refl
 in_state_for-asked p k TenantNeverFits = refl
 in_state_for-asked p k (Spent n) = refl
 
-asked_by : (o : Option RequestRecord) (k : RequestRecord) (asked : Asked) → o ≡ Some k → Ok asked ≡ without_declines (found o no.NoRequest) → asked_of k ≡ asked
+asked_by : (o : Option RequestRecord) (k : RequestRecord) (asked : Asked) → o ≡ Some k → Ok asked ≡ without_declines (found o Refusal.NoRequest) → asked_of k ≡ asked
 asked_by None k asked has is = absurd cc
 asked_by (Some other) k asked has is = let same : other ≡ k = cc in rw (← same) cc
 
-there_by : (o : Option RequestRecord) (asked : Asked) → Ok asked ≡ without_declines (found o no.NoRequest) → o ≡ None → ⊥
+there_by : (o : Option RequestRecord) (asked : Asked) → Ok asked ≡ without_declines (found o Refusal.NoRequest) → o ≡ None → ⊥
 there_by None asked is has = cc
 there_by (Some k) asked is has = cc
 

@@ -1,8 +1,5 @@
 -- what a state that fits leaves room for, by what is read of it
-use Rattle.std.proofs.Common.{◌≡◌, ◌≤◌, ◌<◌, refl, Option, Some, None, true}
-use Rattle.std.specs.Prelude.{not, ◌&&◌, ◌==◌}
-use Rattle.np_changes.specs.Prelude.{Configuration, Fits, NodeEntry, NodeFits, NodeId, NodeRecord, State, is_building, node_entry, node_in, option_map}
-use Rattle.np_lists.proofs.Each.{all-find}
+use Rattle.np_decision.proofs.Prelude.{Configuration, Fits, NodeEntry, NodeFits, NodeId, NodeRecord, None, Option, Some, State, all-find, is_building, node_entry, node_in, not, option_map, refl, true, ◌&&◌, ◌<◌, ◌==◌, ◌≡◌, ◌≤◌}
 
 node-fits : (c : Configuration) (s : State) (n : NodeId) (e : NodeEntry) → Fits c s → node_entry n s.nodes ≡ Some e → NodeFits s e
 node-fits c s n e fits is = all-find (NodeFits s) (λ other. other.id.0 == n.0) s.nodes e fits.each_node is

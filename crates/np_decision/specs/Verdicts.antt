@@ -2,7 +2,6 @@
 use Rattle.std.specs.Borrow.{Bor}
 use Rattle.std.specs.Prelude.{ℕ, Result, Ok, Err, not, slice_get}
 use Rattle.np_changes.specs.Prelude.{Configuration, Job, JobRecord, LabelId, PoolId, Refusal, RequestId, RequestRecord, State, asked_of, count_of, found, is_short, need, ◌>>=◌}
-use Rattle.np_event.specs.declared.reply.Refusal.TheVariants as no
 use Rattle.np_machine.specs.Tests.{Answer, Check, quota_short}
 use Rattle.np_changes.specs.declared.asked.Asked.{Asked}
 use Rattle.np_decision.specs.declared.verdict.Verdict.{Verdict}
@@ -28,9 +27,9 @@ has_room c s p l = need (not (is_short c s p l)) (quota_short (count_of c s p))
 -- how many free ready nodes of the label are kept
 abbrev pub min_ready_of : Configuration → LabelId → Result ℕ Refusal
 min_ready_of c l = do
-  label ← found (slice_get c.labels l.0) (no.NoLabel l)
+  label ← found (slice_get c.labels l.0) (Refusal.NoLabel l)
   Ok label.min_ready
 
 -- the request of the job
 abbrev pub asked_request : JobRecord → Result RequestId Refusal
-asked_request kept = found kept.request no.NoRequest
+asked_request kept = found kept.request Refusal.NoRequest

@@ -1,8 +1,3 @@
+pub mod Prelude
 pub mod HistoryLemmas
-pub mod PartLemmas
-pub mod ShareLemmas
-pub mod SeriesLemmas
-mod Accounts
-mod TurnSteps
-mod PassSteps
-mod DeskSteps
+pub mod DeskRule

@@ -1,11 +1,3 @@
 pub mod Prelude
-pub mod WordLemmas
-pub mod RowLemmas
-pub mod KindLemmas
-pub mod SpellingLemmas
-pub mod ReadingLemmas
-pub mod EventLemmas
-pub mod ReplyLemmas
-pub mod EntryLemmas
-pub mod SideLemmas
-pub mod FaultLemmas
+pub mod Fields
+pub mod Lines

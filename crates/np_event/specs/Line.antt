@@ -5,23 +5,20 @@ use Rattle.std.specs.Option.{option_map}
 use Rattle.std.specs.Result.{result_ok}
 use Rattle.std.specs.Str.{bytes_eq}
 use Rattle.np_text.specs.Sections.{behind}
-use Rattle.np_text.specs.declared.id.Role.TheVariants as role
 use Rattle.np_event.specs.declared.entry.Entry.{Entry}
 use Rattle.np_event.specs.declared.event.Event.{Event}
-use Rattle.np_event.specs.declared.event.Event.TheVariants as ev
 use Rattle.np_event.specs.declared.event_form.EventForm.{EventForm}
 use Rattle.np_event.specs.declared.fault.LineFault.{LineFault}
 use Rattle.np_event.specs.declared.fault.LineFault.TheVariants.{UnknownEvent, WrongCount, BadArgument}
 use Rattle.np_event.specs.declared.kind.Fields.{Fields}
 use Rattle.np_event.specs.declared.reply.Done.{Done}
 use Rattle.np_event.specs.declared.reply.Refusal.{Refusal}
-use Rattle.np_event.specs.declared.reply.Refusal.TheVariants as no
 use Rattle.np_event.specs.declared.reply.Reply.{Reply}
-use Rattle.np_event.specs.declared.reply.Reply.TheVariants as reply
 use Rattle.np_event.specs.EventForm.{event_forms, event_of, event_parts, event_row}
 use Rattle.np_event.specs.Reading.{HaveWords, row_fields, row_line, stand}
 use Rattle.np_event.specs.ReplyForm.{done_forms, done_of, done_fields, done_row, refusal_forms, refusal_of, refusal_fields, refusal_row, told_found}
 use Rattle.np_event.specs.Words.{words_of}
+use Rattle.np_text.specs.declared.id.Role.{Role}
 
 -- ## Events
 
@@ -31,7 +28,7 @@ event_line e = row_line (event_row (event_parts e).0) (event_parts e).1
 
 -- no line opens a reaper's session
 abbrev pub OpensNoReaper : Event → Type 0
-OpensNoReaper (ev.OpenSession role.Reaper) = ⊥
+OpensNoReaper (Event.OpenSession Role.Reaper) = ⊥
 OpensNoReaper e = Unit {0}
 
 -- an event has a line: it opens no reaper's session, its numbers are within their types, its requests have three digits, and a job may have its relative priority
@@ -92,13 +89,13 @@ refusal_line r = row_line (refusal_row r) (refusal_fields r)
 
 -- a reply's one line (own)
 abbrev pub reply_line : Reply → List ℕ
-reply_line (reply.Done d) = done_line d
-reply_line (reply.Refused r) = codes "refused " ++ refusal_line r
+reply_line (Reply.Done d) = done_line d
+reply_line (Reply.Refused r) = codes "refused " ++ refusal_line r
 
 -- a reply has a line: its requests have three digits, and it reports no withdrawn job
 abbrev pub HasReplyLine : Reply → Type 0
-HasReplyLine (reply.Done d) = HaveWords (done_row d).kinds (done_fields d)
-HasReplyLine (reply.Refused r) = HaveWords (refusal_row r).kinds (refusal_fields r)
+HasReplyLine (Reply.Done d) = HaveWords (done_row d).kinds (done_fields d)
+HasReplyLine (Reply.Refused r) = HaveWords (refusal_row r).kinds (refusal_fields r)
 
 -- the reply begins with the form's first word
 abbrev pub is_headed_done : List ℕ → Done → Bool
@@ -111,12 +108,12 @@ is_headed_refusal first form = bytes_eq first (refusal_row form).head
 -- the reply of a done form and the words after its first
 abbrev pub done_with : List (List ℕ) → Option Done → Option Reply
 done_with rest None = None
-done_with rest (Some form) = option_map (λ f. reply.Done (done_of form f)) (result_ok (row_fields (done_row form).kinds rest))
+done_with rest (Some form) = option_map (λ f. Reply.Done (done_of form f)) (result_ok (row_fields (done_row form).kinds rest))
 
 -- the reply of a refusal's form and the words after its first
 abbrev pub refusal_with : List (List ℕ) → Option Refusal → Option Reply
 refusal_with rest None = None
-refusal_with rest (Some form) = option_map (λ f. reply.Refused (refusal_of form f)) (result_ok (row_fields (refusal_row form).kinds rest))
+refusal_with rest (Some form) = option_map (λ f. Reply.Refused (refusal_of form f)) (result_ok (row_fields (refusal_row form).kinds rest))
 
 -- the refusal of the words after `refused`
 abbrev pub refusal_in : List (List ℕ) → Option Reply
@@ -131,7 +128,7 @@ reply_in (first ∷ rest) = if bytes_eq first (codes "refused") then refusal_in 
 -- the reply as its line is read: a failed node and a failed request share one word, which is read
 -- as the request's
 abbrev pub told : Reply → Reply
-told (reply.Refused (no.WrongState found)) = reply.Refused (no.WrongState (told_found found))
+told (Reply.Refused (Refusal.WrongState found)) = Reply.Refused (Refusal.WrongState (told_found found))
 told other = other
 
 -- ## Entries

@@ -6,14 +6,13 @@ use Rattle.np_event.specs.declared.fault.LineFault.{LineFault}
 use Rattle.np_event.specs.declared.fault.LineFault.TheVariants.{WrongCount, BadArgument}
 use Rattle.np_event.specs.declared.kind.Fields.{Fields}
 use Rattle.np_event.specs.declared.kind.Kind.{Kind}
-use Rattle.np_event.specs.declared.kind.Kind.TheVariants as kind
 use Rattle.np_event.specs.Kind.{HasWord, field_text, fixed_text, with_field}
 use Rattle.np_event.specs.Row.{Row, blank}
 
 -- a fixed word is at its place; other kinds are not checked
 abbrev pub stands : Kind → Option (List ℕ) → Bool
-stands (kind.Fixed word) (Some text) = bytes_eq text (fixed_text word)
-stands (kind.Fixed word) None = false
+stands (Kind.Fixed word) (Some text) = bytes_eq text (fixed_text word)
+stands (Kind.Fixed word) None = false
 stands other text = true
 
 -- all fixed words are at their places

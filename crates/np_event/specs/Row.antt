@@ -1,11 +1,11 @@
 -- A form of a line: its first word, and what follows it.
 use Rattle.std.specs.Prelude.{ℕ, List, Option, Some, None}
-use Rattle.np_text.specs.declared.word.EndAs.TheVariants as end
-use Rattle.np_text.specs.declared.word.Ending.TheVariants as ending
-use Rattle.np_text.specs.declared.word.RequestState.TheVariants as request
 use Rattle.np_event.specs.declared.kind.Fields.{Fields}
 use Rattle.np_event.specs.declared.kind.Kind.{Kind}
-use Rattle.np_event.specs.declared.reply.Found.TheVariants as found
+use Rattle.np_text.specs.declared.word.EndAs.{EndAs}
+use Rattle.np_text.specs.declared.word.Ending.{Ending}
+use Rattle.np_text.specs.declared.word.RequestState.{RequestState}
+use Rattle.np_event.specs.declared.reply.Found.{Found}
 
 -- a row of a table of forms
 pub record Row : Type 0 where
@@ -41,7 +41,7 @@ blank = record {
   instances = 0;
   cores = 0;
   ram = 0;
-  end = end.Used;
-  ending = ending.Served;
-  found = found.Request request.Requested;
+  end = EndAs.Used;
+  ending = Ending.Served;
+  found = Found.Request RequestState.Requested;
 }

@@ -178,7 +178,7 @@ fn begins_reply(text: &[u8]) -> bool
 }
 
 /// What comes before and after the first ` = `.
-#[tactic(auto, using(crate::proofs::SideLemmas::siding))]
+#[tactic(auto, using(crate::proofs::Fields::siding))]
 fn sides_of(line: &[u8]) -> Option<(&[u8], &[u8])>
     ensures { option_map (λ sides. (sides.0.now, sides.1.now)) result ≡ sides_of line.now }
 {

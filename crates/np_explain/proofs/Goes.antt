@@ -1,14 +1,5 @@
 -- machines that go on
-use Rattle.std.proofs.Common.{◌≡◌, ◌<◌, ◌≤◌, ◌+◌, ℕ, List, [], ◌∷◌, ◌++◌, ◌∙◌, length, nat_lt, true, sym, subst, ap, refl, arith, append-nil, append_assoc}
-use Rattle.std.proofs.lemmas.List.{length-append}
-use Rattle.std.proofs.lemmas.Bool.Decides.{nat_tests}
-use Rattle.np_changes.specs.Prelude.{Configuration, Entry, Event, Reply, Runs, judge, next, reply_of}
-use Rattle.np_rules.specs.Ran.{Ran}
-use Rattle.np_rules.specs.Running.{Running, ran_of}
-use Rattle.np_rules.specs.RunsOn.{RunsOn, answer_after, applied_after, has_room_after}
-use Rattle.np_rules.proofs.First.{Runs-first}
-use Rattle.np_listing.specs.Tally.{Counted, counted}
-use Rattle.np_explain.specs.Run.{GoesOn, IsPlayed}
+use Rattle.np_explain.proofs.Prelude.{Configuration, Counted, Entry, Event, GoesOn, IsPlayed, List, Ran, Reply, Running, Runs, Runs-first, RunsOn, answer_after, ap, append-nil, append_assoc, applied_after, arith, counted, has_room_after, judge, length, length-append, nat_lt, nat_tests, next, ran_of, refl, reply_of, subst, sym, true, ℕ, [], ◌++◌, ◌+◌, ◌<◌, ◌∙◌, ◌∷◌, ◌≡◌, ◌≤◌}
 
 -- the entry that an event adds
 abbrev pub entry_of : Ran → Event → Entry
@@ -33,10 +24,6 @@ module _ {S : Type 0} where
     journal = second.journal ∙ ap (λ (es : List Entry). es ++ second.more) first.journal ∙ append_assoc m.journal first.more second.more;
     count = omega (arith, length-append first.more second.more, first.count, second.count);
   }
-
-  -- the number of entries
-  pub GoesOn-length : (m n : Running S) (i : ℕ) → GoesOn m n i → length n.journal ≡ length m.journal + i
-  GoesOn-length m n i on = omega (arith, ap length on.journal, length-append m.journal on.more, on.count)
 
   -- an event that happened where there was room is one more entry
   module _ (m n : Running S) (e : Event) (first : m.earlier ≡ 0) (room : length m.journal < 262144) where

@@ -1,9 +1,5 @@
 -- the lines of a journal, one entry after another
-use Rattle.std.proofs.Common.{◌≡◌, ◌<◌, ◌+◌, ℕ, List, length, take, get_or, sym, subst}
-use Rattle.std.proofs.lemmas.List.{take_more}
-use Rattle.np_changes.specs.Prelude.{AllByRecursion, Entry}
-use Rattle.np_event.specs.Line.{HasEventLine}
-use Rattle.np_lists.proofs.Each.{all-push}
+use Rattle.np_explain.proofs.Prelude.{AllByRecursion, Entry, HasEventLine, List, all-push, get_or, length, subst, sym, take, take_more, ℕ, ◌+◌, ◌<◌, ◌≡◌}
 
 pub all_next : (journal : List Entry) (i : ℕ) (e : Entry) → i < length journal → HasEventLine (get_or journal i e).event
     → AllByRecursion (λ (x : Entry). HasEventLine x.event) (take i journal) → AllByRecursion (λ (x : Entry). HasEventLine x.event) (take (i + 1) journal)

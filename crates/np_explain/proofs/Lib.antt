@@ -1,3 +1,4 @@
+pub mod Prelude
 pub mod JournalLines
 pub mod Goes
 pub mod Open

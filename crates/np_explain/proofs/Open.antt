@@ -1,7 +1,5 @@
 -- whether some item passes a test, one item after another
-use Rattle.std.proofs.Common.{◌≡◌, ◌∙◌, ◌+◌, ℕ, suc, Bool, true, false, List, Some, drop, slice_get, sym, refl, add-one}
-use Rattle.np_lists.proofs.Plain.{drop-there}
-use Rattle.np_changes.specs.Prelude.{list_any}
+use Rattle.np_explain.proofs.Prelude.{Bool, List, Some, add-one, drop, drop-there, false, list_any, refl, slice_get, suc, sym, true, ℕ, ◌+◌, ◌∙◌, ◌≡◌}
 
 module _ {X : Type 0} (p : X → Bool) (xs : List X) (i : ℕ) (x : X) (all : Bool) (there : slice_get xs i ≡ Some x) (so_far : list_any p (drop i xs) ≡ all) where
   -- this one does

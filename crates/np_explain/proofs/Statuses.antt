@@ -1,22 +1,6 @@
 -- what each status of the program shows
-use Rattle.std.proofs.Common.{◌≡◌, ◌<◌, ℕ, List, [], ◌∷◌, Bool, true, false, if◌then◌else◌, refl, subst, sym, ◌∙◌, arith, inl, inr}
-use Rattle.std.specs.Prelude.{◌⊎◌}
-use Rattle.np_io.specs.Facts.{SourceFacts, SinkFacts, IsWritten}
-use Rattle.np_changes.specs.Prelude.{list_any}
-use Rattle.np_check.specs.declared.finding.Finding.{Finding}
-use Rattle.np_check.specs.Finding.{findings}
-use Rattle.np_check.specs.Report.{verdict_of}
+use Rattle.np_explain.proofs.Prelude.{Answers, Asked, Bool, Ending, Ends, Explains, Finding, HasOwn, IsAnswered, IsInput, IsRefused, IsStatusIf, IsTold, IsWritten, List, Query, Refuses, ShowsOwn, SinkFacts, SourceFacts, arith, complete-read, false, findings, if◌then◌else◌, inl, inr, is_open, list_any, refl, status_of, tells, true, verdict_of, ℕ, [], ◌<◌, ◌∙◌, ◌∷◌, ◌≡◌, ◌⊎◌}
 use Rattle.np_check.specs.Report as report
-use Rattle.np_replay.specs.declared.ending.Ending.{Ending}
-use Rattle.np_replay.specs.Input.{IsInput}
-use Rattle.np_replay.specs.Told.{IsTold}
-use Rattle.np_replay.proofs.Told.{HasOwn, ShowsOwn, tells, complete-read}
-use Rattle.np_explain.specs.declared.command.Asked.{Asked}
-use Rattle.np_explain.specs.declared.command.Asked.TheVariants as asked
-use Rattle.np_explain.specs.declared.command.Query.TheVariants as query
-use Rattle.np_explain.specs.Explained.{is_open, status_of}
-use Rattle.np_explain.specs.Answers.{Answers, Refuses}
-use Rattle.np_explain.specs.Explains.{IsAnswered, IsRefused, Ends, Explains, IsStatusIf}
 
 -- ## the statuses of an answer and of a refusal
 
@@ -29,18 +13,18 @@ of-verdict [] n is = inl is
 of-verdict (f ∷ fs) n is = inr is
 
 answer-status : (a : Asked) (came text : List ℕ) (n : ℕ) → Answers a came text n → (n ≡ 0) ⊎ (n ≡ 1)
-answer-status (asked.Text query.Explanation) came text n answers = one-of (list_any is_open answers.state.jobs) n answers.status_of
-answer-status (asked.Text (query.State entries)) came text n answers = inl answers.0
-answer-status asked.Check came text n answers = of-verdict (findings answers.configuration) n answers.tells
+answer-status (Asked.Text Query.Explanation) came text n answers = one-of (list_any is_open answers.state.jobs) n answers.status_of
+answer-status (Asked.Text (Query.State entries)) came text n answers = inl answers.0
+answer-status Asked.Check came text n answers = of-verdict (findings answers.configuration) n answers.tells
 
 either : (A B : Type 0) (n : ℕ) → ((n ≡ 3) × A) ⊎ ((n ≡ 2) × B) → (n ≡ 2) ⊎ (n ≡ 3)
 either A B n (inl three) = inr three.0
 either A B n (inr two) = inl two.0
 
 refusal-status : (a : Asked) (came line : List ℕ) (n : ℕ) → Refuses a came line n → (n ≡ 2) ⊎ (n ≡ 3)
-refusal-status (asked.Text query.Explanation) came line n refuses = inr refuses.0
-refusal-status (asked.Text (query.State entries)) came line n refuses = either _ _ n refuses
-refusal-status asked.Check came line n refuses = inr refuses.0
+refusal-status (Asked.Text Query.Explanation) came line n refuses = inr refuses.0
+refusal-status (Asked.Text (Query.State entries)) came line n refuses = either _ _ n refuses
+refusal-status Asked.Check came line n refuses = inr refuses.0
 
 few : (n a b : ℕ) → a < 5 → b < 5 → (n ≡ a) ⊎ (n ≡ b) → n < 5
 few n a b least most (inl is) = omega (arith, is)

@@ -9,15 +9,13 @@ use Rattle.np_check.specs.Spot.{spot_of}
 use Rattle.np_check.specs.Finding.{findings}
 use Rattle.np_check.specs.Line.{finding_lines}
 use Rattle.np_check.specs.Report.{fault_text, verdict_of}
-use Rattle.np_check.specs.Report as report
 use Rattle.np_listing.specs.Listing.{listing_of}
 use Rattle.np_replay.specs.declared.ending.Ending.{Ending as CommandEnding}
-use Rattle.np_replay.specs.declared.ending.Ending.TheVariants as ending
 use Rattle.np_explain.specs.declared.command.Asked.{Asked}
-use Rattle.np_explain.specs.declared.command.Asked.TheVariants as asked
-use Rattle.np_explain.specs.declared.command.Query.TheVariants as query
 use Rattle.np_explain.specs.Text.{IsFaultOf, IsTextOf}
 use Rattle.np_explain.specs.Explained.{IsExplanation, status_of}
+use Rattle.np_explain.specs.declared.command.Query.{Query}
+use Rattle.np_check.specs.Report as report
 
 -- ## a Text
 
@@ -81,26 +79,26 @@ pub record IsAtFault (came line : List ℕ) : Type 0 where
 
 -- the text that is printed, with its status
 abbrev pub Answers : Asked → List ℕ → List ℕ → ℕ → Type 0
-Answers (asked.Text query.Explanation) came text status = IsExplained came text status
-Answers (asked.Text (query.State entries)) came text status = (status ≡ 0) × IsListed entries came text
-Answers asked.Check came text status = IsChecked came text status
+Answers (Asked.Text Query.Explanation) came text status = IsExplained came text status
+Answers (Asked.Text (Query.State entries)) came text status = (status ≡ 0) × IsListed entries came text
+Answers Asked.Check came text status = IsChecked came text status
 
 -- the line that says why nothing is printed, with its status
 abbrev pub Refuses : Asked → List ℕ → List ℕ → ℕ → Type 0
-Refuses (asked.Text query.Explanation) came line status = (status ≡ 3) × IsFaultOf came line
-Refuses (asked.Text (query.State entries)) came line status =
+Refuses (Asked.Text Query.Explanation) came line status = (status ≡ 3) × IsFaultOf came line
+Refuses (Asked.Text (Query.State entries)) came line status =
     ((status ≡ 3) × IsFaultOf came line) ⊎ ((status ≡ 2) × HasFewer entries came line)
-Refuses asked.Check came line status = (status ≡ 3) × IsAtFault came line
+Refuses Asked.Check came line status = (status ≡ 3) × IsAtFault came line
 
 -- one of these
 abbrev pub Answered : Asked → List ℕ → CommandEnding → Type 0
-Answered asked came (ending.Prints text status) = Answers asked came text.items status
-Answered asked came (ending.Full text) = ⊥
-Answered asked came (ending.Says line status) = Refuses asked came line.items status
-Answered asked came ending.NoCommand = ⊥
-Answered asked came ending.ReadFault = ⊥
-Answered asked came ending.TooLong = ⊥
-Answered asked came ending.NoMemory = ⊥
+Answered asked came (CommandEnding.Prints text status) = Answers asked came text.items status
+Answered asked came (CommandEnding.Full text) = ⊥
+Answered asked came (CommandEnding.Says line status) = Refuses asked came line.items status
+Answered asked came CommandEnding.NoCommand = ⊥
+Answered asked came CommandEnding.ReadFault = ⊥
+Answered asked came CommandEnding.TooLong = ⊥
+Answered asked came CommandEnding.NoMemory = ⊥
 
 -- the status that belongs to the bytes
 abbrev pub IsStatusOf : Asked → List ℕ → ℕ → Type 0

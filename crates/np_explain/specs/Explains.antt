@@ -3,7 +3,6 @@ use Rattle.std.specs.Prelude.{◌≡◌, ◌⊎◌, ℕ, Bool, true, false, List
 use Rattle.np_io.specs.Counts.{Rose}
 use Rattle.np_io.specs.Facts.{SourceFacts, SinkFacts, IsWritten}
 use Rattle.np_replay.specs.declared.ending.Ending.{Ending as CommandEnding}
-use Rattle.np_replay.specs.declared.ending.Ending.TheVariants as ending
 use Rattle.np_replay.specs.Input.{IsInput, Stops, most}
 use Rattle.np_replay.specs.Failures.{ShowsFailures}
 use Rattle.np_replay.specs.Told.{IsTold, EndsSo}
@@ -26,13 +25,13 @@ pub record IsRefused (asked : Asked) (source source_now : SourceFacts) (line : L
 
 -- by what came from the source
 abbrev pub Ends : Asked → SourceFacts → SourceFacts → CommandEnding → Type 0
-Ends asked source source_now (ending.Prints text status) = IsAnswered asked source source_now text.items status
-Ends asked source source_now (ending.Full text) = ⊥
-Ends asked source source_now (ending.Says line status) = IsRefused asked source source_now line.items status
-Ends asked source source_now ending.NoCommand = ⊥
-Ends asked source source_now ending.ReadFault = Stops source source_now ending.ReadFault
-Ends asked source source_now ending.TooLong = Stops source source_now ending.TooLong
-Ends asked source source_now ending.NoMemory = Unit {0}
+Ends asked source source_now (CommandEnding.Prints text status) = IsAnswered asked source source_now text.items status
+Ends asked source source_now (CommandEnding.Full text) = ⊥
+Ends asked source source_now (CommandEnding.Says line status) = IsRefused asked source source_now line.items status
+Ends asked source source_now CommandEnding.NoCommand = ⊥
+Ends asked source source_now CommandEnding.ReadFault = Stops source source_now CommandEnding.ReadFault
+Ends asked source source_now CommandEnding.TooLong = Stops source source_now CommandEnding.TooLong
+Ends asked source source_now CommandEnding.NoMemory = Unit {0}
 
 -- ## the status that belongs to an input
 

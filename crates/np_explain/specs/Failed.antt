@@ -1,17 +1,16 @@
 -- why the requests of jobs failed, as it is printed
 use Rattle.std.specs.Prelude.{ℕ, Bool, true, false, List, [], ◌++◌, codes, Option, Some, None, if◌then◌else◌, length, slice_get}
 use Rattle.np_changes.specs.Prelude.{Configuration, Declined, Ending, JobId, JobRecord, RequestId, RequestRecord, State, flat_map, request_in}
-use Rattle.np_text.specs.declared.word.Ending.TheVariants as end
 use Rattle.np_check.specs.Finding.{places}
 use Rattle.np_explain_lines.specs.Words.{job_words, pool_words, request_words}
 use Rattle.np_explain_lines.specs.Line.{reason_words}
 
 abbrev pub is_failed : Option Ending → Bool
 is_failed None = false
-is_failed (Some end.Served) = false
-is_failed (Some end.Lost) = false
-is_failed (Some end.Failed) = true
-is_failed (Some end.Withdrawn) = false
+is_failed (Some Ending.Served) = false
+is_failed (Some Ending.Lost) = false
+is_failed (Some Ending.Failed) = true
+is_failed (Some Ending.Withdrawn) = false
 
 -- why a pool declined the request
 unfoldable pub declined_line : Configuration → RequestId → Declined → List ℕ

@@ -1,6 +1,6 @@
 -- a machine that plays a run, and what it took
 use Rattle.std.specs.Prelude.{◌≡◌, ℕ, List, ◌++◌, length}
-use Rattle.np_changes.specs.Prelude.{Configuration, Entry}
+use Rattle.np_changes.specs.Prelude.{Entry}
 use Rattle.np_rules.specs.Running.{Running}
 use Rattle.np_listing.specs.Tally.{Counted, counted}
 

@@ -1,6 +1,5 @@
 -- a text that is appended in parts
-use Rattle.std.proofs.Common.{◌≡◌, ℕ, List, ◌++◌, Result, Ok, Err, ◌∙◌, ap, append_assoc}
-use Rattle.std.specs.Prelude.{OnOk}
+use Rattle.np_explain_lines.proofs.Prelude.{Err, List, Ok, OnOk, Result, ap, append_assoc, ℕ, ◌++◌, ◌∙◌, ◌≡◌}
 
 -- one part, and then one that may fail
 pub then_more : {A E : Type 0} (r : Result A E) (old mid new first more : List ℕ) → mid ≡ old ++ first → OnOk r (new ≡ mid ++ more) → OnOk r (new ≡ old ++ (first ++ more))

@@ -1,39 +1,5 @@
 -- what is to be told, while it grows and shrinks
-use Rattle.std.proofs.Common.{◌≡◌, ◌<◌, ◌≤◌, ◌+◌, ◌-◌, ℕ, suc, zero, List, [], ◌∷◌, ◌++◌, length, Option, Some, None, refl, sym, ap, ◌∙◌, inl, inr, Bool, true, false, subst, arith}
-use Rattle.std.specs.Prelude.{slice_get, nat_lt, not, ◌⊎◌}
-use Rattle.std.proofs.lemmas.Bool.Decides.{nat_tests}
-use Rattle.std.proofs.lemmas.Option.{slice_get_within}
-use Rattle.np_changes.specs.Prelude.{Configuration, JobId, JobRecord, State, is_over, option_map_or}
-use Rattle.np_lists.proofs.Plain.{past-end}
-use Rattle.np_causes.specs.Explains.{waits}
-use Rattle.np_causes.specs.Names.{named_by}
-use Rattle.np_causes.specs.declared.fact.Fact.{Fact}
-use Rattle.np_causes.specs.declared.fact.Thing.{Thing}
-use Rattle.np_causes.specs.declared.fact.Thing.TheVariants as thing
-use Rattle.np_explain_lines.specs.Chains.{IsPending, IsWaiting, Names}
-use Rattle.np_explain_lines.specs.declared.chain.Next.{Next}
-
--- ## a list with one item more
-
-pub stays : {X : Type 0} (xs : List X) (x : X) (k : ℕ) (y : X) → slice_get xs k ≡ Some y → slice_get (xs ++ x ∷ []) k ≡ Some y
-stays [] x k y is = absurd cc
-stays (z ∷ xs) x zero y is = is
-stays (z ∷ xs) x (suc k) y is = stays xs x k y is
-
-pub last : {X : Type 0} (xs : List X) (x : X) → slice_get (xs ++ x ∷ []) (length xs) ≡ Some x
-last [] x = refl
-last (y ∷ xs) x = last xs x
-
--- it is one of the others, or the last
-pub split : {X : Type 0} (xs : List X) (x : X) (k : ℕ) (y : X) → slice_get (xs ++ x ∷ []) k ≡ Some y → (slice_get xs k ≡ Some y) ⊎ ((x ≡ y) × (k ≡ length xs))
-split [] x zero y is = inr (cc, refl)
-split [] x (suc k) y is = absurd cc
-split (z ∷ xs) x zero y is = inl is
-split (z ∷ xs) x (suc k) y is = by (split xs x k y is)
-  where
-    by : (slice_get xs k ≡ Some y) ⊎ ((x ≡ y) × (k ≡ length xs)) → (slice_get xs k ≡ Some y) ⊎ ((x ≡ y) × (suc k ≡ suc (length xs)))
-    by (inl there) = inl there
-    by (inr here) = inr (here.0, ap suc here.1)
+use Rattle.np_explain_lines.proofs.Prelude.{Configuration, Fact, IsPending, IsWaiting, JobId, JobRecord, List, Names, Next, None, Option, Some, State, Thing, ap, arith, cases_lt, false, inl, inr, is_over, length, named_by, not, option_map_or, past-end, push-places, refl, slice_get, slice_get-left, slice_get-middle, slice_get_within, subst, sym, true, waits, ℕ, [], ◌++◌, ◌+◌, ◌-◌, ◌<◌, ◌∙◌, ◌∷◌, ◌≡◌, ◌≤◌, ◌⊎◌}
 
 -- ## what is to be told
 
@@ -42,17 +8,17 @@ none_pending [] it none has = let stands : slice_get [] has.at ≡ Some has.next
 none_pending (n ∷ pending) it none has = absurd (let some : length (n ∷ pending) ≡ 0 = none in omega arith)
 
 pub push_stays : (pending : List Next) (n : Next) (it : Thing) → IsPending pending it → IsPending (pending ++ n ∷ []) it
-push_stays pending n it has = record { at = has.at; next = has.next; stands = stays pending n has.at has.next has.stands; about = has.about }
+push_stays pending n it has = record { at = has.at; next = has.next; stands = slice_get-left pending [] n has.at (slice_get_within pending has.at has.next has.stands) ∙ has.stands; about = has.about }
 
 pub push_pending : (pending : List Next) (n : Next) (it : Thing) → n.thing ≡ it → IsPending (pending ++ n ∷ []) it
-push_pending pending n it is = record { at = length pending; next = n; stands = last pending n; about = is }
+push_pending pending n it is = record { at = length pending; next = n; stands = slice_get-middle pending [] n (length pending) refl; about = is }
 
 pub pushed_alone : (pending : List Next) (n : Next) (it : Thing) → IsPending (pending ++ n ∷ []) it → IsPending pending it ⊎ (n.thing ≡ it)
-pushed_alone pending n it has = by (split pending n has.at has.next has.stands)
+pushed_alone pending n it has = by (push-places pending n has.at has.next has.stands)
   where
-    by : (slice_get pending has.at ≡ Some has.next) ⊎ ((n ≡ has.next) × (has.at ≡ length pending)) → IsPending pending it ⊎ (n.thing ≡ it)
+    by : (slice_get pending has.at ≡ Some has.next) ⊎ ((has.at ≡ length pending) × (has.next ≡ n)) → IsPending pending it ⊎ (n.thing ≡ it)
     by (inl there) = inl (record { at = has.at; next = has.next; stands = there; about = has.about })
-    by (inr here) = inr (ap (λ (m : Next). m.thing) here.0 ∙ has.about)
+    by (inr here) = inr (ap (λ (m : Next). m.thing) (sym here.1) ∙ has.about)
 
 -- ## jobs, from the last on
 
@@ -64,21 +30,16 @@ job_within s j (Some kept) there is = slice_get_within s.jobs j.0 kept there
 pub waiting_within : (s : State) (j : JobId) → waits s j ≡ true → j.0 < length s.jobs
 waiting_within s j is = job_within s j (slice_get s.jobs j.0) refl is
 
-same_job : (j : JobId) (n : ℕ) → j.0 ≡ n → j ≡ record { 0 = n }
-same_job j n is = ap (λ (k : ℕ). record { 0 = k }) is
-
 pub jobs_more : (s : State) (left : ℕ) (before later : List Next) → 0 < left → ((it : Thing) → IsPending before it → IsPending later it)
-    → (waits s (record { 0 = left - 1 }) ≡ true → IsPending later (thing.Job (record { 0 = left - 1 })))
-    → ((j : JobId) → waits s j ≡ true → left ≤ j.0 → IsPending before (thing.Job j))
-    → (j : JobId) → waits s j ≡ true → left - 1 ≤ j.0 → IsPending later (thing.Job j)
-jobs_more s left before later some stay told all j is past = by (nat_lt j.0 left) refl
-  where
-    by : (b : Bool) → nat_lt j.0 left ≡ b → IsPending later (thing.Job j)
-    by false more = stay (thing.Job j) (all j is (grind (arith, nat_tests)))
-    by true less =
-        let number : j.0 ≡ left - 1 = grind (arith, nat_tests) in
-        let same : j ≡ record { 0 = left - 1 } = same_job j (left - 1) number in
-        subst (λ (k : JobId). IsPending later (thing.Job k)) (sym same) (told (subst (λ (k : JobId). waits s k ≡ true) same is))
+    → (waits s (record { 0 = left - 1 }) ≡ true → IsPending later (Thing.Job (record { 0 = left - 1 })))
+    → ((j : JobId) → waits s j ≡ true → left ≤ j.0 → IsPending before (Thing.Job j))
+    → (j : JobId) → waits s j ≡ true → left - 1 ≤ j.0 → IsPending later (Thing.Job j)
+jobs_more s left before later some stay told all j is past =
+    elim (cases_lt j.0 left) as (λ _. IsPending later (Thing.Job j)) [
+      | inl less ↦ (let same : j ≡ record { 0 = left - 1 } = ap (λ (k : ℕ). record { 0 = k }) (omega arith) in
+          subst (λ (k : JobId). IsPending later (Thing.Job k)) (sym same) (told (subst (λ (k : JobId). waits s k ≡ true) same is)))
+      | inr more ↦ stay (Thing.Job j) (all j is more)
+    ]
 
 pub alone_more : (s : State) (before : List Next) (it : Thing) → ((t : Thing) → IsPending before t → IsWaiting s t) → IsPending before it ⊎ IsWaiting s it → IsWaiting s it
 alone_more s before it all (inl old) = all it old
@@ -90,13 +51,11 @@ pub places_more : (named : List (Option Thing)) (left : ℕ) (before later : Lis
     → ((it : Thing) → slice_get named (left - 1) ≡ Some (Some it) → IsPending later it)
     → ((place : ℕ) (it : Thing) → left ≤ place → slice_get named place ≡ Some (Some it) → IsPending before it)
     → (place : ℕ) (it : Thing) → left - 1 ≤ place → slice_get named place ≡ Some (Some it) → IsPending later it
-places_more named left before later some stay told all place it past names = by (nat_lt place left) refl
-  where
-    by : (b : Bool) → nat_lt place left ≡ b → IsPending later it
-    by false more = stay it (all place it (grind (arith, nat_tests)) names)
-    by true less =
-        let same : place ≡ left - 1 = grind (arith, nat_tests) in
-        told it (subst (λ (k : ℕ). slice_get named k ≡ Some (Some it)) same names)
+places_more named left before later some stay told all place it past names =
+    elim (cases_lt place left) as (λ _. IsPending later it) [
+      | inl less ↦ (let same : place ≡ left - 1 = omega arith in told it (subst (λ (k : ℕ). slice_get named k ≡ Some (Some it)) same names))
+      | inr more ↦ stay it (all place it more names)
+    ]
 
 pub named_more : (c : Configuration) (s : State) (f : Fact) (first before : List Next) (it : Thing) (place : ℕ)
     → ((t : Thing) → IsPending before t → IsPending first t ⊎ Names c s f t)
@@ -113,7 +72,7 @@ no_place_past c s f end place it none past names =
 
 -- ## one thing more
 
-pub waiting_alone : (s : State) (j : JobId) (pending : List Next) (it : Thing) (n : Next) → n.thing ≡ thing.Job j → waits s j ≡ true
+pub waiting_alone : (s : State) (j : JobId) (pending : List Next) (it : Thing) (n : Next) → n.thing ≡ Thing.Job j → waits s j ≡ true
     → IsPending pending it ⊎ (n.thing ≡ it) → IsPending pending it ⊎ IsWaiting s it
 waiting_alone s j pending it n is waits (inl old) = inl old
 waiting_alone s j pending it n is waits (inr same) = inr (j, sym same ∙ is, waits)

@@ -1,22 +1,6 @@
 -- one link more
-use Rattle.std.proofs.Common.{◌≡◌, ◌<◌, ℕ, List, [], ◌∷◌, ◌++◌, length, Some, None, refl, sym, ap, ◌∙◌, subst, inl, inr, true, get_or}
-use Rattle.std.specs.Prelude.{slice_get, ◌⊎◌, map, All}
-use Rattle.std.proofs.lemmas.List.Elements.{All-get_or, All-nil, All-push}
-use Rattle.std.proofs.lemmas.Option.{get_or_from_slice_get, slice_get_within}
-use Rattle.np_changes.specs.Prelude.{Configuration, JobId, State}
-use Rattle.np_lists.proofs.EachAfterLemmas.{EachAfter-push}
-use Rattle.np_lists.proofs.Plain.{map-push}
-use Rattle.np_causes.specs.Fact.{about_of, IsTrueOf, Tells}
-use Rattle.np_causes.specs.Names.{named_by}
-use Rattle.np_causes.specs.Explains.{IsNamed, IsTold, waits}
-use Rattle.np_causes.specs.declared.fact.Fact.{Fact}
-use Rattle.np_causes.specs.declared.fact.Thing.{Thing}
-use Rattle.np_causes.specs.declared.fact.Thing.TheVariants as thing
-use Rattle.np_causes.proofs.Growing.{push_grows, push_told, told_later}
-use Rattle.np_explain_lines.specs.Chains.{ExplainsAll, IsDue, IsOnItsWay, IsPending, IsSoundFrom, IsWaiting, Names, facts_of}
-use Rattle.np_explain_lines.specs.declared.chain.Link.{Link}
-use Rattle.np_explain_lines.specs.declared.chain.Next.{Next}
-use Rattle.np_explain_lines.proofs.Pending.{last, none_pending, push_pending, push_stays, pushed_alone, split, stays}
+use Rattle.np_explain_lines.proofs.Prelude.{All, All-get_or, All-nil, All-push, Configuration, EachAfter-push, ExplainsAll, Fact, IsDue, IsNamed, IsOnItsWay, IsPending, IsSoundFrom, IsTold, IsTrueOf, IsWaiting, JobId, List, Names, Next, Some, State, Tells, Thing, about_of, get_or, get_or_from_slice_get, inl, inr, length, named_by, push-places, push_grows, push_told, refl, slice_get, slice_get-middle, slice_get_within, subst, sym, told_later, true, waits, ℕ, [], ◌++◌, ◌<◌, ◌∙◌, ◌∷◌, ◌≡◌, ◌⊎◌}
+use Rattle.np_explain_lines.proofs.Pending.{none_pending, push_pending, push_stays, pushed_alone}
 
 module _ (c : Configuration) (s : State) where
   -- ## the facts that are told
@@ -26,7 +10,7 @@ module _ (c : Configuration) (s : State) where
       subst (λ (g : Fact). IsTrueOf c s g) (get_or_from_slice_get facts at f f stands) (All-get_or (IsTrueOf c s) facts at f (slice_get_within facts at f stands) all)
 
   named_later : (facts : List Fact) (f : Fact) (it : Thing) → IsNamed c s facts it → IsNamed c s (facts ++ f ∷ []) it
-  named_later facts f it is = record { at = is.at; fact = is.fact; stands = stays facts f is.at is.fact is.stands; place = is.place; names = is.names }
+  named_later facts f it is = record { at = is.at; fact = is.fact; stands = push_grows facts f is.at is.fact is.stands; place = is.place; names = is.names }
 
   due_later : (facts : List Fact) (f : Fact) (it : Thing) → IsDue c s facts it → IsDue c s (facts ++ f ∷ []) it
   due_later facts f it (inl waiting) = inl waiting
@@ -35,11 +19,11 @@ module _ (c : Configuration) (s : State) where
   -- what is due was due before, or the new fact names it
   due_split : (facts : List Fact) (f : Fact) (it : Thing) → IsDue c s (facts ++ f ∷ []) it → IsDue c s facts it ⊎ Names c s f it
   due_split facts f it (inl waiting) = inl (inl waiting)
-  due_split facts f it (inr named) = by (split facts f named.at named.fact named.stands)
+  due_split facts f it (inr named) = by (push-places facts f named.at named.fact named.stands)
     where
-      by : (slice_get facts named.at ≡ Some named.fact) ⊎ ((f ≡ named.fact) × (named.at ≡ length facts)) → IsDue c s facts it ⊎ Names c s f it
+      by : (slice_get facts named.at ≡ Some named.fact) ⊎ ((named.at ≡ length facts) × (named.fact ≡ f)) → IsDue c s facts it ⊎ Names c s f it
       by (inl there) = inl (inr (record { at = named.at; fact = named.fact; stands = there; place = named.place; names = named.names }))
-      by (inr here) = inr (named.place, subst (λ (g : Fact). slice_get (named_by c s g) named.place ≡ Some (Some it)) (sym here.0) named.names)
+      by (inr here) = inr (named.place, subst (λ (g : Fact). slice_get (named_by c s g) named.place ≡ Some (Some it)) here.1 named.names)
 
   sound_push : (facts : List Fact) (f : Fact) (it : Thing) → IsSoundFrom c s facts → about_of f ≡ it → IsTrueOf c s f → IsDue c s facts it → IsSoundFrom c s (facts ++ f ∷ [])
   sound_push facts f it sound about holds due = record {
@@ -48,6 +32,16 @@ module _ (c : Configuration) (s : State) where
   }
 
   -- ## the way goes on
+
+  -- what was told or is to be told is so after a fact about what is told next
+  settled : (facts : List Fact) (pending later : List Next) (next : Next) (f : Fact) → about_of f ≡ next.thing → ((it : Thing) → IsPending pending it → IsPending later it)
+      → (it : Thing) → IsTold facts it ⊎ IsPending (pending ++ next ∷ []) it → IsTold (facts ++ f ∷ []) it ⊎ IsPending later it
+  settled facts pending later next f about stay it (inl told) = inl (told_later facts (facts ++ f ∷ []) it (push_grows facts f) told)
+  settled facts pending later next f about stay it (inr waits) = by (pushed_alone pending next it waits)
+    where
+      by : IsPending pending it ⊎ (next.thing ≡ it) → IsTold (facts ++ f ∷ []) it ⊎ IsPending later it
+      by (inl left) = inr (stay it left)
+      by (inr same) = inl (push_told facts f it (about ∙ same))
 
   -- a fact about what is told next; of what it names each thing is told, or is to be told now
   more : (facts : List Fact) (pending later : List Next) (next : Next) (f : Fact)
@@ -64,23 +58,15 @@ module _ (c : Configuration) (s : State) where
       sound : IsSoundFrom c s (facts ++ f ∷ [])
       sound = sound_push facts f next.thing way.sound about holds (way.may next.thing now)
 
-      here : (it : Thing) → IsPending pending it ⊎ (next.thing ≡ it) → IsTold (facts ++ f ∷ []) it ⊎ IsPending later it
-      here it (inl waits) = inr (stay it waits)
-      here it (inr same) = inl (push_told facts f it (about ∙ same))
-
-      before : (it : Thing) → IsTold facts it ⊎ IsPending (pending ++ next ∷ []) it → IsTold (facts ++ f ∷ []) it ⊎ IsPending later it
-      before it (inl told) = inl (told_later facts (facts ++ f ∷ []) it (push_grows facts f) told)
-      before it (inr waits) = here it (pushed_alone pending next it waits)
-
       by : (it : Thing) → IsDue c s facts it ⊎ Names c s f it → IsTold (facts ++ f ∷ []) it ⊎ IsPending later it
-      by it (inl old) = before it (way.due it old)
+      by it (inl old) = settled facts pending later next f about stay it (way.due it old)
       by it (inr names) = all it names
 
       due : (it : Thing) → IsDue c s (facts ++ f ∷ []) it → IsTold (facts ++ f ∷ []) it ⊎ IsPending later it
       due it is = by it (due_split facts f it is)
 
       named-now : (it : Thing) → Names c s f it → IsNamed c s (facts ++ f ∷ []) it
-      named-now it names = record { at = length facts; fact = f; stands = last facts f; place = names.0; names = names.1 }
+      named-now it names = record { at = length facts; fact = f; stands = slice_get-middle facts [] f (length facts) refl; place = names.0; names = names.1 }
 
       may-by : (it : Thing) → IsPending pending it ⊎ Names c s f it → IsDue c s (facts ++ f ∷ []) it
       may-by it (inl waits) = due_later facts f it (way.may it (push_stays pending next it waits))
@@ -95,16 +81,9 @@ module _ (c : Configuration) (s : State) where
   again facts pending next f at stands about way =
       more facts pending pending next f way about (true_at facts at f way.sound.true stands) (λ it waits. waits) all (λ it waits. inl waits)
     where
-      here : (it : Thing) → IsPending pending it ⊎ (next.thing ≡ it) → IsTold (facts ++ f ∷ []) it ⊎ IsPending pending it
-      here it (inl waits) = inr waits
-      here it (inr same) = inl (push_told facts f it (about ∙ same))
-
-      before : (it : Thing) → IsTold facts it ⊎ IsPending (pending ++ next ∷ []) it → IsTold (facts ++ f ∷ []) it ⊎ IsPending pending it
-      before it (inl told) = inl (told_later facts (facts ++ f ∷ []) it (push_grows facts f) told)
-      before it (inr waits) = here it (pushed_alone pending next it waits)
-
       all : (it : Thing) → Names c s f it → IsTold (facts ++ f ∷ []) it ⊎ IsPending pending it
-      all it names = before it (way.due it (inr (record { at = at; fact = f; stands = stands; place = names.0; names = names.1 })))
+      all it names =
+          settled facts pending pending next f about (λ it waits. waits) it (way.due it (inr (record { at = at; fact = f; stands = stands; place = names.0; names = names.1 })))
 
   -- what is told for the first time
   pub told_now : (facts : List Fact) (pending later : List Next) (next : Next) (f : Fact) → Tells c s next.thing f
@@ -116,7 +95,7 @@ module _ (c : Configuration) (s : State) where
 
   -- ## the begin and the end
 
-  pub begun : (pending : List Next) → ((j : JobId) → waits s j ≡ true → IsPending pending (thing.Job j)) → ((it : Thing) → IsPending pending it → IsWaiting s it) → IsOnItsWay c s [] pending
+  pub begun : (pending : List Next) → ((j : JobId) → waits s j ≡ true → IsPending pending (Thing.Job j)) → ((it : Thing) → IsPending pending it → IsWaiting s it) → IsOnItsWay c s [] pending
   begun pending all alone = record { sound = record { true = All-nil (IsTrueOf c s); follow = tt }; due = due; may = λ it waits. inl (alone it waits) }
     where
       due : (it : Thing) → IsDue c s [] it → IsTold [] it ⊎ IsPending pending it
@@ -124,7 +103,7 @@ module _ (c : Configuration) (s : State) where
       due it (inr named) = absurd (let stands : slice_get [] named.at ≡ Some named.fact = named.stands in cc)
 
   pub done : (facts : List Fact) (pending : List Next) → length pending ≡ 0 → IsOnItsWay c s facts pending → ExplainsAll c s facts
-  done facts pending none way = record { sound = way.sound; jobs = λ j is. told (thing.Job j) (inl (j, refl, is)); each = λ it named. told it (inr named) }
+  done facts pending none way = record { sound = way.sound; jobs = λ j is. told (Thing.Job j) (inl (j, refl, is)); each = λ it named. told it (inr named) }
     where
       by : (it : Thing) → IsTold facts it ⊎ IsPending pending it → IsTold facts it
       by it (inl there) = there
@@ -132,7 +111,3 @@ module _ (c : Configuration) (s : State) where
 
       told : (it : Thing) → IsDue c s facts it → IsTold facts it
       told it is = by it (way.due it is)
-
--- the facts of links
-pub facts_push : (links : List Link) (link : Link) → facts_of (links ++ link ∷ []) ≡ facts_of links ++ link.fact ∷ []
-facts_push links link = map-push (λ (l : Link). l.fact) links link

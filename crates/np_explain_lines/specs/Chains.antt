@@ -5,14 +5,13 @@ use Rattle.np_causes.specs.Fact.{about_of, IsTrueOf}
 use Rattle.np_causes.specs.Names.{named_by}
 use Rattle.np_causes.specs.Explains.{IsNamed, IsTold, waits}
 use Rattle.np_causes.specs.declared.fact.Thing.{Thing}
-use Rattle.np_causes.specs.declared.fact.Thing.TheVariants as thing
 use Rattle.np_causes.specs.declared.fact.Fact.{Fact}
 use Rattle.np_explain_lines.specs.declared.chain.Link.{Link}
 use Rattle.np_explain_lines.specs.declared.chain.Next.{Next}
 
 -- the thing is a job that waits
 abbrev pub IsWaiting : State → Thing → Type 0
-IsWaiting s it = (j : JobId) × (it ≡ thing.Job j) × (waits s j ≡ true)
+IsWaiting s it = (j : JobId) × (it ≡ Thing.Job j) × (waits s j ≡ true)
 
 -- the thing is a job that waits, or one of the facts names it
 abbrev pub IsDue : Configuration → State → List Fact → Thing → Type 0
@@ -26,7 +25,7 @@ pub record IsSoundFrom (c : Configuration) (s : State) (facts : List Fact) : Typ
 -- and one of them is about each job that waits, and one about each thing that one of them names
 pub record ExplainsAll (c : Configuration) (s : State) (facts : List Fact) : Type 0 where
   pub sound : IsSoundFrom c s facts
-  pub jobs : (j : JobId) → waits s j ≡ true → IsTold facts (thing.Job j)
+  pub jobs : (j : JobId) → waits s j ≡ true → IsTold facts (Thing.Job j)
   pub each : (it : Thing) → IsNamed c s facts it → IsTold facts it
 
 -- the facts of a chain

@@ -1,46 +1,41 @@
 -- the line of a fact
-use Rattle.std.specs.Prelude.{ℕ, Bool, true, false, List, [], ◌++◌, codes, decimal, Option, Some, None, slice_get}
+use Rattle.std.specs.Prelude.{ℕ, Bool, true, false, List, ◌++◌, codes, decimal, Option, Some, None, slice_get}
 use Rattle.np_changes.specs.Prelude.{Amount, Configuration, LabelId, Limit, NodeState, Phase, Reason, SemId, limit_of, limit_of_tenant, option_map}
-use Rattle.np_text.specs.declared.word.NodeState.TheVariants as node_state
-use Rattle.np_text.specs.declared.word.Phase.TheVariants as phase
-use Rattle.np_text.specs.declared.word.Reason.TheVariants as reason
 use Rattle.np_causes.specs.Fact.{about_of}
 use Rattle.np_causes.specs.declared.fact.Thing.{Thing}
-use Rattle.np_causes.specs.declared.fact.Thing.TheVariants as thing
 use Rattle.np_causes.specs.declared.fact.Fact.{Fact}
-use Rattle.np_causes.specs.declared.fact.Fact.TheVariants as fact
 use Rattle.np_explain_lines.specs.Words.{job_words, label_words, node_words, pool_words, request_words, requester_words, role_words, semaphore_words, session_words, tenant_words}
 
 -- ## what the fact is about
 
 abbrev pub subject : Configuration → Thing → List ℕ
-subject c (thing.Job j) = job_words c j
-subject c (thing.Turn j) = job_words c j
-subject c (thing.Window j) = job_words c j
-subject c (thing.Supply j) = job_words c j
-subject c (thing.Semaphore x) = semaphore_words c x
-subject c (thing.Handle x j) = semaphore_words c x
-subject c (thing.Request r) = request_words r
-subject c (thing.Offer r p) = request_words r ++ codes " at " ++ pool_words c p
-subject c (thing.Next r) = request_words r
-subject c (thing.Pool p) = pool_words c p
-subject c (thing.Work p) = pool_words c p
-subject c (thing.Concurrency p) = pool_words c p
-subject c (thing.Room p) = pool_words c p
-subject c (thing.Tenant t) = tenant_words c t
-subject c (thing.Node n) = node_words n
-subject c (thing.Lock n) = node_words n
-subject c (thing.Owner n) = node_words n
-subject c (thing.Session s) = session_words s
-subject c (thing.Role role) = role_words c role
+subject c (Thing.Job j) = job_words c j
+subject c (Thing.Turn j) = job_words c j
+subject c (Thing.Window j) = job_words c j
+subject c (Thing.Supply j) = job_words c j
+subject c (Thing.Semaphore x) = semaphore_words c x
+subject c (Thing.Handle x j) = semaphore_words c x
+subject c (Thing.Request r) = request_words r
+subject c (Thing.Offer r p) = request_words r ++ codes " at " ++ pool_words c p
+subject c (Thing.Next r) = request_words r
+subject c (Thing.Pool p) = pool_words c p
+subject c (Thing.Work p) = pool_words c p
+subject c (Thing.Concurrency p) = pool_words c p
+subject c (Thing.Room p) = pool_words c p
+subject c (Thing.Tenant t) = tenant_words c t
+subject c (Thing.Node n) = node_words n
+subject c (Thing.Lock n) = node_words n
+subject c (Thing.Owner n) = node_words n
+subject c (Thing.Session s) = session_words s
+subject c (Thing.Role role) = role_words c role
 
 -- ## parts of what it says
 
 abbrev pub phase_said : Phase → List ℕ
-phase_said phase.New = codes "nobody has asked for its nodes yet"
-phase_said phase.Asked = codes "waits for the nodes of its request"
-phase_said phase.Using = codes "has its nodes, and has not ended"
-phase_said phase.Over = codes "is over"
+phase_said Phase.New = codes "nobody has asked for its nodes yet"
+phase_said Phase.Asked = codes "waits for the nodes of its request"
+phase_said Phase.Using = codes "has its nodes, and has not ended"
+phase_said Phase.Over = codes "is over"
 
 -- so many, and how many there may be, if there is a limit
 abbrev pub of_limit : ℕ → Option ℕ → List ℕ
@@ -55,22 +50,22 @@ abbrev pub amount_words : Amount → Limit → List ℕ
 amount_words used limit = part_words used.instances limit.instances (codes " servers, ") ++ part_words used.cores limit.cores (codes " cores, ") ++ part_words used.ram limit.ram (codes " MiB of ram")
 
 abbrev pub reason_words : Configuration → Reason → List ℕ
-reason_words c (reason.NoLabel l) = codes "it does not offer " ++ label_words c l
-reason_words c reason.NeverFits = codes "the labels together exceed a limit of the pool"
-reason_words c reason.TenantNeverFits = codes "the labels together exceed a limit of the job's tenant"
-reason_words c (reason.Spent n) = codes "the last launch of " ++ node_words n ++ codes " that it may try failed"
+reason_words c (Reason.NoLabel l) = codes "it does not offer " ++ label_words c l
+reason_words c Reason.NeverFits = codes "the labels together exceed a limit of the pool"
+reason_words c Reason.TenantNeverFits = codes "the labels together exceed a limit of the job's tenant"
+reason_words c (Reason.Spent n) = codes "the last launch of " ++ node_words n ++ codes " that it may try failed"
 
 abbrev pub most_handles : Configuration → SemId → Option ℕ
 most_handles c x = option_map (λ sem. sem.max) (slice_get c.semaphores x.0)
 
 abbrev pub node_said : NodeState → List ℕ
-node_said node_state.Building = codes "is building"
-node_said node_state.Ready = codes "is ready"
-node_said node_state.InUse = codes "is in use"
-node_said node_state.Used = codes "is used"
-node_said node_state.Hold = codes "is on hold"
-node_said node_state.Deleting = codes "is deleting"
-node_said node_state.Failed = codes "is failed"
+node_said NodeState.Building = codes "is building"
+node_said NodeState.Ready = codes "is ready"
+node_said NodeState.InUse = codes "is in use"
+node_said NodeState.Used = codes "is used"
+node_said NodeState.Hold = codes "is on hold"
+node_said NodeState.Deleting = codes "is deleting"
+node_said NodeState.Failed = codes "is failed"
 
 -- whether the session has expired, and whether its party has stopped
 abbrev pub session_said : Bool → Bool → List ℕ
@@ -90,47 +85,47 @@ most_words most = codes "as many requests as they may, " ++ decimal most
 -- ## what it says
 
 abbrev pub said : Configuration → Fact → List ℕ
-said c (fact.InPhase j phase) = phase_said phase
-said c (fact.OfRequester j q) = codes "goes on by requester " ++ requester_words c q
-said c (fact.InWindow j) = codes "is in its requester's window"
-said c (fact.PastWindow j last) = codes "is past its requester's window, whose last job is " ++ job_words c last
-said c (fact.Supplied j) = codes "lacks no semaphore that is full"
-said c (fact.Full j x) = codes "lacks semaphore " ++ semaphore_words c x ++ codes ", which is full"
-said c (fact.Handles x count) = part_words count (most_handles c x) (codes " handles are taken")
-said c (fact.HasHandle x j) = job_words c j ++ codes " has a handle"
-said c (fact.Open r) = codes "nobody has taken it up"
-said c (fact.TakenUp r s) = session_words s ++ codes " has taken it up, and no pool has accepted it"
-said c (fact.Served r s) = codes "a pool serves it, by " ++ session_words s
-said c (fact.Abandoned r) = codes "a pool serves it, and nobody holds it"
-said c (fact.Fulfilled r) = codes "is fulfilled"
-said c (fact.Failed r) = codes "failed"
-said c (fact.Declined r p why) = codes "the pool declined: " ++ reason_words c why
-said c (fact.Blocked r p t) = codes "tenant " ++ tenant_words c t ++ codes " has no room for it now"
-said c (fact.First r p) = codes "it is the first that the pool may take up"
-said c (fact.Behind r p first) = request_words first ++ codes " comes first"
-said c (fact.Closed r p) = codes "the pool may take up no request now"
-said c (fact.Complete r) = codes "has a node for each of its labels"
-said c (fact.NoRoom r p l) = codes "no room in " ++ pool_words c p ++ next_words c l
-said c (fact.Lacks r l) = codes "has no node of label " ++ label_words c l ++ codes " yet"
-said c (fact.Registered p s) = session_words s ++ codes " is registered for it"
-said c (fact.Unregistered p) = codes "no session is registered for it"
-said c (fact.Busy p) = codes "serves a request that lacks a node"
-said c (fact.Idle p) = codes "serves no request that lacks a node"
-said c (fact.HasTurn p) = codes "its provider's launchers may take up one more request"
-said c (fact.NoTurn p most) = codes "its provider's launchers work on " ++ most_words most
-said c (fact.PoolUses p used) = codes "its nodes take " ++ amount_words used (limit_of c p)
-said c (fact.TenantUses t used) = codes "its nodes and pending requests take " ++ amount_words used (limit_of_tenant c t)
-said c (fact.Stands n state attempts) = node_said state ++ codes ", launched " ++ decimal attempts ++ codes " times"
-said c (fact.Held n s) = session_words s ++ codes " holds it"
-said c (fact.Unheld n) = codes "nobody holds it"
-said c (fact.Owned n j) = job_words c j ++ codes " has it"
-said c (fact.Allocated n r) = codes "is allocated to " ++ request_words r
-said c (fact.Free n) = codes "is allocated to no request, and no job has it"
-said c (fact.Known s facts) = codes "is of " ++ role_words c facts.role ++ session_said facts.live facts.mute
-said c (fact.Current role s) = codes "acts by " ++ session_words s
-said c (fact.Stopped role) = codes "has stopped for good"
-said c (fact.MayOpen role) = codes "has no session, and may open one"
-said c (fact.Missing it) = codes "is not there"
+said c (Fact.InPhase j phase) = phase_said phase
+said c (Fact.OfRequester j q) = codes "goes on by requester " ++ requester_words c q
+said c (Fact.InWindow j) = codes "is in its requester's window"
+said c (Fact.PastWindow j last) = codes "is past its requester's window, whose last job is " ++ job_words c last
+said c (Fact.Supplied j) = codes "lacks no semaphore that is full"
+said c (Fact.Full j x) = codes "lacks semaphore " ++ semaphore_words c x ++ codes ", which is full"
+said c (Fact.Handles x count) = part_words count (most_handles c x) (codes " handles are taken")
+said c (Fact.HasHandle x j) = job_words c j ++ codes " has a handle"
+said c (Fact.Open r) = codes "nobody has taken it up"
+said c (Fact.TakenUp r s) = session_words s ++ codes " has taken it up, and no pool has accepted it"
+said c (Fact.Served r s) = codes "a pool serves it, by " ++ session_words s
+said c (Fact.Abandoned r) = codes "a pool serves it, and nobody holds it"
+said c (Fact.Fulfilled r) = codes "is fulfilled"
+said c (Fact.Failed r) = codes "failed"
+said c (Fact.Declined r p why) = codes "the pool declined: " ++ reason_words c why
+said c (Fact.Blocked r p t) = codes "tenant " ++ tenant_words c t ++ codes " has no room for it now"
+said c (Fact.First r p) = codes "it is the first that the pool may take up"
+said c (Fact.Behind r p first) = request_words first ++ codes " comes first"
+said c (Fact.Closed r p) = codes "the pool may take up no request now"
+said c (Fact.Complete r) = codes "has a node for each of its labels"
+said c (Fact.NoRoom r p l) = codes "no room in " ++ pool_words c p ++ next_words c l
+said c (Fact.Lacks r l) = codes "has no node of label " ++ label_words c l ++ codes " yet"
+said c (Fact.Registered p s) = session_words s ++ codes " is registered for it"
+said c (Fact.Unregistered p) = codes "no session is registered for it"
+said c (Fact.Busy p) = codes "serves a request that lacks a node"
+said c (Fact.Idle p) = codes "serves no request that lacks a node"
+said c (Fact.HasTurn p) = codes "its provider's launchers may take up one more request"
+said c (Fact.NoTurn p most) = codes "its provider's launchers work on " ++ most_words most
+said c (Fact.PoolUses p used) = codes "its nodes take " ++ amount_words used (limit_of c p)
+said c (Fact.TenantUses t used) = codes "its nodes and pending requests take " ++ amount_words used (limit_of_tenant c t)
+said c (Fact.Stands n state attempts) = node_said state ++ codes ", launched " ++ decimal attempts ++ codes " times"
+said c (Fact.Held n s) = session_words s ++ codes " holds it"
+said c (Fact.Unheld n) = codes "nobody holds it"
+said c (Fact.Owned n j) = job_words c j ++ codes " has it"
+said c (Fact.Allocated n r) = codes "is allocated to " ++ request_words r
+said c (Fact.Free n) = codes "is allocated to no request, and no job has it"
+said c (Fact.Known s facts) = codes "is of " ++ role_words c facts.role ++ session_said facts.live facts.mute
+said c (Fact.Current role s) = codes "acts by " ++ session_words s
+said c (Fact.Stopped role) = codes "has stopped for good"
+said c (Fact.MayOpen role) = codes "has no session, and may open one"
+said c (Fact.Missing it) = codes "is not there"
 
 -- the line, without its newline: what the fact is about, and what it says
 unfoldable pub line_of : Configuration → Fact → List ℕ

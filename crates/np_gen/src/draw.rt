@@ -25,7 +25,7 @@ pub(crate) fn draw(state: u64) -> u64
 }
 
 /// The state after a number of draws.
-#[tactic(auto, using(crate::proofs::Draws::draws))]
+#[tactic(auto, using(crate::proofs::DrillSite::draws))]
 pub(crate) fn after_draws(count: u64, state: u64) -> u64
     ensures { result ≡ after_draws count state }
 {

@@ -27,7 +27,7 @@ fn label_count(state: u64) -> u64
     draw(state) % 3 + 1
 }
 
-#[tactic(auto, using(crate::proofs::Draws::draws))]
+#[tactic(auto, using(crate::proofs::DrillSite::draws))]
 fn drawn_labels(alloc: Global, count: u64, state: u64) -> Result<LabelList, NoMemory>
     ensures { IfOk result (λ labels. labels ≡ drawn_labels count state) }
 {
@@ -144,7 +144,7 @@ fn put_job_of(
 }
 
 /// Adds the jobs of one requester at the end. All jobs are drawn, and only these are made.
-#[tactic(auto, using(crate::proofs::Draws::jobs))]
+#[tactic(auto, using(crate::proofs::DrillSite::jobs))]
 pub(crate) fn put_jobs_of(
     alloc: Global,
     requester: u32,

@@ -1,14 +1,5 @@
 -- parts of an index that stay are those of the same state
-use Rattle.std.proofs.Common.{◌≡◌, List, subst, sym}
-use Rattle.np_changes.specs.declared.changes.Changes.{Changes}
-use Rattle.np_changes.specs.Prelude.{Configuration, JobId, State, changed}
-use Rattle.np_changes.specs.declared.changes.SessionsChange.TheVariants as sessions
-use Rattle.np_index.specs.Awaited.{OthersStay}
-use Rattle.np_classes.specs.Listed.{IsTouched, TouchedOf}
-use Rattle.np_classes.proofs.Untouched.{record-stays}
-use Rattle.np_lookups.specs.Open.{AreOpen, OpenOf}
-use Rattle.np_active.specs.Prepared.{IsPast, PastOf}
-use Rattle.np_active.specs.Active.{ActiveOf, AreActive, AreJobGroups, AreSessionGroups}
+use Rattle.np_index.proofs.Prelude.{ActiveOf, AreActive, AreJobGroups, AreOpen, AreSessionGroups, Changes, Configuration, IsPast, IsTouched, JobId, List, OpenOf, OthersStay, PastOf, State, TouchedOf, changed, record-stays, subst, sym, ◌≡◌}
 
 -- where the members and the lines stay, they are those of the same state
 pub open-same : (c : Configuration) (s : State) (old new : OpenOf) → new.members ≡ old.members → new.lines ≡ old.lines → AreOpen c s old → AreOpen c s new

@@ -2,7 +2,6 @@
 use Rattle.std.specs.Prelude.{◌≡◌, List, Option}
 use Rattle.np_changes.specs.declared.changes.Changes.{Changes}
 use Rattle.np_changes.specs.Prelude.{Configuration, SessionId, State}
-use Rattle.np_changes.specs.declared.changes.SessionsChange.TheVariants as sessions
 use Rattle.np_lookups.specs.Lookups.{AreLookupsOf}
 use Rattle.np_lookups.specs.Prepared.{PreparedOf as LookupsPrepared, IsPrepared as AreLookupsPrepared}
 use Rattle.np_classes.specs.Classes.{AreClasses}
@@ -18,6 +17,7 @@ use Rattle.np_active.specs.Prepared.{IsPast as IsActivePast, PastOf as ActivePas
 use Rattle.np_active.specs.Given.{AreGiven}
 use Rattle.np_active.specs.GivenPrepared.{PreparedOf as GivenPrepared, IsPrepared as AreGivenPrepared, HasRoom as HasRoomForGiven}
 use Rattle.np_index.specs.Index.{IndexParts}
+use Rattle.np_changes.specs.declared.changes.SessionsChange.{SessionsChange}
 
 -- what was found of each part (own)
 pub record PreparedOf : Type 0 where
@@ -47,7 +47,7 @@ pub record HasRoomFor (c : Configuration) (prepared : PreparedOf) (index : Index
 -- grows is in the lookups already: where a session ends nothing grows
 pub record IsPreparedFor (c : Configuration) (s : State) (ch : Changes) (prepared : PreparedOf) (index : IndexParts) : Type 0 where
   pub lookups : AreLookupsPrepared c s ch index.lookups prepared.lookups
-  pub ends : (session : SessionId) → ch.sessions ≡ sessions.End session → AreLookupsOf c s index.lookups
+  pub ends : (session : SessionId) → ch.sessions ≡ SessionsChange.End session → AreLookupsOf c s index.lookups
   pub classes : AreClasses c s index.classes
   pub touched : IsTouched s ch prepared.touched
   pub past : IsPast c s prepared.touched prepared.past

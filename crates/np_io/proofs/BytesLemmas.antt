@@ -1,9 +1,5 @@
 -- Bytes that are taken or appended in several calls.
-use Rattle.std.proofs.Common.{◌≡◌, ℕ, ◌+◌, ◌-◌, ◌<◌, List, ◌++◌, Option, Some, None, IfSome, append_assoc, take, drop, length, sym, ◌∙◌, ap, subst, arith, length-append}
-use Rattle.std.proofs.Math.Seq.{take-add}
-use Rattle.std.proofs.lemmas.List.{take_rest, drop_at}
-use Rattle.std.specs.Option.{option_map}
-use Rattle.np_io.specs.Bytes.{Takes, Appends}
+use Rattle.np_io.proofs.Prelude.{Appends, IfSome, List, None, Option, Some, Takes, ap, append_assoc, arith, drop, drop_at, length, length-append, option_map, subst, sym, take, take-add, take_rest, ℕ, ◌++◌, ◌+◌, ◌-◌, ◌<◌, ◌∙◌, ◌≡◌}
 
 -- two calls take what they took, one after the other
 pub Takes-trans : (a b c : Option (List ℕ)) (xs ys : List ℕ)

@@ -1,12 +1,5 @@
 -- The record of calls with one call more, and an image after them.
-use Rattle.std.proofs.Common.{◌≡◌, ◌⊎◌, inl, inr, ⊎_elim, ℕ, zero, suc, ◌+◌, ◌≤◌, List, [], ◌∷◌, ◌++◌, length, take, Option, Some, None, refl, sym, ◌∙◌, ap, subst, arith, length-append}
-use Rattle.std.proofs.lemmas.Bool.{cases_lt}
-use Rattle.std.proofs.lemmas.List.{take_all, take-append-le}
-use Rattle.np_io.specs.Disk.{Elapses, Only, Settles, Tears, TornWrite, AfterTornWrite}
-use Rattle.np_io.specs.declared.disk_calls.Call.{Call}
-use Rattle.np_io.specs.declared.disk_calls.Written.{Written}
-use Rattle.np_io.specs.DiskCalls.{IsImageAt, LeftSince, images_after, images_then, now_at}
-use Rattle.np_io.specs.MemDisk.{facts_of}
+use Rattle.np_io.proofs.Prelude.{AfterTornWrite, Call, Elapses, IsImageAt, LeftSince, List, None, Only, Option, Settles, Some, Tears, TornWrite, Written, ap, arith, cases_lt, facts_of, images_after, images_then, inl, inr, length, length-append, now_at, refl, subst, suc, sym, take, take-append-le, take_all, zero, ℕ, [], ⊎_elim, ◌++◌, ◌+◌, ◌∙◌, ◌∷◌, ◌≡◌, ◌≤◌, ◌⊎◌}
 
 -- ## Images
 

@@ -1,8 +1,5 @@
 -- A real file is a disk of unknown content, on which each failure is counted.
-use Rattle.std.proofs.Common.{◌≡◌, ℕ, Result, Ok, Err, IfOk, OnOk, OnErr, is_ok, if◌then◌else◌, inl, refl, arith}
-use Rattle.np_io.specs.Counts.{Rose, counted}
-use Rattle.np_io.specs.Disk.{Elapses, Stays, Tears, Settles}
-use Rattle.np_io.specs.Files.{unknown_disk}
+use Rattle.np_io.proofs.Prelude.{Elapses, Err, IfOk, Ok, OnErr, OnOk, Result, Rose, Settles, Stays, Tears, arith, counted, if◌then◌else◌, inl, is_ok, refl, unknown_disk, ℕ, ◌≡◌}
 use Rattle.np_io.proofs.Moments.{torn_same}
 
 -- what always holds holds at each answer

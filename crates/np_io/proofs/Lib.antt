@@ -1,3 +1,4 @@
+pub mod Prelude
 pub mod BytesLemmas
 pub mod Moments
 pub mod ReadLemmas

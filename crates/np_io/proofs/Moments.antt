@@ -1,6 +1,5 @@
 -- How a run of calls goes on, and what it leaves.
-use Rattle.std.proofs.Common.{inl, inr, ⊎_elim, ℕ, List, refl, ◌∙◌, arith}
-use Rattle.np_io.specs.Disk.{DiskFacts, IsDisk, Elapses, Stays, TornWrite, LeavesOnly}
+use Rattle.np_io.proofs.Prelude.{DiskFacts, Elapses, IsDisk, LeavesOnly, List, Stays, TornWrite, arith, inl, inr, refl, ℕ, ⊎_elim, ◌∙◌}
 
 -- a write that changes no byte is a torn one too
 pub torn_same : (at n : ℕ) (c : List ℕ) → TornWrite at n c c

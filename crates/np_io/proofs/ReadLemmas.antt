@@ -1,10 +1,5 @@
 -- A buffer that is filled piece by piece.
-use Rattle.std.proofs.Common.{◌≡◌, ℕ, ◌+◌, ◌-◌, ◌≤◌, List, ◌++◌, length, take, drop, Option, Some, None, IfSome, refl, sym, ◌∙◌, ap, arith}
-use Rattle.std.proofs.Math.Seq.{take-add}
-use Rattle.std.proofs.lemmas.List.{drop-drop, take-take, take_at, drop_at, length-take-le, take_all, length-drop}
-use Rattle.std.proofs.lemmas.Slice.{take-put_mid}
-use borrow.Rule.Slice.PartMut.{put_mid}
-use Rattle.np_io.specs.Disk.{Reads}
+use Rattle.np_io.proofs.Prelude.{IfSome, List, None, Option, Reads, Some, ap, arith, drop, drop-drop, drop_at, length, length-drop, length-take-le, put_mid, refl, sym, take, take-add, take-put_mid, take-take, take_all, take_at, ℕ, ◌++◌, ◌+◌, ◌-◌, ◌∙◌, ◌≡◌, ◌≤◌}
 
 -- the buffer's front, after one more piece of `rest`
 filled : (done count : ℕ) (buf new rest : List ℕ) → done ≤ length buf → count ≤ length new

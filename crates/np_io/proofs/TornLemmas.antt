@@ -1,7 +1,5 @@
 -- Writes of which a crash leaves a part.
-use Rattle.std.proofs.Common.{◌≡◌, ℕ, ◌+◌, ◌-◌, ◌≤◌, List, ◌++◌, length, take, drop, sym, ◌∙◌, ap, arith, append_assoc, length-append, length-drop}
-use Rattle.std.proofs.lemmas.List.{take_at, drop_at, drop-drop, length-take-le}
-use Rattle.np_io.specs.Disk.{TornWrite, put_at}
+use Rattle.np_io.proofs.Prelude.{List, TornWrite, ap, append_assoc, arith, drop, drop-drop, drop_at, length, length-append, length-drop, length-take-le, put_at, sym, take, take_at, ℕ, ◌++◌, ◌+◌, ◌-◌, ◌∙◌, ◌≡◌, ◌≤◌}
 
 -- fewer bytes than a write of n bytes was to write, whichever they are
 pub torn_by_part : (at n : ℕ) (bytes old : List ℕ) → at ≤ length old → length bytes ≤ n

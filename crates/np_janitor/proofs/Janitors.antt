@@ -1,53 +1,316 @@
--- a janitor's useful events are of the kinds in the order
-use Rattle.std.proofs.Common.{◌≡◌, ◌++◌, true, false, List, [], ◌∷◌, Option, Some, None}
-use Rattle.std.specs.Prelude.{is_some}
-use Rattle.np_changes.specs.Prelude.{AllByRecursion, Configuration, Event, Janitor, PoolId, SessionId, State}
-use Rattle.np_event.specs.declared.event.Event.TheVariants as ev
-use Rattle.np_useful.specs.Useful.{IsUseful}
-use Rattle.np_useful.specs.Sessions.{is_current}
-use Rattle.np_useful.specs.declared.kind.EventKind.{EventKind}
-use Rattle.np_useful.specs.declared.kind.EventKind.TheVariants as kind_of
-use Rattle.np_useful.specs.declared.kind.JobKind.TheVariants as of_job
-use Rattle.np_useful.specs.declared.kind.NodeKind.TheVariants as of_node
-use Rattle.np_useful.specs.declared.kind.RequestKind.TheVariants as of_request
-use Rattle.np_useful.specs.Choices.{Chooses, NoneOpens, NoneOf, ChoosesOf, ChoosesOfAny}
-use Rattle.np_useful.proofs.Wholes.{kinds-choose}
-use Rattle.np_janitor.specs.Order.{janitor_order, before_fail, after_release}
-use Rattle.np_lists.proofs.Plain.{false-apart}
+-- the searches of janitors: one request or the jobs of requesters decide whether an event of a kind is useful
+use Rattle.np_janitor.proofs.Prelude.{All-get_or, AllByRecursion, Bool, Chooses, ChoosesFinish, ChoosesOf, ChoosesOfAny, ChoosesRelease, Configuration, Done, Event, EventKind, IsReached, IsSound, IsUseful, Janitor, Job, JobId, JobKind, JobRecord, List, NodeKind, None, NoneFinished, NoneOf, NoneOpens, NoneReleased, Ok, Option, Phase, PoolId, REQUESTERS, RequestEntry, RequestId, RequestKind, RequestRecord, Requester, RequesterId, Role, SessionId, Some, State, after_release, among, and_from, and_parts, ap, arith, before_fail, eq-eqb, false, false-apart, first_declined_by_all, first_unheld_pending, get_or, get_or_from_slice_get, has_some_handle, holder, is_asked, is_current, is_declined_by_all, is_failed, is_finishable, is_job_to_finish, is_maker_of, is_none, is_ok, is_pending, is_pending_by, is_pool, is_requested, is_some, is_stopped, is_unheld_pending, is_using, janitor, janitor_order, job_event, job_is, job_to_finish, judge, kept-is, kinds-choose, length, lock_pending, made-by, maker, maker_of, may_finish, ok-is, on-check, on-found, on-given, on-need, on-not, on-vacant, option_and_then, option_map, option_map_or, passes, passes-useful, refl, request_entry, request_holder, request_in, request_state_of, requester_or_janitor, row-of, row_holds, slice_get, slice_get_within, subst, sym, true, undeclined, useful-passes, ℕ, [], ◌&&◌, ◌++◌, ◌<◌, ◌==◌, ◌||◌, ◌∙◌, ◌∷◌, ◌≡◌, ◌≤◌}
+use Rattle.np_janitor.proofs.Nodes.{first-request, maker-is}
+
+-- # one request decides whether an event of a kind is useful
+
+-- the event that names the first such request passes
+pub record IsFirstPassing (c : Configuration) (s : State) (role : Role) (event : RequestId → Event) (first : Option RequestId) : Type 0 where
+  pub id : RequestId
+  pub is : first ≡ Some id
+  pub passes : passes c s role (event id) ≡ true
+
+module _ (c : Configuration) (s : State) (role : Role) (session : SessionId) (current : is_current role session s ≡ true) (event : SessionId → RequestId → Event) (makes : (by : SessionId) (r : RequestId) → maker_of (event by r) ≡ Some by) where
+  -- an event of the session that passes is useful
+  pub passing-useful : (r : RequestId) → passes c s role (event session r) ≡ true → IsUseful c s role (event session r)
+  passing-useful r is = passes-useful c s role (event session r) is (ap (is_maker_of role s) (makes session r) ∙ current)
+
+  module _ (first : Option RequestId) (one : (r : RequestId) → IsUseful c s role (event session r) → IsFirstPassing c s role (event session) first) where
+    first-of : (other : SessionId) (r : RequestId) → IsUseful c s role (event other r) → IsFirstPassing c s role (event session) first
+    first-of other r useful =
+        let same : other ≡ session = made-by c s role session current other (event other r) (makes other r) useful in
+        one r (subst (λ (x : SessionId). IsUseful c s role (event x r)) same useful)
+
+    -- if there is no such request, none of the events is useful
+    pub none-named : first ≡ None → (other : SessionId) (r : RequestId) → IsUseful c s role (event other r) → ⊥
+    none-named none other r useful =
+        let found = first-of other r useful in
+        let there : first ≡ Some found.id = found.is in
+        cc
+
+    -- nor if the first is refused
+    pub none-passes : (id : RequestId) → first ≡ Some id → passes c s role (event session id) ≡ false → (other : SessionId) (r : RequestId) → IsUseful c s role (event other r) → ⊥
+    none-passes id named refused other r useful =
+        let found = first-of other r useful in
+        let same : found.id ≡ id = let there : first ≡ Some found.id = found.is in cc in
+        let is : passes c s role (event session id) ≡ true = subst (λ (x : RequestId). passes c s role (event session x) ≡ true) same found.passes in
+        cc
+
+-- # the first request that every registered pool declined decides whether a janitor fails one
+
+module _ (c : Configuration) (s : State) (session : SessionId) where
+  -- what the machine tests before a janitor fails the request
+  record IsFailed (r : RequestId) : Type 0 where
+    pool : PoolId
+    made : janitor s session ≡ Ok pool
+    request : RequestRecord
+    there : request_in r s.requests ≡ Some request
+    requested : is_requested request.state ≡ true
+    some : (length s.registrations == 0) ≡ false
+    none : (undeclined s.registrations request == 0) ≡ true
+
+  fail-is : (r : RequestId) (what : Done) → judge c s (Event.FailDeclined session r) ≡ Ok what → IsFailed r
+  fail-is r what is =
+      on-given (janitor s session) _ what is (λ p made rest.
+      on-found (request_in r s.requests) _ _ what rest (λ request there rest.
+      on-need (is_requested request.state) _ _ what rest (λ requested rest.
+      on-not (length s.registrations == 0) _ _ what rest (λ some rest.
+      on-need (undeclined s.registrations request == 0) _ _ what rest (λ none rest.
+      record { pool = p; made = made; request = request; there = there; requested = requested; some = some; none = none })))))
+
+  fails : (r : RequestId) → IsFailed r → is_ok (judge c s (Event.FailDeclined session r)) ≡ true
+  fails r is = rw (is.made, is.there, is.requested, is.some, is.none) refl
+
+  abbrev declined_by_all : RequestEntry → Bool
+  declined_by_all e = is_declined_by_all s e.kept
+
+  module _ (p : PoolId) where
+    -- the first that every registered pool declined, which the session may fail
+    abbrev IsFirstDeclined : Type 0
+    IsFirstDeclined = IsFirstPassing c s (Janitor p) (λ r. Event.FailDeclined session r) (first_declined_by_all s)
+
+    first-declined : IsReached c s → (r : RequestId) → IsFailed r → IsFirstDeclined
+    first-declined reached r failed =
+        let row = row-of (λ (e : RequestEntry). e.kept) (request_entry r s.requests) failed.request failed.there in
+        let own : row.0.kept ≡ failed.request = kept-is (λ (e : RequestEntry). e.kept) (request_entry r s.requests) failed.request row.0 failed.there row.1 in
+        let passes : declined_by_all row.0 ≡ true = subst (λ (request : RequestRecord). is_declined_by_all s request ≡ true) (sym own) (and_from (is_requested failed.request.state) (undeclined s.registrations failed.request == 0) failed.requested failed.none) in
+        let first = first-request c s reached declined_by_all r row.0 row.1 passes in
+        let parts = and_parts (is_requested first.row.kept.state) (undeclined s.registrations first.row.kept == 0) first.passes in
+        let may = fails first.row.id (record {
+          pool = failed.pool;
+          made = failed.made;
+          request = first.row.kept;
+          there = ap (option_map (λ (e : RequestEntry). e.kept)) first.there;
+          requested = parts.0;
+          some = failed.some;
+          none = parts.1;
+        }) in
+        record {
+          id = first.row.id;
+          is = rw failed.some (ap (option_map (λ (e : RequestEntry). e.id)) first.is);
+          passes = and_from (is_ok (judge c s (Event.FailDeclined session first.row.id))) true may refl;
+        }
+
+    module _ (current : is_current (Janitor p) session s ≡ true) where
+      -- if the failing of a request passes, it is useful
+      pub first-useful : (id : RequestId) → passes c s (Janitor p) (Event.FailDeclined session id) ≡ true → IsUseful c s (Janitor p) (Event.FailDeclined session id)
+      first-useful id is = passing-useful c s (Janitor p) session current (λ by r. Event.FailDeclined by r) (λ by r. refl) id is
+
+      module _ (reached : IsReached c s) where
+        -- a useful failing names such a request
+        useful-failing-first : (r : RequestId) → IsUseful c s (Janitor p) (Event.FailDeclined session r) → IsFirstDeclined
+        useful-failing-first r useful =
+            let answer = ok-is (judge c s (Event.FailDeclined session r)) useful.accepted in
+            first-declined reached r (fail-is r answer.0 answer.1)
+
+        -- if there is no such request, none is failed
+        pub no-first : first_declined_by_all s ≡ None → NoneOf c s (Janitor p) (EventKind.Request RequestKind.FailDeclined)
+        no-first none = none-named c s (Janitor p) session current (λ by r. Event.FailDeclined by r) (λ by r. refl) (first_declined_by_all s) useful-failing-first none
+
+        -- nor if the first is refused
+        pub first-refused : (id : RequestId) → first_declined_by_all s ≡ Some id → passes c s (Janitor p) (Event.FailDeclined session id) ≡ false → NoneOf c s (Janitor p) (EventKind.Request RequestKind.FailDeclined)
+        first-refused id found refused = none-passes c s (Janitor p) session current (λ by r. Event.FailDeclined by r) (λ by r. refl) (first_declined_by_all s) useful-failing-first id found refused
+
+-- # the first request that is pending by its pool and that nobody holds decides whether a janitor locks one
+
+nobody : (o : Option SessionId) → is_none o ≡ true → o ≡ None
+nobody None is = refl
+nobody (Some session) is = absurd cc
+
+module _ (c : Configuration) (s : State) (session : SessionId) (p : PoolId) (current : is_current (Janitor p) session s ≡ true) where
+  -- the row of a request that is pending by the pool and that nobody holds
+  record IsUnheld (r : RequestId) (e : RequestEntry) : Type 0 where
+    there : request_entry r s.requests ≡ Some e
+    unheld : is_unheld_pending p e ≡ true
+
+  made : maker s session ≡ Ok (Janitor p)
+  made = maker-is s (Janitor p) session current
+
+  -- ## a useful lock is of such a request
+
+  -- the machine lets a janitor lock only a request that nobody holds
+  unlocked-is : (r : RequestId) (what : Done) → lock_pending s r ≡ Ok what → request_holder r s.requests ≡ None
+  unlocked-is r what is =
+      on-found (request_in r s.requests) _ _ what is (λ request there rest.
+      on-need (is_pending request.state) _ _ what rest (λ pending rest.
+      on-vacant (request_holder r s.requests) _ _ what rest (λ none rest. none)))
+
+  unheld-by : (r : RequestId) (o : Option RequestEntry) → request_entry r s.requests ≡ o → option_map_or (is_pending_by p) (option_map (λ (e : RequestEntry). e.kept) o) false ≡ true → holder (option_map_or (λ (e : RequestEntry). e.queue) o []) ≡ None → (e : RequestEntry) × IsUnheld r e
+  unheld-by r None there row none = absurd cc
+  unheld-by r (Some e) there row none =
+      (e, record { there = there; unheld = and_from (is_pending_by p e.kept) (is_none (holder e.queue)) row (ap (λ (o : Option SessionId). is_none o) none) })
+
+  useful-unheld : (r : RequestId) → IsUseful c s (Janitor p) (Event.LockRequest session r) → (e : RequestEntry) × IsUnheld r e
+  useful-unheld r useful =
+      let answer = ok-is (judge c s (Event.LockRequest session r)) useful.accepted in
+      let as_janitor : judge c s (Event.LockRequest session r) ≡ lock_pending s r = rw made refl in
+      unheld-by r (request_entry r s.requests) refl useful.row (unlocked-is r answer.0 (sym as_janitor ∙ answer.1))
+
+  -- ## the lock of any such request passes
+
+  lock-accepted : (r : RequestId) (e : RequestEntry) → request_entry r s.requests ≡ Some e → is_pending e.kept.state ≡ true → holder e.queue ≡ None → is_ok (judge c s (Event.LockRequest session r)) ≡ true
+  lock-accepted r e there pending free = rw (made, there, pending, free) refl
+
+  lock-row : (r : RequestId) (e : RequestEntry) → request_entry r s.requests ≡ Some e → is_pending_by p e.kept ≡ true → row_holds c s (Janitor p) (Event.LockRequest session r) ≡ true
+  lock-row r e there pending = rw there pending
+
+  lock-passes : (r : RequestId) (e : RequestEntry) → IsUnheld r e → passes c s (Janitor p) (Event.LockRequest session r) ≡ true
+  lock-passes r e is =
+      let parts = and_parts (is_pending_by p e.kept) (is_none (holder e.queue)) is.unheld in
+      let pending = and_parts (is_pending e.kept.state) (is_pool p e.kept.pool) parts.0 in
+      and_from (is_ok (judge c s (Event.LockRequest session r))) (row_holds c s (Janitor p) (Event.LockRequest session r))
+      (lock-accepted r e is.there pending.0 (nobody (holder e.queue) parts.1)) (lock-row r e is.there parts.0)
+
+  -- ## the first such request
+
+  -- if its lock passes, it is useful
+  pub lock-useful : (id : RequestId) → passes c s (Janitor p) (Event.LockRequest session id) ≡ true → IsUseful c s (Janitor p) (Event.LockRequest session id)
+  lock-useful id is = passing-useful c s (Janitor p) session current (λ by r. Event.LockRequest by r) (λ by r. refl) id is
+
+  module _ (reached : IsReached c s) where
+    -- if a lock is useful, that of the first passes
+    useful-lock-first : (r : RequestId) → IsUseful c s (Janitor p) (Event.LockRequest session r) → IsFirstPassing c s (Janitor p) (λ r. Event.LockRequest session r) (first_unheld_pending p s)
+    useful-lock-first r useful =
+        let row = useful-unheld r useful in
+        let first = first-request c s reached (is_unheld_pending p) r row.0 row.1.there row.1.unheld in
+        record {
+          id = first.row.id;
+          is = ap (option_map (λ (e : RequestEntry). e.id)) first.is;
+          passes = lock-passes first.row.id first.row (record { there = first.there; unheld = first.passes });
+        }
+
+    -- if there is no such request, none is locked
+    pub no-unheld : first_unheld_pending p s ≡ None → NoneOf c s (Janitor p) (EventKind.Request RequestKind.Lock)
+    no-unheld none = none-named c s (Janitor p) session current (λ by r. Event.LockRequest by r) (λ by r. refl) (first_unheld_pending p s) useful-lock-first none
+
+    -- nor if the first is refused
+    pub unheld-refused : (id : RequestId) → first_unheld_pending p s ≡ Some id → passes c s (Janitor p) (Event.LockRequest session id) ≡ false → NoneOf c s (Janitor p) (EventKind.Request RequestKind.Lock)
+    unheld-refused id found refused = none-passes c s (Janitor p) session current (λ by r. Event.LockRequest by r) (λ by r. refl) (first_unheld_pending p s) useful-lock-first id found refused
+
+-- # every job is a job of a requester, so that what is useful for none of them is useful for no job
+
+module _ (c : Configuration) where
+  row-by : (such : Job → Bool) (o : Option Job) → option_map_or such o false ≡ true → (job : Job) × (o ≡ Some job)
+  row-by such None is = absurd cc
+  row-by such (Some job) is = (job, refl)
+
+  few : IsSound c → (j : JobId) (job : Job) → slice_get c.jobs j.0 ≡ Some job → job.requester.0 < REQUESTERS
+  few sound j job row =
+      let at : j.0 < length c.jobs = slice_get_within c.jobs j.0 job row in
+      let owned : (get_or c.jobs j.0 job).requester.0 < length c.requesters = All-get_or (λ (x : Job). x.requester.0 < length c.requesters) c.jobs j.0 job at sound.demand.owned in
+      let low : job.requester.0 < length c.requesters = subst (λ (x : Job). x.requester.0 < length c.requesters) (get_or_from_slice_get c.jobs j.0 job job row) owned in
+      let most : length c.requesters ≤ REQUESTERS = sound.few_requesters in
+      omega (arith, low, most)
+
+  own : (j : JobId) (job : Job) → slice_get c.jobs j.0 ≡ Some job → job_is j c (λ row. row.requester.0 == job.requester.0) ≡ true
+  own j job row = rw (row, eq-eqb job.requester.0 job.requester.0 refl) refl
+
+  -- if the row of an event of the kind says that the job exists, and for each requester none of these
+  -- events on its jobs is useful, none is
+  pub none-of : (s : State) (p : PoolId) (kind : JobKind) (such : JobId → Job → Bool) → IsSound c
+      → ((by : SessionId) (j : JobId) → IsUseful c s (Janitor p) (job_event kind by j) → job_is j c (such j) ≡ true)
+      → ((k : ℕ) → k < REQUESTERS → (by : SessionId) (j : JobId) → job_is j c (λ row. row.requester.0 == k) ≡ true → IsUseful c s (Janitor p) (job_event kind by j) → ⊥)
+      → NoneOf c s (Janitor p) (EventKind.Job kind)
+  none-of s p kind such sound exists none = λ by j useful.
+      let row = row-by (such j) (slice_get c.jobs j.0) (exists by j useful) in
+      none row.0.requester.0 (few sound j row.0 row.1) by j (own j row.0 row.1) useful
+
+-- # if the jobs that are to be finished were tried, no finish is useful
+
+-- a job that can be finished uses its nodes, or its request failed
+finishable-by : (p : Phase) (o : Option RequestRecord) (busy : Bool) → ((is_asked p && option_map_or (λ request. is_failed request.state) o false) || (is_using p && busy)) ≡ true
+    → (is_using p || (is_asked p && option_map_or is_failed (option_map (λ request. request.state) o) false)) ≡ true
+finishable-by Phase.New o busy is = absurd cc
+finishable-by Phase.Asked None busy is = absurd cc
+finishable-by Phase.Asked (Some request) busy is = by (is_failed request.state) is where
+  by : (b : Bool) → (b || false) ≡ true → b ≡ true
+  by true failed = refl
+  by false failed = failed
+finishable-by Phase.Using o busy is = refl
+finishable-by Phase.Over o busy is = absurd cc
+
+-- a job whose finish is accepted, whoever makes it, uses its nodes, or its request failed
+finish-ready : (c : Configuration) (s : State) (by : SessionId) (j : JobId) (what : Done) → judge c s (Event.Finish by j) ≡ Ok what
+    → (kept : JobRecord) × ((slice_get s.jobs j.0 ≡ Some kept) × ((is_using kept.phase || (is_asked kept.phase && option_map_or is_failed (request_state_of kept.request s) false)) ≡ true))
+finish-ready c s by j what is =
+    on-given (maker s by) _ what is (λ role made rest.
+    on-check (requester_or_janitor role) _ what rest (λ such rest.
+    on-found (slice_get c.jobs j.0) _ _ what rest (λ job row rest.
+    on-found (slice_get s.jobs j.0) _ _ what rest (λ kept there rest.
+    on-check (may_finish s job role) _ what rest (λ may rest.
+    on-need (is_finishable s job kept) _ _ what rest (λ ready rest.
+    (kept, (there, finishable-by kept.phase (option_and_then (λ r. request_in r s.requests) kept.request) _ ready))))))))
+
+module _ (c : Configuration) (s : State) (p : PoolId) where
+  -- if the finish of none of the requester's jobs that are to be finished passes, no finish of a job of
+  -- the requester is useful
+  pub none-finished : (session : SessionId) → is_current (Janitor p) session s ≡ true → (q : RequesterId) → ((k : ℕ) (j : JobId) → job_to_finish c q k s ≡ Some j → passes c s (Janitor p) (Event.Finish session j) ≡ false) → NoneFinished c s p q
+  none-finished session current q none = λ by j own useful.
+      let same : by ≡ session = made-by c s (Janitor p) session current by (Event.Finish by j) refl useful in
+      let mine : IsUseful c s (Janitor p) (Event.Finish session j) = subst (λ (x : SessionId). IsUseful c s (Janitor p) (Event.Finish x j)) same useful in
+      let answer = ok-is (judge c s (Event.Finish session j)) mine.accepted in
+      let kept = finish-ready c s session j answer.0 answer.1 in
+      let is : is_job_to_finish c s q j kept.0 ≡ true = and_from (job_is j c (λ row. row.requester.0 == q.0)) (is_using kept.0.phase || (is_asked kept.0.phase && option_map_or is_failed (request_state_of kept.0.request s) false)) own kept.1.1 in
+      let place = among (is_job_to_finish c s q) 0 s.jobs j.0 kept.0 j (omega arith) kept.1.0 is in
+      let fails : passes c s (Janitor p) (Event.Finish session j) ≡ false = none place.at j place.there in
+      let holds : passes c s (Janitor p) (Event.Finish session j) ≡ true = useful-passes c s (Janitor p) (Event.Finish session j) mine in
+      cc
+
+  -- a requester for which nothing was found has no such finish
+  pub found-none : (q : RequesterId) (o : Option Event) → is_some o ≡ false → ChoosesFinish c s p q o → NoneFinished c s p q
+  found-none q None is none = none
+  found-none q (Some e) is useful = absurd cc
+
+  -- if for no requester a finish of its jobs is useful, none is
+  pub finish-none : IsSound c → ((k : ℕ) → k < REQUESTERS → NoneFinished c s p (record { 0 = k })) → NoneOf c s (Janitor p) (EventKind.Job JobKind.Finish)
+  finish-none sound none = none-of c s p JobKind.Finish (λ j job. is_stopped c (Requester job.requester) s) sound (λ by j useful. useful.row) none
+
+-- # if no release of a job of any requester is useful, none is
+
+module _ (c : Configuration) (s : State) (p : PoolId) where
+  -- a requester for which nothing was found has no such release
+  pub none-found : (q : RequesterId) (o : Option Event) → is_some o ≡ false → ChoosesRelease c s (Janitor p) q o → NoneReleased c s (Janitor p) q
+  none-found q None is none = none
+  none-found q (Some e) is useful = absurd cc
+
+  pub release-none : IsSound c → ((k : ℕ) → k < REQUESTERS → NoneReleased c s (Janitor p) (record { 0 = k })) → NoneOf c s (Janitor p) (EventKind.Job JobKind.Release)
+  release-none sound none = none-of c s p JobKind.Release (λ j job. has_some_handle s j job) sound (λ by j useful. useful.row) none
+
+-- # a janitor's useful events are of the kinds in the order
 
 module _ (c : Configuration) (s : State) (p : PoolId) (opens : NoneOpens c s (Janitor p)) (all : AllByRecursion (NoneOf c s (Janitor p)) janitor_order) where
   useless : (e : Event) → IsUseful c s (Janitor p) e → ⊥
-  useless ev.Tick useful = false-apart useful.row
-  useless (ev.OpenSession role) useful = opens role useful
-  useless (ev.Crash session) useful = false-apart useful.row
-  useless (ev.Expire session) useful = false-apart useful.row
-  useless (ev.Register session) useful = false-apart useful.row
-  useless (ev.Submit session j) useful = false-apart useful.row
-  useless (ev.Revise session j relative) useful = false-apart useful.row
-  useless (ev.MinReady session l) useful = false-apart useful.row
-  useless (ev.Gone session n) useful = all.0 session n useful
-  useless (ev.FreeNode session n) useful = all.1.0 session n useful
-  useless (ev.MarkDeleting session n) useful = all.1.1.0 session n useful
-  useless (ev.UnlockNode session n) useful = all.1.1.1.0 session n useful
-  useless (ev.Reset session r) useful = all.1.1.1.1.0 session r useful
-  useless (ev.UnlockRequest session r) useful = all.1.1.1.1.1.0 session r useful
-  useless (ev.FailDeclined session r) useful = all.1.1.1.1.1.1.0 session r useful
-  useless (ev.Finish session j) useful = all.1.1.1.1.1.1.1.0 session j useful
-  useless (ev.Release session j) useful = all.1.1.1.1.1.1.1.1.0 session j useful
-  useless (ev.LockRequest session r) useful = all.1.1.1.1.1.1.1.1.1.0 session r useful
-  useless (ev.LockNode session n) useful = all.1.1.1.1.1.1.1.1.1.1.0 session n useful
-  useless (ev.Accept session r) useful = false-apart useful.row
-  useless (ev.Decline session r why) useful = false-apart useful.row
-  useless (ev.TakeReady session r n) useful = false-apart useful.row
-  useless (ev.Create session r) useful = false-apart useful.row
-  useless (ev.Start session n) useful = false-apart useful.row
-  useless (ev.Done session n attempt o) useful = false-apart useful.row
-  useless (ev.Fulfil session r) useful = false-apart useful.row
-  useless (ev.Acquire session j) useful = false-apart useful.row
-  useless (ev.Take session j) useful = false-apart useful.row
-  useless (ev.EndNode session n as_what) useful = false-apart useful.row
-  useless (ev.Withdraw session j) useful = false-apart useful.row
-  useless (ev.Sweep session n x) useful = false-apart useful.row
+  useless Event.Tick useful = false-apart useful.row
+  useless (Event.OpenSession role) useful = opens role useful
+  useless (Event.Crash session) useful = false-apart useful.row
+  useless (Event.Expire session) useful = false-apart useful.row
+  useless (Event.Register session) useful = false-apart useful.row
+  useless (Event.Submit session j) useful = false-apart useful.row
+  useless (Event.Revise session j relative) useful = false-apart useful.row
+  useless (Event.MinReady session l) useful = false-apart useful.row
+  useless (Event.Gone session n) useful = all.0 session n useful
+  useless (Event.FreeNode session n) useful = all.1.0 session n useful
+  useless (Event.MarkDeleting session n) useful = all.1.1.0 session n useful
+  useless (Event.UnlockNode session n) useful = all.1.1.1.0 session n useful
+  useless (Event.Reset session r) useful = all.1.1.1.1.0 session r useful
+  useless (Event.UnlockRequest session r) useful = all.1.1.1.1.1.0 session r useful
+  useless (Event.FailDeclined session r) useful = all.1.1.1.1.1.1.0 session r useful
+  useless (Event.Finish session j) useful = all.1.1.1.1.1.1.1.0 session j useful
+  useless (Event.Release session j) useful = all.1.1.1.1.1.1.1.1.0 session j useful
+  useless (Event.LockRequest session r) useful = all.1.1.1.1.1.1.1.1.1.0 session r useful
+  useless (Event.LockNode session n) useful = all.1.1.1.1.1.1.1.1.1.1.0 session n useful
+  useless (Event.Accept session r) useful = false-apart useful.row
+  useless (Event.Decline session r why) useful = false-apart useful.row
+  useless (Event.TakeReady session r n) useful = false-apart useful.row
+  useless (Event.Create session r) useful = false-apart useful.row
+  useless (Event.Start session n) useful = false-apart useful.row
+  useless (Event.Done session n attempt o) useful = false-apart useful.row
+  useless (Event.Fulfil session r) useful = false-apart useful.row
+  useless (Event.Acquire session j) useful = false-apart useful.row
+  useless (Event.Take session j) useful = false-apart useful.row
+  useless (Event.EndNode session n as_what) useful = false-apart useful.row
+  useless (Event.Withdraw session j) useful = false-apart useful.row
+  useless (Event.Sweep session n x) useful = false-apart useful.row
 
 pub janitor-law : (c : Configuration) (s : State) (p : PoolId) → NoneOpens c s (Janitor p) → AllByRecursion (NoneOf c s (Janitor p)) janitor_order → (e : Event) → IsUseful c s (Janitor p) e → ⊥
 janitor-law c s p opens all e useful = useless c s p opens all e useful
@@ -66,14 +329,14 @@ module _ (c : Configuration) (s : State) (p : PoolId) where
   one-then kind None fails found other rest = (found, rest)
   one-then kind (Some e) fails found other rest = absurd cc
 
-  module _ (session : SessionId) (current : is_current (Janitor p) session s ≡ true) (before : Option Event) (first : ChoosesOfAny c s (Janitor p) before_fail before) (no_first : is_some before ≡ false) (fail : Option Event) (declined : ChoosesOf c s (Janitor p) (kind_of.Request of_request.FailDeclined) fail) (no_declined : is_some fail ≡ false) (finish : Option Event) (second : ChoosesOf c s (Janitor p) (kind_of.Job of_job.Finish) finish) (no_second : is_some finish ≡ false) (release : Option Event) (third : ChoosesOf c s (Janitor p) (kind_of.Job of_job.Release) release) (no_third : is_some release ≡ false) (lock : Option Event) (fourth : ChoosesOf c s (Janitor p) (kind_of.Request of_request.Lock) lock) (no_fourth : is_some lock ≡ false) where
+  module _ (session : SessionId) (current : is_current (Janitor p) session s ≡ true) (before : Option Event) (first : ChoosesOfAny c s (Janitor p) before_fail before) (no_first : is_some before ≡ false) (fail : Option Event) (declined : ChoosesOf c s (Janitor p) (EventKind.Request RequestKind.FailDeclined) fail) (no_declined : is_some fail ≡ false) (finish : Option Event) (second : ChoosesOf c s (Janitor p) (EventKind.Job JobKind.Finish) finish) (no_second : is_some finish ≡ false) (release : Option Event) (third : ChoosesOf c s (Janitor p) (EventKind.Job JobKind.Release) release) (no_third : is_some release ≡ false) (lock : Option Event) (fourth : ChoosesOf c s (Janitor p) (EventKind.Request RequestKind.Lock) lock) (no_fourth : is_some lock ≡ false) where
     -- if nothing was found before, the last search decides
-    pub last-chooses : (o : Option Event) → ChoosesOf c s (Janitor p) (kind_of.Node of_node.Lock) o → Chooses c s (Janitor p) o
+    pub last-chooses : (o : Option Event) → ChoosesOf c s (Janitor p) (EventKind.Node NodeKind.Lock) o → Chooses c s (Janitor p) o
     last-chooses None last =
         kinds-choose c s (Janitor p) janitor_order (janitor-law c s p) session current None
-        (any-then before_fail before no_first first (kind_of.Request of_request.FailDeclined ∷ kind_of.Job of_job.Finish ∷ kind_of.Job of_job.Release ∷ after_release)
-        (one-then (kind_of.Request of_request.FailDeclined) fail no_declined declined (kind_of.Job of_job.Finish ∷ kind_of.Job of_job.Release ∷ after_release)
-        (one-then (kind_of.Job of_job.Finish) finish no_second second (kind_of.Job of_job.Release ∷ after_release)
-        (one-then (kind_of.Job of_job.Release) release no_third third after_release
-        (one-then (kind_of.Request of_request.Lock) lock no_fourth fourth (kind_of.Node of_node.Lock ∷ []) (last, tt))))))
+        (any-then before_fail before no_first first (EventKind.Request RequestKind.FailDeclined ∷ EventKind.Job JobKind.Finish ∷ EventKind.Job JobKind.Release ∷ after_release)
+        (one-then (EventKind.Request RequestKind.FailDeclined) fail no_declined declined (EventKind.Job JobKind.Finish ∷ EventKind.Job JobKind.Release ∷ after_release)
+        (one-then (EventKind.Job JobKind.Finish) finish no_second second (EventKind.Job JobKind.Release ∷ after_release)
+        (one-then (EventKind.Job JobKind.Release) release no_third third after_release
+        (one-then (EventKind.Request RequestKind.Lock) lock no_fourth fourth (EventKind.Node NodeKind.Lock ∷ []) (last, tt))))))
     last-chooses (Some e) last = last

@@ -1,15 +1,5 @@
+pub mod Prelude
 pub mod Janitors
-pub mod Found
-pub mod Makers
-pub mod Soonest
-pub mod Cleaning
-pub mod NodeLocks
-pub mod Deciding
-pub mod FailLemmas
-pub mod RequestLocks
+pub mod Nodes
 pub mod Strikes
-pub mod OwnJobs
-pub mod FinishLemmas
-pub mod ReleaseLemmas
-pub mod Pools
 pub mod Undeclined

@@ -1,24 +1,6 @@
 -- what the planned faults do now, and that the reaper has nothing else to do
-use Rattle.std.proofs.Common.{◌≡◌, ◌∙◌, ◌+◌, ◌-◌, ℕ, zero, suc, Bool, true, false, List, [], ◌∷◌, Option, Some, None, Ok, refl, sym, ap, subst, arith}
-use Rattle.std.specs.Prelude.{◌==◌, ◌&&◌, ◌||◌, if◌then◌else◌, filter, is_some, not, option_and_then, slice_get}
-use Rattle.np_changes.specs.Prelude.{Configuration, Done, Event, Fault, FaultKind, Reaper, Role, SessionFacts, SessionId, State, judge, option_map, option_map_or, same_role, session_of}
-use Rattle.std.proofs.lemmas.Bool.{and_parts, and_right, or_left, or_right}
-use Rattle.std.proofs.lemmas.Bool.Decides.{nat_tests}
-use Rattle.np_config.specs.declared.row.FaultKind.TheVariants as kind_of
-use Rattle.np_event.specs.declared.event.Event.TheVariants as ev
-use Rattle.np_changes.proofs.Tested.{ok-is, on-found, on-need}
-use Rattle.np_look.specs.Readers.{current_of, first_mute, mute_from}
-use Rattle.np_useful.specs.Reaper.{is_mute}
-use Rattle.np_useful.specs.Sessions.{is_current, has_current, strikes_of, next_fault, is_due, has_due, is_expire, is_struck_by}
-use Rattle.np_useful.specs.Useful.{IsUseful}
-use Rattle.np_useful.specs.Choices.{Chooses, NamesCurrent}
-use Rattle.np_useful.proofs.Currents.{current-has, current-names}
-use Rattle.np_useful.proofs.Openings.{same-role}
-use Rattle.np_useful.proofs.Places.{StandsIn}
-use Rattle.np_janitor.specs.Struck.{due_kind, strike_on, strike_of, strike_by, ChoosesStrike}
-use Rattle.np_janitor.proofs.Makers.{IsOf, is-of}
-use Rattle.np_lists.proofs.Plain.{and_true}
-use Rattle.np_look.proofs.Seen.{session-at}
+use Rattle.np_janitor.proofs.Prelude.{Bool, Chooses, ChoosesStrike, Configuration, Done, Event, Fault, FaultKind, IsUseful, List, NamesCurrent, None, Ok, Option, Reaper, Role, SessionFacts, SessionId, Some, StandsIn, State, and_parts, and_right, and_true, ap, arith, current-has, current-names, current_of, due_kind, false, filter, first_mute, has_current, has_due, if◌then◌else◌, is_current, is_due, is_expire, is_mute, is_some, is_struck_by, judge, mute_from, nat_tests, next_fault, not, ok-is, on-found, on-need, option_and_then, option_map, option_map_or, or_left, or_right, refl, same-role, same_role, session-at, session_of, slice_get, strike_by, strike_of, strike_on, strikes_of, subst, suc, sym, true, zero, ℕ, [], ◌&&◌, ◌+◌, ◌-◌, ◌==◌, ◌||◌, ◌∙◌, ◌∷◌, ◌≡◌}
+use Rattle.np_janitor.proofs.Nodes.{IsOf, is-of}
 
 -- ## whether a fault of such a kind is due
 
@@ -43,14 +25,14 @@ module _ (c : Configuration) (s : State) where
     struck : (such : FaultKind → Bool) → has_due such c role s ≡ true → is_struck_by such c s session ≡ true
     struck such due = struck-by such (session_of session s) who.known due
 
-    expires : has_due is_expire c role s ≡ true → IsUseful c s Reaper (ev.Expire session)
+    expires : has_due is_expire c role s ≡ true → IsUseful c s Reaper (Event.Expire session)
     expires due = record {
       accepted = rw (who.known, who.live) refl;
       maker = refl;
       row = or_right (is_mute session s) (is_struck_by is_expire c s session) (struck is_expire due);
     }
 
-    crashes : has_due (λ kind. not (is_expire kind)) c role s ≡ true → IsUseful c s Reaper (ev.Crash session)
+    crashes : has_due (λ kind. not (is_expire kind)) c role s ≡ true → IsUseful c s Reaper (Event.Crash session)
     crashes due = record {
       accepted = rw (who.known, who.live, who.speaks) refl;
       maker = refl;
@@ -61,9 +43,9 @@ module _ (c : Configuration) (s : State) where
     due-is such kind due is = due-such such c s role ∙ rw due is
 
     on-useful : (kind : FaultKind) → due_kind c role s ≡ Some kind → IsUseful c s Reaper (strike_on kind session)
-    on-useful kind_of.Expire due = expires (due-is is_expire kind_of.Expire due refl)
-    on-useful kind_of.Crash due = crashes (due-is (λ kind. not (is_expire kind)) kind_of.Crash due refl)
-    on-useful kind_of.Stop due = crashes (due-is (λ kind. not (is_expire kind)) kind_of.Stop due refl)
+    on-useful FaultKind.Expire due = expires (due-is is_expire FaultKind.Expire due refl)
+    on-useful FaultKind.Crash due = crashes (due-is (λ kind. not (is_expire kind)) FaultKind.Crash due refl)
+    on-useful FaultKind.Stop due = crashes (due-is (λ kind. not (is_expire kind)) FaultKind.Stop due refl)
 
   current-is : (role : Role) (session : SessionId) → current_of role s ≡ Some session → is_current role session s ≡ true
   current-is role session is = subst (NamesCurrent role s) is (current-names role s)
@@ -192,7 +174,7 @@ none-mute number (first ∷ sessions) (suc i) facts none there = none-mute (suc 
 
 module _ (c : Configuration) (s : State) where
   -- its expiry is useful
-  pub mute-useful : (session : SessionId) → first_mute s ≡ Some session → IsUseful c s Reaper (ev.Expire session)
+  pub mute-useful : (session : SessionId) → first_mute s ≡ Some session → IsUseful c s Reaper (Event.Expire session)
   mute-useful session is =
       let found = mute-at 1 s.sessions session is in
       let begun : (session.0 == 0) ≡ false = grind (arith, nat_tests, found.named) in
@@ -208,7 +190,7 @@ module _ (c : Configuration) (s : State) where
   -- ## the choice
 
   module _ (none_mute : first_mute s ≡ None) (none_struck : (role : Role) → strike_of c s role ≡ None) where
-    live : (session : SessionId) (what : Done) → judge c s (ev.Expire session) ≡ Ok what → (facts : SessionFacts) × ((session_of session s ≡ Some facts) × (facts.live ≡ true))
+    live : (session : SessionId) (what : Done) → judge c s (Event.Expire session) ≡ Ok what → (facts : SessionFacts) × ((session_of session s ≡ Some facts) × (facts.live ≡ true))
     live session what is =
         on-found (session_of session s) _ _ what is (λ facts known rest.
         on-need facts.live _ _ what rest (λ live rest. (facts, (known, live))))
@@ -223,51 +205,51 @@ module _ (c : Configuration) (s : State) where
     expire-row session true struck mute is = absurd cc
     expire-row session false struck mute is = is
 
-    no-expire : (session : SessionId) → IsUseful c s Reaper (ev.Expire session) → ⊥
+    no-expire : (session : SessionId) → IsUseful c s Reaper (Event.Expire session) → ⊥
     no-expire session useful =
-        let answer = ok-is (judge c s (ev.Expire session)) useful.accepted in
+        let answer = ok-is (judge c s (Event.Expire session)) useful.accepted in
         let found = live session answer.0 answer.1 in
         unstruck c s none_struck is_expire session
         (expire-row session (is_mute session s) (is_struck_by is_expire c s session) (not-mute session found.0 found.1.0 found.1.1) useful.row)
 
-    no-crash : (session : SessionId) → IsUseful c s Reaper (ev.Crash session) → ⊥
+    no-crash : (session : SessionId) → IsUseful c s Reaper (Event.Crash session) → ⊥
     no-crash session useful = unstruck c s none_struck (λ kind. not (is_expire kind)) session useful.row
 
     none : false ≡ true → ⊥
     none is = cc
 
     useless : (e : Event) → IsUseful c s Reaper e → ⊥
-    useless (ev.Expire session) useful = no-expire session useful
-    useless (ev.Crash session) useful = no-crash session useful
-    useless ev.Tick useful = none useful.row
-    useless (ev.OpenSession role) useful = none useful.row
-    useless (ev.Register session) useful = none useful.row
-    useless (ev.Submit session j) useful = none useful.row
-    useless (ev.Revise session j relative) useful = none useful.row
-    useless (ev.MinReady session l) useful = none useful.row
-    useless (ev.LockRequest session r) useful = none useful.row
-    useless (ev.UnlockRequest session r) useful = none useful.row
-    useless (ev.Accept session r) useful = none useful.row
-    useless (ev.Decline session r why) useful = none useful.row
-    useless (ev.TakeReady session r n) useful = none useful.row
-    useless (ev.Create session r) useful = none useful.row
-    useless (ev.Start session n) useful = none useful.row
-    useless (ev.Done session n attempt o) useful = none useful.row
-    useless (ev.Fulfil session r) useful = none useful.row
-    useless (ev.LockNode session n) useful = none useful.row
-    useless (ev.UnlockNode session n) useful = none useful.row
-    useless (ev.Acquire session j) useful = none useful.row
-    useless (ev.Take session j) useful = none useful.row
-    useless (ev.EndNode session n as_what) useful = none useful.row
-    useless (ev.Finish session j) useful = none useful.row
-    useless (ev.Withdraw session j) useful = none useful.row
-    useless (ev.Release session j) useful = none useful.row
-    useless (ev.MarkDeleting session n) useful = none useful.row
-    useless (ev.Gone session n) useful = none useful.row
-    useless (ev.Reset session r) useful = none useful.row
-    useless (ev.FreeNode session n) useful = none useful.row
-    useless (ev.FailDeclined session r) useful = none useful.row
-    useless (ev.Sweep session n x) useful = none useful.row
+    useless (Event.Expire session) useful = no-expire session useful
+    useless (Event.Crash session) useful = no-crash session useful
+    useless Event.Tick useful = none useful.row
+    useless (Event.OpenSession role) useful = none useful.row
+    useless (Event.Register session) useful = none useful.row
+    useless (Event.Submit session j) useful = none useful.row
+    useless (Event.Revise session j relative) useful = none useful.row
+    useless (Event.MinReady session l) useful = none useful.row
+    useless (Event.LockRequest session r) useful = none useful.row
+    useless (Event.UnlockRequest session r) useful = none useful.row
+    useless (Event.Accept session r) useful = none useful.row
+    useless (Event.Decline session r why) useful = none useful.row
+    useless (Event.TakeReady session r n) useful = none useful.row
+    useless (Event.Create session r) useful = none useful.row
+    useless (Event.Start session n) useful = none useful.row
+    useless (Event.Done session n attempt o) useful = none useful.row
+    useless (Event.Fulfil session r) useful = none useful.row
+    useless (Event.LockNode session n) useful = none useful.row
+    useless (Event.UnlockNode session n) useful = none useful.row
+    useless (Event.Acquire session j) useful = none useful.row
+    useless (Event.Take session j) useful = none useful.row
+    useless (Event.EndNode session n as_what) useful = none useful.row
+    useless (Event.Finish session j) useful = none useful.row
+    useless (Event.Withdraw session j) useful = none useful.row
+    useless (Event.Release session j) useful = none useful.row
+    useless (Event.MarkDeleting session n) useful = none useful.row
+    useless (Event.Gone session n) useful = none useful.row
+    useless (Event.Reset session r) useful = none useful.row
+    useless (Event.FreeNode session n) useful = none useful.row
+    useless (Event.FailDeclined session r) useful = none useful.row
+    useless (Event.Sweep session n x) useful = none useful.row
 
   -- if no session is mute, the faults decide
   pub strikes-choose : first_mute s ≡ None → (o : Option Event) → ChoosesStrike c s o → Chooses c s Reaper o

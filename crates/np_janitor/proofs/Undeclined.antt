@@ -1,38 +1,66 @@
--- in a state that a run reaches, each request that has not failed has a pool of the configuration
--- left that has not declined it
-use Rattle.std.proofs.Common.{◌≡◌, ◌∙◌, ◌<◌, ◌⊎◌, inl, inr, sym, ap, ℕ, List, [], ◌∷◌, length, refl, arith, subst, Option, Some, None, Ok, Bool, true, false, cond, eqb-true, true≢false}
-use Rattle.std.specs.Prelude.{◌==◌, ◌-◌, ◌||◌, if◌then◌else◌, find, is_ok, is_some, slice_get}
-use Rattle.np_changes.specs.Prelude.{AllByRecursion, Configuration, Declined, Done, Entry, Event, IsReached, Janitor, Launcher, PoolId, Reason, Registration, RequestEntry, RequestId, RequestRecord, Role, SessionFacts, SessionId, State, change_first, changed, declined_with, edited, ended, grown, is_declined_by, is_failed, is_last_pool, is_pending, is_pool, is_requested, is_role, janitor, joined, judge, left, muted, next, option_map, plan, request_entry, request_in, request_left, request_queue, requests_changed, requests_left, same_request, session_of, sessions_changed, start, state_after, undeclined}
-use Rattle.std.proofs.lemmas.Bool.{and_parts, or_parts}
-use Rattle.std.proofs.lemmas.List.Folds.{list_any-append}
-use Rattle.std.proofs.lemmas.Option.{same_Some, slice_get_within}
-use Rattle.np_text.specs.declared.word.RequestState.TheVariants as request_state
-use Rattle.np_event.specs.declared.event.Event.TheVariants as ev
-use Rattle.np_lists.proofs.Each.{all-push, all-at, all-find, all-weaker, all-change_at, all-change_first, all-remove_first, all-insert_before, all-mapped}
-use Rattle.np_changes.specs.Premises.{EditPremise, GrowthPremise, IsTaken, IsMade, MayDecline, RequestsPremise, Premises}
-use Rattle.np_changes.specs.declared.changes.Maker.{Maker}
-use Rattle.np_changes.specs.declared.changes.Changes.{Changes}
-use Rattle.np_changes.specs.declared.changes.Growth.{Growth}
-use Rattle.np_changes.specs.declared.changes.Growth.TheVariants as grow
-use Rattle.np_changes.specs.declared.changes.RequestEdit.{RequestEdit}
-use Rattle.np_changes.specs.declared.changes.RequestEdit.TheVariants as edit
-use Rattle.np_changes.specs.declared.changes.RequestsChange.{RequestsChange}
-use Rattle.np_changes.specs.declared.changes.RequestsChange.TheVariants as requests
-use Rattle.np_changes.specs.declared.changes.SessionsChange.{SessionsChange}
-use Rattle.np_changes.specs.declared.changes.SessionsChange.TheVariants as sessions
-use Rattle.np_changes.proofs.PlanLaws.{plan-next}
-use Rattle.np_changes.proofs.PremisesOf.{premises}
-use Rattle.np_changes.proofs.Tested.{on-given, on-found, on-need, on-not, ok-is}
-use Rattle.np_changes.specs.Parts.{IsLauncher, IsRegistered}
-use Rattle.np_changes.proofs.Ids.{row-of, kept-is}
-use Rattle.np_changes.proofs.Registered.{registered-still}
-use Rattle.np_useful.specs.declared.kind.EventKind.TheVariants as kind_of
-use Rattle.np_useful.specs.declared.kind.RequestKind.TheVariants as of_request
-use Rattle.np_useful.specs.Choices.{NoneOf}
-use Rattle.np_janitor.specs.Candidates.{lacks_registration}
-use Rattle.np_janitor.proofs.Pools.{some-fails, all-pass, all-pools}
-use Rattle.np_lists.proofs.Plain.{not-below, some-of}
-use Rattle.np_changes.proofs.Pinned.{requested-open, pending-open}
+-- each request that has not failed has a pool left that has not declined it, as each pool has one registration
+use Rattle.np_janitor.proofs.Prelude.{AllByRecursion, Bool, Changes, Configuration, Declined, Done, EditPremise, Entry, Event, EventKind, Growth, GrowthPremise, IsLauncher, IsMade, IsReached, IsRegistered, IsTaken, Janitor, Launcher, List, Maker, MayDecline, None, NoneOf, Ok, Option, PoolId, Premises, Reason, Registration, RequestEdit, RequestEntry, RequestId, RequestKind, RequestRecord, RequestState, RequestsChange, RequestsPremise, Rises, Role, SessionFacts, SessionId, SessionsChange, Some, State, all-at, all-change_at, all-change_first, all-find, all-insert_before, all-mapped, all-push, all-remove_first, all-weaker, and_parts, ap, arith, change_first, changed, cond, cond-true, count_by, declined_with, edited, ended, eqb-true, false, find, grown, if◌then◌else◌, inl, inr, is_declined_by, is_failed, is_last_pool, is_ok, is_pending, is_pool, is_requested, is_role, is_some, janitor, joined, judge, kept-is, lacks_registration, left, length, list_all, list_any-append, muted, nat_lt, nat_tests, next, not, not-below, ok-is, on-found, on-given, on-need, on-not, option_map, or_parts, pending-open, plan, plan-next, premises, refl, registered-still, request_entry, request_in, request_left, request_queue, requested-open, requests_changed, requests_left, row-of, same_Some, same_pool, same_request, session_of, sessions_changed, slice_get, slice_get_within, some-of, start, state_after, subst, suc, sum_by-cons, sym, true, true≢false, undeclined, ℕ, [], ◌&&◌, ◌+◌, ◌-◌, ◌<◌, ◌==◌, ◌||◌, ◌∙◌, ◌∷◌, ◌≡◌, ◌≤◌, ◌⊎◌}
+
+-- # if as many registrations stand as there are pools, each pool has one
+
+-- ## members of a list
+
+-- a member for which the test fails
+pub some-fails : {X : Type 0} (P : X → Type 0) (p : X → Bool) (xs : List X) → AllByRecursion P xs → list_all p xs ≡ false → (x : X) × (P x × (p x ≡ false))
+some-fails P p [] all is = absurd cc
+some-fails {X} P p (x ∷ xs) all is = by (p x) refl is (λ rest. some-fails P p xs all.1 rest) where
+  by : (b : Bool) → p x ≡ b → (b && list_all p xs) ≡ false → (list_all p xs ≡ false → (y : X) × (P y × (p y ≡ false))) → (y : X) × (P y × (p y ≡ false))
+  by true passes rest later = later rest
+  by false fails rest later = (x, (all.0, fails))
+
+-- if none of those that fail is counted, all pass
+pub all-pass : {X : Type 0} (p : X → Bool) (xs : List X) → count_by (λ x. not (p x)) xs ≡ 0 → AllByRecursion (λ x. p x ≡ true) xs
+all-pass p [] none = tt
+all-pass {X} p (x ∷ xs) none =
+    let both : count_by (λ (y : X). not (p y)) (x ∷ xs) ≡ cond (not (p x)) 1 0 + count_by (λ y. not (p y)) xs = sum_by-cons (λ (y : X). cond (not (p y)) 1 0) x xs in
+    by (p x) refl both (all-pass p xs (omega (arith, both, none)))
+  where
+    by : (b : Bool) → p x ≡ b → count_by (λ (y : X). not (p y)) (x ∷ xs) ≡ cond (not (p x)) 1 0 + count_by (λ y. not (p y)) xs → AllByRecursion (λ y. p y ≡ true) xs → AllByRecursion (λ y. p y ≡ true) (x ∷ xs)
+    by true passes both later = (passes, later)
+    by false fails both later = absurd (omega (arith, both, none, cond-true {A = ℕ} (not (p x)) 1 0 (ap not fails)))
+
+-- ## the pools of the registrations
+
+abbrev by_pool : Registration → Registration → Bool
+by_pool a b = nat_lt a.pool.0 b.pool.0
+
+above : (g : Registration) (rows : List Registration) → AllByRecursion (λ h. by_pool g h ≡ true) rows → AllByRecursion (λ h. suc g.pool.0 ≤ h.pool.0) rows
+above g rows all = all-weaker (λ (h : Registration). by_pool g h ≡ true) (λ h. suc g.pool.0 ≤ h.pool.0) (λ h is. grind (arith, nat_tests)) rows all
+
+module _ (n : ℕ) where
+  abbrev AllBelow : List Registration → Type 0
+  AllBelow rows = AllByRecursion (λ g. g.pool.0 < n) rows
+
+  few : (rows : List Registration) (low : ℕ) → low ≤ n → Rises by_pool rows → AllByRecursion (λ g. low ≤ g.pool.0) rows → AllBelow rows → length rows + low ≤ n
+  few [] low least rise from below = omega (arith, least)
+  few (g ∷ rows) low least rise from below =
+      let rest : length rows + suc g.pool.0 ≤ n = few rows (suc g.pool.0) (omega (arith, below.0)) rise.1 (above g rows rise.0) below.1 in
+      omega (arith, rest, from.0)
+
+  -- what is true of each registered pool is true of each pool from the lowest on
+  all-from : (P : PoolId → Type 0) (rows : List Registration) (low : ℕ) → Rises by_pool rows → AllByRecursion (λ g. low ≤ g.pool.0) rows → AllBelow rows → n ≤ length rows + low → AllByRecursion (λ g. P g.pool) rows
+      → (p : PoolId) → low ≤ p.0 → p.0 < n → P p
+  all-from P [] low rise from below many all p least less = absurd (omega (arith, many, least, less))
+  all-from P (g ∷ rows) low rise from below many all p least less =
+      let rest : length rows + suc g.pool.0 ≤ n = few rows (suc g.pool.0) (omega (arith, below.0)) rise.1 (above g rows rise.0) below.1 in
+      let lowest : g.pool.0 ≤ low = omega (arith, rest, many) in
+      by (g.pool.0 == p.0) refl
+      (λ other. all-from P rows (suc g.pool.0) rise.1 (above g rows rise.0) below.1 (omega (arith, many, from.0)) all.1 p (grind (arith, nat_tests, lowest, least, other)) less)
+    where
+      by : (b : Bool) → (g.pool.0 == p.0) ≡ b → ((g.pool.0 == p.0) ≡ false → P p) → P p
+      by true same later = subst P (same_pool g.pool p same) all.0
+      by false other later = later other
+
+  pub all-pools : (P : PoolId → Type 0) (rows : List Registration) → Rises by_pool rows → AllBelow rows → n ≤ length rows → AllByRecursion (λ g. P g.pool) rows → (p : PoolId) → p.0 < n → P p
+  all-pools P rows rise below many all p less =
+      all-from P rows 0 rise (all-weaker (λ (g : Registration). g.pool.0 < n) (λ g. 0 ≤ g.pool.0) (λ g is. omega arith) rows below) below (omega (arith, many)) all p (omega arith) less
+
+-- # in a state that a run reaches, each request that has not failed has a pool of the configuration left that has not declined it
 
 -- ## what a run keeps
 
@@ -79,26 +107,26 @@ pools-of_site c s kept =
 -- ## the sessions
 
 sessions-grown : (c : Configuration) (s : State) (ch : Changes) (maker : Option Maker) (growth : Growth) → GrowthPremise c s ch growth → AreOfSite c s.sessions → AreOfSite c (grown c maker growth s).sessions
-sessions-grown c s ch maker grow.Nothing premise old = old
-sessions-grown c s ch maker (grow.Session role) premise old = all-push (λ (f : SessionFacts). is_role c f.role ≡ true) s.sessions _ old premise
-sessions-grown c s ch None (grow.Registration p) premise old = old
-sessions-grown c s ch (Some maker) (grow.Registration p) premise old = old
-sessions-grown c s ch maker (grow.Request priority asked) premise old = old
-sessions-grown c s ch maker (grow.Node kept) premise old = old
-sessions-grown c s ch maker (grow.JoinRequest r) premise old = old
-sessions-grown c s ch maker (grow.JoinNode n) premise old = old
-sessions-grown c s ch maker (grow.Allocate n r tenant) premise old = old
-sessions-grown c s ch maker (grow.Handles j) premise old = old
-sessions-grown c s ch maker (grow.Swept n x) premise old = old
+sessions-grown c s ch maker Growth.Nothing premise old = old
+sessions-grown c s ch maker (Growth.Session role) premise old = all-push (λ (f : SessionFacts). is_role c f.role ≡ true) s.sessions _ old premise
+sessions-grown c s ch None (Growth.Registration p) premise old = old
+sessions-grown c s ch (Some maker) (Growth.Registration p) premise old = old
+sessions-grown c s ch maker (Growth.Request priority asked) premise old = old
+sessions-grown c s ch maker (Growth.Node kept) premise old = old
+sessions-grown c s ch maker (Growth.JoinRequest r) premise old = old
+sessions-grown c s ch maker (Growth.JoinNode n) premise old = old
+sessions-grown c s ch maker (Growth.Allocate n r tenant) premise old = old
+sessions-grown c s ch maker (Growth.Handles j) premise old = old
+sessions-grown c s ch maker (Growth.Swept n x) premise old = old
 
 sessions-settled : (c : Configuration) (change : SessionsChange) (rows : List SessionFacts) → AreOfSite c rows → AreOfSite c (sessions_changed change rows)
-sessions-settled c sessions.Same rows old = old
-sessions-settled c (sessions.Mute quiet) rows old = all-change_at (λ (f : SessionFacts). is_role c f.role ≡ true) (quiet.0 - 1) muted rows (λ f is. is) old
-sessions-settled c (sessions.End over) rows old = all-change_at (λ (f : SessionFacts). is_role c f.role ≡ true) (over.0 - 1) ended rows (λ f is. is) old
+sessions-settled c SessionsChange.Same rows old = old
+sessions-settled c (SessionsChange.Mute quiet) rows old = all-change_at (λ (f : SessionFacts). is_role c f.role ≡ true) (quiet.0 - 1) muted rows (λ f is. is) old
+sessions-settled c (SessionsChange.End over) rows old = all-change_at (λ (f : SessionFacts). is_role c f.role ≡ true) (over.0 - 1) ended rows (λ f is. is) old
 
 -- ## one edit
 
-goes-on : (b : Bool) → is_failed (if b then request_state.Failed else request_state.Requested) ≡ false → b ≡ false
+goes-on : (b : Bool) → is_failed (if b then RequestState.Failed else RequestState.Requested) ≡ false → b ≡ false
 goes-on true alive = absurd cc
 goes-on false alive = refl
 
@@ -117,7 +145,7 @@ all-first_changed P p f (x ∷ xs) keeps all = by (p x) refl (λ other. all-firs
 
 module _ (c : Configuration) (s : State) (ch : Changes) (given : Premises c s ch) (kept : IsKept c s) where
   -- if the request does not fail, a registered pool is left
-  declined-open : (r : RequestId) (q : RequestRecord) (p : PoolId) (why : Reason) (failed : Bool) → request_in r s.requests ≡ Some q → MayDecline c s ch r p why failed → failed ≡ false → HasPoolLeft c (edited (edit.Decline p why failed) q)
+  declined-open : (r : RequestId) (q : RequestRecord) (p : PoolId) (why : Reason) (failed : Bool) → request_in r s.requests ≡ Some q → MayDecline c s ch r p why failed → failed ≡ false → HasPoolLeft c (edited (RequestEdit.Decline p why failed) q)
   declined-open r q p why failed stood premise alive =
       let same : premise.request ≡ q = same_Some premise.request q (sym premise.worked_on.stands ∙ stood) in
       let others : is_last_pool s.registrations premise.request p ≡ false = (or_parts (is_some premise.request.pinned) (is_last_pool s.registrations premise.request p) (sym premise.fails ∙ alive)).1 in
@@ -127,76 +155,76 @@ module _ (c : Configuration) (s : State) (ch : Changes) (given : Premises c s ch
       record { pool = found.0.pool; of_site = found.1.0; undeclined = undeclined-still p found.0.pool why q parts.0 parts.1 }
 
   edit-open : (r : RequestId) (q : RequestRecord) (how : RequestEdit) → request_in r s.requests ≡ Some q → EditPremise c s ch r how → IsUndeclined c q → IsUndeclined c (edited how q)
-  edit-open r q (edit.Serve p) stood premise old = λ some alive.
+  edit-open r q (RequestEdit.Serve p) stood premise old = λ some alive.
       let same : premise.request ≡ q = same_Some premise.request q (sym premise.worked_on.stands ∙ stood) in
       let left = old some (requested-open q.state (subst (λ (x : RequestRecord). is_requested x.state ≡ true) same premise.requested)) in
       record { pool = left.pool; of_site = left.of_site; undeclined = left.undeclined }
-  edit-open r q (edit.AddNode n) stood premise old = λ some alive. let left = old some alive in record { pool = left.pool; of_site = left.of_site; undeclined = left.undeclined }
-  edit-open r q (edit.Decline p why failed) stood premise old = λ some alive. declined-open r q p why failed stood premise (goes-on failed alive)
-  edit-open r q edit.Fulfil stood premise old = λ some alive.
+  edit-open r q (RequestEdit.AddNode n) stood premise old = λ some alive. let left = old some alive in record { pool = left.pool; of_site = left.of_site; undeclined = left.undeclined }
+  edit-open r q (RequestEdit.Decline p why failed) stood premise old = λ some alive. declined-open r q p why failed stood premise (goes-on failed alive)
+  edit-open r q RequestEdit.Fulfil stood premise old = λ some alive.
       let fulfils = premise.0 in
       let same : fulfils.request ≡ q = same_Some fulfils.request q (sym fulfils.worked_on.stands ∙ stood) in
       let pending : is_pending fulfils.request.state ≡ true = (and_parts (is_pending fulfils.request.state) (is_pool fulfils.pool fulfils.request.pool) fulfils.pending).0 in
       let left = old some (pending-open q.state (subst (λ (x : RequestRecord). is_pending x.state ≡ true) same pending)) in
       record { pool = left.pool; of_site = left.of_site; undeclined = left.undeclined }
-  edit-open r q edit.GiveBack stood premise old = λ some alive.
+  edit-open r q RequestEdit.GiveBack stood premise old = λ some alive.
       let same : premise.request ≡ q = same_Some premise.request q (sym premise.stands ∙ stood) in
       let left = old some (pending-open q.state (subst (λ (x : RequestRecord). is_pending x.state ≡ true) same premise.pending)) in
       record { pool = left.pool; of_site = left.of_site; undeclined = left.undeclined }
-  edit-open r q edit.Fail stood premise old = λ some alive. absurd cc
-  edit-open r q (edit.Revise relative) stood premise old = λ some alive. let left = old some alive in record { pool = left.pool; of_site = left.of_site; undeclined = left.undeclined }
+  edit-open r q RequestEdit.Fail stood premise old = λ some alive. absurd cc
+  edit-open r q (RequestEdit.Revise relative) stood premise old = λ some alive. let left = old some alive in record { pool = left.pool; of_site = left.of_site; undeclined = left.undeclined }
 
   -- an edit finds the requests as they were
-  nothing-new : ch.grows ≡ grow.Nothing → (grown c ch.maker ch.grows s).requests ≡ s.requests
+  nothing-new : ch.grows ≡ Growth.Nothing → (grown c ch.maker ch.grows s).requests ≡ s.requests
   nothing-new grows = ap (λ (growth : Growth). (grown c ch.maker growth s).requests) grows
 
   same-requests : (r : RequestId) (how : RequestEdit) → EditPremise c s ch r how → (grown c ch.maker ch.grows s).requests ≡ s.requests
-  same-requests r (edit.Serve p) premise = nothing-new premise.same_size
-  same-requests r (edit.AddNode n) premise = by premise.0.from where
+  same-requests r (RequestEdit.Serve p) premise = nothing-new premise.same_size
+  same-requests r (RequestEdit.AddNode n) premise = by premise.0.from where
     by : IsTaken c s ch premise.0.pool r premise.0.request premise.0.label n ⊎ IsMade c s ch premise.0.pool r premise.0.request premise.0.label n → (grown c ch.maker ch.grows s).requests ≡ s.requests
     by (inl taken) = ap (λ (growth : Growth). (grown c ch.maker growth s).requests) taken.grows
     by (inr made) = ap (λ (growth : Growth). (grown c ch.maker growth s).requests) made.grows
-  same-requests r (edit.Decline p why failed) premise = nothing-new premise.same_size
-  same-requests r edit.Fulfil premise = nothing-new premise.0.same_size
-  same-requests r edit.GiveBack premise = nothing-new premise.same_size
-  same-requests r edit.Fail premise = nothing-new premise.same_size
-  same-requests r (edit.Revise relative) premise = nothing-new premise.same_size
+  same-requests r (RequestEdit.Decline p why failed) premise = nothing-new premise.same_size
+  same-requests r RequestEdit.Fulfil premise = nothing-new premise.0.same_size
+  same-requests r RequestEdit.GiveBack premise = nothing-new premise.same_size
+  same-requests r RequestEdit.Fail premise = nothing-new premise.same_size
+  same-requests r (RequestEdit.Revise relative) premise = nothing-new premise.same_size
 
   -- ## all requests
 
   requests-grown : (maker : Option Maker) (growth : Growth) → AreUndeclined c (grown c maker growth s).requests
-  requests-grown maker grow.Nothing = kept.with_pool_left
-  requests-grown maker (grow.Session role) = kept.with_pool_left
-  requests-grown None (grow.Registration p) = kept.with_pool_left
-  requests-grown (Some maker) (grow.Registration p) = kept.with_pool_left
-  requests-grown maker (grow.Request priority asked) =
+  requests-grown maker Growth.Nothing = kept.with_pool_left
+  requests-grown maker (Growth.Session role) = kept.with_pool_left
+  requests-grown None (Growth.Registration p) = kept.with_pool_left
+  requests-grown (Some maker) (Growth.Registration p) = kept.with_pool_left
+  requests-grown maker (Growth.Request priority asked) =
       all-insert_before (λ (e : RequestEntry). IsUndeclined c e.kept) _ _ s.requests (λ some alive. record { pool = record { 0 = 0 }; of_site = some; undeclined = refl }) kept.with_pool_left
-  requests-grown maker (grow.Node node) = kept.with_pool_left
-  requests-grown None (grow.JoinRequest r) = kept.with_pool_left
-  requests-grown (Some maker) (grow.JoinRequest r) =
+  requests-grown maker (Growth.Node node) = kept.with_pool_left
+  requests-grown None (Growth.JoinRequest r) = kept.with_pool_left
+  requests-grown (Some maker) (Growth.JoinRequest r) =
       all-change_first (λ (e : RequestEntry). IsUndeclined c e.kept) (λ e. same_request e.id r) (λ e. record e { queue = joined maker.session (request_queue r s.requests) }) s.requests (λ e is. is) kept.with_pool_left
-  requests-grown maker (grow.JoinNode n) = kept.with_pool_left
-  requests-grown maker (grow.Allocate n r tenant) = kept.with_pool_left
-  requests-grown maker (grow.Handles j) = kept.with_pool_left
-  requests-grown maker (grow.Swept n x) = kept.with_pool_left
+  requests-grown maker (Growth.JoinNode n) = kept.with_pool_left
+  requests-grown maker (Growth.Allocate n r tenant) = kept.with_pool_left
+  requests-grown maker (Growth.Handles j) = kept.with_pool_left
+  requests-grown maker (Growth.Swept n x) = kept.with_pool_left
 
   requests-settled : (maker : Option Maker) (change : RequestsChange) → RequestsPremise c s ch change → AreUndeclined c (requests_changed maker change (grown c ch.maker ch.grows s).requests)
-  requests-settled maker requests.Same premise = requests-grown ch.maker ch.grows
-  requests-settled maker (requests.Edit r how) premise =
-      subst (λ (rows : List RequestEntry). AreUndeclined c (requests_changed maker (requests.Edit r how) rows)) (sym (same-requests r how premise))
+  requests-settled maker RequestsChange.Same premise = requests-grown ch.maker ch.grows
+  requests-settled maker (RequestsChange.Edit r how) premise =
+      subst (λ (rows : List RequestEntry). AreUndeclined c (requests_changed maker (RequestsChange.Edit r how) rows)) (sym (same-requests r how premise))
       (all-first_changed (λ (e : RequestEntry). IsUndeclined c e.kept) (λ e. same_request e.id r) (λ e. record e { kept = edited how e.kept }) s.requests
       (λ e found old. edit-open r e.kept how (ap (option_map (λ (x : RequestEntry). x.kept)) found) premise old) kept.with_pool_left)
-  requests-settled maker (requests.Remove r) premise =
+  requests-settled maker (RequestsChange.Remove r) premise =
       all-remove_first (λ (e : RequestEntry). IsUndeclined c e.kept) (λ e. same_request e.id r) (grown c ch.maker ch.grows s).requests (requests-grown ch.maker ch.grows)
-  requests-settled None (requests.Leave r) premise = requests-grown ch.maker ch.grows
-  requests-settled (Some maker) (requests.Leave r) premise =
+  requests-settled None (RequestsChange.Leave r) premise = requests-grown ch.maker ch.grows
+  requests-settled (Some maker) (RequestsChange.Leave r) premise =
       all-change_first (λ (e : RequestEntry). IsUndeclined c e.kept) (λ e. same_request e.id r) (λ e. record e { queue = left maker.session (request_queue r (grown c ch.maker ch.grows s).requests) }) (grown c ch.maker ch.grows s).requests
       (λ e is. is) (requests-grown ch.maker ch.grows)
 
   requests-after_end : (change : SessionsChange) (rows : List RequestEntry) → AreUndeclined c rows → AreUndeclined c (requests_left change rows)
-  requests-after_end sessions.Same rows all = all
-  requests-after_end (sessions.Mute quiet) rows all = all
-  requests-after_end (sessions.End over) rows all = all-mapped (λ (e : RequestEntry). IsUndeclined c e.kept) (λ (e : RequestEntry). IsUndeclined c e.kept) (request_left over) rows (λ e is. is) all
+  requests-after_end SessionsChange.Same rows all = all
+  requests-after_end (SessionsChange.Mute quiet) rows all = all
+  requests-after_end (SessionsChange.End over) rows all = all-mapped (λ (e : RequestEntry). IsUndeclined c e.kept) (λ (e : RequestEntry). IsUndeclined c e.kept) (request_left over) rows (λ e is. is) all
 
   kept-changed : IsKept c (changed c ch s)
   kept-changed = record {
@@ -247,7 +275,7 @@ module _ (c : Configuration) (s : State) (reached : IsReached c s) (none_missing
       (all-pass (λ (g : Registration). is_declined_by g.pool request.declined) s.registrations none) left.pool left.of_site in
       true≢false (sym declined ∙ left.undeclined)
 
-  refused : (session : SessionId) (r : RequestId) (what : Done) → judge c s (ev.FailDeclined session r) ≡ Ok what → ⊥
+  refused : (session : SessionId) (r : RequestId) (what : Done) → judge c s (Event.FailDeclined session r) ≡ Ok what → ⊥
   refused session r what is =
       on-given (janitor s session) _ what is (λ p made rest.
       on-found (request_in r s.requests) _ _ what rest (λ request there rest.
@@ -257,7 +285,7 @@ module _ (c : Configuration) (s : State) (reached : IsReached c s) (none_missing
       never r request there requested some (eqb-true (undeclined s.registrations request) 0 none))))))
 
   -- while each pool has a registration, no janitor fails a request
-  pub none-fails : (p : PoolId) → NoneOf c s (Janitor p) (kind_of.Request of_request.FailDeclined)
+  pub none-fails : (p : PoolId) → NoneOf c s (Janitor p) (EventKind.Request RequestKind.FailDeclined)
   none-fails p session r useful =
-      let answer = ok-is (judge c s (ev.FailDeclined session r)) useful.accepted in
+      let answer = ok-is (judge c s (Event.FailDeclined session r)) useful.accepted in
       refused session r answer.0 answer.1

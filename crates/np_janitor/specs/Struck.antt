@@ -1,8 +1,6 @@
 -- what the planned faults do now
 use Rattle.std.specs.Prelude.{◌≡◌, if◌then◌else◌, Option, Some, None, option_and_then}
 use Rattle.np_changes.specs.Prelude.{Configuration, Event, Fault, FaultKind, Reaper, Role, SessionId, State, option_map}
-use Rattle.np_config.specs.declared.row.FaultKind.TheVariants as kind
-use Rattle.np_event.specs.declared.event.Event.TheVariants as ev
 use Rattle.np_look.specs.Readers.{current_of}
 use Rattle.np_useful.specs.Sessions.{is_due, next_fault}
 use Rattle.np_useful.specs.Useful.{IsUseful}
@@ -13,9 +11,9 @@ due_kind c role s = option_and_then (λ f. if is_due role s f then Some f.kind e
 
 -- what a fault of the kind does to the session: the session ends, or its party crashes
 abbrev pub strike_on : FaultKind → SessionId → Event
-strike_on kind.Expire session = ev.Expire session
-strike_on kind.Crash session = ev.Crash session
-strike_on kind.Stop session = ev.Crash session
+strike_on FaultKind.Expire session = Event.Expire session
+strike_on FaultKind.Crash session = Event.Crash session
+strike_on FaultKind.Stop session = Event.Crash session
 
 -- what the role's next fault does to the role's current session, if the fault is due
 abbrev pub strike_of : Configuration → State → Role → Option Event

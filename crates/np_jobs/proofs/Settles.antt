@@ -1,12 +1,384 @@
--- when no role has a useful event
-use Rattle.std.proofs.Common.{◌≡◌, ◌<◌, ℕ, length, refl, arith, Bool, true, false, Option, Some, None}
-use Rattle.std.specs.Prelude.{◌↔◌, not, is_some, slice_get}
-use Rattle.np_changes.specs.Prelude.{Configuration, Event, IsReached, IsSound, Janitor, Launcher, Reaper, Requester, Role, State}
-use Rattle.np_useful.specs.Settled.{takes_part, IsSettled}
-use Rattle.np_useful.specs.Choices.{Chooses}
-use Rattle.np_jobs.specs.Idle.{IsIdle, ArePoolsIdle, AreRequestersIdle}
-use Rattle.np_jobs.proofs.Outside.{outside-idle}
-use Rattle.np_lists.proofs.Plain.{some-within}
+-- when no event is useful: the kinds that are tried for a requester, and the roles that have nothing to do
+use Rattle.np_jobs.proofs.Prelude.{AllByRecursion, AreOfSite, ArePoolsIdle, AreRequestersIdle, Bool, Chooses, ChoosesInWindow, ChoosesOf, ChoosesOfAny, ChoosesOfNew, ChoosesRelease, ChoosesToAcquire, ChoosesToFinish, ChoosesToTake, ChoosesToTakeOne, ChoosesUnderWay, Configuration, Done, EndAs, Event, EventKind, IsIdle, IsReached, IsSettled, IsSound, IsUseful, Janitor, JobId, JobKind, JobRecord, Launcher, List, NoNewStep, NoTake, NodeKind, None, NoneOf, NoneOpens, NoneReleased, NoneUnderWay, Ok, Option, Phase, Reaper, Requester, RequesterId, Role, SessionFacts, SessionId, Some, State, among, and-first, and-parts, ap, arith, before-end, cond, current-speaks, false, false-apart, false_from_ne_true, first_full, has_fulfilled_request, is_asked, is_current, is_in_window, is_job_to_acquire, is_job_to_begin, is_job_to_finish, is_job_to_take, is_maker_of, is_new, is_ok, is_over, is_role, is_some, is_supplied, job-maker, job_event, job_to_acquire, job_to_begin, job_to_finish, job_to_take, jobs_from, judge, kinds-choose, leaving, length, made-by, maker, maker_of, missing_handles, none-is, not, ok-is, option_map_or, or_right, passes, passes-useful, phase_is, refl, requester_kinds, row_holds, same-role, same_role, session_of, sessions-of_site, slice_get, some-within, subst, suc, sym, takes_part, true, useful-passes, waits_for_handles, zero, ℕ, [], ◌&&◌, ◌+◌, ◌-◌, ◌<◌, ◌==◌, ◌||◌, ◌↔◌, ◌∙◌, ◌∷◌, ◌≡◌, ◌≤◌}
+use Rattle.np_jobs.proofs.Windows.{IsListed, IsNewInWindow, IsOpen, IsToAcquire, IsToBegin, WasGiven, acquire-begins, acquire-either, acquire-listed, all-supplied, apart, begins-listed, current-maker, earlier-within, finish-listed, listed, listed-acquire, listed-begins, new-open, release-own, submit-begins, submit-new, take-given, take-listed, unsupplied-missing}
+
+-- # if the first job that is to begin has no acquire and submit, no new job in the window has one
+
+module _ (c : Configuration) (s : State) (q : RequesterId) (session : SessionId) (current : is_current (Requester q) session s ≡ true) where
+  -- ## a job that is to begin and is in the window
+
+  module _ (j : JobId) (is : IsToBegin c s q j) (within : is_in_window c s q j ≡ true) where
+    submit-passes : (is.row.resources_first || (missing_handles s j is.row == 0)) ≡ true → passes c s (Requester q) (Event.Submit session j) ≡ true
+    submit-passes ready = rw (current-maker s q session current, is.stands, is.there, is.own, is.new, ready, within) refl
+
+    acquire-passes : is.row.resources_first ≡ false → (missing_handles s j is.row == 0) ≡ false → first_full c s j is.row ≡ None → passes c s (Requester q) (Event.Acquire session j) ≡ true
+    acquire-passes first missing room =
+        let stays : not (is_over is.kept.phase) ≡ true = new-open is.kept.phase is.new in
+        rw (current-maker s q session current, is.stands, is.there, is.own, stays, room, missing, is.new, first, within) refl
+
+    -- its submit passes if it asks for its nodes first or has all its handles, else its acquire
+    begins : NoNewStep c s q session j → ⊥
+    begins none = by is.row.resources_first (missing_handles s j is.row == 0) refl refl where
+      submits : (is.row.resources_first || (missing_handles s j is.row == 0)) ≡ true → ⊥
+      submits ready = let no : true ≡ false = sym (submit-passes ready) ∙ none.submit in cc
+
+      by : (b d : Bool) → is.row.resources_first ≡ b → (missing_handles s j is.row == 0) ≡ d → ⊥
+      by true d first missing = submits (rw first refl)
+      by false true first missing = submits (rw (first, missing) refl)
+      by false false first missing =
+          let room : first_full c s j is.row ≡ None = none-is (first_full c s j is.row) (rw first at is.may) in
+          let no : true ≡ false = sym (acquire-passes first missing room) ∙ none.acquire in
+          cc
+
+    -- so one of the two is found, and no other job is looked at
+    begun : (o : Option Event) → ChoosesOfNew c s q session j o → ChoosesInWindow c s q session o
+    begun None none = absurd (begins none)
+    begun (Some e) useful = useful
+
+  -- ## a new job of which an event passes
+
+  acquired-begins : (j : JobId) → phase_is j s is_new ≡ true → passes c s (Requester q) (Event.Acquire session j) ≡ true → IsToBegin c s q j
+  acquired-begins j new passed =
+      let parts = and-parts c s (Requester q) _ (row_holds c s (Requester q) (Event.Acquire session j)) passed in
+      let answer = ok-is (judge c s (Event.Acquire session j)) parts.0 in
+      acquire-begins c s session q (current-maker s q session current) j answer.0 answer.1 new
+
+  submitted-begins : (j : JobId) → passes c s (Requester q) (Event.Submit session j) ≡ true → IsToBegin c s q j
+  submitted-begins j passed =
+      let parts = and-parts c s (Requester q) _ (row_holds c s (Requester q) (Event.Submit session j)) passed in
+      let answer = ok-is (judge c s (Event.Submit session j)) parts.0 in
+      submit-begins c s session q (current-maker s q session current) j answer.0 answer.1
+
+  -- neither passes of one that is not to begin
+  neither : (j : JobId) → phase_is j s is_new ≡ true → (IsToBegin c s q j → ⊥) → NoNewStep c s q session j
+  neither j new none = record {
+    acquire = false_from_ne_true (passes c s (Requester q) (Event.Acquire session j)) (λ passed. none (acquired-begins j new passed));
+    submit = false_from_ne_true (passes c s (Requester q) (Event.Submit session j)) (λ passed. none (submitted-begins j passed));
+  }
+
+  -- ## the first that is to begin
+
+  first_begins : (x : JobId) → job_to_begin c q s ≡ Some x → IsToBegin c s q x
+  first_begins x found =
+      let is : IsListed (is_job_to_begin c s q) 0 s.jobs x = listed (is_job_to_begin c s q) 0 s.jobs 0 x found in
+      let place : x.0 ≡ is.place = omega (arith, is.number_is) in
+      listed-begins c s q x is.kept (ap (slice_get s.jobs) place ∙ is.there) is.passed
+
+  -- without one, no new job in the window has such an event
+  pub none-begins : job_to_begin c q s ≡ None → ChoosesInWindow c s q session None
+  none-begins none = λ j new within. neither j new (λ is.
+      let place = among (is_job_to_begin c s q) 0 s.jobs j.0 is.kept j (omega arith) is.there (begins-listed c s q j is) in
+      let low : place.at < 0 = before-end (jobs_from (is_job_to_begin c s q) 0 s.jobs) 0 place.at j none place.there in
+      absurd (omega (arith, low)))
+
+  module _ (x : JobId) (found : job_to_begin c q s ≡ Some x) where
+    first_open : IsOpen c s q x
+    first_open =
+        let is = first_begins x found in
+        let stays : not (is_over is.kept.phase) ≡ true = new-open is.kept.phase is.new in
+        rw (is.there, is.stands, is.own, stays) refl
+
+    -- if it is past the window, so are the others, since they come after it
+    pub past-begins : is_in_window c s q x ≡ false → ChoosesInWindow c s q session None
+    past-begins past = λ j new within. neither j new (λ is.
+        let place = among (is_job_to_begin c s q) 0 s.jobs j.0 is.kept j (omega arith) is.there (begins-listed c s q j is) in
+        let order : x.0 + place.at ≤ j.0 + 0 = apart (is_job_to_begin c s q) 0 s.jobs 0 place.at x j (omega arith) found place.there in
+        let inside : is_in_window c s q x ≡ true = earlier-within c s q x j first_open (omega (arith, order)) within in
+        let no : true ≡ false = sym inside ∙ past in
+        cc)
+
+    -- if it is in the window, what is found for it is what is found in the window
+    pub first-chooses : is_in_window c s q x ≡ true → (o : Option Event) → ChoosesOfNew c s q session x o → ChoosesInWindow c s q session o
+    first-chooses within o chosen = begun x (first_begins x found) within o chosen
+
+-- # if the events of a session on the jobs under way were tried, none is useful
+
+-- a job that has asked for its nodes is not over, and not new
+asked-open : (p : Phase) → is_asked p ≡ true → not (is_over p) ≡ true
+asked-open Phase.New is = absurd cc
+asked-open Phase.Asked is = refl
+asked-open Phase.Using is = absurd cc
+asked-open Phase.Over is = absurd cc
+
+asked-old : (p : Phase) → is_asked p ≡ true → is_new p ≡ true → ⊥
+asked-old Phase.New asked new = cc
+asked-old Phase.Asked asked new = cc
+asked-old Phase.Using asked new = cc
+asked-old Phase.Over asked new = cc
+
+not-both : (o : Option JobRecord) → option_map_or (λ (kept : JobRecord). is_asked kept.phase) o false ≡ true → option_map_or (λ (kept : JobRecord). is_new kept.phase) o false ≡ true → ⊥
+not-both None asked new = cc
+not-both (Some kept) asked new = asked-old kept.phase asked new
+
+module _ (c : Configuration) (s : State) (q : RequesterId) (session : SessionId) (current : is_current (Requester q) session s ≡ true) where
+  made : maker s session ≡ Ok (Requester q)
+  made = current-maker s q session current
+
+  -- no event of the kind is useful, if none that is accepted and whose row is true passes
+  none_of : (kind : JobKind) → ((j : JobId) (what : Done) → judge c s (job_event kind session j) ≡ Ok what → row_holds c s (Requester q) (job_event kind session j) ≡ true → passes c s (Requester q) (job_event kind session j) ≡ false) → NoneOf c s (Requester q) (EventKind.Job kind)
+  none_of kind fails by j useful =
+      let same : by ≡ session = made-by c s (Requester q) session current by (job_event kind by j) (job-maker kind by j) useful in
+      let here : IsUseful c s (Requester q) (job_event kind session j) = subst (λ (x : SessionId). IsUseful c s (Requester q) (job_event kind x j)) same useful in
+      let answer = ok-is (judge c s (job_event kind session j)) here.accepted in
+      let no : passes c s (Requester q) (job_event kind session j) ≡ false = fails j answer.0 answer.1 here.row in
+      let is : passes c s (Requester q) (job_event kind session j) ≡ true = useful-passes c s (Requester q) (job_event kind session j) here in
+      cc
+
+  -- ## finish
+
+  -- a useful finish is of a job that uses its nodes or whose request failed
+  pub finishes-none : ((k : ℕ) (j : JobId) → job_to_finish c q k s ≡ Some j → passes c s (Requester q) (Event.Finish session j) ≡ false) → NoneOf c s (Requester q) (EventKind.Job JobKind.Finish)
+  finishes-none none = none_of JobKind.Finish (λ j what is holds.
+      let kept = finish-listed c s session q made j what is in
+      let place = among (is_job_to_finish c s q) 0 s.jobs j.0 kept.0 j (omega arith) kept.1.0 kept.1.1 in
+      none place.at j place.there)
+
+  -- ## take
+
+  module _ (none : (k : ℕ) (j : JobId) → job_to_take c q k s ≡ Some j → NoTake c s q session j) where
+    no_take : (j : JobId) (is : WasGiven c s q j) → is_supplied s j is.row ≡ true → NoTake c s q session j
+    no_take j is supplies =
+        let place = among (is_job_to_take c s q) 0 s.jobs j.0 is.kept j (omega arith) is.there (take-listed c s q j is supplies) in
+        none place.at j place.there
+
+    -- a useful take is of a job that was given its nodes and has all its handles
+    pub takes-none : NoneOf c s (Requester q) (EventKind.Job JobKind.Take)
+    takes-none = none_of JobKind.Take (λ j what is holds.
+        take-given c s session q made j what is (λ given all. (no_take j given (all-supplied s j given.row all)).take))
+
+    -- ## acquire
+
+    module _ (full : job_to_acquire c q s ≡ None) where
+      no_acquire : (j : JobId) (is : WasGiven c s q j) → first_full c s j is.row ≡ None → passes c s (Requester q) (Event.Acquire session j) ≡ false
+      no_acquire j is room = by (is_supplied s j is.row) refl where
+        by : (b : Bool) → is_supplied s j is.row ≡ b → passes c s (Requester q) (Event.Acquire session j) ≡ false
+        by true supplies = (no_take j is supplies).acquire
+        by false waits =
+            let place = among (is_job_to_acquire c s q) 0 s.jobs j.0 is.kept j (omega arith) is.there (acquire-listed c s q j is waits room) in
+            let low : place.at < 0 = before-end (jobs_from (is_job_to_acquire c s q) 0 s.jobs) 0 place.at j full place.there in
+            absurd (omega (arith, low))
+
+      -- the acquire of a job that has asked for its nodes fails: if the job was given them, it is one of those
+      -- that were tried, or it waits for handles and its semaphores have no room
+      pub acquires-fail : (j : JobId) → phase_is j s is_asked ≡ true → passes c s (Requester q) (Event.Acquire session j) ≡ false
+      acquires-fail j asked = false_from_ne_true (passes c s (Requester q) (Event.Acquire session j)) (λ passed.
+          let parts = and-parts c s (Requester q) _ (row_holds c s (Requester q) (Event.Acquire session j)) passed in
+          let answer = ok-is (judge c s (Event.Acquire session j)) parts.0 in
+          acquire-either c s session q made j answer.0 answer.1 parts.1
+          (λ given room. let no : passes c s (Requester q) (Event.Acquire session j) ≡ false = no_acquire j given room in cc)
+          (λ new. not-both (slice_get s.jobs j.0) asked new.new))
+
+  -- the acquire of a job that was given its nodes, waits for handles and finds room is useful
+  acquire-given-passes : (j : JobId) → IsToAcquire c s q j → passes c s (Requester q) (Event.Acquire session j) ≡ true
+  acquire-given-passes j is =
+      let missing : (missing_handles s j is.job.row == 0) ≡ false = unsupplied-missing s j is.job.row is.waits in
+      let stays : not (is_over is.job.kept.phase) ≡ true = asked-open is.job.kept.phase is.job.asked in
+      let waits : waits_for_handles c s q j is.job.row is.job.kept ≡ true = or_right (is_new is.job.kept.phase && not is.job.row.resources_first && is_in_window c s q j) (is_asked is.job.kept.phase && has_fulfilled_request s is.job.kept) (rw (is.job.asked, is.job.given) refl) in
+      rw (made, is.job.stands, is.job.there, is.job.own, stays, is.room, missing, waits) refl
+
+  pub acquire-useful : (j : JobId) → job_to_acquire c q s ≡ Some j → IsUseful c s (Requester q) (Event.Acquire session j)
+  acquire-useful j found =
+      let is : IsListed (is_job_to_acquire c s q) 0 s.jobs j = listed (is_job_to_acquire c s q) 0 s.jobs 0 j found in
+      let place : j.0 ≡ is.place = omega (arith, is.number_is) in
+      let job : IsToAcquire c s q j = listed-acquire c s q j is.kept (ap (slice_get s.jobs) place ∙ is.there) is.passed in
+      passes-useful c s (Requester q) (Event.Acquire session j) (acquire-given-passes j job) current
+
+  -- ## all of them
+
+  -- a requester's useful release is of a job of its own
+  pub releases-none : NoneReleased c s (Requester q) q → NoneOf c s (Requester q) (EventKind.Job JobKind.Release)
+  releases-none none = λ by j useful.
+      let same : by ≡ session = made-by c s (Requester q) session current by (Event.Release by j) refl useful in
+      let mine : IsUseful c s (Requester q) (Event.Release session j) = subst (λ (x : SessionId). IsUseful c s (Requester q) (Event.Release x j)) same useful in
+      let answer = ok-is (judge c s (Event.Release session j)) mine.accepted in
+      none session j (release-own c s session q made j answer.0 answer.1) mine
+
+  module _ (none : NoneUnderWay c s q session) (begins : (j : JobId) → phase_is j s is_new ≡ true → is_in_window c s q j ≡ true → NoNewStep c s q session j) where
+    no_new_step : (j : JobId) → IsNewInWindow c s q j → NoNewStep c s q session j
+    no_new_step j is = begins j is.new is.within
+
+    pub acquires-none : NoneOf c s (Requester q) (EventKind.Job JobKind.Acquire)
+    acquires-none = none_of JobKind.Acquire (λ j what is holds.
+        acquire-either c s session q made j what is holds
+        (λ given room. none.acquire j (rw (given.there, given.asked) refl))
+        (λ new. (no_new_step j new).acquire))
+
+    pub submits-none : NoneOf c s (Requester q) (EventKind.Job JobKind.Submit)
+    submits-none = none_of JobKind.Submit (λ j what is holds. (no_new_step j (submit-new c s session q made j what is holds)).submit)
+
+-- ## the walks over jobs
+
+-- a job on which nothing was found has no such event
+pub no-finish : (c : Configuration) (s : State) (q : RequesterId) (session : SessionId) (j : JobId) (o : Option Event) → is_some o ≡ false → ChoosesToFinish c s q session j o → passes c s (Requester q) (Event.Finish session j) ≡ false
+no-finish c s q session j None is none = none
+no-finish c s q session j (Some e) is none = absurd cc
+
+pub no-take : (c : Configuration) (s : State) (q : RequesterId) (session : SessionId) (j : JobId) (o : Option Event) → is_some o ≡ false → ChoosesToTakeOne c s q session j o → NoTake c s q session j
+no-take c s q session j None is none = none
+no-take c s q session j (Some e) is none = absurd cc
+
+-- # a requester's useful events are of the kinds that are tried
+
+module _ (c : Configuration) (s : State) (q : RequesterId) (opens : NoneOpens c s (Requester q)) (all : AllByRecursion (NoneOf c s (Requester q)) requester_kinds) where
+  useless : (e : Event) → IsUseful c s (Requester q) e → ⊥
+  useless Event.Tick useful = false-apart useful.row
+  useless (Event.OpenSession role) useful = opens role useful
+  useless (Event.Crash session) useful = false-apart useful.row
+  useless (Event.Expire session) useful = false-apart useful.row
+  useless (Event.Register session) useful = false-apart useful.row
+  useless (Event.Finish session j) useful = all.0 session j useful
+  useless (Event.LockNode session n) useful = all.1.0 session n useful
+  useless (Event.Take session j) useful = all.1.1.0 session j useful
+  useless (Event.Acquire session j) useful = all.1.1.1.0 session j useful
+  useless (Event.Release session j) useful = all.1.1.1.1.0 session j useful
+  useless (Event.Submit session j) useful = all.1.1.1.1.1.0 session j useful
+  useless (Event.EndNode session n EndAs.Used) useful = all.1.1.1.1.1.1.0 session n useful
+  useless (Event.EndNode session n EndAs.Hold) useful = all.1.1.1.1.1.1.1.0 session n useful
+  useless (Event.UnlockNode session n) useful = all.1.1.1.1.1.1.1.1.0 session n useful
+  useless (Event.Revise session j relative) useful = false-apart useful.row
+  useless (Event.MinReady session l) useful = false-apart useful.row
+  useless (Event.LockRequest session r) useful = false-apart useful.row
+  useless (Event.UnlockRequest session r) useful = false-apart useful.row
+  useless (Event.Accept session r) useful = false-apart useful.row
+  useless (Event.Decline session r why) useful = false-apart useful.row
+  useless (Event.TakeReady session r n) useful = false-apart useful.row
+  useless (Event.Create session r) useful = false-apart useful.row
+  useless (Event.Start session n) useful = false-apart useful.row
+  useless (Event.Done session n attempt o) useful = false-apart useful.row
+  useless (Event.Fulfil session r) useful = false-apart useful.row
+  useless (Event.Withdraw session j) useful = false-apart useful.row
+  useless (Event.MarkDeleting session n) useful = false-apart useful.row
+  useless (Event.Gone session n) useful = false-apart useful.row
+  useless (Event.Reset session r) useful = false-apart useful.row
+  useless (Event.FreeNode session n) useful = false-apart useful.row
+  useless (Event.FailDeclined session r) useful = false-apart useful.row
+  useless (Event.Sweep session n x) useful = false-apart useful.row
+
+pub requester-law : (c : Configuration) (s : State) (q : RequesterId) → NoneOpens c s (Requester q) → AllByRecursion (NoneOf c s (Requester q)) requester_kinds → (e : Event) → IsUseful c s (Requester q) e → ⊥
+requester-law c s q opens all e useful = useless c s q opens all e useful
+
+-- ## all passes
+
+module _ (c : Configuration) (s : State) (q : RequesterId) (session : SessionId) (current : is_current (Requester q) session s ≡ true) where
+  -- if no event of each kind is useful, false-apart is
+  none-useful : NoneUnderWay c s q session → NoneReleased c s (Requester q) q → ChoosesInWindow c s q session None → AllByRecursion (NoneOf c s (Requester q)) leaving → AllByRecursion (NoneOf c s (Requester q)) requester_kinds
+  none-useful under releases begins leaves = (
+    under.finish,
+    (under.lock, (under.take, (acquires-none c s q session current under begins, (releases-none c s q session current releases, (submits-none c s q session current under begins, leaves))))),
+  )
+
+  -- if nothing is useful on a job under way, no release, and nothing on a new job in the window, what is
+  -- left decides
+  pub all-choose : (found : Option Event) → ChoosesUnderWay c s q session found → is_some found ≡ false → (release : Option Event) → ChoosesRelease c s (Requester q) q release → is_some release ≡ false
+      → (begun : Option Event) → ChoosesInWindow c s q session begun → is_some begun ≡ false → (o : Option Event) → ChoosesOfAny c s (Requester q) leaving o → Chooses c s (Requester q) o
+  all-choose None under is None releases fails None begins stays None leaves =
+      kinds-choose c s (Requester q) requester_kinds (requester-law c s q) session current None (none-useful under releases begins leaves)
+  all-choose None under is None releases fails None begins stays (Some e) leaves = leaves
+  all-choose None under is None releases fails (Some e) begins stays o leaves = absurd cc
+  all-choose None under is (Some e) releases fails begun begins stays o leaves = absurd cc
+  all-choose (Some e) under is release releases fails begun begins stays o leaves = absurd cc
+
+  -- if no finish, lock and take is useful, the acquire of a job that waits for handles decides what is
+  -- useful on the jobs under way
+  pub under-chooses : (finish : Option Event) → ChoosesOf c s (Requester q) (EventKind.Job JobKind.Finish) finish → is_some finish ≡ false → (lock : Option Event) → ChoosesOf c s (Requester q) (EventKind.Node NodeKind.Lock) lock → is_some lock ≡ false
+      → (take : Option Event) → ChoosesToTake c s q session take → is_some take ≡ false → (o : Option Event) → ChoosesToAcquire c s q o → ChoosesUnderWay c s q session o
+  under-chooses None finishes is None locks fails None takes stays None full = record {
+    finish = finishes;
+    lock = locks;
+    take = takes-none c s q session current takes;
+    acquire = acquires-fail c s q session current takes full;
+  }
+  under-chooses None finishes is None locks fails None takes stays (Some e) useful = useful
+  under-chooses None finishes is None locks fails (Some e) takes stays o useful = absurd cc
+  under-chooses None finishes is (Some e) locks fails take takes stays o useful = absurd cc
+  under-chooses (Some e) finishes is lock locks fails take takes stays o useful = absurd cc
+
+-- # each session of a run belongs to a role of the configuration
+
+module _ (c : Configuration) where
+  of-get : (rows : List SessionFacts) (at : ℕ) (facts : SessionFacts) → AreOfSite c rows → slice_get rows at ≡ Some facts → is_role c facts.role ≡ true
+  of-get [] at facts all there = absurd cc
+  of-get (f ∷ rows) zero facts all there =
+      let same : f ≡ facts = cc in
+      subst (λ (x : SessionFacts). is_role c x.role ≡ true) same all.0
+  of-get (f ∷ rows) (suc at) facts all there = of-get rows at facts all.1 there
+
+  -- a session of a run
+  pub role-at : (s : State) (at : ℕ) (facts : SessionFacts) → IsReached c s → slice_get s.sessions at ≡ Some facts → is_role c facts.role ≡ true
+  role-at s at facts reached there = of-get s.sessions at facts (sessions-of_site c s reached) there
+
+  pub role-of : (s : State) (session : SessionId) (facts : SessionFacts) → IsReached c s → session_of session s ≡ Some facts → is_role c facts.role ≡ true
+  role-of s session facts reached is = by (session.0 == 0) is where
+    by : (b : Bool) → cond b None (slice_get s.sessions (session.0 - 1)) ≡ Some facts → is_role c facts.role ≡ true
+    by true none = absurd cc
+    by false there = role-at s (session.0 - 1) facts reached there
+
+-- # a role that is not in the configuration has nothing to do
+
+module _ (c : Configuration) (s : State) where
+  -- a role that is neither the reaper nor in the configuration
+  no-role : (role : Role) → takes_part c role ≡ false → is_role c role ≡ true → ⊥
+  no-role (Launcher p) outside is = absurd cc
+  no-role (Janitor p) outside is = absurd cc
+  no-role (Requester q) outside is = absurd cc
+  no-role Reaper outside is = absurd cc
+
+  -- it has no current session
+  current-of : (role : Role) (session : SessionId) → IsReached c s → is_current role session s ≡ true → is_role c role ≡ true
+  current-of role session reached is =
+      let who = current-speaks role s session is in
+      let same : who.facts.role ≡ role = same-role who.facts.role role (and-first (same_role who.facts.role role) _ (and-first _ (not who.facts.mute) who.speaks)) in
+      subst (λ (r : Role). is_role c r ≡ true) same (role-at c s _ who.facts reached who.there)
+
+  outside-made-by : (role : Role) → IsReached c s → takes_part c role ≡ false → (o : Option SessionId) → is_some o ≡ true → is_maker_of role s o ≡ true → ⊥
+  outside-made-by role reached outside None some is = absurd cc
+  outside-made-by role reached outside (Some session) some is = no-role role outside (current-of role session reached is)
+
+  -- sessions are opened for roles of the configuration
+  open-of : (other : Role) → is_ok (judge c s (Event.OpenSession other)) ≡ true → is_role c other ≡ true
+  open-of other accepted = by (is_role c other) refl where
+    by : (b : Bool) → is_role c other ≡ b → is_role c other ≡ true
+    by true is = is
+    by false is = absurd (let refused : is_ok (judge c s (Event.OpenSession other)) ≡ false = rw is refl in cc)
+
+  opened : (role other : Role) → takes_part c role ≡ false → row_holds c s role (Event.OpenSession other) ≡ true → other ≡ role
+  opened (Launcher p) other outside is = same-role other (Launcher p) (and-first _ _ is)
+  opened (Janitor p) other outside is = same-role other (Janitor p) (and-first _ _ is)
+  opened (Requester q) other outside is = same-role other (Requester q) (and-first _ _ is)
+  opened Reaper other outside is = absurd cc
+
+  opens : (role other : Role) → takes_part c role ≡ false → IsUseful c s role (Event.OpenSession other) → ⊥
+  opens role other outside useful =
+      let same : other ≡ role = opened role other outside useful.row in
+      no-role role outside (subst (λ (r : Role). is_role c r ≡ true) same (open-of other useful.accepted))
+
+  -- only the reaper ticks or ends sessions
+  ticks : (role : Role) → takes_part c role ≡ false → row_holds c s role Event.Tick ≡ true → ⊥
+  ticks (Launcher p) outside is = absurd cc
+  ticks (Janitor p) outside is = absurd cc
+  ticks (Requester q) outside is = absurd cc
+  ticks Reaper outside is = absurd cc
+
+  crashes : (role : Role) (session : SessionId) → takes_part c role ≡ false → row_holds c s role (Event.Crash session) ≡ true → ⊥
+  crashes (Launcher p) session outside is = absurd cc
+  crashes (Janitor p) session outside is = absurd cc
+  crashes (Requester q) session outside is = absurd cc
+  crashes Reaper session outside is = absurd cc
+
+  expires : (role : Role) (session : SessionId) → takes_part c role ≡ false → row_holds c s role (Event.Expire session) ≡ true → ⊥
+  expires (Launcher p) session outside is = absurd cc
+  expires (Janitor p) session outside is = absurd cc
+  expires (Requester q) session outside is = absurd cc
+  expires Reaper session outside is = absurd cc
+
+  pub outside-idle : (role : Role) → IsReached c s → takes_part c role ≡ false → IsIdle c s role
+  outside-idle role reached outside Event.Tick useful = ticks role outside useful.row
+  outside-idle role reached outside (Event.OpenSession other) useful = opens role other outside useful
+  outside-idle role reached outside (Event.Crash session) useful = crashes role session outside useful.row
+  outside-idle role reached outside (Event.Expire session) useful = expires role session outside useful.row
+  outside-idle role reached outside e useful = outside-made-by role reached outside (maker_of e) refl useful.maker
+
+-- # when no role has a useful event
 
 module _ (c : Configuration) (s : State) where
   -- a choice returns none if and only if the role is idle

@@ -1,26 +1,25 @@
 -- what a requester may do next with its jobs and nodes
 use Rattle.std.specs.Prelude.{◌≡◌, ℕ, List, [], ◌∷◌, Bool, true, false, Option, Some, None, slice_get}
 use Rattle.np_changes.specs.Prelude.{Configuration, Event, JobId, NodeId, Phase, Requester, RequesterId, SessionId, State, is_asked, is_new, option_map_or}
-use Rattle.np_text.specs.declared.word.EndAs.TheVariants as end
-use Rattle.np_event.specs.declared.event.Event.TheVariants as ev
 use Rattle.np_look.specs.Jobs.{job_to_take, job_to_acquire}
 use Rattle.np_useful.specs.Useful.{IsUseful}
 use Rattle.np_useful.specs.Window.{is_in_window}
 use Rattle.np_useful.specs.declared.kind.EventKind.{EventKind}
 use Rattle.np_useful.specs.declared.kind.EventKind.TheVariants.{Node, Job}
-use Rattle.np_useful.specs.declared.kind.NodeKind.TheVariants as of_node
-use Rattle.np_useful.specs.declared.kind.JobKind.TheVariants as of_job
 use Rattle.np_useful.specs.Choices.{NoneOf}
 use Rattle.np_useful.specs.Passing.{passes}
+use Rattle.np_text.specs.declared.word.EndAs.{EndAs}
+use Rattle.np_useful.specs.declared.kind.NodeKind.{NodeKind}
+use Rattle.np_useful.specs.declared.kind.JobKind.{JobKind}
 
 -- the kinds that are tried on each node to leave (own)
 abbrev pub leaving : List EventKind
-leaving = Node (of_node.End end.Used) ∷ Node (of_node.End end.Hold) ∷ Node of_node.Unlock ∷ []
+leaving = Node (NodeKind.End EndAs.Used) ∷ Node (NodeKind.End EndAs.Hold) ∷ Node NodeKind.Unlock ∷ []
 
 -- every kind that a requester's session makes (own)
 abbrev pub requester_kinds : List EventKind
 requester_kinds =
-    Job of_job.Finish ∷ Node of_node.Lock ∷ Job of_job.Take ∷ Job of_job.Acquire ∷ Job of_job.Release ∷ Job of_job.Submit ∷ leaving
+    Job JobKind.Finish ∷ Node NodeKind.Lock ∷ Job JobKind.Take ∷ Job JobKind.Acquire ∷ Job JobKind.Release ∷ Job JobKind.Submit ∷ leaving
 
 -- the job exists, and its phase passes the test (own)
 abbrev pub phase_is : JobId → State → (Phase → Bool) → Bool
@@ -30,13 +29,13 @@ phase_is j s such = option_map_or (λ kept. such kept.phase) (slice_get s.jobs j
 
 -- a useful event, or the session's finish of the job fails (own)
 abbrev pub ChoosesToFinish : Configuration → State → RequesterId → SessionId → JobId → Option Event → Type 0
-ChoosesToFinish c s q session j None = passes c s (Requester q) (ev.Finish session j) ≡ false
+ChoosesToFinish c s q session j None = passes c s (Requester q) (Event.Finish session j) ≡ false
 ChoosesToFinish c s q session j (Some e) = IsUseful c s (Requester q) e
 
 -- the session's take and acquire of the job fail (own)
 pub record NoTake (c : Configuration) (s : State) (q : RequesterId) (session : SessionId) (j : JobId) : Type 0 where
-  pub take : passes c s (Requester q) (ev.Take session j) ≡ false
-  pub acquire : passes c s (Requester q) (ev.Acquire session j) ≡ false
+  pub take : passes c s (Requester q) (Event.Take session j) ≡ false
+  pub acquire : passes c s (Requester q) (Event.Acquire session j) ≡ false
 
 -- a useful event, or no take and acquire of the job passes (own)
 abbrev pub ChoosesToTakeOne : Configuration → State → RequesterId → SessionId → JobId → Option Event → Type 0
@@ -57,10 +56,10 @@ ChoosesToAcquire c s q (Some e) = IsUseful c s (Requester q) e
 -- no finish, lock and take is useful, and the session's acquire of each job that has asked for its
 -- nodes fails (own)
 pub record NoneUnderWay (c : Configuration) (s : State) (q : RequesterId) (session : SessionId) : Type 0 where
-  pub finish : NoneOf c s (Requester q) (Job of_job.Finish)
-  pub lock : NoneOf c s (Requester q) (Node of_node.Lock)
-  pub take : NoneOf c s (Requester q) (Job of_job.Take)
-  pub acquire : (j : JobId) → phase_is j s is_asked ≡ true → passes c s (Requester q) (ev.Acquire session j) ≡ false
+  pub finish : NoneOf c s (Requester q) (Job JobKind.Finish)
+  pub lock : NoneOf c s (Requester q) (Node NodeKind.Lock)
+  pub take : NoneOf c s (Requester q) (Job JobKind.Take)
+  pub acquire : (j : JobId) → phase_is j s is_asked ≡ true → passes c s (Requester q) (Event.Acquire session j) ≡ false
 
 -- a useful event, or none of these (own)
 abbrev pub ChoosesUnderWay : Configuration → State → RequesterId → SessionId → Option Event → Type 0
@@ -71,8 +70,8 @@ ChoosesUnderWay c s q session (Some e) = IsUseful c s (Requester q) e
 
 -- the session's acquire and submit of the job fail (own)
 pub record NoNewStep (c : Configuration) (s : State) (q : RequesterId) (session : SessionId) (j : JobId) : Type 0 where
-  pub acquire : passes c s (Requester q) (ev.Acquire session j) ≡ false
-  pub submit : passes c s (Requester q) (ev.Submit session j) ≡ false
+  pub acquire : passes c s (Requester q) (Event.Acquire session j) ≡ false
+  pub submit : passes c s (Requester q) (Event.Submit session j) ≡ false
 
 -- a useful event, or no acquire and submit of the job passes (own)
 abbrev pub ChoosesOfNew : Configuration → State → RequesterId → SessionId → JobId → Option Event → Type 0
@@ -88,9 +87,9 @@ ChoosesInWindow c s q session (Some e) = IsUseful c s (Requester q) e
 
 -- the session's ends of the node and its unlock fail (own)
 pub record NoLeave (c : Configuration) (s : State) (q : RequesterId) (session : SessionId) (n : NodeId) : Type 0 where
-  pub used : passes c s (Requester q) (ev.EndNode session n end.Used) ≡ false
-  pub hold : passes c s (Requester q) (ev.EndNode session n end.Hold) ≡ false
-  pub unlock : passes c s (Requester q) (ev.UnlockNode session n) ≡ false
+  pub used : passes c s (Requester q) (Event.EndNode session n EndAs.Used) ≡ false
+  pub hold : passes c s (Requester q) (Event.EndNode session n EndAs.Hold) ≡ false
+  pub unlock : passes c s (Requester q) (Event.UnlockNode session n) ≡ false
 
 -- a useful event, or no end and unlock of the node passes (own)
 abbrev pub ChoosesToLeave : Configuration → State → RequesterId → SessionId → NodeId → Option Event → Type 0

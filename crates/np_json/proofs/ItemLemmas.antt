@@ -1,14 +1,5 @@
 -- the items of a list, one after another
-use Rattle.std.proofs.Common.{◌≡◌, ℕ, ◌+◌, ◌<◌, ◌≤◌, List, ◌∷◌, drop, length, get_or, Result, Ok, decimal, sym, ◌∙◌, ap, refl, subst, add-one, suc}
-use Rattle.std.proofs.Math.Seq.{drop-cons}
-use Rattle.std.proofs.lemmas.List.{drop_all}
-use Rattle.serde_json.specs.Data.{item}
-use Rattle.serde_json.specs.View.{view, items_view}
-use Rattle.serde_json.specs.declared.value.Value.{Value}
-use Rattle.np_json.specs.declared.fault.ConfigFault.{ConfigFault}
-use Rattle.np_json.specs.declared.fault.ConfigRead.{ConfigRead}
-use Rattle.np_json.specs.Reading.{Fails, fault_of, below}
-use Rattle.np_json.specs.Rows.{ReadsItem, items_from}
+use Rattle.np_json.proofs.Prelude.{ConfigFault, ConfigRead, Fails, List, Ok, ReadsItem, Result, Value, add-one, ap, below, decimal, drop, drop-cons, drop_all, fault_of, get_or, item, items_from, items_view, length, refl, subst, suc, sym, view, ℕ, ◌+◌, ◌<◌, ◌∙◌, ◌∷◌, ◌≡◌, ◌≤◌}
 use Rattle.np_json.proofs.Binds.{binds}
 
 -- the items from a place on

@@ -1,9 +1,5 @@
 -- lists that were mapped
-use Rattle.std.proofs.Common.{◌≡◌, ◌+◌, ◌∙◌, List, [], ◌∷◌, ◌++◌, map, Bool, false, cond, not, ◌||◌, length, ltb, Some, None, ap, refl}
-use Rattle.std.specs.Prelude.{position}
-use Rattle.std.specs.List.{list_any, prefix_len, position_or_len}
-use Rattle.std.proofs.lemmas.List.{length-map}
-use Rattle.serde_json.proofs.Views.{items_len-items_view}
+use Rattle.np_json.proofs.Prelude.{Bool, List, None, Some, ap, cond, items_len-items_view, length, length-map, list_any, ltb, map, not, position, position_or_len, prefix_len, refl, [], ◌++◌, ◌+◌, ◌||◌, ◌∙◌, ◌∷◌, ◌≡◌}
 
 pub list_any-map : {A B : Type 0} (p : B → Bool) (f : A → B) (xs : List A) → list_any p (map f xs) ≡ list_any (λ x. p (f x)) xs
 list_any-map p f [] = refl

@@ -1,22 +1,5 @@
 -- what holds of what was read without a fault
-use Rattle.std.proofs.Common.{◌≡◌, ℕ, ◌+◌, ◌≤◌, List, codes, Bool, true, false, ◌&&◌, not, nat_le, Option, Some, None, Result, Ok, IfSome, decimal, sym, ap, subst, arith, suc}
-use Rattle.std.proofs.lemmas.Bool.Decides.{nat_tests}
-use Rattle.std.specs.List.{list_any}
-use Rattle.std.specs.Option.{option_map_or, option_and_then}
-use Rattle.std.specs.Str.{bytes_eq}
-use Rattle.serde_json.specs.Data.{Data, Items, no_items, item}
-use Rattle.serde_json.specs.Events.{items_len}
-use Rattle.serde_json.specs.Find.{get, as_array, as_number, as_u64}
-use Rattle.np_text.specs.Name.{is_name_text}
-use Rattle.np_json.specs.declared.fault.ConfigKind.TheVariants.{WrongType, OutOfRange, BadName, Repeated, TooMany}
-use Rattle.np_json.specs.declared.fault.ConfigFault.{ConfigFault}
-use Rattle.np_json.specs.declared.leaf.Length.{Length}
-use Rattle.np_lists.specs.Refusals.{◌>>=◌, ◌>>◌, need, found}
-use Rattle.np_lists.proofs.RefusalLemmas.{bind-ok, rest-ok, need-ok}
-use Rattle.np_json.specs.Reading.{fault, below}
-use Rattle.np_json.specs.Leaf.{object_at, required, text_value, in_range, whole_value, of_length, list_value, new_name, name_at, named_at, whole_required, whole_or, whole_maybe}
-use Rattle.np_json.specs.Rows.{ReadsItem, items_from, list_at, list_required, list_maybe}
-use Rattle.std.proofs.lemmas.Bool.{not-true}
+use Rattle.np_json.proofs.Prelude.{BadName, Bool, ConfigFault, Data, IfSome, Items, Length, List, None, Ok, Option, OutOfRange, ReadsItem, Repeated, Result, Some, TooMany, WrongType, ap, arith, as_array, as_number, as_u64, below, bind-ok, bytes_eq, codes, decimal, false, fault, found, get, in_range, is_name_text, item, items_from, items_len, list_any, list_at, list_maybe, list_required, list_value, name_at, named_at, nat_le, nat_tests, need, need-ok, new_name, no_items, not, not-true, object_at, of_length, option_and_then, option_map_or, required, rest-ok, subst, suc, sym, text_value, true, whole_maybe, whole_or, whole_required, whole_value, ℕ, ◌&&◌, ◌+◌, ◌>>=◌, ◌>>◌, ◌≡◌, ◌≤◌}
 
 abbrev pub ok : {A : Type 0} → A → Result A ConfigFault
 ok x = Ok x

@@ -3,7 +3,6 @@ use Rattle.std.specs.Prelude.{◌≡◌, ℕ, List, ◌∷◌, ◌++◌, decimal
 use Rattle.np_json.specs.declared.fault.ConfigKind.{ConfigKind}
 use Rattle.np_json.specs.declared.fault.ConfigFault.{ConfigFault}
 use Rattle.np_json.specs.declared.fault.ConfigRead.{ConfigRead}
-use Rattle.np_json.specs.declared.fault.ConfigRead.TheVariants as errors
 use Rattle.np_json.specs.declared.fault.Place.{Place}
 use Rattle.np_json.specs.declared.fault.Place.TheVariants.{Member, Item}
 
@@ -27,8 +26,8 @@ fault_of (Err f) = Some f
 
 -- an error of the code has this fault, unless memory ran out
 abbrev pub Fails : ConfigRead → Option ConfigFault → Type 0
-Fails (errors.Fault f) told = told ≡ Some f
-Fails errors.NoMemory told = Unit {0}
+Fails (ConfigRead.Fault f) told = told ≡ Some f
+Fails ConfigRead.NoMemory told = Unit {0}
 
 -- what the code returns, seen by view, is the result of reading, unless memory ran out
 abbrev pub Gives : {X A : Type 0} → (X → A) → Result X ConfigRead → Result A ConfigFault → Type 0

@@ -1,25 +1,367 @@
--- the tree after the changes of an event holds the changed state
-use Rattle.std.proofs.Common.{◌≡◌, ℕ, ◌+◌, ◌-◌, ◌*◌, ◌<◌, ◌≤◌, ◌^◌, List, [], ◌∷◌, Bool, true, false, cond, not, length, ◌⊎◌, inl, inr, refl, sym, ap, subst, ◌∙◌, arith}
-use Rattle.std.specs.Prelude.{min}
-use Rattle.np_changes.specs.Prelude.{AllByRecursion, Configuration, SessionsPremise, State, changed, list_any}
-use Rattle.np_layout.specs.Prelude.{Goes, HasRoomFor, IsStored, Node, Op, TreeState, after_multi, after_part, after_parts, is_check, is_in, next_change, rows_at, tree_session, with_next_number, with_spare}
-use Rattle.np_tree.proofs.RelationLemmas.{parts-change_nodes_alone}
-use Rattle.np_tree.proofs.SeveralLemmas.{checks-leave-the-tree, goes-under-one-number}
-use Rattle.np_changes.specs.declared.changes.Changes.{Changes}
-use Rattle.np_changes.specs.declared.changes.Growth.{Growth}
-use Rattle.np_changes.specs.declared.changes.Growth.TheVariants as grow
-use Rattle.np_changes.specs.declared.changes.SessionsChange.{SessionsChange}
-use Rattle.np_changes.specs.declared.changes.SessionsChange.TheVariants as sessions
-use Rattle.np_layout.specs.Events.{EventsEnact, IsEnacted}
-use Rattle.np_layout.specs.Parts.{enacted, parts_of, with_begin, with_end, writer}
-use Rattle.np_layout.specs.Stands.{Stands}
-use Rattle.np_layout.proofs.Calls.{changes-after, number-of}
-use Rattle.np_layout.proofs.StandsLemmas.{room-less}
-use Rattle.np_layout.specs.Decoded.{TreesHaveOneState, decoded}
-use Rattle.np_keeper.specs.Keeper.{CanBegin, CanEnd, CanMake, HasSpare, Holds, IsHeld, MayChange, made, most_changes, room_left}
-use Rattle.np_keeper.proofs.Lives.{live-session, writer-lives, writer-low}
-use Rattle.np_keeper.proofs.Spared.{held-spared}
-use Rattle.np_changes.proofs.Facts.{session-low}
+-- the changes of an event made in a tree: they may be made, and the tree then holds the changed state
+use Rattle.np_keeper.proofs.Prelude.{AllByRecursion, AtPart, Bool, CanBegin, CanEnd, CanMake, Changes, Configuration, Err, Event, EventsEnact, Fits, Goes, Growth, HasGoodIds, HasRoomFor, HasSpare, Holds, IsAccepted, IsCarried, IsEnacted, IsHeld, IsLater, IsOk, IsPart, IsPlanned, IsReached, IsReady, IsSound, IsStored, IsTyped, IsWhole, JanitorRole, Job, LauncherRole, LaysOut, List, Maker, MakerPremise, MayChange, Mode, Node, None, Ok, OnErr, OnOk, Op, OpDone, Option, Place, Reply, RequesterRole, Result, Row, Semaphore, SessionFacts, SessionId, Sessions, SessionsChange, SessionsPremise, Some, Stands, State, Stays, Tick, TreeRefusal, TreeState, TreesHaveOneState, after_begin, after_create_under, after_multi, after_part, after_parts, and_then, answered-goes, answers_from, ap, append_assoc, arith, at_path, begins-later, calls-later, changed, changes-after, checks-leave-the-tree, cond, decimal, decoded, deeds-enact, digits, enacted, ends-later, events-are-ready, events-enact, false, first-goes, first-lays, first_directories, first_parts, first_tree, frame-stays, goes-under-one-number, growths-enact, handles-enact, inl, inr, invariant-Runs, is_check, is_in, is_numbered, job_text, jobs-enact, jobs-stay, judge, later-joined, later-than-itself, launchers-stay, length, length-append, length-map-range_with_len, list_all, list_all-append, list_any, live-stays, made, make, make_each, map, map-range_with_len_more, min, most_changes, name_of, nat_tests, new_job, new_tree, next, next_change, no_deeds, node_locks-stay, nodes-enact, nodes-stay, not, number-of, parent_of, part_answer, parts-change_nodes_alone, parts_of, past-end, plan-next, range_with_len, records-are-spelled, refl, reply_of, request_locks-stay, requests-enact, requests-stay, reserves-later, role_text, roles-stay, room-after, room-less, room_left, rows_at, semaphores-stay, session-low, session_at, session_of, sessions-enact, sessions-stay, sessions_from, slice_get, slice_get_within, start, starts-are-carried, steps-are-carried, subst, suc, swept-stay, sym, ticks-enact, tree_session, trees-have-one_state, true, under, where_found, with_begin, with_end, with_new_child, with_next_number, with_spare, writer, zero, ℕ, [], ◌&&◌, ◌*◌, ◌++◌, ◌+◌, ◌-◌, ◌<◌, ◌==◌, ◌^◌, ◌∙◌, ◌∷◌, ◌≡◌, ◌≤◌, ◌⊎◌}
+
+-- # the changes that a keeper is given may be made
+
+-- the plan of an accepted event may be made in a state that a run reaches
+pub may-change : (c : Configuration) (s : State) (ch : Changes) → IsSound c → IsCarried c s → IsReached c s → Fits c s → IsPlanned c s ch → IsTyped ch → MayChange c ch s
+may-change c s ch sound carried reached fits planned typed =
+    let accepted : IsAccepted c s planned.event = record {
+      sound = sound;
+      fits = fits;
+      invariant = invariant-Runs c reached.journal s reached.runs;
+      carried = carried;
+      accepted = planned.accepted;
+      typed = subst IsTyped planned.plan typed;
+    } in
+    record {
+      ready = subst (λ (x : Changes). IsReady c x s) (sym planned.plan) (events-are-ready records-are-spelled c s planned.event accepted);
+      later = subst (IsCarried c) (sym (ap (λ (x : Changes). changed c x s) planned.plan ∙ plan-next c s planned.event planned.accepted)) (steps-are-carried c s planned.event accepted);
+      few = let many = fits.sessions in omega arith;
+    }
+
+-- # the sessions of the machine that are live are live in the tree
+
+-- the session at a place of the list
+live-at : (t : TreeState) (rows : List Row) (at k : ℕ) (facts : SessionFacts) → slice_get (sessions_from t at rows) k ≡ Some facts → is_in t.live (at + k + 1) ≡ facts.live
+live-at t [] at k facts there = absurd cc
+live-at t (row ∷ rows) at zero facts there =
+    let is : session_at t at row ≡ facts = cc in
+    let same : at + 0 + 1 ≡ at + 1 = omega arith in
+    ap (λ (n : ℕ). is_in t.live n) same ∙ ap (λ (f : SessionFacts). f.live) is
+live-at t (row ∷ rows) at (suc k) facts there =
+    let same : at + suc k + 1 ≡ (at + 1) + k + 1 = omega arith in
+    ap (λ (n : ℕ). is_in t.live n) same ∙ live-at t rows (at + 1) k facts there
+
+-- a session of the state is live as the tree's of its number is
+pub live-session : (c : Configuration) (t : TreeState) (session : SessionId) (facts : SessionFacts) → session_of session (decoded c t) ≡ Some facts → is_in t.live (tree_session session) ≡ facts.live
+live-session c t session facts there = by (session.0 == 0) refl there where
+  by : (b : Bool) → (session.0 == 0) ≡ b → cond b None (slice_get (decoded c t).sessions (session.0 - 1)) ≡ Some facts → is_in t.live (tree_session session) ≡ facts.live
+  by true is there = absurd cc
+  by false is there =
+      let low : 1 ≤ session.0 = grind (arith, nat_tests) in
+      let same : session.0 + 1 ≡ 1 + (session.0 - 1) + 1 = omega arith in
+      ap (λ (n : ℕ). is_in t.live n) same ∙ live-at t (under Sessions t) 1 (session.0 - 1) facts there
+
+-- who writes the changes is live
+pub writer-lives : (c : Configuration) (t : TreeState) (maker : Option Maker) → IsHeld c t → MakerPremise (decoded c t) maker → is_in t.live (writer maker) ≡ true
+writer-lives c t None held premise = held.stored.lays.live.first
+writer-lives c t (Some maker) held premise = live-session c t maker.session premise.facts premise.begun ∙ premise.live
+
+-- the number of who writes the changes is one of the tree's
+pub writer-low : (s : State) (maker : Option Maker) → MakerPremise s maker → length s.sessions + 2 < 2 ^ 32 → writer maker < 4294967296
+writer-low s None premise few = omega arith
+writer-low s (Some maker) premise few = let low = session-low maker.session s premise.facts premise.begun in omega arith
+
+-- # a tree with another spare: nothing of the layout sees it
+
+-- ## what the layout does not see
+
+spared-lays : (s : State) (t : TreeState) (k : ℕ) → HasGoodIds s → LaysOut s t → LaysOut s (with_spare t k)
+spared-lays s t k good lays =
+    let u : TreeState = with_spare t k in
+    let stays : Stays [] t u = record { rows = λ other good apart. refl; leaves = λ other good has apart leaves. leaves; counters = λ other next good has apart is. is } in
+    record {
+      frame = frame-stays [] t u stays s.tick refl refl refl refl refl lays.frame;
+      requests = requests-stay [] t u stays s.requests s.next_request refl lays.requests;
+      request_locks = request_locks-stay [] t u stays s.requests good.requests refl refl lays.request_locks;
+      nodes = nodes-stay [] t u stays s.nodes s.next_node refl lays.nodes;
+      node_locks = node_locks-stay [] t u stays s.nodes good.nodes refl refl lays.node_locks;
+      launchers = launchers-stay [] t u stays s.registrations refl lays.launchers;
+      semaphores = semaphores-stay [] t u stays s.handles good.semaphores refl refl lays.semaphores;
+      jobs = jobs-stay [] t u stays s.jobs refl lays.jobs;
+      roles = roles-stay [] t u stays s.launchers s.janitors s.requesters refl lays.roles;
+      sessions = sessions-stay [] t u stays s.sessions refl lays.sessions;
+      swept = swept-stay [] t u stays s.swept refl lays.swept;
+      live = live-stays t u refl refl s.sessions lays.live;
+    }
+
+-- it stores the same state
+pub stored-spared : (c : Configuration) (s : State) (t : TreeState) (k : ℕ) → IsStored c s t → IsStored c s (with_spare t k)
+stored-spared c s t k stored = record { whole = stored.whole; lays = spared-lays s t k stored.carried.good stored.lays; carried = stored.carried }
+
+-- it has the same room
+pub room-spared : (t : TreeState) (k more : ℕ) → HasRoomFor more t → HasRoomFor more (with_spare t k)
+room-spared t k more room = record { change = room.change; versions = room.versions; counters = room.counters; rows = room.rows; few = room.few }
+
+-- what holds of a tree holds of it with another spare
+pub held-spared : (c : Configuration) (t : TreeState) (k : ℕ) → IsHeld c t → IsHeld c (with_spare t k)
+held-spared c t k held = record { stored = stored-spared c _ t k held.stored; begun = held.begun; room = room-spared t k _ held.room }
+
+-- and so does a state that it holds
+pub holds-spared : (c : Configuration) (s : State) (t u : TreeState) → u ≡ with_spare t u.spare → Holds c s t → Holds c s u
+holds-spared c s t u is holds = subst (Holds c s) (sym is) (record { held = held-spared c t u.spare holds.held; state = holds.state })
+
+pub held-reserved : (c : Configuration) (t u : TreeState) → u ≡ with_spare t u.spare → IsHeld c t → Holds c (decoded c t) u
+held-reserved c t u is held = holds-spared c (decoded c t) t u is (record { held = held; state = refl })
+
+-- another spare is a tree's own
+pub own-spare : (u x : TreeState) (k : ℕ) → u ≡ with_spare x k → u ≡ with_spare x u.spare
+own-spare u x k is = is ∙ ap (with_spare x) (sym (ap (λ (t : TreeState). t.spare) is))
+
+-- ## what a call does not see
+
+under-spared : (t : TreeState) (k w : ℕ) (above name bytes : List ℕ) (mode : Mode) (o : Option Node) →
+    where_found o (with_spare t k) (λ parent. record (with_spare t k) { nodes = with_new_child (next_change t) w above name bytes mode parent t.nodes }) ≡ with_spare (where_found o t (λ parent. record t { nodes = with_new_child (next_change t) w above name bytes mode parent t.nodes })) k
+under-spared t k w above name bytes mode None = refl
+under-spared t k w above name bytes mode (Some parent) = refl
+
+create-spared : (t : TreeState) (k w : ℕ) (name bytes : List ℕ) (mode : Mode) (o : Option (List ℕ)) →
+    where_found o (with_spare t k) (λ above. after_create_under (with_spare t k) w above name bytes mode) ≡ with_spare (where_found o t (λ above. after_create_under t w above name bytes mode)) k
+create-spared t k w name bytes mode None = refl
+create-spared t k w name bytes mode (Some above) = under-spared t k w above name bytes mode (at_path t.nodes above)
+
+part-spared : (t : TreeState) (k w : ℕ) (part : Op) → after_part (with_spare t k) w part ≡ with_spare (after_part t w part) k
+part-spared t k w (Op.Create path bytes mode) = create-spared t k w (name_of path) bytes mode (parent_of path)
+part-spared t k w (Op.CreateUnder parent bytes mode) = under-spared t k w parent [] bytes mode (at_path t.nodes parent)
+part-spared t k w (Op.Set path bytes expect) = refl
+part-spared t k w (Op.Delete path expect) = refl
+part-spared t k w (Op.Check path expect) = refl
+
+parts-spared : (t : TreeState) (k w : ℕ) (parts : List Op) → after_parts (with_spare t k) w parts ≡ with_spare (after_parts t w parts) k
+parts-spared t k w [] = refl
+parts-spared t k w (part ∷ parts) = ap (λ (u : TreeState). after_parts u w parts) (part-spared t k w part) ∙ parts-spared (after_part t w part) k w parts
+
+answer-spared : (t : TreeState) (k w : ℕ) (part : Op) → part_answer (with_spare t k) w part ≡ part_answer t w part
+answer-spared t k w (Op.Create path bytes mode) = refl
+answer-spared t k w (Op.CreateUnder parent bytes mode) = refl
+answer-spared t k w (Op.Set path bytes expect) = refl
+answer-spared t k w (Op.Delete path expect) = refl
+answer-spared t k w (Op.Check path expect) = refl
+
+-- a call is answered the same
+pub answers-spared : (at : ℕ) (t : TreeState) (k w : ℕ) (parts : List Op) → answers_from at (with_spare t k) w parts ≡ answers_from at t w parts
+answers-spared at t k w [] = refl
+answers-spared at t k w (part ∷ parts) =
+    ap (λ (u : TreeState). and_then at (part_answer (with_spare t k) w part) (answers_from (at + 1) u w parts)) (part-spared t k w part)
+    ∙ ap (λ (rest : Result (List OpDone) AtPart). and_then at (part_answer (with_spare t k) w part) rest) (answers-spared (at + 1) (after_part t w part) k w parts)
+    ∙ ap (λ (first : Result OpDone TreeRefusal). and_then at first (answers_from (at + 1) (after_part t w part) w parts)) (answer-spared t k w part)
+
+-- and leaves the same, with that spare
+pub multi-spared : (t : TreeState) (k w : ℕ) (parts : List Op) → after_multi (with_spare t k) w parts ≡ with_spare (after_multi t w parts) k
+multi-spared t k w parts = by (list_any (λ part. not (is_check part)) parts) where
+  by : (b : Bool) → cond b (with_next_number (after_parts (with_spare t k) w parts)) (with_spare t k) ≡ with_spare (cond b (with_next_number (after_parts t w parts)) t) k
+  by true = ap with_next_number (parts-spared t k w parts)
+  by false = refl
+
+-- ## either outcome
+
+-- what holds anyway holds after an error
+pub err-always : {A B : Type 0} {P : Type 0} (r : Result A B) → P → OnErr r P
+err-always (Ok a) is = tt
+err-always (Err b) is = is
+
+-- what follows from either outcome
+pub either-way : {A B : Type 0} {X Y P : Type 0} (r : Result A B) → OnOk r X → OnErr r Y → (X → P) → (Y → P) → P
+either-way (Ok a) x y f g = f x
+either-way (Err b) x y f g = g y
+
+-- # the parts of the first call, each put behind those before it
+
+-- twelve parts, each behind the one before
+pub twelve : (old : List Op) (a b c d e f g h i j k l : Op) → (((((((((((old ++ (a ∷ [])) ++ (b ∷ [])) ++ (c ∷ [])) ++ (d ∷ [])) ++ (e ∷ [])) ++ (f ∷ [])) ++ (g ∷ [])) ++ (h ∷ [])) ++ (i ∷ [])) ++ (j ∷ [])) ++ (k ∷ [])) ++ (l ∷ []) ≡ old ++ (a ∷ b ∷ c ∷ d ∷ e ∷ f ∷ g ∷ h ∷ i ∷ j ∷ k ∷ l ∷ [])
+twelve [] a b c d e f g h i j k l = refl
+twelve (x ∷ old) a b c d e f g h i j k l = ap (λ (parts : List Op). x ∷ parts) (twelve old a b c d e f g h i j k l)
+
+-- the nodes of the first places of a list have been put behind what was there
+pub record IsMade {A : Type 0} (bytes : List ℕ) (place : ℕ → Place) (list : List A) (old ops : List Op) (at : ℕ) : Type 0 where
+  pub low : at ≤ length list
+  pub is : ops ≡ old ++ map (λ n. make bytes (place n)) (range_with_len 0 at)
+
+module _ {A : Type 0} (bytes : List ℕ) (place : ℕ → Place) (list : List A) (old : List Op) where
+  -- one more
+  pub made-next : (ops later : List Op) (at : ℕ) (a : A) → slice_get list at ≡ Some a → IsMade bytes place list old ops at → later ≡ ops ++ make bytes (place at) ∷ [] → IsMade bytes place list old later (at + 1)
+  made-next ops later at a there made next = record {
+    low = let low = slice_get_within list at a there in omega arith;
+    is =
+        next
+        ∙ ap (λ (parts : List Op). parts ++ make bytes (place at) ∷ []) made.is
+        ∙ append_assoc old (map (λ n. make bytes (place n)) (range_with_len 0 at)) (make bytes (place at) ∷ [])
+        ∙ ap (λ (parts : List Op). old ++ parts) (sym (map-range_with_len_more (λ n. make bytes (place n)) 0 at at (omega arith)));
+  }
+
+  -- all of them
+  pub made-all : (ops : List Op) (at : ℕ) → slice_get list at ≡ None → IsMade bytes place list old ops at → ops ≡ old ++ make_each bytes place list
+  made-all ops at past made =
+      let high = past-end list at past in
+      let low = made.low in
+      let same : at ≡ length list = omega arith in
+      made.is ∙ ap (λ (n : ℕ). old ++ map (λ k. make bytes (place k)) (range_with_len 0 n)) same
+
+-- the text of the first tick
+pub zero-text : decimal 0 ≡ 48 ∷ []
+unfolding digits
+zero-text = refl
+
+-- # the parts of the first call, how many they are, and the tree that they leave
+
+-- ## the kinds
+
+abbrev semaphore_at : ℕ → Place
+semaphore_at n = Semaphore (record { 0 = n })
+
+abbrev job_at : ℕ → Place
+job_at n = Job (record { 0 = n })
+
+abbrev launcher_at : ℕ → Place
+launcher_at n = LauncherRole (record { 0 = n })
+
+abbrev janitor_at : ℕ → Place
+janitor_at n = JanitorRole (record { 0 = n })
+
+abbrev requester_at : ℕ → Place
+requester_at n = RequesterRole (record { 0 = n })
+
+-- the parts, and those of each table behind them
+module _ (c : Configuration) where
+  abbrev directories : List Op
+  directories = map (make []) first_directories
+
+  abbrev with_semaphores : List Op
+  with_semaphores = directories ++ make_each [] semaphore_at c.semaphores
+
+  abbrev with_jobs : List ℕ → List Op
+  with_jobs text = with_semaphores ++ make_each text job_at c.jobs
+
+  abbrev with_launchers : List ℕ → List Op
+  with_launchers text = with_jobs (job_text new_job) ++ make_each text launcher_at c.pools
+
+  abbrev with_janitors : List ℕ → List Op
+  with_janitors text = with_launchers (role_text no_deeds) ++ make_each text janitor_at c.pools
+
+  abbrev with_requesters : List ℕ → List Op
+  with_requesters text = with_janitors (role_text no_deeds) ++ make_each text requester_at c.requesters
+
+  -- put one behind another they are the first parts
+  pub first-is : (o a b d e f g last : List Op) (job role again more : List ℕ) → o ≡ [] → a ≡ o ++ directories → b ≡ a ++ make_each [] semaphore_at c.semaphores →
+      job ≡ job_text new_job → d ≡ b ++ make_each job job_at c.jobs →
+      role ≡ role_text no_deeds → e ≡ d ++ make_each role launcher_at c.pools →
+      again ≡ role_text no_deeds → f ≡ e ++ make_each again janitor_at c.pools →
+      more ≡ role_text no_deeds → g ≡ f ++ make_each more requester_at c.requesters →
+      last ≡ g ++ make (48 ∷ []) Tick ∷ [] → last ≡ first_parts c
+  first-is o a b d e f g last job role again more is-o is-a is-b is-job is-d is-role is-e is-again is-f is-more is-g is-last =
+      let made-a : a ≡ directories = is-a ∙ ap (λ (parts : List Op). parts ++ directories) is-o in
+      let made-b : b ≡ with_semaphores = is-b ∙ ap (λ (parts : List Op). parts ++ make_each [] semaphore_at c.semaphores) made-a in
+      let made-d : d ≡ with_jobs (job_text new_job) = is-d ∙ ap (λ (parts : List Op). parts ++ make_each job job_at c.jobs) made-b ∙ ap with_jobs is-job in
+      let made-e : e ≡ with_launchers (role_text no_deeds) = is-e ∙ ap (λ (parts : List Op). parts ++ make_each role launcher_at c.pools) made-d ∙ ap with_launchers is-role in
+      let made-f : f ≡ with_janitors (role_text no_deeds) = is-f ∙ ap (λ (parts : List Op). parts ++ make_each again janitor_at c.pools) made-e ∙ ap with_janitors is-again in
+      let made-g : g ≡ with_requesters (role_text no_deeds) = is-g ∙ ap (λ (parts : List Op). parts ++ make_each more requester_at c.requesters) made-f ∙ ap with_requesters is-more in
+      is-last ∙ ap (λ (parts : List Op). parts ++ make (48 ∷ []) Tick ∷ []) made-g ∙ ap (λ (text : List ℕ). with_requesters (role_text no_deeds) ++ make text Tick ∷ []) (sym zero-text)
+
+-- ## how many they are
+
+length-each : {A : Type 0} (front : List Op) (bytes : List ℕ) (place : ℕ → Place) (list : List A) → length (front ++ make_each bytes place list) ≡ length front + length list
+length-each front bytes place list = length-append front (make_each bytes place list) ∙ ap (λ (n : ℕ). length front + n) (length-map-range_with_len (λ n. make bytes (place n)) 0 (length list))
+
+-- each is numbered
+numbered-range : (bytes : List ℕ) (place : ℕ → Place) (count at : ℕ) → list_all is_numbered (map (λ n. make bytes (place n)) (range_with_len at count)) ≡ true
+numbered-range bytes place zero at = refl
+numbered-range bytes place (suc count) at = numbered-range bytes place count (at + 1)
+
+numbered-both : (front more : List Op) → list_all is_numbered front ≡ true → list_all is_numbered more ≡ true → list_all is_numbered (front ++ more) ≡ true
+numbered-both front more one two = list_all-append is_numbered front more ∙ ap (λ (b : Bool). b && list_all is_numbered more) one ∙ two
+
+-- each of the first parts is numbered
+pub first-numbered : (c : Configuration) → list_all is_numbered (first_parts c) ≡ true
+first-numbered c =
+    numbered-both (with_requesters c (role_text no_deeds)) (make (decimal 0) Tick ∷ [])
+    (numbered-both (with_janitors c (role_text no_deeds)) (make_each (role_text no_deeds) requester_at c.requesters)
+    (numbered-both (with_launchers c (role_text no_deeds)) (make_each (role_text no_deeds) janitor_at c.pools)
+    (numbered-both (with_jobs c (job_text new_job)) (make_each (role_text no_deeds) launcher_at c.pools)
+    (numbered-both (with_semaphores c) (make_each (job_text new_job) job_at c.jobs)
+    (numbered-both (directories c) (make_each [] semaphore_at c.semaphores) refl
+    (numbered-range [] semaphore_at (length c.semaphores) 0))
+    (numbered-range (job_text new_job) job_at (length c.jobs) 0))
+    (numbered-range (role_text no_deeds) launcher_at (length c.pools) 0))
+    (numbered-range (role_text no_deeds) janitor_at (length c.pools) 0))
+    (numbered-range (role_text no_deeds) requester_at (length c.requesters) 0))
+    refl
+
+-- they are few
+pub first-few : (c : Configuration) → IsSound c → length (first_parts c) ≤ 10_000
+first-few c sound =
+    let one : length (first_parts c) ≡ length (with_requesters c (role_text no_deeds)) + 1 = length-append (with_requesters c (role_text no_deeds)) (make (decimal 0) Tick ∷ []) in
+    let requesters = length-each (with_janitors c (role_text no_deeds)) (role_text no_deeds) requester_at c.requesters in
+    let janitors = length-each (with_launchers c (role_text no_deeds)) (role_text no_deeds) janitor_at c.pools in
+    let launchers = length-each (with_jobs c (job_text new_job)) (role_text no_deeds) launcher_at c.pools in
+    let jobs = length-each (with_semaphores c) (job_text new_job) job_at c.jobs in
+    let semaphores = length-each (directories c) [] semaphore_at c.semaphores in
+    let first : length (directories c) ≡ 12 = refl in
+    let a = sound.few_semaphores in
+    let b = sound.demand.few_jobs in
+    let d = sound.supply.few_pools in
+    let e = sound.few_requesters in
+    omega arith
+
+-- ## the tree
+
+room-begun : (more : ℕ) → more ≤ 2_147_483_648 → HasRoomFor more (after_begin new_tree)
+room-begun more few = record {
+  change = omega arith;
+  versions = (omega arith, tt);
+  counters = (omega arith, tt);
+  rows = λ dir. let none : 0 + more ≤ 4_294_967_295 = omega arith in none;
+  few = few;
+}
+
+goes-first : (t : TreeState) (parts : List Op) → IsOk (answers_from 0 t 1 parts) → Goes t 1 parts (after_parts t 1 parts)
+goes-first t parts ok = by (answers_from 0 t 1 parts) refl ok where
+  by : (r : Result (List OpDone) AtPart) → answers_from 0 t 1 parts ≡ r → IsOk r → Goes t 1 parts (after_parts t 1 parts)
+  by (Ok done) is ok = answered-goes 0 t 1 parts done is
+  by (Err at) is ok = absurd cc
+
+module _ (c : Configuration) (sound : IsSound c) where
+  abbrev begun : TreeState
+  begun = after_begin new_tree
+
+  -- each part is accepted, whatever the spare
+  pub first-goes-spared : (k : ℕ) → Goes (with_spare begun k) 1 (first_parts c) (after_parts (with_spare begun k) 1 (first_parts c))
+  first-goes-spared k =
+      goes-first (with_spare begun k) (first_parts c)
+      (subst (λ (r : Result (List OpDone) AtPart). IsOk r) (sym (answers-spared 0 begun k 1 (first_parts c))) (first-goes c sound))
+
+  goes-begun : Goes begun 1 (first_parts c) (after_parts begun 1 (first_parts c))
+  goes-begun = goes-first begun (first_parts c) (first-goes c sound)
+
+  room-first : HasRoomFor 1_073_741_824 (after_parts begun 1 (first_parts c))
+  room-first = let few = first-few c sound in room-after begun 1 (first_parts c) 1_073_741_824 (room-begun (length (first_parts c) + 1_073_741_824) (omega arith))
+
+  room-numbered : (t : TreeState) → t.changes ≡ 0 → HasRoomFor 1_073_741_824 t → HasRoomFor 1_073_741_824 (with_next_number t)
+  room-numbered t number room = record { change = omega arith; versions = room.versions; counters = room.counters; rows = room.rows; few = room.few }
+
+  room-tree : HasRoomFor 1_073_741_824 (first_tree c)
+  room-tree = by (list_any (λ part. not (is_check part)) (first_parts c)) refl where
+    by : (b : Bool) → list_any (λ part. not (is_check part)) (first_parts c) ≡ b → HasRoomFor 1_073_741_824 (first_tree c)
+    by true is = subst (HasRoomFor 1_073_741_824) (sym (goes-under-one-number begun (after_parts begun 1 (first_parts c)) 1 (first_parts c) goes-begun is)) (room-numbered (after_parts begun 1 (first_parts c)) (changes-after begun 1 (first_parts c)) room-first)
+    by false is = absurd cc
+
+  -- the first tree holds the state before the first event
+  first-stored : IsWhole (first_tree c).nodes → IsStored c (start c) (first_tree c)
+  first-stored whole = record { whole = whole; lays = first-lays c sound; carried = starts-are-carried c sound }
+
+  first-decoded : IsWhole (first_tree c).nodes → decoded c (first_tree c) ≡ start c
+  first-decoded whole = trees-have-one_state c (start c) (first_tree c) (first-stored whole)
+
+  first-held : IsWhole (first_tree c).nodes → IsHeld c (first_tree c)
+  first-held whole = record {
+    stored = subst (λ (s : State). IsStored c s (first_tree c)) (sym (first-decoded whole)) (first-stored whole);
+    begun = let is : (first_tree c).begun ≡ 0 + 1 = (first-lays c sound).live.begun in omega arith;
+    room = room-less (first_tree c) 1_073_741_824 (room_left (first_tree c)) (omega arith) room-tree;
+  }
+
+  -- so does one with another spare
+  pub held-first : (t : TreeState) (k : ℕ) → IsWhole t.nodes → t ≡ after_multi (with_spare begun k) 1 (first_parts c) → IsHeld c t
+  held-first t k whole is =
+      let same : t ≡ with_spare (first_tree c) k = is ∙ multi-spared begun k 1 (first_parts c) in
+      subst (IsHeld c) (sym same) (held-spared c (first_tree c) k (first-held (subst (λ (u : TreeState). IsWhole u.nodes) same whole)))
+
+  -- and the state before the first event is read from it
+  pub decoded-first : (t : TreeState) (k : ℕ) → IsWhole t.nodes → t ≡ after_multi (with_spare begun k) 1 (first_parts c) → decoded c t ≡ start c
+  decoded-first t k whole is =
+      let same : t ≡ with_spare (first_tree c) k = is ∙ multi-spared begun k 1 (first_parts c) in
+      ap (decoded c) same ∙ first-decoded (subst (λ (u : TreeState). IsWhole u.nodes) same whole)
+
+-- # the tree after the changes of an event holds the changed state
 
 -- ## the change number
 
@@ -48,23 +390,23 @@ multi-moves t w parts low goes = by (list_any (λ part. not (is_check part)) par
       inr (record { nodes = ap (λ (u : TreeState). u.nodes) both.0; number = ap (λ (u : TreeState). u.changes) both.0 })
 
 begin-moves : (growth : Growth) (t u : TreeState) → Moves t u → Moves t (with_begin growth u)
-begin-moves grow.Nothing t u moves = moves
-begin-moves (grow.Session role) t u (inl more) = inl more
-begin-moves (grow.Session role) t u (inr same) = inr (record { nodes = same.nodes; number = same.number })
-begin-moves (grow.Registration p) t u moves = moves
-begin-moves (grow.Request priority asked) t u moves = moves
-begin-moves (grow.Node kept) t u moves = moves
-begin-moves (grow.JoinRequest r) t u moves = moves
-begin-moves (grow.JoinNode n) t u moves = moves
-begin-moves (grow.Allocate n r tenant) t u moves = moves
-begin-moves (grow.Handles j) t u moves = moves
-begin-moves (grow.Swept n x) t u moves = moves
+begin-moves Growth.Nothing t u moves = moves
+begin-moves (Growth.Session role) t u (inl more) = inl more
+begin-moves (Growth.Session role) t u (inr same) = inr (record { nodes = same.nodes; number = same.number })
+begin-moves (Growth.Registration p) t u moves = moves
+begin-moves (Growth.Request priority asked) t u moves = moves
+begin-moves (Growth.Node kept) t u moves = moves
+begin-moves (Growth.JoinRequest r) t u moves = moves
+begin-moves (Growth.JoinNode n) t u moves = moves
+begin-moves (Growth.Allocate n r tenant) t u moves = moves
+begin-moves (Growth.Handles j) t u moves = moves
+begin-moves (Growth.Swept n x) t u moves = moves
 
 end-moves : (change : SessionsChange) (t u : TreeState) → u.changes < 18_446_744_073_709_551_615 → Moves t u → Moves t (with_end change u)
-end-moves sessions.Same t u low moves = moves
-end-moves (sessions.Mute session) t u low moves = moves
-end-moves (sessions.End session) t u low (inl more) = let next = min-low u.changes 18_446_744_073_709_551_615 low in inl (omega arith)
-end-moves (sessions.End session) t u low (inr same) = let next = min-low u.changes 18_446_744_073_709_551_615 low in let number = same.number in inl (omega arith)
+end-moves SessionsChange.Same t u low moves = moves
+end-moves (SessionsChange.Mute session) t u low moves = moves
+end-moves (SessionsChange.End session) t u low (inl more) = let next = min-low u.changes 18_446_744_073_709_551_615 low in inl (omega arith)
+end-moves (SessionsChange.End session) t u low (inr same) = let next = min-low u.changes 18_446_744_073_709_551_615 low in let number = same.number in inl (omega arith)
 
 room-same : (t u : TreeState) (more : ℕ) → IsSame t u → HasRoomFor more t → HasRoomFor more u
 room-same t u more same room = record {
@@ -82,21 +424,21 @@ room-same t u more same room = record {
 -- ## the sessions
 
 begun-begin : (growth : Growth) (t u : TreeState) → u.begun ≡ t.begun → (with_begin growth u).begun ≤ t.begun + 1
-begun-begin grow.Nothing t u same = omega arith
-begun-begin (grow.Session role) t u same = omega arith
-begun-begin (grow.Registration p) t u same = omega arith
-begun-begin (grow.Request priority asked) t u same = omega arith
-begun-begin (grow.Node kept) t u same = omega arith
-begun-begin (grow.JoinRequest r) t u same = omega arith
-begun-begin (grow.JoinNode n) t u same = omega arith
-begun-begin (grow.Allocate n r tenant) t u same = omega arith
-begun-begin (grow.Handles j) t u same = omega arith
-begun-begin (grow.Swept n x) t u same = omega arith
+begun-begin Growth.Nothing t u same = omega arith
+begun-begin (Growth.Session role) t u same = omega arith
+begun-begin (Growth.Registration p) t u same = omega arith
+begun-begin (Growth.Request priority asked) t u same = omega arith
+begun-begin (Growth.Node kept) t u same = omega arith
+begun-begin (Growth.JoinRequest r) t u same = omega arith
+begun-begin (Growth.JoinNode n) t u same = omega arith
+begun-begin (Growth.Allocate n r tenant) t u same = omega arith
+begun-begin (Growth.Handles j) t u same = omega arith
+begun-begin (Growth.Swept n x) t u same = omega arith
 
 begun-end : (change : SessionsChange) (u : TreeState) → (with_end change u).begun ≡ u.begun
-begun-end sessions.Same u = refl
-begun-end (sessions.Mute session) u = refl
-begun-end (sessions.End session) u = refl
+begun-end SessionsChange.Same u = refl
+begun-end (SessionsChange.Mute session) u = refl
+begun-end (SessionsChange.End session) u = refl
 
 -- parts change neither sessions nor the spare
 record KeepsSessions (t u : TreeState) : Type 0 where
@@ -122,42 +464,42 @@ multi-sessions t w parts = by (list_any (λ part. not (is_check part)) parts) wh
   by false = record { live = refl; begun = refl; spare = refl }
 
 begin-number : (growth : Growth) (u : TreeState) → (with_begin growth u).changes ≡ u.changes
-begin-number grow.Nothing u = refl
-begin-number (grow.Session role) u = refl
-begin-number (grow.Registration p) u = refl
-begin-number (grow.Request priority asked) u = refl
-begin-number (grow.Node kept) u = refl
-begin-number (grow.JoinRequest r) u = refl
-begin-number (grow.JoinNode n) u = refl
-begin-number (grow.Allocate n r tenant) u = refl
-begin-number (grow.Handles j) u = refl
-begin-number (grow.Swept n x) u = refl
+begin-number Growth.Nothing u = refl
+begin-number (Growth.Session role) u = refl
+begin-number (Growth.Registration p) u = refl
+begin-number (Growth.Request priority asked) u = refl
+begin-number (Growth.Node kept) u = refl
+begin-number (Growth.JoinRequest r) u = refl
+begin-number (Growth.JoinNode n) u = refl
+begin-number (Growth.Allocate n r tenant) u = refl
+begin-number (Growth.Handles j) u = refl
+begin-number (Growth.Swept n x) u = refl
 
 begin-by : (growth : Growth) (t u : TreeState) → KeepsSessions t u → t.begun < 4_294_967_295 → HasSpare growth t → CanBegin growth u
-begin-by grow.Nothing t u keeps low spare = tt
-begin-by (grow.Session role) t u keeps low spare = (let same = keeps.spare in omega arith, let same = keeps.begun in omega arith)
-begin-by (grow.Registration p) t u keeps low spare = tt
-begin-by (grow.Request priority asked) t u keeps low spare = tt
-begin-by (grow.Node kept) t u keeps low spare = tt
-begin-by (grow.JoinRequest r) t u keeps low spare = tt
-begin-by (grow.JoinNode n) t u keeps low spare = tt
-begin-by (grow.Allocate n r tenant) t u keeps low spare = tt
-begin-by (grow.Handles j) t u keeps low spare = tt
-begin-by (grow.Swept n x) t u keeps low spare = tt
+begin-by Growth.Nothing t u keeps low spare = tt
+begin-by (Growth.Session role) t u keeps low spare = (let same = keeps.spare in omega arith, let same = keeps.begun in omega arith)
+begin-by (Growth.Registration p) t u keeps low spare = tt
+begin-by (Growth.Request priority asked) t u keeps low spare = tt
+begin-by (Growth.Node kept) t u keeps low spare = tt
+begin-by (Growth.JoinRequest r) t u keeps low spare = tt
+begin-by (Growth.JoinNode n) t u keeps low spare = tt
+begin-by (Growth.Allocate n r tenant) t u keeps low spare = tt
+begin-by (Growth.Handles j) t u keeps low spare = tt
+begin-by (Growth.Swept n x) t u keeps low spare = tt
 
 end-by : (c : Configuration) (t : TreeState) (k : ℕ) (ch : Changes) (change : SessionsChange) → SessionsPremise (decoded c t) ch change → (u : TreeState) → KeepsSessions t u → length (decoded c t).sessions + 2 < 2 ^ 32 → CanEnd change (with_spare (with_begin ch.grows u) k)
-end-by c t k ch sessions.Same premise u keeps few = tt
-end-by c t k ch (sessions.Mute session) premise u keeps few = tt
-end-by c t k ch (sessions.End session) premise u keeps few =
+end-by c t k ch SessionsChange.Same premise u keeps few = tt
+end-by c t k ch (SessionsChange.Mute session) premise u keeps few = tt
+end-by c t k ch (SessionsChange.End session) premise u keeps few =
     let same : (with_begin ch.grows u).live ≡ t.live = ap (λ (growth : Growth). (with_begin growth u).live) premise.same_size ∙ keeps.live in
     let low = session-low session (decoded c t) premise.facts premise.begun in
     (omega arith, ap (λ (live : List ℕ). is_in live (tree_session session)) same ∙ live-session c t session premise.facts premise.begun ∙ premise.live)
 
 -- an end does not see the spare
 pub end-spared : (change : SessionsChange) (u : TreeState) (k : ℕ) → with_end change (with_spare u k) ≡ with_spare (with_end change u) k
-end-spared sessions.Same u k = refl
-end-spared (sessions.Mute session) u k = refl
-end-spared (sessions.End session) u k = refl
+end-spared SessionsChange.Same u k = refl
+end-spared (SessionsChange.Mute session) u k = refl
+end-spared (SessionsChange.End session) u k = refl
 
 -- ## the whole
 
@@ -268,3 +610,79 @@ module _ (enact : EventsEnact) (one : TreesHaveOneState) (c : Configuration) (ch
       let whole : u ≡ with_spare (made ch (parts_of c ch s t) t) u.spare = after ∙ ap (λ (list : List Op). with_spare (made ch list t) u.spare) is in
       subst (Holds c (changed c ch s)) (sym whole)
       (subst (λ (x : State). Holds c (changed c ch x) (with_spare (made ch (parts_of c ch x t) t) u.spare)) holds.state (made-here u.spare))
+
+-- # each step of making the changes of an event leaves a later tree
+
+-- another spare
+pub later-spared : (t u : TreeState) → u ≡ with_spare t u.spare → IsLater t u
+later-spared t u is = subst (IsLater t) (sym is) (reserves-later t u.spare)
+
+-- the same tree
+pub later-same : (t u : TreeState) → u ≡ t → IsLater t u
+later-same t u is = subst (IsLater t) (sym is) (later-than-itself t)
+
+begin-later : (growth : Growth) (t : TreeState) → IsLater t (with_begin growth t)
+begin-later Growth.Nothing t = later-than-itself t
+begin-later (Growth.Session role) t = begins-later t
+begin-later (Growth.Registration p) t = later-than-itself t
+begin-later (Growth.Request priority asked) t = later-than-itself t
+begin-later (Growth.Node kept) t = later-than-itself t
+begin-later (Growth.JoinRequest r) t = later-than-itself t
+begin-later (Growth.JoinNode n) t = later-than-itself t
+begin-later (Growth.Allocate n r tenant) t = later-than-itself t
+begin-later (Growth.Handles j) t = later-than-itself t
+begin-later (Growth.Swept n x) t = later-than-itself t
+
+end-later : (change : SessionsChange) (t : TreeState) → IsWhole t.nodes → t.changes < 18_446_744_073_709_551_615 → IsLater t (with_end change t)
+end-later SessionsChange.Same t whole low = later-than-itself t
+end-later (SessionsChange.Mute session) t whole low = later-than-itself t
+end-later (SessionsChange.End session) t whole low = ends-later t (tree_session session) whole low
+
+begin-nodes : (growth : Growth) (t : TreeState) → (with_begin growth t).nodes ≡ t.nodes
+begin-nodes Growth.Nothing t = refl
+begin-nodes (Growth.Session role) t = refl
+begin-nodes (Growth.Registration p) t = refl
+begin-nodes (Growth.Request priority asked) t = refl
+begin-nodes (Growth.Node kept) t = refl
+begin-nodes (Growth.JoinRequest r) t = refl
+begin-nodes (Growth.JoinNode n) t = refl
+begin-nodes (Growth.Allocate n r tenant) t = refl
+begin-nodes (Growth.Handles j) t = refl
+begin-nodes (Growth.Swept n x) t = refl
+
+-- a call, then the begin of a session, then an end
+pub made-later : (t called begun ended : TreeState) (w k : ℕ) (parts : List Op) (growth : Growth) (change : SessionsChange) →
+    IsWhole t.nodes → AllByRecursion IsPart parts → t.changes < 18_446_744_073_709_551_615 → Goes t w parts (after_parts t w parts) → called ≡ after_multi t w parts → IsWhole called.nodes →
+    (with_begin growth (after_multi t w parts)).changes < 18_446_744_073_709_551_615 → begun ≡ with_spare (with_begin growth called) k → ended ≡ with_end change begun → IsLater t ended
+made-later t called begun ended w k parts growth change whole proper low goes calls whole_called next begins ends =
+    let first : IsLater t called = subst (IsLater t) (sym calls) (calls-later t (after_parts t w parts) w parts whole proper low goes) in
+    let second : IsLater called begun = subst (IsLater called) (sym begins) (later-joined called (with_begin growth called) (with_spare (with_begin growth called) k) (begin-later growth called) (reserves-later (with_begin growth called) k)) in
+    let nodes : begun.nodes ≡ called.nodes = ap (λ (u : TreeState). u.nodes) begins ∙ begin-nodes growth called in
+    let number : begun.changes ≡ (with_begin growth (after_multi t w parts)).changes = ap (λ (u : TreeState). u.changes) begins ∙ ap (λ (u : TreeState). (with_begin growth u).changes) calls in
+    let third : IsLater begun ended = subst (IsLater begun) (sym ends) (end-later change begun (subst IsWhole (sym nodes) whole_called) (omega arith)) in
+    later-joined t called ended first (later-joined called begun ended second third)
+
+-- # what is said of the state that is read from a tree holds of any state that the tree stores
+
+-- a reply by the state that is read is one by the state that is stored
+pub reply-laid : (c : Configuration) (e : Event) (s : State) (t : TreeState) (r : Reply) → IsStored c s t → r ≡ reply_of (judge c (decoded c t) e) → r ≡ reply_of (judge c s e)
+reply-laid c e s t r stored is = is ∙ ap (λ (x : State). reply_of (judge c x e)) (trees-have-one_state c s t stored)
+
+-- a tree of the state after the one that is read stores the state after the one that was stored
+pub next-laid : (c : Configuration) (e : Event) (s : State) (t u : TreeState) → IsStored c s t → IsHeld c u → decoded c u ≡ next c (decoded c t) e → IsStored c (next c s e) u
+next-laid c e s t u stored held is =
+    subst (λ (x : State). IsStored c x u) (is ∙ ap (λ (x : State). next c x e) (trees-have-one_state c s t stored)) held.stored
+
+-- # the law of a whole event
+
+-- the changes of an accepted event are enacted
+pub enact : EventsEnact
+enact = events-enact growths-enact (record {
+  requests = requests-enact;
+  nodes = nodes-enact;
+  jobs = jobs-enact;
+  handles = handles-enact;
+  deeds = deeds-enact;
+  sessions = sessions-enact;
+  ticks = ticks-enact;
+})

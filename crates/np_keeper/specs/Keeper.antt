@@ -4,9 +4,7 @@ use Rattle.np_layout.specs.Prelude.{Goes, HasRoomFor, IsCarried, IsStored, Op, T
 use Rattle.np_changes.specs.Prelude.{Configuration, State, changed}
 use Rattle.np_changes.specs.declared.changes.Changes.{Changes}
 use Rattle.np_changes.specs.declared.changes.Growth.{Growth}
-use Rattle.np_changes.specs.declared.changes.Growth.TheVariants as grow
 use Rattle.np_changes.specs.declared.changes.SessionsChange.{SessionsChange}
-use Rattle.np_changes.specs.declared.changes.SessionsChange.TheVariants as sessions
 use Rattle.np_layout.specs.Events.{IsReady}
 use Rattle.np_layout.specs.Parts.{with_begin, with_end, writer}
 
@@ -32,17 +30,17 @@ pub record MayChange (c : Configuration) (ch : Changes) (s : State) : Type 0 whe
 
 -- if a session is opened, it can begin without memory
 abbrev pub CanBegin : Growth → TreeState → Type 0
-CanBegin (grow.Session role) t = (0 < t.spare) × (t.begun < 4_294_967_295)
+CanBegin (Growth.Session role) t = (0 < t.spare) × (t.begun < 4_294_967_295)
 CanBegin other t = Unit {0}
 
 -- if a session is opened, there is memory for it
 abbrev pub HasSpare : Growth → TreeState → Type 0
-HasSpare (grow.Session role) t = 0 < t.spare
+HasSpare (Growth.Session role) t = 0 < t.spare
 HasSpare other t = Unit {0}
 
 -- a session that expires is live in the tree
 abbrev pub CanEnd : SessionsChange → TreeState → Type 0
-CanEnd (sessions.End session) t = (session.0 < 4_294_967_295) × (is_in t.live (tree_session session) ≡ true)
+CanEnd (SessionsChange.End session) t = (session.0 < 4_294_967_295) × (is_in t.live (tree_session session) ≡ true)
 CanEnd other t = Unit {0}
 
 -- the tree holds this state of the configuration

@@ -1,12 +1,7 @@
--- the first member that passes a test
-use Rattle.std.proofs.Common.{◌≡◌, ◌∙◌, ◌≤◌, ◌+◌, length, drop, ℕ, zero, suc, add-one, Bool, true, false, List, [], ◌∷◌, Option, Some, None, refl, sym, ap}
-use Rattle.std.specs.Prelude.{◌&&◌, ◌||◌, find, filter, map, slice_get, is_some, option_and_then, if◌then◌else◌}
-use Rattle.np_changes.specs.Prelude.{Rises, option_map}
-use Rattle.std.specs.List.{AllByRecursion, list_any, remove}
-use Rattle.np_lists.proofs.EditLemmas.{insert-remove}
-use Rattle.np_lists.proofs.FoundLemmas.{find-insert}
-use Rattle.np_lists.proofs.RisingLemmas.{none-remove}
-use Rattle.np_useful.proofs.Places.{any-here, drop-past}
+-- what is found and counted in lists: the first spare node, the request that lists a node, and a request in hand
+use Rattle.np_launch.proofs.Prelude.{AllByRecursion, Bool, Configuration, Done, Err, Event, Invariant, IsReached, IsServed, Janitor, LabelId, Launcher, List, NodeEntry, NodeId, NodeRecord, None, Ok, Option, PoolId, Reaper, Refusal, RequestEntry, RequestId, RequestRecord, RequestState, Requester, Result, Rises, Role, SessionFacts, SessionId, Some, StandsIn, State, add-one, all-from_at, and_parts, any-here, any-place, ap, arith, as_launcher, both_true, both_ways, cond, count_by, drop, drop-past, false, false_from_ne_true, filter, find, find-insert, find-place, first_free, first_takable, free_ready_of, has_failed_node, holder, holder-queued, if◌then◌else◌, insert-remove, invariant-Runs, is_declined_by, is_id_before, is_in_hand, is_in_hand_at, is_kind, is_listed, is_none, is_ok, is_pending, is_pending_by, is_pool, is_queued, is_ready, is_request, is_requested, is_session_of, is_some, is_spare, is_takable, is_to_launch, is_wanted_by, judge, launcher, length, list_any, list_any-there, maker, map, map-some, may_take_ready, member-there, nat_lt, nat_tests, need, next_label, node-apart, node-itself, node-place, node_entry, node_in, node_is, none-remove, not, ok-is, on-found, on-need, on-not, option_and_then, option_map, option_map_or, pool_of, pool_of_role, queued_requests, refl, registered, remove, request-apart, request-equal, request-itself, request_entry, request_holder, request_in, same_request, served_request, session_of, slice_get, slice_get_within, suc, sum_by-cons, sym, true, vacant, wrong_node, wrong_request, zero, ℕ, [], ◌&&◌, ◌+◌, ◌<◌, ◌==◌, ◌>>=◌, ◌>>◌, ◌||◌, ◌∙◌, ◌∷◌, ◌≡◌, ◌≤◌}
+
+-- # the first member that passes a test
 
 -- some member passes if there is a first one
 any-by : {X : Type 0} (q : X → Bool) (x : X) (xs : List X) (b : Bool) → q x ≡ b → list_any q xs ≡ is_some (find q xs) → list_any q (x ∷ xs) ≡ is_some (find q (x ∷ xs))
@@ -100,3 +95,269 @@ module _ {X I : Type 0} (name : X → I) (q : I → Bool) (p : X → Bool) where
   pub first-tested : (t : Bool) (xs : List X) → AllByRecursion (λ x. q (name x) ≡ (t && p x)) xs → option_map name (find (λ x. q (name x)) xs) ≡ option_and_then (λ i. if q i then Some i else None) (option_map name (slice_get (filter p xs) 0))
   first-tested true xs all = first-same xs all
   first-tested false xs all = none-passes xs all ∙ sym (none-tested xs all)
+
+-- # how many members of a list pass a test
+
+-- 1 if it is true
+abbrev pub one : Bool → ℕ
+one b = cond b 1 0
+
+pub count-cons : {X : Type 0} (p : X → Bool) (x : X) (xs : List X) → count_by p (x ∷ xs) ≡ one (p x) + count_by p xs
+count-cons p x xs = sum_by-cons (λ y. one (p y)) x xs
+
+-- tests that agree on each member count as many
+pub count-same : {X : Type 0} (p q : X → Bool) (xs : List X) → AllByRecursion (λ x. p x ≡ q x) xs → count_by p xs ≡ count_by q xs
+count-same p q [] all = refl
+count-same p q (x ∷ xs) all = omega (arith, count-cons p x xs, count-cons q x xs, ap one all.0, count-same p q xs all.1)
+
+pub count-none : {X : Type 0} (p : X → Bool) (xs : List X) → ((x : X) → p x ≡ false) → count_by p xs ≡ 0
+count-none p [] none = refl
+count-none p (x ∷ xs) none = omega (arith, count-cons p x xs, ap one (none x), count-none p xs none)
+
+-- what passes is what passes one of two other tests, none both of them
+pub count-either : {X : Type 0} (p q either : X → Bool) (xs : List X) → ((x : X) → one (either x) ≡ one (p x) + one (q x)) → count_by either xs ≡ count_by p xs + count_by q xs
+count-either p q either [] each = refl
+count-either p q either (x ∷ xs) each = omega (arith, count-cons p x xs, count-cons q x xs, count-cons either x xs, each x, count-either p q either xs each)
+
+count-named-by : {X I : Type 0} (name : X → I) (keep q : X → Bool) (t : I → Bool) (x : X) (xs : List X) (b : Bool) → keep x ≡ b → (keep x ≡ true → t (name x) ≡ q x) → count_by t (map name (filter keep xs)) ≡ count_by (λ x. keep x && q x) xs → count_by t (map name (filter keep (x ∷ xs))) ≡ count_by (λ x. keep x && q x) (x ∷ xs)
+count-named-by {X = X} name keep q t x xs true is same later =
+    let own : one (keep x && q x) ≡ one (q x) = ap (λ (b : Bool). one (b && q x)) is in
+    let first : count_by t (map name (filter keep (x ∷ xs))) ≡ one (t (name x)) + count_by t (map name (filter keep xs)) = rw is (count-cons t (name x) (map name (filter keep xs))) in
+    omega (arith, first, count-cons (λ (y : X). keep y && q y) x xs, ap one (same is), own, later)
+count-named-by {X = X} name keep q t x xs false is same later =
+    let own : one (keep x && q x) ≡ 0 = ap (λ (b : Bool). one (b && q x)) is in
+    let first : count_by t (map name (filter keep (x ∷ xs))) ≡ count_by t (map name (filter keep xs)) = rw is refl in
+    omega (arith, first, count-cons (λ (y : X). keep y && q y) x xs, own, later)
+
+-- by names: of the members that are kept, as many names pass as members
+pub count-named : {X I : Type 0} (name : X → I) (keep q : X → Bool) (t : I → Bool) (xs : List X) → AllByRecursion (λ x. keep x ≡ true → t (name x) ≡ q x) xs → count_by t (map name (filter keep xs)) ≡ count_by (λ x. keep x && q x) xs
+count-named name keep q t [] all = refl
+count-named name keep q t (x ∷ xs) all = count-named-by name keep q t x xs (keep x) refl all.0 (count-named name keep q t xs all.1)
+
+-- # the first node that may be allocated to a request is the first spare one of its next label, if that one may be
+
+-- ## nodes, each number once
+
+nodes-later-apart : (a b : NodeId) → nat_lt b.0 a.0 ≡ true → (a.0 == b.0) ≡ false
+nodes-later-apart a b order = grind (arith, nat_tests)
+
+-- the node at a place is the node with its number
+node-there : (rows : List NodeEntry) (i : ℕ) (e : NodeEntry) → Rises (λ a b. nat_lt a.id.0 b.id.0) rows → slice_get rows i ≡ Some e → node_entry e.id rows ≡ Some e
+node-there rows i e rise there =
+    find-there (λ (a b : NodeEntry). nat_lt a.id.0 b.id.0) (λ (x : NodeEntry). x.id.0 == e.id.0) rows i e rise there (λ y order. node-apart y.id e.id order) (λ y order. nodes-later-apart y.id e.id order) (node-itself e.id)
+
+-- ## the tests of an allocation
+
+-- the tests of the request, and those of the node
+tests : (known held pending free ready kind : Bool) (o : Option RequestId) (h : Option SessionId) (wrong late : Refusal) (label : Refusal) →
+    is_ok (need known Refusal.NotRegistered >> (need held Refusal.NotHeld >> (need pending wrong >> (need free Refusal.NotOwner >> (need ready late >> (vacant o Refusal.Allocated >> (need kind label >> (vacant h Refusal.Busy >> Ok Done.Held))))))))
+    ≡ ((known && (held && (pending && free))) && (((ready && is_none o) && is_none h) && kind))
+tests false held pending free ready kind o h wrong late label = refl
+tests true false pending free ready kind o h wrong late label = refl
+tests true true false free ready kind o h wrong late label = refl
+tests true true true false ready kind o h wrong late label = refl
+tests true true true true false kind o h wrong late label = refl
+tests true true true true true kind (Some r) h wrong late label = refl
+tests true true true true true false None None wrong late label = refl
+tests true true true true true false None (Some x) wrong late label = refl
+tests true true true true true true None None wrong late label = refl
+tests true true true true true true None (Some x) wrong late label = refl
+
+-- the pool of the launcher that makes the event is the session's
+pool-is : (s : State) (session : SessionId) (p : PoolId) → launcher s session ≡ Ok p → pool_of s session ≡ Some p
+pool-is s session p by = of_maker (maker s session) refl by where
+  of_role : (role : Role) → as_launcher role ≡ Ok p → pool_of_role role ≡ Some p
+  of_role (Launcher q) is = let same : q ≡ p = cc in ap (λ (x : PoolId). Some x) same
+  of_role (Janitor q) is = absurd cc
+  of_role (Requester q) is = absurd cc
+  of_role Reaper is = absurd cc
+
+  of_session : (role : Role) → maker s session ≡ Ok role → option_map (λ (facts : SessionFacts). facts.role) (session_of session s) ≡ Some role
+  of_session role is =
+      on-found (session_of session s) Refusal.NoSession _ role is (λ facts there rest.
+      on-need facts.live Refusal.Expired _ role rest (λ live rest.
+      on-not facts.mute Refusal.Crashed _ role rest (λ heard rest.
+      let same : facts.role ≡ role = cc in
+      rw there (ap (λ (x : Role). Some x) same))))
+
+  of_facts : (o : Option SessionFacts) (role : Role) → option_map (λ (facts : SessionFacts). facts.role) o ≡ Some role → as_launcher role ≡ Ok p → option_and_then (λ (facts : SessionFacts). pool_of_role facts.role) o ≡ Some p
+  of_facts None role there is = absurd cc
+  of_facts (Some facts) role there is = let same : role ≡ facts.role = cc in of_role facts.role (ap as_launcher (sym same) ∙ is)
+
+  of_maker : (o : Result Role Refusal) → maker s session ≡ o → (o >>= as_launcher) ≡ Ok p → pool_of s session ≡ Some p
+  of_maker (Err why) made is = absurd cc
+  of_maker (Ok role) made is = of_facts (session_of session s) role (of_session role made) is
+
+module _ (c : Configuration) (s : State) (session : SessionId) (r : RequestId) where
+  -- the node, if it may be allocated
+  abbrev taken : Option NodeId → Option NodeId
+  taken o = option_and_then (λ n. if is_takable c s session r n then Some n else None) o
+
+  -- the first of all nodes that may be allocated
+  abbrev first : Option NodeId
+  first = option_map (λ (e : NodeEntry). e.id) (find (λ (e : NodeEntry). is_takable c s session r e.id) s.nodes)
+
+  -- if none may be, none is found
+  refused : ((n : NodeId) → is_takable c s session r n ≡ false) → (o : Option NodeId) → first ≡ taken o
+  refused none o =
+      ap (λ (x : Option NodeEntry). option_map (λ (e : NodeEntry). e.id) x) (find-none (λ (e : NodeEntry). is_takable c s session r e.id) s.nodes (λ e. none e.id)) ∙ by o
+    where
+      by : (o : Option NodeId) → None ≡ taken o
+      by None = refl
+      by (Some n) = rw (none n) refl
+
+  module _ (p : PoolId) (by : launcher s session ≡ Ok p) where
+    no-label : (n : NodeId) (k : RequestRecord) (what : Done) → request_in r s.requests ≡ Some k → next_label k ≡ None → judge c s (Event.TakeReady session r n) ≡ Ok what → ⊥
+    no-label n k what request none is = grind (arith, nat_tests)
+
+    complete : (n : NodeId) (k : RequestRecord) → request_in r s.requests ≡ Some k → next_label k ≡ None → is_takable c s session r n ≡ true → ⊥
+    complete n k request none is = let answer = ok-is (judge c s (Event.TakeReady session r n)) is in no-label n k answer.0 request none answer.1
+
+    module _ (rise : Rises (λ a b. nat_lt a.id.0 b.id.0) s.nodes) where
+      -- of the request, whatever the node
+      abbrev asked : RequestRecord → Bool
+      asked k = is_session_of session (registered p s.registrations) && (is_session_of session (request_holder r s.requests) && (is_pending_by p k && is_none k.pinned))
+
+      split : (k : RequestRecord) (l : LabelId) → request_in r s.requests ≡ Some k → next_label k ≡ Some l → (i : ℕ) (e : NodeEntry) → slice_get s.nodes i ≡ Some e → is_takable c s session r e.id ≡ (asked k && is_spare p l e)
+      split k l request label i e there =
+          let node : node_entry e.id s.nodes ≡ Some e = node-there s.nodes i e rise there in
+          rw (by, request, node, label) (tests (is_session_of session (registered p s.registrations)) (is_session_of session (request_holder r s.requests)) (is_pending_by p k) (is_none k.pinned) (is_ready e.kept.state) (is_kind p l e) e.kept.allocated_to (holder e.queue) (wrong_request k) (wrong_node e.kept) (Refusal.NoLabel l))
+
+      by-label : (k : RequestRecord) (o : Option LabelId) → request_in r s.requests ≡ Some k → next_label k ≡ o → first ≡ first_takable c s session r
+      by-label k None request none = refused (λ n. false_from_ne_true (is_takable c s session r n) (complete n k request none)) (option_and_then (first_free s r) (pool_of s session))
+      by-label k (Some l) request label =
+          let free : option_and_then (first_free s r) (pool_of s session) ≡ free_ready_of p l 0 s = rw (pool-is s session p by, request, label) refl in
+          first-tested (λ (e : NodeEntry). e.id) (is_takable c s session r) (is_spare p l) (asked k) s.nodes (all-from_at (λ (e : NodeEntry). is_takable c s session r e.id ≡ (asked k && is_spare p l e)) s.nodes (split k l request label))
+          ∙ ap taken (sym free)
+
+      by-request : (o : Option RequestRecord) → request_in r s.requests ≡ o → first ≡ first_takable c s session r
+      by-request None none = refused (λ n. rw (by, none) refl) (option_and_then (first_free s r) (pool_of s session))
+      by-request (Some k) request = by-label k (next_label k) request refl
+
+  by-launcher : Rises (λ a b. nat_lt a.id.0 b.id.0) s.nodes → (o : Result PoolId Refusal) → launcher s session ≡ o → first ≡ first_takable c s session r
+  by-launcher rise (Err why) none = refused (λ n. rw none refl) (option_and_then (first_free s r) (pool_of s session))
+  by-launcher rise (Ok p) by = by-request p by rise (request_in r s.requests) refl
+
+  -- the first of all nodes that may be allocated is the one that is computed
+  pub first-is : IsReached c s → first ≡ first_takable c s session r
+  first-is reached = by-launcher (invariant-Runs c reached.journal s reached.runs).numbered.nodes_rise (launcher s session) refl
+
+  -- some node may be allocated if there is a first one
+  pub may-take : IsReached c s → may_take_ready c s session r ≡ is_some (first_takable c s session r)
+  may-take reached =
+      any-find (λ (e : NodeEntry). is_takable c s session r e.id) s.nodes
+      ∙ sym (map-some (λ (e : NodeEntry). e.id) (find (λ (e : NodeEntry). is_takable c s session r e.id) s.nodes))
+      ∙ ap (λ (o : Option NodeId). is_some o) (first-is reached)
+
+-- # a node is allocated to the request that lists it, if the pool serves that request; and what is true of a request by its number is true of its row
+
+-- ## requests, each number once
+
+requests-later-apart : (a b : RequestId) → is_id_before b a ≡ true → same_request a b ≡ false
+requests-later-apart a b order = grind (arith, nat_tests)
+
+-- the request at a place is the request with its id
+pub entry-there : (rows : List RequestEntry) (i : ℕ) (e : RequestEntry) → Rises (λ a b. is_id_before a.id b.id) rows → slice_get rows i ≡ Some e → request_entry e.id rows ≡ Some e
+entry-there rows i e rise there =
+    find-there (λ (a b : RequestEntry). is_id_before a.id b.id) (λ (x : RequestEntry). same_request x.id e.id) rows i e rise there (λ y order. request-apart y.id e.id order) (λ y order. requests-later-apart y.id e.id order) (request-itself e.id)
+
+named : (r : RequestId) (o : Option RequestId) → is_request r o ≡ true → o ≡ Some r
+named r None is = absurd cc
+named r (Some other) is = ap (λ (x : RequestId). Some x) (request-equal other r is)
+
+-- ## the node's request
+
+module _ (c : Configuration) (s : State) (holds : Invariant c s) (p : PoolId) (n : NodeId) (k : NodeRecord) (stands : node_in n s.nodes ≡ Some k) where
+  -- a pending request that lists the node is the one it is allocated to
+  allocated : (r : RequestId) (q : RequestRecord) → request_in r s.requests ≡ Some q → is_pending_by p q ≡ true → is_listed n q ≡ true → k.allocated_to ≡ Some r
+  allocated r q found pending listed = by q.state ((and_parts (is_pending q.state) (is_pool p q.pool) pending).0) (holds.owned.requests r q found) where
+    of_served : IsServed s r q → k.allocated_to ≡ Some r
+    of_served served =
+        let place = node-place n q.nodes listed in
+        let within : place.0 < length q.labels = omega (arith, served.few, slice_get_within q.nodes place.0 n place.1) in
+        let label = member-there q.labels place.0 within in
+        named r k.allocated_to ((served.each place.0 n label.0 k place.1 label.1 stands).allocated)
+
+    by : (state : RequestState) → is_pending state ≡ true → StandsIn s r q state → k.allocated_to ≡ Some r
+    by RequestState.Requested is rests = absurd cc
+    by RequestState.Pending is served = of_served served
+    by RequestState.Fulfilled is owns = absurd cc
+    by RequestState.Failed is rests = absurd cc
+
+  -- a test of pending requests that list the node, and what is left to test of the one it is allocated to
+  module _ (wants such : RequestRecord → Bool) (parts : (q : RequestRecord) → wants q ≡ true → ((is_pending_by p q && is_listed n q) ≡ true) × (such q ≡ true)) (whole : (q : RequestRecord) → (is_pending_by p q && is_listed n q) ≡ true → such q ≡ true → wants q ≡ true) where
+    there : list_any (λ e. wants e.kept) s.requests ≡ true → option_map_or such (served_request p s k) false ≡ true
+    there is =
+        let at = any-place (λ (e : RequestEntry). wants e.kept) s.requests is in
+        let of_both = parts at.member.kept at.passes in
+        let of_listed = and_parts (is_pending_by p at.member.kept) (is_listed n at.member.kept) of_both.0 in
+        let found : request_in at.member.id s.requests ≡ Some at.member.kept = ap (option_map (λ (x : RequestEntry). x.kept)) (entry-there s.requests at.place at.member holds.numbered.requests_rise at.there) in
+        rw (allocated at.member.id at.member.kept found of_listed.0 of_listed.1, found, of_listed.0) of_both.1
+
+    back-by : (r : RequestId) → k.allocated_to ≡ Some r → (e : RequestEntry) → request_entry r s.requests ≡ Some e → (b : Bool) → is_pending_by p e.kept ≡ b → option_map_or such (if b then Some e.kept else None) false ≡ true → list_any (λ x. wants x.kept) s.requests ≡ true
+    back-by r some e found false pending is = absurd cc
+    back-by r some e found true pending is =
+        let listed : is_listed n e.kept ≡ true = (holds.owned.allocations n k r stands some).listed e.kept (ap (option_map (λ (x : RequestEntry). x.kept)) found) in
+        let place = find-place (λ (x : RequestEntry). same_request x.id r) s.requests e found in
+        list_any-there (λ (x : RequestEntry). wants x.kept) s.requests place.at e place.there (whole e.kept (both_true pending listed) is)
+
+    back-of : (r : RequestId) → k.allocated_to ≡ Some r → (o : Option RequestEntry) → request_entry r s.requests ≡ o → option_map_or such (option_and_then (λ (q : RequestRecord). if is_pending_by p q then Some q else None) (option_map (λ (x : RequestEntry). x.kept) o)) false ≡ true → list_any (λ x. wants x.kept) s.requests ≡ true
+    back-of r some None found is = absurd cc
+    back-of r some (Some e) found is = back-by r some e found (is_pending_by p e.kept) refl is
+
+    back : (o : Option RequestId) → k.allocated_to ≡ o → option_map_or such (served_request p s k) false ≡ true → list_any (λ x. wants x.kept) s.requests ≡ true
+    back None none is = absurd (let no : false ≡ true = rw none at is in cc)
+    back (Some r) some is = back-of r some (request_entry r s.requests) refl (rw some at is)
+
+    wanted-is : list_any (λ e. wants e.kept) s.requests ≡ option_map_or such (served_request p s k) false
+    wanted-is = both_ways (list_any (λ e. wants e.kept) s.requests) (option_map_or such (served_request p s k) false) there (back k.allocated_to refl)
+
+-- none is there if not some is
+pub none-is : (b : Bool) (o : Option RequestRecord) → is_some o ≡ not b → b ≡ is_none o
+none-is true None is = refl
+none-is true (Some q) is = absurd cc
+none-is false None is = absurd cc
+none-is false (Some q) is = refl
+
+-- ## a reached state
+
+module _ (c : Configuration) (s : State) (reached : IsReached c s) (p : PoolId) (n : NodeId) (k : NodeRecord) (stands : node_in n s.nodes ≡ Some k) where
+  wanted-by : (wants such : RequestRecord → Bool) → ((q : RequestRecord) → wants q ≡ true → ((is_pending_by p q && is_listed n q) ≡ true) × (such q ≡ true)) → ((q : RequestRecord) → (is_pending_by p q && is_listed n q) ≡ true → such q ≡ true → wants q ≡ true) → list_any (λ e. wants e.kept) s.requests ≡ option_map_or such (served_request p s k) false
+  wanted-by wants such parts whole = wanted-is c s (invariant-Runs c reached.journal s reached.runs) p n k stands wants such parts whole
+
+  some-request-by : (o : Option RequestRecord) → not (option_map_or (λ q. true) o false) ≡ is_none o
+  some-request-by None = refl
+  some-request-by (Some q) = refl
+
+  -- the launcher is done with a node without a launch if the pool serves no request of the node's
+  pub done-is : k.in_flight ≡ false → (node_is n s (λ m. not m.in_flight) && not (is_wanted_by p s n)) ≡ is_none (served_request p s k)
+  done-is idle =
+      let wanted : is_wanted_by p s n ≡ option_map_or (λ q. true) (served_request p s k) false = wanted-by (λ q. is_pending_by p q && is_listed n q) (λ q. true) (λ q is. (is, refl)) (λ q is such. is) in
+      rw (stands, idle) (ap not wanted ∙ some-request-by (served_request p s k))
+
+  -- the node is to be launched if the pool serves its request, and no node of that one failed
+  pub launch-is : is_to_launch p s n ≡ option_map_or (λ q. not (has_failed_node s q)) (served_request p s k) false
+  launch-is =
+      wanted-by (λ q. is_pending_by p q && is_listed n q && not (has_failed_node s q)) (λ q. not (has_failed_node s q))
+      (λ q is. and_parts (is_pending_by p q && is_listed n q) (not (has_failed_node s q)) is) (λ q both such. both_true both such)
+
+-- # a request in hand is one of those in whose queues the session is
+
+module _ (c : Configuration) (s : State) (reached : IsReached c s) where
+  -- the request at a place is the request with its id
+  pub row-there : (i : ℕ) (e : RequestEntry) → slice_get s.requests i ≡ Some e → request_entry e.id s.requests ≡ Some e
+  row-there i e there = entry-there s.requests i e (invariant-Runs c reached.journal s reached.runs).numbered.requests_rise there
+
+  -- ## in hand
+
+  module _ (p : PoolId) (session : SessionId) where
+    hand-there : (i : ℕ) (e : RequestEntry) → slice_get s.requests i ≡ Some e → is_queued session e.queue ≡ true → is_in_hand_at p session s e.id ≡ is_in_hand p session e
+    hand-there i e there queued = rw (row-there i e there) refl
+
+    hand-queued : (e : RequestEntry) → is_in_hand p session e ≡ true → is_queued session e.queue ≡ true
+    hand-queued e is = holder-queued session e.queue ((and_parts (is_requested e.kept.state && not (is_declined_by p e.kept.declined)) (is_session_of session (holder e.queue)) is).1)
+
+    pub any-in_hand : list_any (is_in_hand_at p session s) (queued_requests session s) ≡ list_any (is_in_hand p session) s.requests
+    any-in_hand =
+        any-named (λ (e : RequestEntry). e.id) (λ (e : RequestEntry). is_queued session e.queue) (is_in_hand p session) (is_in_hand_at p session s) s.requests
+        (all-from_at (λ (e : RequestEntry). is_queued session e.queue ≡ true → is_in_hand_at p session s e.id ≡ is_in_hand p session e) s.requests hand-there) hand-queued

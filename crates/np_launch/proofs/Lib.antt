@@ -1,13 +1,4 @@
-pub mod Allocated
+pub mod Prelude
 pub mod Finds
-pub mod Named
-pub mod Joins
 pub mod Registrants
-pub mod Counts
-pub mod Sisters
-pub mod Reasons
-pub mod Spares
-pub mod Sums
-pub mod Locks
 pub mod Launchers
-pub mod Planning

@@ -1,24 +1,104 @@
--- in a state that a run reaches, a launcher in the queue of a request is registered for its pool
-use Rattle.std.proofs.Common.{◌≡◌, ◌∙◌, sym, ap, List, [], ◌∷◌, refl, arith, subst, Option, Some, None, Bool, true, false, is_ok}
-use Rattle.std.specs.Prelude.{◌==◌, not, find, nat_lt}
-use Rattle.np_changes.specs.Prelude.{AllByRecursion, Configuration, Entry, Event, GrowthPremise, IsHeard, IsReached, Launcher, MakerPremise, PoolId, Premises, Registration, RequestEntry, RequestId, SessionFacts, SessionId, State, changed, edited, grown, is_session, joined, judge, left, next, option_map, option_map_or, plan, registered, registrations_left, request_entry, request_left, request_queue, requests_changed, requests_left, same_request, session_of, start, state_after}
-use Rattle.std.proofs.lemmas.Bool.Decides.{nat_tests}
-use Rattle.np_lists.proofs.Each.{all-find, all-weaker, all-filter_to, all-remove_first, all-insert_before, all-change_first, all-mapped}
-use Rattle.np_lists.proofs.FoundLemmas.{find-insert_before, find-filter}
-use Rattle.np_changes.specs.declared.changes.Maker.{Maker}
-use Rattle.np_changes.specs.declared.changes.Changes.{Changes}
-use Rattle.np_changes.specs.declared.changes.Growth.{Growth}
-use Rattle.np_changes.specs.declared.changes.Growth.TheVariants as grow
-use Rattle.np_changes.specs.declared.changes.RequestsChange.{RequestsChange}
-use Rattle.np_changes.specs.declared.changes.RequestsChange.TheVariants as requests
-use Rattle.np_changes.specs.declared.changes.SessionsChange.{SessionsChange}
-use Rattle.np_changes.specs.declared.changes.SessionsChange.TheVariants as sessions
-use Rattle.np_changes.proofs.PlanLaws.{plan-next}
-use Rattle.np_changes.proofs.PremisesOf.{premises}
-use Rattle.np_changes.proofs.Ids.{same_pool, row-of, kept-is}
-use Rattle.np_changes.proofs.LiveQueues.{all-joined, all-left}
-use Rattle.np_changes.proofs.Sessions.{IsNotOver, facts-stay}
-use Rattle.np_launch.proofs.Joins.{JoinsRegistered, joins-registered}
+-- launchers in the queues of requests: each is registered for its pool, and a request counts at one pool of a provider
+use Rattle.np_launch.proofs.Prelude.{AllByRecursion, Bool, Changes, Configuration, Done, Entry, Event, Growth, GrowthPremise, Invariant, IsHeard, IsLauncher, IsNotOver, IsReached, Janitor, Launcher, List, Maker, MakerPremise, NodeId, None, Ok, Option, Pool, PoolId, Premises, Reaper, Refusal, Registration, RequestEntry, RequestId, Requester, RequestsChange, Result, Role, SessionFacts, SessionId, SessionsChange, Some, State, all-at, all-change_first, all-filter_to, all-find, all-from_at, all-insert_before, all-joined, all-left, all-mapped, all-remove_first, all-weaker, and_parts, ap, arith, both_true, both_ways, changed, cond, count_by, count_by-le-length, edited, facts-stay, false, filter, find, find-filter, find-insert_before, find-passes, grown, holder, holder-queued, holder-waits, if◌then◌else◌, invariant-Runs, is_held_near, is_near_below, is_ok, is_pending, is_pending_by, is_pool, is_queued, is_served_by_sister, is_served_near, is_session, is_session_of, is_sister, is_sister_launcher, is_wanted, janitor, joined, judge, judge_lock_request, kept-is, launcher, launcher_requests, left, length, length-filter, length-filter_at_most, length-map, lock_request_as, made_by, maker, nat_lt, nat_tests, near_pool, next, next_label, node_in, not, ok-is, on-found, on-given, on-need, option_and_then, option_map, option_map_or, or_true, pending_requests, plan, plan-found, plan-given, plan-made, plan-next, plan_lock_request, pool_of_role, premises, provider_of, queued_requests, refl, registered, registrations_left, request_entry, request_in, request_is, request_left, request_of_job, request_queue, requester, requests_changed, requests_left, requests_near, role_of, row-of, same, same_pool, same_request, served-by, session-equal, session_of, sister_requests, slice_get, slice_get_within, start, state_after, subst, suc, sym, true, unserved_requests, with_found, with_given, ℕ, [], ◌&&◌, ◌+◌, ◌==◌, ◌||◌, ◌∙◌, ◌∷◌, ◌≡◌, ◌≤◌}
+use Rattle.np_launch.proofs.Finds.{count-either, count-named, count-none, count-same, one, row-there}
+
+-- # a launcher joins the queue of a request only while it is registered for its pool
+
+-- a launcher that joins the queue of a request is registered for its pool
+pub record JoinsRegistered (s : State) (ch : Changes) : Type 0 where
+  pub registers : (r : RequestId) (m : Maker) (p : PoolId) → ch.grows ≡ Growth.JoinRequest r → ch.maker ≡ Some m → m.role ≡ Launcher p → registered p s.registrations ≡ Some m.session
+
+-- ## changes by which nobody joins
+
+abbrev joins : Growth → Bool
+joins Growth.Nothing = false
+joins (Growth.Session role) = false
+joins (Growth.Registration p) = false
+joins (Growth.Request priority asked) = false
+joins (Growth.Node kept) = false
+joins (Growth.JoinRequest r) = true
+joins (Growth.JoinNode n) = false
+joins (Growth.Allocate n r tenant) = false
+joins (Growth.Handles j) = false
+joins (Growth.Swept n x) = false
+
+module _ (s : State) where
+  none-joins : (ch : Changes) → joins ch.grows ≡ false → JoinsRegistered s ch
+  none-joins ch none = record { registers = λ r m p grows made role. absurd (let some : joins ch.grows ≡ true = ap joins grows in cc) }
+
+  given-joins : {A : Type 0} (o : Result A Refusal) (f : A → Changes) → ((a : A) → JoinsRegistered s (f a)) → JoinsRegistered s (with_given o f)
+  given-joins o f each = plan-given (JoinsRegistered s) (none-joins same refl) o f (λ a who. each a)
+
+  found-joins : {A : Type 0} (o : Option A) (f : A → Changes) → ((a : A) → JoinsRegistered s (f a)) → JoinsRegistered s (with_found o f)
+  found-joins o f each = plan-found (JoinsRegistered s) (none-joins same refl) o f (λ a has. each a)
+
+  found-joins_by : {A : Type 0} (by : SessionId) (role : Role) (o : Option A) (f : A → Changes) → ((a : A) → JoinsRegistered s (made_by by role (f a))) → JoinsRegistered s (made_by by role (with_found o f))
+  found-joins_by by role o f each = plan-made (JoinsRegistered s) by role (none-joins (made_by by role same) refl) o f (λ a has. each a)
+
+not-swept : (b : Bool) (n : NodeId) (x : ℕ) → joins (if b then Growth.Nothing else Growth.Swept n x) ≡ false
+not-swept true n x = refl
+not-swept false n x = refl
+
+-- ## the lock of a request
+
+module _ (c : Configuration) (s : State) (session : SessionId) (r : RequestId) (what : Done) where
+  lock-registered : (role : Role) (p : PoolId) → role ≡ Launcher p → lock_request_as c s session r role ≡ Ok what → registered p s.registrations ≡ Some session
+  lock-registered role p is locks =
+      on-found (request_in r s.requests) Refusal.NoRequest _ what (rw is at locks) (λ request has rest.
+      on-need (is_session_of session (registered p s.registrations)) Refusal.NotRegistered _ what rest (λ registers _.
+      holder-waits session (registered p s.registrations) registers))
+
+  lock-joins : judge_lock_request c s session r ≡ Ok what → JoinsRegistered s (plan_lock_request s session r)
+  lock-joins ok =
+      on-given (maker s session) (lock_request_as c s session r) what ok (λ role who locks.
+      rw who (record {
+        registers = λ q m p grows made launches.
+            let by_session : session ≡ m.session = cc in
+            let of_role : role ≡ m.role = cc in
+            lock-registered role p (of_role ∙ launches) locks ∙ ap (λ (x : SessionId). Some x) by_session;
+      }))
+
+-- ## all events
+
+plan-joins : (c : Configuration) (s : State) (e : Event) (what : Done) → judge c s e ≡ Ok what → JoinsRegistered s (plan c s e)
+plan-joins c s Event.Tick what ok = none-joins s _ refl
+plan-joins c s (Event.OpenSession role) what ok = none-joins s _ refl
+plan-joins c s (Event.Crash session) what ok = found-joins s (session_of session s) _ (λ facts. none-joins s _ refl)
+plan-joins c s (Event.Expire session) what ok = found-joins s (session_of session s) _ (λ facts. none-joins s _ refl)
+plan-joins c s (Event.Register by) what ok = given-joins s (launcher s by) _ (λ p. none-joins s _ refl)
+plan-joins c s (Event.Submit by j) what ok = given-joins s (requester s by) _ (λ q. found-joins_by s by _ (slice_get c.jobs j.0) _ (λ job. found-joins_by s by _ (slice_get s.jobs j.0) _ (λ kept. none-joins s _ refl)))
+plan-joins c s (Event.Revise by j relative) what ok = given-joins s (requester s by) _ (λ q. found-joins_by s by _ (request_of_job j s) _ (λ r. none-joins s _ refl))
+plan-joins c s (Event.MinReady by l) what ok = given-joins s (launcher s by) _ (λ p. none-joins s _ refl)
+plan-joins c s (Event.LockRequest by r) what ok = lock-joins c s by r what ok
+plan-joins c s (Event.UnlockRequest by r) what ok = given-joins s (maker s by) _ (λ role. none-joins s _ refl)
+plan-joins c s (Event.Accept by r) what ok = given-joins s (launcher s by) _ (λ p. none-joins s _ refl)
+plan-joins c s (Event.Decline by r why) what ok = given-joins s (launcher s by) _ (λ p. found-joins_by s by _ (request_in r s.requests) _ (λ request. none-joins s _ refl))
+plan-joins c s (Event.TakeReady by r n) what ok = given-joins s (launcher s by) _ (λ p. found-joins_by s by _ (request_in r s.requests) _ (λ request. none-joins s _ refl))
+plan-joins c s (Event.Create by r) what ok =
+    given-joins s (launcher s by) _ (λ p. found-joins_by s by _ (request_in r s.requests) _ (λ request. found-joins_by s by _ (next_label request) _ (λ l. none-joins s _ refl)))
+plan-joins c s (Event.Start by n) what ok = given-joins s (launcher s by) _ (λ p. found-joins s (node_in n s.nodes) _ (λ k. none-joins s _ refl))
+plan-joins c s (Event.Done by n attempt o) what ok = given-joins s (launcher s by) _ (λ p. found-joins_by s by _ (node_in n s.nodes) _ (λ k. none-joins s _ refl))
+plan-joins c s (Event.Fulfil by r) what ok = given-joins s (launcher s by) _ (λ p. found-joins_by s by _ (request_in r s.requests) _ (λ request. none-joins s _ refl))
+plan-joins c s (Event.LockNode by n) what ok = given-joins s (maker s by) _ (λ role. none-joins s _ refl)
+plan-joins c s (Event.UnlockNode by n) what ok = given-joins s (maker s by) _ (λ role. none-joins s _ refl)
+plan-joins c s (Event.Acquire by j) what ok = given-joins s (requester s by) _ (λ q. none-joins s _ refl)
+plan-joins c s (Event.Take by j) what ok =
+    given-joins s (requester s by) _ (λ q. found-joins_by s by _ (slice_get s.jobs j.0) _ (λ kept. found-joins_by s by _ kept.request _ (λ r. found-joins_by s by _ (request_in r s.requests) _ (λ request. none-joins s _ refl))))
+plan-joins c s (Event.EndNode by n as_what) what ok = given-joins s (requester s by) _ (λ q. found-joins_by s by _ (node_in n s.nodes) _ (λ k. none-joins s _ refl))
+plan-joins c s (Event.Finish by j) what ok = given-joins s (maker s by) _ (λ role. found-joins_by s by _ (slice_get s.jobs j.0) _ (λ kept. none-joins s _ refl))
+plan-joins c s (Event.Withdraw by j) what ok = given-joins s (requester s by) _ (λ q. found-joins_by s by _ (slice_get s.jobs j.0) _ (λ kept. none-joins s _ refl))
+plan-joins c s (Event.Release by j) what ok = given-joins s (maker s by) _ (λ role. none-joins s _ refl)
+plan-joins c s (Event.MarkDeleting by n) what ok = given-joins s (janitor s by) _ (λ p. found-joins_by s by _ (node_in n s.nodes) _ (λ k. none-joins s _ refl))
+plan-joins c s (Event.Gone by n) what ok = given-joins s (janitor s by) _ (λ p. none-joins s _ refl)
+plan-joins c s (Event.Reset by r) what ok = given-joins s (janitor s by) _ (λ p. found-joins_by s by _ (request_in r s.requests) _ (λ request. none-joins s _ refl))
+plan-joins c s (Event.FreeNode by n) what ok = given-joins s (janitor s by) _ (λ p. found-joins_by s by _ (node_in n s.nodes) _ (λ k. none-joins s _ refl))
+plan-joins c s (Event.FailDeclined by r) what ok = given-joins s (janitor s by) _ (λ p. none-joins s _ refl)
+plan-joins c s (Event.Sweep by n x) what ok = given-joins s (janitor s by) _ (λ p. none-joins s _ (not-swept (is_wanted s n x) n x))
+
+pub joins-registered : (c : Configuration) (s : State) (e : Event) → is_ok (judge c s e) ≡ true → JoinsRegistered s (plan c s e)
+joins-registered c s e ok = let was : (what : Done) × (judge c s e ≡ Ok what) = ok-is (judge c s e) ok in plan-joins c s e was.0 was.1
+
+-- # in a state that a run reaches, a launcher in the queue of a request is registered for its pool
 
 -- begun, and registered for its pool if it is a launcher
 pub record IsRegistrant (s : State) (session : SessionId) : Type 0 where
@@ -42,28 +122,28 @@ module _ (P : SessionId → Type 0) where
     by (Some e) is = all-find (λ (x : RequestEntry). AllByRecursion P x.queue) (λ x. same_request x.id r) rows e all is
 
   -- who joins is such a session, too
-  rows-grown : (c : Configuration) (s : State) (maker : Option Maker) (growth : Growth) → ((r : RequestId) (m : Maker) → growth ≡ grow.JoinRequest r → maker ≡ Some m → P m.session) → Rows s.requests → Rows (grown c maker growth s).requests
-  rows-grown c s maker grow.Nothing such old = old
-  rows-grown c s maker (grow.Session role) such old = old
-  rows-grown c s None (grow.Registration p) such old = old
-  rows-grown c s (Some maker) (grow.Registration p) such old = old
-  rows-grown c s maker (grow.Request priority asked) such old = all-insert_before (λ (e : RequestEntry). AllByRecursion P e.queue) _ _ s.requests tt old
-  rows-grown c s maker (grow.Node kept) such old = old
-  rows-grown c s None (grow.JoinRequest r) such old = old
-  rows-grown c s (Some maker) (grow.JoinRequest r) such old =
+  rows-grown : (c : Configuration) (s : State) (maker : Option Maker) (growth : Growth) → ((r : RequestId) (m : Maker) → growth ≡ Growth.JoinRequest r → maker ≡ Some m → P m.session) → Rows s.requests → Rows (grown c maker growth s).requests
+  rows-grown c s maker Growth.Nothing such old = old
+  rows-grown c s maker (Growth.Session role) such old = old
+  rows-grown c s None (Growth.Registration p) such old = old
+  rows-grown c s (Some maker) (Growth.Registration p) such old = old
+  rows-grown c s maker (Growth.Request priority asked) such old = all-insert_before (λ (e : RequestEntry). AllByRecursion P e.queue) _ _ s.requests tt old
+  rows-grown c s maker (Growth.Node kept) such old = old
+  rows-grown c s None (Growth.JoinRequest r) such old = old
+  rows-grown c s (Some maker) (Growth.JoinRequest r) such old =
       all-change_first (λ (e : RequestEntry). AllByRecursion P e.queue) (λ e. same_request e.id r) (λ e. record e { queue = joined maker.session (request_queue r s.requests) }) s.requests
       (λ e is. all-joined P maker.session (request_queue r s.requests) (queue-found r s.requests old) (such r maker refl refl)) old
-  rows-grown c s maker (grow.JoinNode n) such old = old
-  rows-grown c s maker (grow.Allocate n r tenant) such old = old
-  rows-grown c s maker (grow.Handles j) such old = old
-  rows-grown c s maker (grow.Swept n x) such old = old
+  rows-grown c s maker (Growth.JoinNode n) such old = old
+  rows-grown c s maker (Growth.Allocate n r tenant) such old = old
+  rows-grown c s maker (Growth.Handles j) such old = old
+  rows-grown c s maker (Growth.Swept n x) such old = old
 
   rows-settled : (maker : Option Maker) (change : RequestsChange) (rows : List RequestEntry) → Rows rows → Rows (requests_changed maker change rows)
-  rows-settled maker requests.Same rows old = old
-  rows-settled maker (requests.Edit r edit) rows old = all-change_first (λ (e : RequestEntry). AllByRecursion P e.queue) (λ e. same_request e.id r) (λ e. record e { kept = edited edit e.kept }) rows (λ e is. is) old
-  rows-settled maker (requests.Remove r) rows old = all-remove_first (λ (e : RequestEntry). AllByRecursion P e.queue) (λ e. same_request e.id r) rows old
-  rows-settled None (requests.Leave r) rows old = old
-  rows-settled (Some maker) (requests.Leave r) rows old =
+  rows-settled maker RequestsChange.Same rows old = old
+  rows-settled maker (RequestsChange.Edit r edit) rows old = all-change_first (λ (e : RequestEntry). AllByRecursion P e.queue) (λ e. same_request e.id r) (λ e. record e { kept = edited edit e.kept }) rows (λ e is. is) old
+  rows-settled maker (RequestsChange.Remove r) rows old = all-remove_first (λ (e : RequestEntry). AllByRecursion P e.queue) (λ e. same_request e.id r) rows old
+  rows-settled None (RequestsChange.Leave r) rows old = old
+  rows-settled (Some maker) (RequestsChange.Leave r) rows old =
       all-change_first (λ (e : RequestEntry). AllByRecursion P e.queue) (λ e. same_request e.id r) (λ e. record e { queue = left maker.session (request_queue r rows) }) rows
       (λ e is. all-left P maker.session (request_queue r rows) (queue-found r rows old)) old
 
@@ -71,27 +151,27 @@ module _ (P : SessionId → Type 0) where
 
 -- a new registration is of a pool that had none
 registered-grown : (c : Configuration) (s : State) (ch : Changes) (maker : Option Maker) (growth : Growth) → GrowthPremise c s ch growth → (p : PoolId) (session : SessionId) → registered p s.registrations ≡ Some session → registered p (grown c maker growth s).registrations ≡ Some session
-registered-grown c s ch maker grow.Nothing premise p session is = is
-registered-grown c s ch maker (grow.Session role) premise p session is = is
-registered-grown c s ch None (grow.Registration q) premise p session is = is
-registered-grown c s ch (Some maker) (grow.Registration q) premise p session is = by (q.0 == p.0) refl where
-  by : (b : Bool) → (q.0 == p.0) ≡ b → registered p (grown c (Some maker) (grow.Registration q) s).registrations ≡ Some session
+registered-grown c s ch maker Growth.Nothing premise p session is = is
+registered-grown c s ch maker (Growth.Session role) premise p session is = is
+registered-grown c s ch None (Growth.Registration q) premise p session is = is
+registered-grown c s ch (Some maker) (Growth.Registration q) premise p session is = by (q.0 == p.0) refl where
+  by : (b : Bool) → (q.0 == p.0) ≡ b → registered p (grown c (Some maker) (Growth.Registration q) s).registrations ≡ Some session
   by true same = absurd (let none : registered p s.registrations ≡ None = ap (λ (x : PoolId). registered x s.registrations) (sym (same_pool q p same)) ∙ premise.free in cc)
   by false other =
       ap (option_map (λ (g : Registration). g.session)) (find-insert_before (λ (g : Registration). g.pool.0 == p.0) (λ g. nat_lt q.0 g.pool.0) (record { pool = q; session = maker.session }) s.registrations other) ∙ is
-registered-grown c s ch maker (grow.Request priority asked) premise p session is = is
-registered-grown c s ch maker (grow.Node kept) premise p session is = is
-registered-grown c s ch maker (grow.JoinRequest r) premise p session is = is
-registered-grown c s ch maker (grow.JoinNode n) premise p session is = is
-registered-grown c s ch maker (grow.Allocate n r tenant) premise p session is = is
-registered-grown c s ch maker (grow.Handles j) premise p session is = is
-registered-grown c s ch maker (grow.Swept n x) premise p session is = is
+registered-grown c s ch maker (Growth.Request priority asked) premise p session is = is
+registered-grown c s ch maker (Growth.Node kept) premise p session is = is
+registered-grown c s ch maker (Growth.JoinRequest r) premise p session is = is
+registered-grown c s ch maker (Growth.JoinNode n) premise p session is = is
+registered-grown c s ch maker (Growth.Allocate n r tenant) premise p session is = is
+registered-grown c s ch maker (Growth.Handles j) premise p session is = is
+registered-grown c s ch maker (Growth.Swept n x) premise p session is = is
 
 -- only the session that ends leaves its registration
 registered-left : (change : SessionsChange) (session : SessionId) → IsNotOver change session → (p : PoolId) (rows : List Registration) → registered p rows ≡ Some session → registered p (registrations_left change rows) ≡ Some session
-registered-left sessions.Same session lives p rows is = is
-registered-left (sessions.Mute quiet) session lives p rows is = is
-registered-left (sessions.End over) session lives p rows is =
+registered-left SessionsChange.Same session lives p rows is = is
+registered-left (SessionsChange.Mute quiet) session lives p rows is = is
+registered-left (SessionsChange.End over) session lives p rows is =
     let row = row-of (λ (g : Registration). g.session) (find (λ g. g.pool.0 == p.0) rows) session is in
     let own : row.0.session ≡ session = kept-is (λ (g : Registration). g.session) (find (λ g. g.pool.0 == p.0) rows) session row.0 is row.1 in
     let keeps : not (is_session row.0.session over) ≡ true = ap (λ (x : SessionId). not (is_session x over)) own ∙ ap not lives in
@@ -118,14 +198,14 @@ module _ (c : Configuration) (s : State) (ch : Changes) (given : Premises c s ch
         (λ e queue. all-weaker (IsRegistrant s) (IsRegistrant (changed c ch s)) (λ session such. registrant-stays session (lives session) such) e.queue queue) rows old
 
     by : (change : SessionsChange) → ch.sessions ≡ change → Rows (IsRegistrant (changed c ch s)) (requests_left change rows)
-    by sessions.Same is = all-stay (λ session. rw is tt)
-    by (sessions.Mute quiet) is = all-stay (λ session. rw is tt)
-    by (sessions.End over) is =
+    by SessionsChange.Same is = all-stay (λ session. rw is tt)
+    by (SessionsChange.Mute quiet) is = all-stay (λ session. rw is tt)
+    by (SessionsChange.End over) is =
         all-mapped (λ (e : RequestEntry). AllByRecursion (IsRegistrant s) e.queue) (λ (e : RequestEntry). AllByRecursion (IsRegistrant (changed c ch s)) e.queue) (request_left over) rows
         (λ e queue. all-filter_to (IsRegistrant s) (IsRegistrant (changed c ch s)) (λ other. not (is_session other over)) e.queue
         (λ session keeps such. registrant-stays session (rw is (let other : is_session session over ≡ false = grind (arith, nat_tests) in other)) such) queue) old
 
-  joins-as : JoinsRegistered s ch → (r : RequestId) (m : Maker) → ch.grows ≡ grow.JoinRequest r → ch.maker ≡ Some m → IsRegistrant s m.session
+  joins-as : JoinsRegistered s ch → (r : RequestId) (m : Maker) → ch.grows ≡ Growth.JoinRequest r → ch.maker ≡ Some m → IsRegistrant s m.session
   joins-as joins r m grows made =
       let heard : IsHeard s m = subst (MakerPremise s) made given.maker in
       record { facts = heard.facts; begun = heard.begun; registers = λ p launches. joins.registers r m p grows made (sym heard.role ∙ launches) }
@@ -149,3 +229,228 @@ queues-after c s (entry ∷ journal) old = queues-after c (next c s entry.event)
 
 pub queues-registered : (c : Configuration) (s : State) → IsReached c s → QueuesRegistered s
 queues-registered c s reached = subst QueuesRegistered reached.runs.ends (queues-after c (start c) reached.journal tt)
+
+-- # each request that the launchers of a provider work on counts at one pool of the provider
+
+-- ## the session in a queue of one
+
+queued-holds : (session : SessionId) (queue : List SessionId) → length queue ≤ 1 → is_queued session queue ≡ true → holder queue ≡ Some session
+queued-holds session [] few queued = absurd cc
+queued-holds session (other ∷ []) few queued =
+    let same : is_session other session ≡ true = grind (arith, nat_tests) in
+    ap (λ (x : SessionId). Some x) (session-equal other session same)
+queued-holds session (other ∷ next ∷ queue) few queued = absurd (omega (arith, few))
+
+launcher-of : (role : Role) (q : PoolId) → pool_of_role role ≡ Some q → role ≡ Launcher q
+launcher-of (Launcher p) q is = let same : p ≡ q = cc in ap (λ (x : PoolId). Launcher x) same
+launcher-of (Janitor p) q is = absurd cc
+launcher-of (Requester p) q is = absurd cc
+launcher-of Reaper q is = absurd cc
+
+pool-self : (q : PoolId) → (q.0 == q.0) ≡ true
+pool-self q = grind (arith, nat_tests)
+
+module _ (c : Configuration) (s : State) (p : PoolId) where
+  -- the session that is registered for the pool is in the request's queue
+  abbrev is_registrants : PoolId → RequestEntry → Bool
+  is_registrants q e = option_map_or (λ session. is_queued session e.queue) (registered q s.registrations) false
+
+  -- what counts at a pool of the provider
+  abbrev counts_at : PoolId → RequestEntry → Bool
+  counts_at q e = is_pending_by q e.kept || (is_registrants q e && not (is_served_near c p e))
+
+  served-sister : (q : PoolId) (e : RequestEntry) → is_sister c p q ≡ true → is_pending_by q e.kept ≡ true → is_served_near c p e ≡ true
+  served-sister q e sister pending =
+      let both = and_parts (is_pending e.kept.state) (is_pool q e.kept.pool) pending in
+      rw (both.0, served-by q e.kept.pool both.1) sister
+
+  -- who is registered for a pool is its launcher
+  registrant-role : AllByRecursion (λ g. IsLauncher s g.pool g.session) s.registrations → (q : PoolId) (session : SessionId) → registered q s.registrations ≡ Some session → role_of session s ≡ Some (Launcher q)
+  registrant-role launchers q session is =
+      let row = row-of (λ (g : Registration). g.session) (find (λ g. g.pool.0 == q.0) s.registrations) session is in
+      let own : row.0.session ≡ session = kept-is (λ (g : Registration). g.session) (find (λ g. g.pool.0 == q.0) s.registrations) session row.0 is row.1 in
+      let of_pool : row.0.pool ≡ q = same_pool row.0.pool q (find-passes (λ (g : Registration). g.pool.0 == q.0) s.registrations row.0 row.1) in
+      let launcher = all-find (λ (g : Registration). IsLauncher s g.pool g.session) (λ g. g.pool.0 == q.0) s.registrations row.0 launchers row.1 in
+      ap (λ (x : SessionId). role_of x s) (sym own)
+      ∙ ap (option_map (λ (f : SessionFacts). f.role)) launcher.begun
+      ∙ ap (λ (r : Role). Some r) (launcher.role ∙ ap (λ (x : PoolId). Launcher x) of_pool)
+
+  -- a pool of the provider is in the configuration
+  sister-below : (q : PoolId) → is_sister c p q ≡ true → true ≡ nat_lt q.0 (length c.pools)
+  sister-below q sister = by (provider_of c p) (slice_get c.pools q.0) refl sister where
+    by : (own : Option ℕ) (o : Option Pool) → slice_get c.pools q.0 ≡ o → option_map_or (λ a. option_map_or (λ b. b == a) (option_map (λ pool. pool.provider) o) false) own false ≡ true → true ≡ nat_lt q.0 (length c.pools)
+    by None o there is = absurd cc
+    by (Some a) None there is = absurd cc
+    by (Some a) (Some pool) there is = let below = slice_get_within c.pools q.0 pool there in grind (arith, nat_tests)
+
+  -- a launcher of the provider has a pool
+  unheld-by : (o : Option Role) → option_map_or (is_sister_launcher c p) o false ≡ true → option_and_then pool_of_role o ≡ None → ⊥
+  unheld-by None held none = absurd cc
+  unheld-by (Some (Launcher q)) held none = absurd cc
+  unheld-by (Some (Janitor q)) held none = absurd cc
+  unheld-by (Some (Requester q)) held none = absurd cc
+  unheld-by (Some Reaper) held none = absurd cc
+
+  -- ## one request
+
+  module _ (launchers : AllByRecursion (λ g. IsLauncher s g.pool g.session) s.registrations) (e : RequestEntry) (few : length e.queue ≤ 1) (registrants : AllByRecursion (IsRegistrant s) e.queue) where
+    near-held : (q : PoolId) → is_sister c p q ≡ true → is_served_near c p e ≡ false → (o : Option SessionId) → registered q s.registrations ≡ o → option_map_or (λ session. is_queued session e.queue) o false ≡ true → near_pool c s p e ≡ Some q
+    near-held q sister unserved None is queued = absurd cc
+    near-held q sister unserved (Some session) is queued =
+        let holds : holder e.queue ≡ Some session = queued-holds session e.queue few queued in
+        let role : role_of session s ≡ Some (Launcher q) = registrant-role launchers q session is in
+        rw (unserved, holds, role, sister) refl
+
+    -- what counts at a pool of the provider is near it
+    near-counts : (q : PoolId) → is_sister c p q ≡ true → counts_at q e ≡ true → near_pool c s p e ≡ Some q
+    near-counts q sister counts = by (is_pending_by q e.kept) refl (is_served_near c p e) refl where
+      by : (b : Bool) → is_pending_by q e.kept ≡ b → (d : Bool) → is_served_near c p e ≡ d → near_pool c s p e ≡ Some q
+      by true pending true served = rw served (served-by q e.kept.pool ((and_parts (is_pending e.kept.state) (is_pool q e.kept.pool) pending).1))
+      by true pending false unserved = absurd (let served : is_served_near c p e ≡ true = served-sister q e sister pending in cc)
+      by false other true served = absurd (let none = rw (other, served) at counts in grind (arith, nat_tests))
+      by false other false unserved =
+          let queued : is_registrants q e ≡ true = grind (arith, nat_tests) in
+          near-held q sister unserved (registered q s.registrations) refl queued
+
+    -- what is near a pool counts there, and it is a pool of the provider
+    counts-near : (q : PoolId) → near_pool c s p e ≡ Some q → (is_sister c p q ≡ true) × (counts_at q e ≡ true)
+    counts-near q near = by (is_served_near c p e) refl (is_held_near c s p e) refl where
+      by : (b : Bool) → is_served_near c p e ≡ b → (d : Bool) → is_held_near c s p e ≡ d → (is_sister c p q ≡ true) × (counts_at q e ≡ true)
+      by true served d at =
+          let pool : e.kept.pool ≡ Some q = rw served at near in
+          let both = and_parts (is_pending e.kept.state) (option_map_or (is_sister c p) e.kept.pool false) served in
+          (rw pool at both.1, rw (both.0, pool, pool-self q) refl)
+      by false unserved false unheld = absurd (let none = rw (unserved, unheld) at near in cc)
+      by false unserved true held = held-by (holder e.queue) refl where
+        held-by : (o : Option SessionId) → holder e.queue ≡ o → (is_sister c p q ≡ true) × (counts_at q e ≡ true)
+        held-by None holds = absurd (let none = rw holds at held in cc)
+        held-by (Some session) holds = role-by (role_of session s) refl where
+          role-by : (r : Option Role) → role_of session s ≡ r → (is_sister c p q ≡ true) × (counts_at q e ≡ true)
+          role-by None role = absurd (let none = rw (holds, role) at held in cc)
+          role-by (Some r) role =
+              let of_pool : pool_of_role r ≡ Some q = rw (unserved, held, holds, role) at near in
+              let launches : r ≡ Launcher q = launcher-of r q of_pool in
+              let sister : is_sister c p q ≡ true = rw (holds, role, launches) at held in
+              let such : IsRegistrant s session = all-at (IsRegistrant s) e.queue 0 session registrants holds in
+              let of_facts : such.facts.role ≡ Launcher q = (let both : Some such.facts.role ≡ Some r = sym (ap (option_map (λ (f : SessionFacts). f.role)) such.begun) ∙ role in cc) in
+              let is : registered q s.registrations ≡ Some session = such.registers q of_facts in
+              let queued : is_queued session e.queue ≡ true = holder-queued session e.queue (rw holds (grind (arith, nat_tests))) in
+              (sister, (let right : (is_registrants q e && not (is_served_near c p e)) ≡ true = rw (is, queued, unserved) refl in rw right (or_true (is_pending_by q e.kept))))
+
+    near-at : (q : PoolId) → is_pool q (near_pool c s p e) ≡ (is_sister c p q && counts_at q e)
+    near-at q = both_ways (is_pool q (near_pool c s p e)) (is_sister c p q && counts_at q e) there back where
+      there : is_pool q (near_pool c s p e) ≡ true → (is_sister c p q && counts_at q e) ≡ true
+      there is = let counts = counts-near q (served-by q (near_pool c s p e) is) in both_true counts.0 counts.1
+
+      back : (is_sister c p q && counts_at q e) ≡ true → is_pool q (near_pool c s p e) ≡ true
+      back is = let both = and_parts (is_sister c p q) (counts_at q e) is in ap (is_pool q) (near-counts q both.0 both.1) ∙ pool-self q
+
+    -- the launchers of the provider work on it if it is near one of the pools
+    near-is : (is_served_near c p e || is_held_near c s p e) ≡ is_near_below c s p (length c.pools) e
+    near-is = by (near_pool c s p e) refl (is_served_near c p e) refl (is_held_near c s p e) refl where
+      by : (o : Option PoolId) → near_pool c s p e ≡ o → (b : Bool) → is_served_near c p e ≡ b → (d : Bool) → is_held_near c s p e ≡ d → (b || d) ≡ option_map_or (λ other. nat_lt other.0 (length c.pools)) o false
+      by (Some q) near false unserved false unheld = absurd (let none = rw (unserved, unheld) at near in cc)
+      by (Some q) near true served d held = sister-below q (counts-near q near).0
+      by (Some q) near false unserved true held = sister-below q (counts-near q near).0
+      by None none true served d held =
+          let pool : e.kept.pool ≡ None = rw served at none in
+          let both = and_parts (is_pending e.kept.state) (option_map_or (is_sister c p) e.kept.pool false) served in
+          absurd (let no = rw pool at both.1 in cc)
+      by None none false unserved false unheld = refl
+      by None none false unserved true held = absurd (unheld-by (option_and_then (λ session. role_of session s) (holder e.queue)) held (rw (unserved, held) at none))
+
+-- ## no more than there are
+
+pub pending-few : (s : State) (q : PoolId) → length (pending_requests q s) ≤ length s.requests
+pending-few s q =
+    omega (arith, length-map (filter (λ (e : RequestEntry). is_pending_by q e.kept) s.requests) (λ e. e.id), length-filter_at_most (λ (e : RequestEntry). is_pending_by q e.kept) s.requests)
+
+pub unserved-few : (c : Configuration) (s : State) (p : PoolId) (session : SessionId) → unserved_requests c s p session ≤ length s.requests
+unserved-few c s p session =
+    omega (
+      arith,
+      count_by-le-length (λ (r : RequestId). not (request_is r s (is_served_by_sister c p))) (queued_requests session s),
+      length-map (filter (λ (e : RequestEntry). is_queued session e.queue) s.requests) (λ e. e.id),
+      length-filter_at_most (λ (e : RequestEntry). is_queued session e.queue) s.requests,
+    )
+
+-- ## all requests
+
+module _ (c : Configuration) (s : State) (p : PoolId) where
+  counts-apart : (q : PoolId) → is_sister c p q ≡ true → (e : RequestEntry) → one (counts_at c s p q e) ≡ one (is_pending_by q e.kept) + one (is_registrants c s p q e && not (is_served_near c p e))
+  counts-apart q sister e = by (is_pending_by q e.kept) refl where
+    by : (b : Bool) → is_pending_by q e.kept ≡ b → one (b || (is_registrants c s p q e && not (is_served_near c p e))) ≡ one b + one (is_registrants c s p q e && not (is_served_near c p e))
+    by true pending = rw (served-sister c s p q e sister pending) (by-registrant (is_registrants c s p q e)) where
+      by-registrant : (d : Bool) → 1 ≡ 1 + one (d && false)
+      by-registrant true = refl
+      by-registrant false = refl
+    by false other = omega arith
+
+  pub none-counts : count_by (is_near_below c s p 0) s.requests ≡ 0
+  none-counts = count-none (is_near_below c s p 0) s.requests (λ e. by (near_pool c s p e)) where
+    by : (o : Option PoolId) → option_map_or (λ q. nat_lt q.0 0) o false ≡ false
+    by None = refl
+    by (Some q) = grind (arith, nat_tests)
+
+  more-by : (q : PoolId) (e : RequestEntry) → one (is_near_below c s p (suc q.0) e) ≡ one (is_near_below c s p q.0 e) + one (is_pool q (near_pool c s p e))
+  more-by q e = by (near_pool c s p e) where
+    by : (o : Option PoolId) → one (option_map_or (λ other. nat_lt other.0 (suc q.0)) o false) ≡ one (option_map_or (λ other. nat_lt other.0 q.0) o false) + one (is_pool q o)
+    by None = refl
+    by (Some other) = grind (arith, nat_tests)
+
+  -- one more pool of the configuration
+  more-counts : (q : PoolId) → count_by (is_near_below c s p (suc q.0)) s.requests ≡ count_by (is_near_below c s p q.0) s.requests + count_by (λ e. is_pool q (near_pool c s p e)) s.requests
+  more-counts q = count-either (is_near_below c s p q.0) (λ (e : RequestEntry). is_pool q (near_pool c s p e)) (is_near_below c s p (suc q.0)) s.requests (more-by q)
+
+  pending-counts : (q : PoolId) → count_by (λ e. is_pending_by q e.kept) s.requests ≡ length (pending_requests q s)
+  pending-counts q = sym (length-map (filter (λ (e : RequestEntry). is_pending_by q e.kept) s.requests) (λ e. e.id) ∙ length-filter (λ (e : RequestEntry). is_pending_by q e.kept) s.requests)
+
+module _ (c : Configuration) (s : State) (reached : IsReached c s) (p : PoolId) where
+  holds : Invariant c s
+  holds = invariant-Runs c reached.journal s reached.runs
+
+  few-there : (i : ℕ) (e : RequestEntry) → slice_get s.requests i ≡ Some e → length e.queue ≤ 1
+  few-there i e there = all-at (λ (x : RequestEntry). length x.queue ≤ 1) s.requests i e holds.queued.one_a_request there
+
+  registrants-there : (i : ℕ) (e : RequestEntry) → slice_get s.requests i ≡ Some e → AllByRecursion (IsRegistrant s) e.queue
+  registrants-there i e there = all-at (λ (x : RequestEntry). AllByRecursion (IsRegistrant s) x.queue) s.requests i e (queues-registered c s reached) there
+
+  unserved-there : (session : SessionId) (i : ℕ) (e : RequestEntry) → slice_get s.requests i ≡ Some e → is_queued session e.queue ≡ true → not (request_is e.id s (is_served_by_sister c p)) ≡ not (is_served_near c p e)
+  unserved-there session i e there queued = rw (row-there c s reached i e there) refl
+
+  unserved-counts : (session : SessionId) → unserved_requests c s p session ≡ count_by (λ e. is_queued session e.queue && not (is_served_near c p e)) s.requests
+  unserved-counts session =
+      count-named (λ (e : RequestEntry). e.id) (λ e. is_queued session e.queue) (λ e. not (is_served_near c p e)) (λ r. not (request_is r s (is_served_by_sister c p))) s.requests
+      (all-from_at (λ (e : RequestEntry). is_queued session e.queue ≡ true → not (request_is e.id s (is_served_by_sister c p)) ≡ not (is_served_near c p e)) s.requests (unserved-there session))
+
+  registrant-counts : (o : Option SessionId) → count_by (λ e. option_map_or (λ session. is_queued session e.queue) o false && not (is_served_near c p e)) s.requests ≡ option_map_or (unserved_requests c s p) o 0
+  registrant-counts None = count-none (λ (e : RequestEntry). false) s.requests (λ e. refl)
+  registrant-counts (Some session) = sym (unserved-counts session)
+
+  launcher-counts : (q : PoolId) → is_sister c p q ≡ true → count_by (counts_at c s p q) s.requests ≡ launcher_requests c s p q
+  launcher-counts q sister =
+      let parts = count-either (λ (e : RequestEntry). is_pending_by q e.kept) (λ e. is_registrants c s p q e && not (is_served_near c p e)) (counts_at c s p q) s.requests (counts-apart c s p q sister) in
+      omega (arith, parts, pending-counts c s p q, registrant-counts (registered q s.registrations))
+
+  pool-counts : (q : PoolId) → count_by (λ e. is_pool q (near_pool c s p e)) s.requests ≡ sister_requests c s p q
+  pool-counts q =
+      count-same (λ (e : RequestEntry). is_pool q (near_pool c s p e)) (λ e. is_sister c p q && counts_at c s p q e) s.requests
+      (all-from_at (λ (e : RequestEntry). is_pool q (near_pool c s p e) ≡ (is_sister c p q && counts_at c s p q e)) s.requests (λ i e there.
+      near-at c s p holds.registered.of_launcher e (few-there i e there) (registrants-there i e there) q))
+      ∙ by (is_sister c p q) refl
+    where
+      by : (b : Bool) → is_sister c p q ≡ b → count_by (λ e. b && counts_at c s p q e) s.requests ≡ cond b (launcher_requests c s p q) 0
+      by true sister = launcher-counts q sister
+      by false other = count-none (λ (e : RequestEntry). false) s.requests (λ e. refl)
+
+  -- up to a pool, and to the next one
+  pub pool-adds : (q : PoolId) → count_by (is_near_below c s p (suc q.0)) s.requests ≡ count_by (is_near_below c s p q.0) s.requests + sister_requests c s p q
+  pool-adds q = more-counts c s p q ∙ ap (λ (n : ℕ). count_by (is_near_below c s p q.0) s.requests + n) (pool-counts q)
+
+  -- up to the last pool
+  pub pools-count : (pools : ℕ) → pools ≡ length c.pools → count_by (is_near_below c s p pools) s.requests ≡ requests_near c s p
+  pools-count pools all =
+      ap (λ (n : ℕ). count_by (is_near_below c s p n) s.requests) all
+      ∙ sym (count-same (λ (e : RequestEntry). is_served_near c p e || is_held_near c s p e) (is_near_below c s p (length c.pools)) s.requests
+      (all-from_at (λ (e : RequestEntry). (is_served_near c p e || is_held_near c s p e) ≡ is_near_below c s p (length c.pools) e) s.requests (λ i e there.
+      near-is c s p holds.registered.of_launcher e (few-there i e there) (registrants-there i e there))))

@@ -1,41 +1,39 @@
 -- the order of a launcher's kinds of events, and what a search among them returns
 use Rattle.std.specs.Prelude.{List, [], ◌∷◌, ℕ, Option, Some, None}
 use Rattle.np_changes.specs.Prelude.{AllByRecursion, Configuration, Event, LabelId, Launcher, NodeId, Outcome, PoolId, Reason, RequestId, SessionId, State}
-use Rattle.np_event.specs.declared.event.Event.TheVariants as ev
 use Rattle.np_useful.specs.Useful.{IsUseful}
 use Rattle.np_useful.specs.declared.kind.EventKind.TheVariants.{Request, Node}
-use Rattle.np_useful.specs.declared.kind.RequestKind.TheVariants as of_request
-use Rattle.np_useful.specs.declared.kind.NodeKind.TheVariants as of_node
 use Rattle.np_useful.specs.Choices.{NoneOf}
 use Rattle.np_launch.specs.declared.computed.ComputedKind.{ComputedKind}
-use Rattle.np_launch.specs.declared.computed.ComputedKind.TheVariants as computed
 use Rattle.np_launch.specs.declared.launcher.LaunchKind.{LaunchKind}
 use Rattle.np_launch.specs.declared.launcher.LaunchKind.TheVariants.{Plain, Computed}
+use Rattle.np_useful.specs.declared.kind.RequestKind.{RequestKind}
+use Rattle.np_useful.specs.declared.kind.NodeKind.{NodeKind}
 
 -- it finishes before it begins, and takes a free node before it creates one (own)
 abbrev pub launcher_order : List LaunchKind
 launcher_order =
-    Computed computed.Register
-    ∷ Computed computed.Done
-    ∷ Plain (Request of_request.Fulfil)
-    ∷ Plain (Node of_node.Unlock)
-    ∷ Plain (Request of_request.Unlock)
-    ∷ Plain (Node of_node.Start)
-    ∷ Computed computed.TakeReady
-    ∷ Plain (Request of_request.Create)
-    ∷ Computed computed.Decline
-    ∷ Plain (Request of_request.Accept)
-    ∷ Plain (Request of_request.Lock)
-    ∷ Computed computed.MinReady
+    Computed ComputedKind.Register
+    ∷ Computed ComputedKind.Done
+    ∷ Plain (Request RequestKind.Fulfil)
+    ∷ Plain (Node NodeKind.Unlock)
+    ∷ Plain (Request RequestKind.Unlock)
+    ∷ Plain (Node NodeKind.Start)
+    ∷ Computed ComputedKind.TakeReady
+    ∷ Plain (Request RequestKind.Create)
+    ∷ Computed ComputedKind.Decline
+    ∷ Plain (Request RequestKind.Accept)
+    ∷ Plain (Request RequestKind.Lock)
+    ∷ Computed ComputedKind.MinReady
     ∷ []
 
 -- no event of the kind is useful, whoever makes it and whatever it names (own)
 abbrev pub NoneComputed : Configuration → State → PoolId → ComputedKind → Type 0
-NoneComputed c s p computed.Register = (session : SessionId) → IsUseful c s (Launcher p) (ev.Register session) → ⊥
-NoneComputed c s p computed.Done = (session : SessionId) (n : NodeId) (attempt : ℕ) (o : Outcome) → IsUseful c s (Launcher p) (ev.Done session n attempt o) → ⊥
-NoneComputed c s p computed.TakeReady = (session : SessionId) (r : RequestId) (n : NodeId) → IsUseful c s (Launcher p) (ev.TakeReady session r n) → ⊥
-NoneComputed c s p computed.Decline = (session : SessionId) (r : RequestId) (why : Reason) → IsUseful c s (Launcher p) (ev.Decline session r why) → ⊥
-NoneComputed c s p computed.MinReady = (session : SessionId) (l : LabelId) → IsUseful c s (Launcher p) (ev.MinReady session l) → ⊥
+NoneComputed c s p ComputedKind.Register = (session : SessionId) → IsUseful c s (Launcher p) (Event.Register session) → ⊥
+NoneComputed c s p ComputedKind.Done = (session : SessionId) (n : NodeId) (attempt : ℕ) (o : Outcome) → IsUseful c s (Launcher p) (Event.Done session n attempt o) → ⊥
+NoneComputed c s p ComputedKind.TakeReady = (session : SessionId) (r : RequestId) (n : NodeId) → IsUseful c s (Launcher p) (Event.TakeReady session r n) → ⊥
+NoneComputed c s p ComputedKind.Decline = (session : SessionId) (r : RequestId) (why : Reason) → IsUseful c s (Launcher p) (Event.Decline session r why) → ⊥
+NoneComputed c s p ComputedKind.MinReady = (session : SessionId) (l : LabelId) → IsUseful c s (Launcher p) (Event.MinReady session l) → ⊥
 
 -- a useful event of the kind, or none if there is none (own)
 abbrev pub ChoosesComputed : Configuration → State → PoolId → ComputedKind → Option Event → Type 0

@@ -1,21 +1,18 @@
 -- the events of a launcher that name more than a request, a node or a job, by place
 use Rattle.std.specs.Prelude.{ℕ, Bool, true, false, ◌==◌, if◌then◌else◌, Option, Some, None, length, find, slice_get, is_ok, option_and_then}
 use Rattle.np_changes.specs.Prelude.{Configuration, Event, Janitor, LabelId, Launcher, NodeId, PoolId, Reaper, Reason, RequestId, RequestRecord, Requester, Role, SessionId, State, first_unoffered, is_pending_by, is_spent, judge, never_fits, next_label, node_in, option_map, outcome_of, request_in, session_of, tenant_never_fits}
-use Rattle.np_text.specs.declared.word.Reason.TheVariants as reason
-use Rattle.np_event.specs.declared.event.Event.TheVariants as ev
 use Rattle.np_look.specs.Readers.{free_ready_of, queued_requests, queued_nodes}
 use Rattle.np_launch.specs.declared.computed.ComputedKind.{ComputedKind}
-use Rattle.np_launch.specs.declared.computed.ComputedKind.TheVariants as computed
 
 -- ## what is computed
 
 -- the first of these reasons: a label, the pool's limits, the tenant's, a failed node (own)
 abbrev pub reason_of : Option LabelId → Bool → Bool → Option NodeId → Option Reason
-reason_of (Some l) never tenant spent = Some (reason.NoLabel l)
-reason_of None true tenant spent = Some reason.NeverFits
-reason_of None false true spent = Some reason.TenantNeverFits
+reason_of (Some l) never tenant spent = Some (Reason.NoLabel l)
+reason_of None true tenant spent = Some Reason.NeverFits
+reason_of None false true spent = Some Reason.TenantNeverFits
 reason_of None false false None = None
-reason_of None false false (Some n) = Some (reason.Spent n)
+reason_of None false false (Some n) = Some (Reason.Spent n)
 
 -- the first reason why the pool would decline the request (own)
 abbrev pub first_reason : Configuration → State → PoolId → RequestRecord → Option Reason
@@ -24,10 +21,10 @@ first_reason c s p request =
 
 -- the same reason, of the same label or node (own)
 abbrev pub same_reason : Reason → Reason → Bool
-same_reason (reason.NoLabel l) (reason.NoLabel of) = of.0 == l.0
-same_reason reason.NeverFits reason.NeverFits = true
-same_reason reason.TenantNeverFits reason.TenantNeverFits = true
-same_reason (reason.Spent n) (reason.Spent of) = of.0 == n.0
+same_reason (Reason.NoLabel l) (Reason.NoLabel of) = of.0 == l.0
+same_reason Reason.NeverFits Reason.NeverFits = true
+same_reason Reason.TenantNeverFits Reason.TenantNeverFits = true
+same_reason (Reason.Spent n) (Reason.Spent of) = of.0 == n.0
 same_reason _ _ = false
 
 -- the reason is the one that was found (own)
@@ -52,7 +49,7 @@ first_free s r p = option_and_then (λ k. option_and_then (λ l. free_ready_of p
 
 -- the session may allocate the node to the request (own)
 abbrev pub is_takable : Configuration → State → SessionId → RequestId → NodeId → Bool
-is_takable c s session r n = is_ok (judge c s (ev.TakeReady session r n))
+is_takable c s session r n = is_ok (judge c s (Event.TakeReady session r n))
 
 -- the first node that the session may allocate to the request (own)
 abbrev pub first_takable : Configuration → State → SessionId → RequestId → Option NodeId
@@ -65,35 +62,35 @@ first_takable c s session r =
 -- the session is (own)
 abbrev pub done_at : Configuration → State → PoolId → SessionId → ℕ → Option Event
 done_at c s p session at =
-    option_and_then (λ n. option_map (λ k. ev.Done session n k.attempts (outcome_of c p k.start)) (node_in n s.nodes)) (slice_get (queued_nodes session s) at)
+    option_and_then (λ n. option_map (λ k. Event.Done session n k.attempts (outcome_of c p k.start)) (node_in n s.nodes)) (slice_get (queued_nodes session s) at)
 
 -- the request at a place, of those in whose queues the session is, with its first ready node, if the
 -- pool serves it (own)
 abbrev pub take_ready_at : Configuration → State → PoolId → SessionId → ℕ → Option Event
 take_ready_at c s p session at =
-    option_and_then (λ r. option_and_then (λ k. if is_pending_by p k then option_map (λ n. ev.TakeReady session r n) (first_takable c s session r) else None) (request_in r s.requests)) (slice_get (queued_requests session s) at)
+    option_and_then (λ r. option_and_then (λ k. if is_pending_by p k then option_map (λ n. Event.TakeReady session r n) (first_takable c s session r) else None) (request_in r s.requests)) (slice_get (queued_requests session s) at)
 
 -- the request at a place, of those in whose queues the session is, with its first reason (own)
 abbrev pub decline_at : Configuration → State → PoolId → SessionId → ℕ → Option Event
 decline_at c s p session at =
-    option_and_then (λ r. option_and_then (λ k. option_map (λ why. ev.Decline session r why) (first_reason c s p k)) (request_in r s.requests)) (slice_get (queued_requests session s) at)
+    option_and_then (λ r. option_and_then (λ k. option_map (λ why. Event.Decline session r why) (first_reason c s p k)) (request_in r s.requests)) (slice_get (queued_requests session s) at)
 
 -- the label at a place (own)
 abbrev pub min_ready_at : Configuration → SessionId → ℕ → Option Event
-min_ready_at c session at = option_map (λ _. ev.MinReady session (record { 0 = at })) (slice_get c.labels at)
+min_ready_at c session at = option_map (λ _. Event.MinReady session (record { 0 = at })) (slice_get c.labels at)
 
 -- how many places the kind has (own)
 abbrev pub computed_places : Configuration → State → SessionId → ComputedKind → ℕ
-computed_places c s session computed.Register = 1
-computed_places c s session computed.Done = length (queued_nodes session s)
-computed_places c s session computed.TakeReady = length (queued_requests session s)
-computed_places c s session computed.Decline = length (queued_requests session s)
-computed_places c s session computed.MinReady = length c.labels
+computed_places c s session ComputedKind.Register = 1
+computed_places c s session ComputedKind.Done = length (queued_nodes session s)
+computed_places c s session ComputedKind.TakeReady = length (queued_requests session s)
+computed_places c s session ComputedKind.Decline = length (queued_requests session s)
+computed_places c s session ComputedKind.MinReady = length c.labels
 
 -- the session's event of the kind at a place (own)
 abbrev pub computed_at : Configuration → State → PoolId → SessionId → ComputedKind → ℕ → Option Event
-computed_at c s p session computed.Register at = Some (ev.Register session)
-computed_at c s p session computed.Done at = done_at c s p session at
-computed_at c s p session computed.TakeReady at = take_ready_at c s p session at
-computed_at c s p session computed.Decline at = decline_at c s p session at
-computed_at c s p session computed.MinReady at = min_ready_at c session at
+computed_at c s p session ComputedKind.Register at = Some (Event.Register session)
+computed_at c s p session ComputedKind.Done at = done_at c s p session at
+computed_at c s p session ComputedKind.TakeReady at = take_ready_at c s p session at
+computed_at c s p session ComputedKind.Decline at = decline_at c s p session at
+computed_at c s p session ComputedKind.MinReady at = min_ready_at c session at

@@ -1,37 +1,179 @@
--- a tree can carry the state that an accepted event leaves
-use Rattle.np_layout.proofs.EnactPrelude.{AllByRecursion, AreHolders, Asked, AsksForJob, AsksToKeep, Bool, Changes, Configuration, Growth, GrowthPremise, HasGoodIds, HasText, IsCarried, IsGood, IsNumbered, IsOrdered, IsPriority, IsTypedGrowth, Job, JobId, JobRecord, Launcher, List, Maker, Node, NodeEntry, NodeId, None, Option, Registration, Request, RequestEntry, RequestId, RequestsChange, RoleRecord, SessionFacts, SessionId, SessionsChange, Some, State, StepsAreCarried, Swept, [], all-change_first, all-insert_before, all-mapped, all-remove_first, all-weaker, ap, arith, change_janitor, change_launcher, change_requester, changed, cond, edited, ended, false, grown, inl, inr, insert_before, is_id_before, is_pair_after, is_swept, jobs-grown, joined, left, length, length-append, length-change_at, made-look, muted, new_record, next_id, numbered, plan, plan-next, put_request_queue, refl, registers, request_left, request_queue, requests_changed, requests_left, same_request, sessions_changed, subst, sym, true, with_pair, ℕ, ◌+◌, ◌-◌, ◌<◌, ◌^◌, ◌∙◌, ◌≡◌, ◌≤◌, ◌⊎◌}
-use Rattle.np_layout.proofs.Settled.{same-roles, same-tick}
-use Rattle.np_changes.specs.declared.changes.Growth.TheVariants as grow
-use Rattle.np_changes.specs.declared.changes.RequestsChange.TheVariants as requests
-use Rattle.np_changes.specs.declared.changes.SessionsChange.TheVariants as sessions
-use Rattle.np_layout.specs.declared.place.Place.TheVariants.{Swept as SweptPlace}
+-- a tree can carry the state that an accepted event leaves, with its tables in their order
+use Rattle.np_layout.proofs.Prelude.{AllByRecursion, AreHolders, Asked, AsksForJob, AsksToKeep, Bool, Changes, Configuration, Deed, Growth, GrowthPremise, HandlesChange, HasGoodIds, HasText, IsCarried, IsGood, IsNumbered, IsOrdered, IsPriority, IsTypedGrowth, Job, JobId, JobRecord, JobsChange, Launcher, List, Maker, Node, NodeEntry, NodeId, None, Option, Registration, Request, RequestEntry, RequestId, RequestsChange, Rises, Rises-filter, Role, RoleRecord, SemId, SessionFacts, SessionId, SessionsChange, Some, State, StepsAreCarried, Swept, SweptPlace, all-change_at, all-change_first, all-filter, all-insert_before, all-mapped, all-remove_first, all-weaker, all_with_handle, all_without_handle, ap, arith, change_at, change_janitor, change_launcher, change_requester, changed, cond, edited, ended, false, grown, handles_changed, inl, inr, insert_before, is_among, is_id_before, is_pair, is_pair_after, is_pair_before, is_session, is_swept, jobs-grown, jobs_changed, joined, left, length, length-append, length-change_at, length-set, made-look, muted, nat_lt, nat_tests, new_record, next_id, none-list_any, not, numbered, one_more_act, one_more_start, plan, plan-next, put_request_queue, refl, registered-still, registers, registrations_left, request_left, request_queue, requests_changed, requests_left, rises-insert_before, same_request, semaphores_of, sessions_changed, slice_get_within, struck_unless, subst, sym, true, with_deed, with_handle, with_mark, with_pair, without_handle, ℕ, [], ◌+◌, ◌-◌, ◌<◌, ◌==◌, ◌^◌, ◌∙◌, ◌∷◌, ◌≡◌, ◌≤◌, ◌⊎◌}
+use Rattle.np_layout.proofs.Rows.{pair-trans}
+use Rattle.np_layout.proofs.Spelled.{IsKnown, all-spelled, known-accepted, launcher-low, next-text, priority-text}
+use Rattle.np_layout.proofs.Stands.{same-roles, same-tick}
 use Rattle.np_layout.proofs.SoundRows.{JobRow, job-low, job-row, pool-low}
-use Rattle.np_layout.proofs.KnownRows.{IsKnown, next-text, priority-text}
-use Rattle.np_layout.proofs.Spelled.{all-spelled, known-accepted}
-use Rattle.np_layout.proofs.OrderedLater.{deed-length, janitors-length, launchers-length, length-handles, length-jobs, ordered-later, requesters-length}
+
+-- # the tables that the tree keeps by names stay in their order, and each keeps its length
+
+-- ## handles
+
+through_jobs : (a b k : JobId) → nat_lt a.0 b.0 ≡ true → nat_lt b.0 k.0 ≡ true → nat_lt a.0 k.0 ≡ true
+through_jobs a b k first second = grind (arith, nat_tests)
+
+past-job : (j other : JobId) → (other.0 == j.0) ≡ false → nat_lt j.0 other.0 ≡ false → nat_lt other.0 j.0 ≡ true
+past-job j other apart out = grind (arith, nat_tests)
+
+with-holders : (n : ℕ) (j : JobId) (holders : List JobId) → j.0 < n → AreHolders n holders → AreHolders n (with_handle j holders)
+with-holders n j holders low old = by (is_among j holders) refl where
+  by : (b : Bool) → is_among j holders ≡ b → AreHolders n (cond b holders (insert_before (λ other. nat_lt j.0 other.0) j holders))
+  by true there = old
+  by false out = record {
+    rise = rises-insert_before (λ (a b : JobId). nat_lt a.0 b.0) through_jobs j holders
+        (all-weaker (λ (other : JobId). (other.0 == j.0) ≡ false) (λ (other : JobId). nat_lt j.0 other.0 ≡ false → nat_lt other.0 j.0 ≡ true) (past-job j) holders (none-list_any (λ (other : JobId). other.0 == j.0) holders out)) old.rise;
+    exist = all-insert_before (λ (other : JobId). other.0 < n) (λ other. nat_lt j.0 other.0) j holders low old.exist;
+  }
+
+without-holders : (n : ℕ) (j : JobId) (holders : List JobId) → AreHolders n holders → AreHolders n (without_handle j holders)
+without-holders n j holders old = record {
+  rise = Rises-filter (λ (a b : JobId). nat_lt a.0 b.0) (λ other. not (other.0 == j.0)) holders old.rise;
+  exist = all-filter (λ (other : JobId). other.0 < n) (λ other. not (other.0 == j.0)) holders old.exist;
+}
+
+all-with : (n : ℕ) (j : JobId) (semaphores : List SemId) (rows : List (List JobId)) → j.0 < n → AllByRecursion (AreHolders n) rows → AllByRecursion (AreHolders n) (all_with_handle j semaphores rows)
+all-with n j [] rows low all = all
+all-with n j (x ∷ semaphores) rows low all =
+    all-with n j semaphores (change_at x.0 (with_handle j) rows) low (all-change_at (AreHolders n) x.0 (with_handle j) rows (λ holders old. with-holders n j holders low old) all)
+
+all-without : (n : ℕ) (j : JobId) (semaphores : List SemId) (rows : List (List JobId)) → AllByRecursion (AreHolders n) rows → AllByRecursion (AreHolders n) (all_without_handle j semaphores rows)
+all-without n j [] rows all = all
+all-without n j (x ∷ semaphores) rows all =
+    all-without n j semaphores (change_at x.0 (without_handle j) rows) (all-change_at (AreHolders n) x.0 (without_handle j) rows (λ holders old. without-holders n j holders old) all)
+
+handles-by : (c : Configuration) (change : HandlesChange) (rows : List (List JobId)) → AllByRecursion (AreHolders (length c.jobs)) rows → AllByRecursion (AreHolders (length c.jobs)) (handles_changed c change rows)
+handles-by c HandlesChange.Same rows all = all
+handles-by c (HandlesChange.Release j) rows all = all-without (length c.jobs) j (semaphores_of c j) rows all
+
+-- ## pairs
+
+past-pair : (n : NodeId) (x : ℕ) (pair : Swept) → is_pair n x pair ≡ false → is_pair_before (record { node = n; server = x }) pair ≡ false → is_pair_before pair (record { node = n; server = x }) ≡ true
+past-pair n x pair apart out = grind (arith, nat_tests)
+
+with-pair : (n : NodeId) (x : ℕ) (pairs : List Swept) → Rises is_pair_before pairs → Rises is_pair_before (with_pair n x pairs)
+with-pair n x pairs old = by (is_swept n x pairs) refl where
+  by : (b : Bool) → is_swept n x pairs ≡ b → Rises is_pair_before (cond b pairs (insert_before (is_pair_after n x) (record { node = n; server = x }) pairs))
+  by true there = old
+  by false out = rises-insert_before is_pair_before pair-trans (record { node = n; server = x }) pairs
+      (all-weaker (λ (pair : Swept). is_pair n x pair ≡ false) (λ (pair : Swept). is_pair_before (record { node = n; server = x }) pair ≡ false → is_pair_before pair (record { node = n; server = x }) ≡ true)
+      (past-pair n x) pairs (none-list_any (is_pair n x) pairs out)) old
+
+-- ## lengths
+
+length-with : (j : JobId) (semaphores : List SemId) (rows : List (List JobId)) → length (all_with_handle j semaphores rows) ≡ length rows
+length-with j [] rows = refl
+length-with j (x ∷ semaphores) rows = length-with j semaphores (change_at x.0 (with_handle j) rows) ∙ length-change_at x.0 (with_handle j) rows
+
+length-without : (j : JobId) (semaphores : List SemId) (rows : List (List JobId)) → length (all_without_handle j semaphores rows) ≡ length rows
+length-without j [] rows = refl
+length-without j (x ∷ semaphores) rows = length-without j semaphores (change_at x.0 (without_handle j) rows) ∙ length-change_at x.0 (without_handle j) rows
+
+length-handles_grown : (c : Configuration) (maker : Option Maker) (growth : Growth) (s : State) → length (grown c maker growth s).handles ≡ length s.handles
+length-handles_grown c maker (Growth.Handles j) s = length-with j (semaphores_of c j) s.handles
+length-handles_grown c maker (Growth.Registration p) s = made-look (λ (t : State). length t.handles) maker (λ session t. registers t session p) s (λ session t. refl)
+length-handles_grown c maker _ s = refl
+
+length-handles_changed : (c : Configuration) (change : HandlesChange) (rows : List (List JobId)) → length (handles_changed c change rows) ≡ length rows
+length-handles_changed c HandlesChange.Same rows = refl
+length-handles_changed c (HandlesChange.Release j) rows = length-without j (semaphores_of c j) rows
+
+-- there is a list of handles for each semaphore as before
+pub length-handles : (c : Configuration) (s : State) (ch : Changes) → length (changed c ch s).handles ≡ length s.handles
+length-handles c s ch = length-handles_changed c ch.handles (grown c ch.maker ch.grows s).handles ∙ length-handles_grown c ch.maker ch.grows s
+
+-- no job's record is added or removed
+pub length-jobs : (change : JobsChange) (rows : List JobRecord) → length (jobs_changed change rows) ≡ length rows
+length-jobs JobsChange.Same rows = refl
+length-jobs (JobsChange.Put j kept) rows = length-set rows j.0 kept
+length-jobs (JobsChange.EndNode j n) rows = length-change_at j.0 (with_mark n) rows
+
+-- the change of a role's record keeps the length of each table
+abbrev pub KeepsLength : ((RoleRecord → RoleRecord) → Role → List RoleRecord → List RoleRecord) → Type 0
+KeepsLength change = (f : RoleRecord → RoleRecord) (r : Role) (rows : List RoleRecord) → length (change f r rows) ≡ length rows
+
+-- the table of launchers
+pub launchers-length : KeepsLength change_launcher
+launchers-length f (Role.Launcher p) rows = length-change_at p.0 f rows
+launchers-length f _ rows = refl
+
+-- the table of janitors
+pub janitors-length : KeepsLength change_janitor
+janitors-length f (Role.Janitor p) rows = length-change_at p.0 f rows
+janitors-length f _ rows = refl
+
+-- the table of requesters
+pub requesters-length : KeepsLength change_requester
+requesters-length f (Role.Requester q) rows = length-change_at q.0 f rows
+requesters-length f _ rows = refl
+
+-- a deed keeps the length of a table
+pub deed-length : (change : (RoleRecord → RoleRecord) → Role → List RoleRecord → List RoleRecord) → KeepsLength change → (maker : Option Maker) (what : Option Deed) (rows : List RoleRecord) → length (with_deed change maker what rows) ≡ length rows
+deed-length change keeps maker None rows = refl
+deed-length change keeps None (Some Deed.Acts) rows = refl
+deed-length change keeps (Some m) (Some Deed.Acts) rows = keeps one_more_act m.role rows
+deed-length change keeps maker (Some (Deed.StartsAndActs p)) rows = keeps (λ k. one_more_act (one_more_start k)) (Role.Launcher p) rows
+deed-length change keeps maker (Some (Deed.Strikes r counted)) rows = keeps (struck_unless counted) r rows
+
+-- ## all changes
+
+module _ (c : Configuration) (s : State) (ch : Changes) (known : IsKnown c s ch) where
+  pools-grown : (maker : Option Maker) (growth : Growth) → GrowthPremise c s ch growth → AllByRecursion (λ g. g.pool.0 < length c.pools) (grown c maker growth s).registrations
+  pools-grown None (Growth.Registration p) premise = known.carried.ordered.pools
+  pools-grown (Some m) (Growth.Registration p) premise =
+      all-insert_before (λ (g : Registration). g.pool.0 < length c.pools) (λ g. nat_lt p.0 g.pool.0) (record { pool = p; session = m.session }) s.registrations
+      (launcher-low c s ch.maker premise.session p known.fits known.premises.maker premise.made_by) known.carried.ordered.pools
+  pools-grown maker _ premise = known.carried.ordered.pools
+
+  pools-end : (change : SessionsChange) (rows : List Registration) → AllByRecursion (λ g. g.pool.0 < length c.pools) rows → AllByRecursion (λ g. g.pool.0 < length c.pools) (registrations_left change rows)
+  pools-end SessionsChange.Same rows all = all
+  pools-end (SessionsChange.Mute session) rows all = all
+  pools-end (SessionsChange.End session) rows all = all-filter (λ (g : Registration). g.pool.0 < length c.pools) (λ g. not (is_session g.session session)) rows all
+
+  handles-grown : (maker : Option Maker) (growth : Growth) → GrowthPremise c s ch growth → AllByRecursion (AreHolders (length c.jobs)) (grown c maker growth s).handles
+  handles-grown None (Growth.Registration p) premise = known.carried.ordered.handles
+  handles-grown (Some m) (Growth.Registration p) premise = known.carried.ordered.handles
+  handles-grown maker (Growth.Handles j) premise = all-with (length c.jobs) j (semaphores_of c j) s.handles (slice_get_within c.jobs j.0 premise.job premise.row) known.carried.ordered.handles
+  handles-grown maker _ premise = known.carried.ordered.handles
+
+  swept-grown : (maker : Option Maker) (growth : Growth) → Rises is_pair_before (grown c maker growth s).swept
+  swept-grown None (Growth.Registration p) = known.carried.ordered.swept
+  swept-grown (Some m) (Growth.Registration p) = known.carried.ordered.swept
+  swept-grown maker (Growth.Swept n x) = with-pair n x s.swept known.carried.ordered.swept
+  swept-grown maker _ = known.carried.ordered.swept
+
+  -- the tables are in order after the changes
+  pub ordered-later : IsOrdered c (changed c ch s)
+  ordered-later = record {
+    registrations = let later = registered-still c s ch known.invariant.registered known.premises in later.one_a_pool;
+    pools = pools-end ch.sessions (grown c ch.maker ch.grows s).registrations (pools-grown ch.maker ch.grows known.premises.grows);
+    handles = handles-by c ch.handles (grown c ch.maker ch.grows s).handles (handles-grown ch.maker ch.grows known.premises.grows);
+    swept = swept-grown ch.maker ch.grows;
+  }
+
+-- # a tree can carry the state that an accepted event leaves
 
 -- ## numbers
 
 -- an event makes one node at most
 next-node : (c : Configuration) (maker : Option Maker) (growth : Growth) (s : State) → (grown c maker growth s).next_node ≤ s.next_node + 1
-next-node c maker (grow.Node kept) s = omega arith
-next-node c maker (grow.Registration p) s =
-    let same : (grown c maker (grow.Registration p) s).next_node ≡ s.next_node = made-look (λ (t : State). t.next_node) maker (λ session t. registers t session p) s (λ session t. refl) in
+next-node c maker (Growth.Node kept) s = omega arith
+next-node c maker (Growth.Registration p) s =
+    let same : (grown c maker (Growth.Registration p) s).next_node ≡ s.next_node = made-look (λ (t : State). t.next_node) maker (λ session t. registers t session p) s (λ session t. refl) in
     omega arith
 next-node c maker _ s = omega arith
 
 -- an event begins one session at most
 sessions-grown : (c : Configuration) (maker : Option Maker) (growth : Growth) (s : State) → length (grown c maker growth s).sessions ≤ length s.sessions + 1
-sessions-grown c maker (grow.Session role) s = simp length-append (omega arith)
-sessions-grown c maker (grow.Registration p) s =
-    let same : length (grown c maker (grow.Registration p) s).sessions ≡ length s.sessions = made-look (λ (t : State). length t.sessions) maker (λ session t. registers t session p) s (λ session t. refl) in
+sessions-grown c maker (Growth.Session role) s = simp length-append (omega arith)
+sessions-grown c maker (Growth.Registration p) s =
+    let same : length (grown c maker (Growth.Registration p) s).sessions ≡ length s.sessions = made-look (λ (t : State). length t.sessions) maker (λ session t. registers t session p) s (λ session t. refl) in
     omega arith
 sessions-grown c maker _ s = omega arith
 
 sessions-length : (change : SessionsChange) (rows : List SessionFacts) → length (sessions_changed change rows) ≡ length rows
-sessions-length sessions.Same rows = refl
-sessions-length (sessions.Mute session) rows = length-change_at (session.0 - 1) muted rows
-sessions-length (sessions.End session) rows = length-change_at (session.0 - 1) ended rows
+sessions-length SessionsChange.Same rows = refl
+sessions-length (SessionsChange.Mute session) rows = length-change_at (session.0 - 1) muted rows
+sessions-length (SessionsChange.End session) rows = length-change_at (session.0 - 1) ended rows
 
 tick-by : (ticks : Bool) (tick : ℕ) → tick + 1 < 2 ^ 32 → cond ticks (tick + 1) tick < 2 ^ 32
 tick-by true tick low = low
@@ -47,17 +189,17 @@ texts-queue : (r : RequestId) (queue : List SessionId) (rows : List RequestEntry
 texts-queue r queue rows all = all-change_first (λ (e : RequestEntry). IsGood (Request e.id)) (λ e. same_request e.id r) (λ e. record e { queue = queue }) rows (λ e good. good) all
 
 texts-changed : (maker : Option Maker) (change : RequestsChange) (rows : List RequestEntry) → HaveTexts rows → HaveTexts (requests_changed maker change rows)
-texts-changed maker requests.Same rows all = all
-texts-changed maker (requests.Edit r change) rows all =
+texts-changed maker RequestsChange.Same rows all = all
+texts-changed maker (RequestsChange.Edit r change) rows all =
     all-change_first (λ (e : RequestEntry). IsGood (Request e.id)) (λ e. same_request e.id r) (λ e. record e { kept = edited change e.kept }) rows (λ e good. good) all
-texts-changed maker (requests.Remove r) rows all = all-remove_first (λ (e : RequestEntry). IsGood (Request e.id)) (λ e. same_request e.id r) rows all
-texts-changed None (requests.Leave r) rows all = all
-texts-changed (Some m) (requests.Leave r) rows all = texts-queue r (left m.session (request_queue r rows)) rows all
+texts-changed maker (RequestsChange.Remove r) rows all = all-remove_first (λ (e : RequestEntry). IsGood (Request e.id)) (λ e. same_request e.id r) rows all
+texts-changed None (RequestsChange.Leave r) rows all = all
+texts-changed (Some m) (RequestsChange.Leave r) rows all = texts-queue r (left m.session (request_queue r rows)) rows all
 
 texts-end : (change : SessionsChange) (rows : List RequestEntry) → HaveTexts rows → HaveTexts (requests_left change rows)
-texts-end sessions.Same rows all = all
-texts-end (sessions.Mute session) rows all = all
-texts-end (sessions.End session) rows all = all-mapped (λ (e : RequestEntry). IsGood (Request e.id)) (λ (e : RequestEntry). IsGood (Request e.id)) (request_left session) rows (λ e good. good) all
+texts-end SessionsChange.Same rows all = all
+texts-end (SessionsChange.Mute session) rows all = all
+texts-end (SessionsChange.End session) rows all = all-mapped (λ (e : RequestEntry). IsGood (Request e.id)) (λ (e : RequestEntry). IsGood (Request e.id)) (request_left session) rows (λ e good. good) all
 
 -- ## pairs
 
@@ -80,19 +222,19 @@ module _ (c : Configuration) (s : State) (ch : Changes) (known : IsKnown c s ch)
   new-text priority asked (inr asks) = let is = asks.of_keeping in next-text c s priority known.fits (omega arith) (omega arith)
 
   texts-grown : (maker : Option Maker) (growth : Growth) → GrowthPremise c s ch growth → HaveTexts (grown c maker growth s).requests
-  texts-grown None (grow.Registration p) premise = known.carried.good.requests
-  texts-grown (Some m) (grow.Registration p) premise = known.carried.good.requests
-  texts-grown maker (grow.Request priority asked) premise =
+  texts-grown None (Growth.Registration p) premise = known.carried.good.requests
+  texts-grown (Some m) (Growth.Registration p) premise = known.carried.good.requests
+  texts-grown maker (Growth.Request priority asked) premise =
       all-insert_before (λ (e : RequestEntry). IsGood (Request e.id)) (λ e. is_id_before (next_id priority s) e.id) (record { id = next_id priority s; kept = new_record asked; queue = [] }) s.requests
       (new-text priority asked premise) known.carried.good.requests
-  texts-grown None (grow.JoinRequest r) premise = known.carried.good.requests
-  texts-grown (Some m) (grow.JoinRequest r) premise = texts-queue r (joined m.session (request_queue r s.requests)) s.requests known.carried.good.requests
+  texts-grown None (Growth.JoinRequest r) premise = known.carried.good.requests
+  texts-grown (Some m) (Growth.JoinRequest r) premise = texts-queue r (joined m.session (request_queue r s.requests)) s.requests known.carried.good.requests
   texts-grown maker _ premise = known.carried.good.requests
 
   places-grown : (maker : Option Maker) (growth : Growth) → IsTypedGrowth growth → HavePlaces (grown c maker growth s).swept
-  places-grown None (grow.Registration p) typed = known.carried.good.swept
-  places-grown (Some m) (grow.Registration p) typed = known.carried.good.swept
-  places-grown maker (grow.Swept n x) typed = places-with n x s.swept typed known.carried.good.swept
+  places-grown None (Growth.Registration p) typed = known.carried.good.swept
+  places-grown (Some m) (Growth.Registration p) typed = known.carried.good.swept
+  places-grown maker (Growth.Swept n x) typed = places-with n x s.swept typed known.carried.good.swept
   places-grown maker _ typed = known.carried.good.swept
 
   -- ## lengths

@@ -1,15 +1,10 @@
 -- a create of a request's record, and then of its lock
-use Rattle.np_layout.proofs.Prelude.{AllByRecursion, AllZip, Bool, Equal, Greater, GrownRequestsLayOut, HasGoodIds, HasParts-below, HasRoomFor, IsGood, HasQueue, IsWait, IsWhole, LaysOut, Less, List, Nodepool, None, NonePass, Op, Persistent, PersistentSequential, Place, Request, RequestEntry, RequestId, RequestLock, RequestLocks, RequestRecord, Requests, Row, Seen, Some, State, TreeState, [], after_part, all-insert_before, ap, append_assoc, arith, below, bytes_eq, cond, counter_after, decimal, false, insert_request, is_element, is_id_before, is_in, is_lt, is_named, is_path-below, length, list_all, list_all-append, make, map, nat_cmp, nat_lt, nat_tests, next_id, none-find, option_map, ordering_then, owner_at, path_of, persistent, place_name, refl, request_entry, request_lock_row, request_prefix, request_record_text, request_row, room-falls, room-gives, row_before, same_request, slice_cmp, subst, sym, ten_digits_of, true, with_row, ℕ, ◌&&◌, ◌++◌, ◌+◌, ◌==◌, ◌∙◌, ◌∷◌, ◌≡◌, ◌≤◌}
-use Rattle.np_text.specs.Request.{request_text_of}
-use Rattle.np_tree_nodes.specs.declared.op.Op.TheVariants as op
-use Rattle.np_layout.proofs.AboveLemmas.{is_path-of}
-use Rattle.np_layout.proofs.NameLemmas.{is_element-plain, is_plain, is_plain_name, plain_name-decimal}
-use Rattle.np_layout.proofs.OrderLemmas.{requests-rise}
-use Rattle.np_layout.proofs.CreateLists.{none-mapped}
-use Rattle.np_layout.proofs.CreateSteps.{Step, make-new, create-step, free-named, owner-there}
-use Rattle.np_layout.proofs.EachTable.{Says, Table, all-tables, each-table, of_request_locks, of_requests, table-stays}
-use Rattle.np_layout.proofs.Elsewhere.{Stays, all-true, beside-apart, request_queues-stay, stays-more, IsApart}
-use Rattle.np_layout.proofs.EntryNames.{request-named}
+use Rattle.np_layout.proofs.Prelude.{AllByRecursion, AllZip, Bool, Equal, Greater, GrownRequestsLayOut, HasGoodIds, HasParts-below, HasQueue, HasRoomFor, IsGood, IsWait, IsWhole, LaysOut, Less, List, Nodepool, None, NonePass, Op, Persistent, PersistentSequential, Place, Request, RequestEntry, RequestId, RequestLock, RequestLocks, RequestRecord, Requests, Row, Seen, Some, State, TreeState, after_part, all-insert_before, ap, append_assoc, arith, below, bytes_eq, cond, counter_after, decimal, false, insert_request, is_element, is_id_before, is_in, is_lt, is_named, is_path-below, length, list_all, list_all-append, make, map, nat_cmp, nat_lt, nat_tests, next_id, none-find, option_map, ordering_then, owner_at, path_of, persistent, place_name, refl, request_entry, request_lock_row, request_prefix, request_record_text, request_row, request_text_of, room-falls, room-gives, row_before, same_request, slice_cmp, subst, sym, ten_digits_of, true, with_row, ℕ, [], ◌&&◌, ◌++◌, ◌+◌, ◌==◌, ◌∙◌, ◌∷◌, ◌≡◌, ◌≤◌}
+use Rattle.np_layout.proofs.Names.{is_element-plain, is_path-of, is_plain, is_plain_name, plain_name-decimal, requests-rise}
+use Rattle.np_layout.proofs.Rows.{none-mapped}
+use Rattle.np_layout.proofs.Steps.{Step, make-new, create-step, free-named, owner-there}
+use Rattle.np_layout.proofs.Elsewhere.{IsApart, Says, Stays, Table, all-tables, all-true, beside-apart, each-table, of_request_locks, of_requests, request_queues-stay, stays-more, table-stays}
+use Rattle.np_layout.proofs.Deletes.{request-named}
 
 -- ## rows in the order of requests
 
@@ -65,7 +60,7 @@ module _ (s : State) (t : TreeState) (w priority : ℕ) (kept : RequestRecord) (
   bytes = request_record_text kept
 
   abbrev part : Op
-  part = op.Create (below (path_of Requests) (request_prefix r)) bytes PersistentSequential
+  part = Op.Create (below (path_of Requests) (request_prefix r)) bytes PersistentSequential
 
   -- no other request has its name
   others : (row : RequestEntry → Row) → ((e : RequestEntry) → (row e).name ≡ place_name (Request e.id)) → (list : List RequestEntry) → AllByRecursion (λ e. IsGood (Request e.id)) list → NonePass (λ (e : RequestEntry). same_request e.id r) list →

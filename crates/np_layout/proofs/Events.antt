@@ -1,37 +1,311 @@
--- the changes of a whole event
-use Rattle.np_layout.proofs.EnactPrelude.{AllByRecursion, Bool, Changes, Configuration, Enacts, EventsEnact, Goes, Growth, GrowthReady, GrowthsEnact, HasGoodIds, HasRoomFor, HasSpellings, IsEnacted, IsJob, IsNode, IsReady, IsRequest, IsRole, IsSessionRole, IsWhole, IsWhole-after_end, LaysOut, List, Maker, NodeEntry, None, Op, Option, RequestEntry, SessionFacts, SessionId, SessionsChange, SessionsPremise, Some, Stands, State, TreeState, [], after_multi, after_parts, all-change_first, all-insert_before, all-push, allocated, ap, arith, called, changed, cond, enacted, false, grown, grown_parts, in_call, is_id_before, is_in, jobs-grown, joined, low-min, nat_tests, new_record, next_change, next_id, node_queue, parts_of, refl, request_queue, same_request, session_ends-lay-out, session_of, settled, settled_parts, slice_get, subst, sym, tree_session, true, with_begin, with_end, without_session, writer, ℕ, ◌+◌, ◌-◌, ◌<◌, ◌==◌, ◌∙◌, ◌≡◌, ◌≤◌}
-use Rattle.np_layout.proofs.Settled.{same-roles}
-use Rattle.np_changes.specs.declared.changes.Growth.TheVariants as grow
-use Rattle.np_changes.specs.declared.changes.SessionsChange.TheVariants as sessions
-use Rattle.np_layout.proofs.Calls.{goes-begun, good-ended, number-of, numbered, parts-begun, room-ended, stands-numbered}
-use Rattle.np_layout.proofs.Settled.{SettledReady, TablesEnact, grown-tree, same-requests, same-tick, settled-current, settled-enact, with_all}
-use Rattle.np_layout.proofs.SpelledNodes.{granted-is}
-use Rattle.np_layout.proofs.StandsLemmas.{enacts-joined, stands-less}
+-- every accepted event is ready for the tree and is enacted in it
+use Rattle.np_layout.proofs.Prelude.{AllByRecursion, AllocationsListed, AreDistinct, Bool, Changes, Configuration, DistinctSessions, EmptiesRequest, Enacts, Event, EventsAreEnacted, EventsAreReady, EventsEnact, Fits, Goes, GoesFulfilled, GoesWithdrawn, Growth, GrowthPremise, GrowthReady, GrowthsEnact, HandlesChange, HasGoodIds, HasRoomFor, HasSpellings, Invariant, IsApart, IsCarried, IsEnacted, IsJob, IsLiveQueue, IsNode, IsNumbered, IsQueued, IsReady, IsRequest, IsRole, IsSessionRole, IsTypedGrowth, IsWhole, IsWhole-after_end, JobId, LaysOut, List, Maker, NodeEntry, NodeId, NodesChange, NodesPremise, NodesReady, None, Op, Option, RecordsAreSpelled, RequestEntry, RequestId, RequestRecord, RequestsChange, RequestsPremise, Rises, SemId, SessionFacts, SessionId, SessionReady, SessionsChange, SessionsPremise, Some, Stands, State, StepsAreCarried, TakesOver, TreeState, WaitOnce, after_multi, after_parts, all-change_first, all-find, all-insert_before, all-push, all-weaker, allocated, ap, arith, called, changed, cond, enacted, equal-itself, false, find-none, grown, grown_parts, in_call, inl, inr, is_id_before, is_in, is_ok, is_request, is_some, is_wanted, janitor, jobs-grown, joined, judge, launcher, length, list_any, low-min, maker, nat_lt, nat_tests, new_record, next, next_change, next_id, next_label, node_entry, node_in, node_queue, nodes_of, option_map, option_map_or, parts_of, plan, plan-found, plan-given, premises, refl, request-equal, request_entry, request_in, request_of_job, request_queue, requester, row-of, same, same_request, semaphores_of, session_of, settled, settled_parts, slice_get, slice_get_within, subst, sym, tree_session, true, with_begin, with_end, without_session, writer, ℕ, [], ◌+◌, ◌-◌, ◌<◌, ◌==◌, ◌^◌, ◌∙◌, ◌∷◌, ◌≡◌, ◌≤◌, ◌⊎◌}
+use Rattle.np_changes.specs.Premises.{HasRoom}
+use Rattle.np_layout.proofs.Sessions.{session_ends-lay-out}
+use Rattle.np_changes.specs.Prelude.{Job}
+use Rattle.np_layout.proofs.Carried.{new-text}
+use Rattle.np_layout.proofs.Spelled.{IsKnown, allocated-tenant, granted-is, known-accepted, launcher-low, new-node, new-request, request-row}
+use Rattle.np_layout.proofs.SoundRows.{job-low, job-row, pool-low, role-low}
+use Rattle.np_layout.proofs.Stands.{SettledReady, TablesEnact, enacts-joined, goes-begun, good-ended, grown-tree, number-of, numbered, parts-begun, room-ended, same-requests, same-roles, same-tick, settled-current, settled-enact, stands-less, stands-numbered, with_all}
+
+-- # what is true of each plan: a session begins with no maker, a session that is muted was begun, and nothing grows beside it or beside handles that are given back
+
+-- ## what is true of each plan
+
+-- a session begins with no maker
+abbrev pub IsUnmade : Option Maker → Growth → Type 0
+IsUnmade maker (Growth.Session role) = maker ≡ None
+IsUnmade maker other = Unit {0}
+
+-- a session begins with no maker, one that is muted was begun, and what grows is apart
+record IsPlain (c : Configuration) (s : State) (ch : Changes) : Type 0 where
+  unmade : IsUnmade ch.maker ch.grows
+  sessions : SessionReady (in_call ch.sessions) (grown c ch.maker ch.grows s)
+  apart : IsApart ch
+
+-- ## what is true of most plans, whoever makes them
+
+-- no session begins
+abbrev BeginsNone : Growth → Type 0
+BeginsNone (Growth.Session role) = ⊥
+BeginsNone other = Unit {0}
+
+-- none is muted
+abbrev MutesNone : SessionsChange → Type 0
+MutesNone SessionsChange.Same = Unit {0}
+MutesNone (SessionsChange.Mute session) = ⊥
+MutesNone (SessionsChange.End session) = Unit {0}
+
+-- nothing grows if handles are given back
+abbrev GivesAlone : HandlesChange → Growth → Type 0
+GivesAlone HandlesChange.Same growth = Unit {0}
+GivesAlone (HandlesChange.Release j) growth = growth ≡ Growth.Nothing
+
+abbrev IsCalm : Changes → Type 0
+IsCalm ch = BeginsNone ch.grows × (MutesNone ch.sessions × GivesAlone ch.handles ch.grows)
+
+calm-unmade : (by : Option Maker) (growth : Growth) → BeginsNone growth → IsUnmade by growth
+calm-unmade by (Growth.Session role) none = absurd none
+calm-unmade by _ none = tt
+
+calm-sessions : (change : SessionsChange) (s : State) → MutesNone change → SessionReady (in_call change) s
+calm-sessions SessionsChange.Same s none = tt
+calm-sessions (SessionsChange.Mute session) s none = absurd none
+calm-sessions (SessionsChange.End session) s none = tt
+
+calm-apart : (ch : Changes) → IsCalm ch → IsApart ch
+calm-apart ch calm = record {
+  handles = λ j is. subst (λ (change : HandlesChange). GivesAlone change ch.grows) is calm.1.1;
+  sessions = λ session is. absurd (subst MutesNone is calm.1.0);
+}
+
+module _ (c : Configuration) (s : State) where
+  -- the plan of an event is plain if it is calm
+  by-calm : (e : Event) → IsCalm (plan c s e) → IsPlain c s (plan c s e)
+  by-calm e calm =
+      let ch = plan c s e in
+      record { unmade = calm-unmade ch.maker ch.grows calm.0; sessions = calm-sessions ch.sessions (grown c ch.maker ch.grows s) calm.1.0; apart = calm-apart ch calm }
+
+  abbrev still : Unit {0} × (Unit {0} × Unit {0})
+  still = (tt, (tt, tt))
+
+  -- a pair that is swept, or nothing
+  swept-calm : (n : NodeId) (x : ℕ) (wanted : Bool) → BeginsNone (cond wanted Growth.Nothing (Growth.Swept n x)) × (Unit {0} × Unit {0})
+  swept-calm n x true = still
+  swept-calm n x false = still
+
+  -- nothing changes
+  nothing : IsPlain c s same
+  nothing = record { unmade = tt; sessions = tt; apart = record { handles = λ j is. refl; sessions = λ session is. refl } }
+
+  -- ## each plan
+
+  -- each plan is plain
+  plain : (e : Event) → IsPlain c s (plan c s e)
+  plain Event.Tick = by-calm Event.Tick still
+  plain (Event.OpenSession role) = record { unmade = refl; sessions = tt; apart = record { handles = λ j is. absurd cc; sessions = λ session is. absurd cc } }
+  plain (Event.Crash session) =
+      plan-found (IsPlain c s) nothing (session_of session s) _ (λ facts begun. record { unmade = tt; sessions = (facts, begun); apart = record { handles = λ j is. refl; sessions = λ by is. refl } })
+  plain (Event.Expire session) = by-calm (Event.Expire session) (plan-found IsCalm still (session_of session s) _ (λ a has. still))
+  plain (Event.Register session) = by-calm (Event.Register session) (plan-given IsCalm still (launcher s session) _ (λ by who. still))
+  plain (Event.Submit session j) = by-calm (Event.Submit session j) (plan-given IsCalm still (requester s session) _ (λ by who. plan-found IsCalm still (slice_get c.jobs j.0) _ (λ a has. plan-found IsCalm still (slice_get s.jobs j.0) _ (λ a has. still))))
+  plain (Event.Revise session j relative) = by-calm (Event.Revise session j relative) (plan-given IsCalm still (requester s session) _ (λ by who. plan-found IsCalm still (request_of_job j s) _ (λ a has. still)))
+  plain (Event.MinReady session l) = by-calm (Event.MinReady session l) (plan-given IsCalm still (launcher s session) _ (λ by who. still))
+  plain (Event.LockRequest session r) = by-calm (Event.LockRequest session r) (plan-given IsCalm still (maker s session) _ (λ by who. still))
+  plain (Event.UnlockRequest session r) = by-calm (Event.UnlockRequest session r) (plan-given IsCalm still (maker s session) _ (λ by who. still))
+  plain (Event.Accept session r) = by-calm (Event.Accept session r) (plan-given IsCalm still (launcher s session) _ (λ by who. still))
+  plain (Event.Decline session r why) = by-calm (Event.Decline session r why) (plan-given IsCalm still (launcher s session) _ (λ by who. plan-found IsCalm still (request_in r s.requests) _ (λ a has. still)))
+  plain (Event.TakeReady session r n) = by-calm (Event.TakeReady session r n) (plan-given IsCalm still (launcher s session) _ (λ by who. plan-found IsCalm still (request_in r s.requests) _ (λ a has. still)))
+  plain (Event.Create session r) = by-calm (Event.Create session r) (plan-given IsCalm still (launcher s session) _ (λ by who. plan-found IsCalm still (request_in r s.requests) _ (λ request has. plan-found IsCalm still (next_label request) _ (λ l next. still))))
+  plain (Event.Start session n) = by-calm (Event.Start session n) (plan-given IsCalm still (launcher s session) _ (λ by who. plan-found IsCalm still (node_in n s.nodes) _ (λ a has. still)))
+  plain (Event.Done session n attempt o) = by-calm (Event.Done session n attempt o) (plan-given IsCalm still (launcher s session) _ (λ by who. plan-found IsCalm still (node_in n s.nodes) _ (λ a has. still)))
+  plain (Event.Fulfil session r) = by-calm (Event.Fulfil session r) (plan-given IsCalm still (launcher s session) _ (λ by who. plan-found IsCalm still (request_in r s.requests) _ (λ a has. still)))
+  plain (Event.LockNode session n) = by-calm (Event.LockNode session n) (plan-given IsCalm still (maker s session) _ (λ by who. still))
+  plain (Event.UnlockNode session n) = by-calm (Event.UnlockNode session n) (plan-given IsCalm still (maker s session) _ (λ by who. still))
+  plain (Event.Acquire session j) = by-calm (Event.Acquire session j) (plan-given IsCalm still (requester s session) _ (λ by who. still))
+  plain (Event.Take session j) = by-calm (Event.Take session j) (plan-given IsCalm still (requester s session) _ (λ by who. plan-found IsCalm still (slice_get s.jobs j.0) _ (λ kept has. plan-found IsCalm still kept.request _ (λ r asks. plan-found IsCalm still (request_in r s.requests) _ (λ request stands. still)))))
+  plain (Event.EndNode session n as_what) = by-calm (Event.EndNode session n as_what) (plan-given IsCalm still (requester s session) _ (λ by who. plan-found IsCalm still (node_in n s.nodes) _ (λ a has. still)))
+  plain (Event.Finish session j) = by-calm (Event.Finish session j) (plan-given IsCalm still (maker s session) _ (λ by who. plan-found IsCalm still (slice_get s.jobs j.0) _ (λ a has. still)))
+  plain (Event.Withdraw session j) = by-calm (Event.Withdraw session j) (plan-given IsCalm still (requester s session) _ (λ by who. plan-found IsCalm still (slice_get s.jobs j.0) _ (λ a has. still)))
+  plain (Event.Release session j) = by-calm (Event.Release session j) (plan-given IsCalm still (maker s session) _ (λ by who. (tt, (tt, refl))))
+  plain (Event.MarkDeleting session n) = by-calm (Event.MarkDeleting session n) (plan-given IsCalm still (janitor s session) _ (λ by who. plan-found IsCalm still (node_in n s.nodes) _ (λ a has. still)))
+  plain (Event.Gone session n) = by-calm (Event.Gone session n) (plan-given IsCalm still (janitor s session) _ (λ by who. still))
+  plain (Event.Reset session r) = by-calm (Event.Reset session r) (plan-given IsCalm still (janitor s session) _ (λ by who. plan-found IsCalm still (request_in r s.requests) _ (λ a has. still)))
+  plain (Event.FreeNode session n) = by-calm (Event.FreeNode session n) (plan-given IsCalm still (janitor s session) _ (λ by who. plan-found IsCalm still (node_in n s.nodes) _ (λ a has. still)))
+  plain (Event.FailDeclined session r) = by-calm (Event.FailDeclined session r) (plan-given IsCalm still (janitor s session) _ (λ by who. still))
+  plain (Event.Sweep session n x) = by-calm (Event.Sweep session n x) (plan-given IsCalm still (janitor s session) _ (λ by who. swept-calm n x (is_wanted s n x)))
+
+  -- a session begins with no maker
+  pub plan-unmade : (e : Event) → IsUnmade (plan c s e).maker (plan c s e).grows
+  plan-unmade e = (plain e).unmade
+
+  -- a session that the call mutes was begun
+  pub plan-sessions : (e : Event) → SessionReady (in_call (plan c s e).sessions) (grown c (plan c s e).maker (plan c s e).grows s)
+  plan-sessions e = (plain e).sessions
+
+  -- nothing grows beside handles that are given back or beside a session that is muted
+  pub plan-apart : (e : Event) → IsApart (plan c s e)
+  plan-apart e = (plain e).apart
+
+-- # what grows by an accepted event is ready for the tree
+
+-- a request with a number below the next one is not the next one
+not-next : (e : RequestEntry) (priority next : ℕ) → e.id.seq < next → same_request e.id (record { priority = priority; seq = next }) ≡ false
+not-next e priority next below = grind (arith, nat_tests)
+
+-- no request has the next id
+next-free : (s : State) → IsNumbered s → (priority : ℕ) → request_entry (next_id priority s) s.requests ≡ None
+next-free s numbered priority =
+    find-none (λ (e : RequestEntry). same_request e.id (next_id priority s)) s.requests
+    (all-weaker (λ (e : RequestEntry). e.id.seq < s.next_request) (λ (e : RequestEntry). same_request e.id (next_id priority s) ≡ false) (λ e below. not-next e priority s.next_request below) s.requests numbered.requests_below)
+
+module _ (c : Configuration) (s : State) (ch : Changes) (known : IsKnown c s ch) where
+  -- a job has a number, and few semaphores that exist
+  handles-ready : (j : JobId) → HasRoom c s j → (j.0 < 2 ^ 32) × ((length (semaphores_of c j) ≤ 8) × AllByRecursion (λ x. x.0 < length s.handles) (semaphores_of c j))
+  handles-ready j room =
+      let row = job-row c known.sound j room.job room.row in
+      let same : room.job.semaphores ≡ semaphores_of c j = ap (λ (o : Option Job). option_map_or (λ job. job.semaphores) o []) (sym room.row) in (
+        job-low c j known.sound (slice_get_within c.jobs j.0 room.job room.row),
+        (
+          subst (λ xs. length xs ≤ 8) same row.few_taken,
+          subst (λ xs. AllByRecursion (λ (x : SemId). x.0 < length s.handles) xs) same (subst (λ (n : ℕ). AllByRecursion (λ (x : SemId). x.0 < n) room.job.semaphores) (sym known.carried.semaphores) row.taken),
+        ),
+      )
+
+  -- what grows is ready for the tree
+  pub growth-ready : (growth : Growth) → ch.grows ≡ growth → IsUnmade ch.maker growth → IsTypedGrowth growth → GrowthPremise c s ch growth → GrowthReady c ch.maker growth s
+  growth-ready Growth.Nothing is unmade typed premise = tt
+  growth-ready (Growth.Session role) is unmade typed premise = let few = known.fits.sessions in (unmade, (omega arith, role-low c role known.sound premise))
+  growth-ready (Growth.Registration p) is unmade typed premise = (pool-low c p known.sound (launcher-low c s ch.maker premise.session p known.fits known.premises.maker premise.made_by), premise.free)
+  growth-ready (Growth.Request priority asked) is unmade typed premise = (new-text c s ch known priority asked premise, (new-request c s ch known priority asked premise, next-free s known.invariant.numbered priority))
+  growth-ready (Growth.Node kept) is unmade typed premise =
+      let few = known.fits.next_node in
+      (ap (λ (m : Option Maker). is_some m) premise.gains.worked_on.made_by, (new-node c s ch known kept is premise, (omega arith, known.invariant.numbered.nodes_below)))
+  growth-ready (Growth.JoinRequest r) is unmade typed premise = row-of (λ (e : RequestEntry). e.kept) (request_entry r s.requests) premise.request premise.stands
+  growth-ready (Growth.JoinNode n) is unmade typed premise = row-of (λ (e : NodeEntry). e.kept) (node_entry n s.nodes) premise.node premise.stands
+  growth-ready (Growth.Allocate n r tenant) is unmade typed premise =
+      (allocated-tenant c s ch known n r tenant is premise, ((request-row c s known.fits known.carried r premise.request premise.worked_on.stands).text, known.carried.spelled.nodes))
+  growth-ready (Growth.Handles j) is unmade typed premise = handles-ready j premise
+  growth-ready (Growth.Swept n x) is unmade typed premise = typed
+
+-- # what happens to the nodes by an accepted event is ready for the tree
+
+-- ## the request whose nodes are free
+
+-- the record is in the state
+abbrev IsInRows : State → RequestId → Type 0
+IsInRows s r = (request : RequestRecord) × (request_in r s.requests ≡ Some request)
+
+module _ (c : Configuration) (s : State) (ch : Changes) (r : RequestId) (frees : ch.nodes ≡ NodesChange.FreeAll r) where
+  -- a request that goes while its nodes are free is fulfilled
+  goes-stands : GoesFulfilled s ch r ⊎ (TakesOver c s ch r ⊎ GoesWithdrawn s ch r) → IsInRows s r
+  goes-stands (inl goes) = (goes.fulfils.request, goes.fulfils.worked_on.stands)
+  goes-stands (inr (inl takes)) = absurd (let e : NodesChange.FreeAll r ≡ NodesChange.TakeOver takes.request.nodes = sym frees ∙ takes.takes in cc)
+  goes-stands (inr (inr goes)) = absurd (let e : NodesChange.FreeAll r ≡ NodesChange.Same = sym frees ∙ goes.withdraws.same_nodes in cc)
+
+  -- a request whose nodes are free was there
+  emptied-stands : RequestsPremise c s ch ch.requests → EmptiesRequest r ch.requests → IsInRows s r
+  emptied-stands premise (inl is) = goes-stands (subst (λ (change : RequestsChange). RequestsPremise c s ch change) is premise)
+  emptied-stands premise (inr (inl is)) = let gives = subst (λ (change : RequestsChange). RequestsPremise c s ch change) is premise in (gives.request, gives.stands)
+  emptied-stands premise (inr (inr declines)) =
+      let may = subst (λ (change : RequestsChange). RequestsPremise c s ch change) declines.3 premise in
+      (may.request, may.worked_on.stands)
+
+-- ## its nodes
+
+lower-number : (m n : ℕ) → nat_lt m n ≡ true → (m == n) ≡ false
+lower-number m n before = grind (arith, nat_tests)
+
+-- each node is the one that is found by its number
+each-found : (P : NodeEntry → Type 0) (rows : List NodeEntry) → Rises (λ a b. nat_lt a.id.0 b.id.0) rows → ((e : NodeEntry) → node_entry e.id rows ≡ Some e → P e) → AllByRecursion P rows
+each-found P [] rises says = tt
+each-found P (x ∷ rows) rises says = (says x (let here = equal-itself x.id.0 in rw here refl), each-found P rows rises.1 later) where
+  later : (e : NodeEntry) → node_entry e.id rows ≡ Some e → P e
+  later e found =
+      let before : nat_lt x.id.0 e.id.0 ≡ true = all-find (λ (y : NodeEntry). nat_lt x.id.0 y.id.0 ≡ true) (λ (y : NodeEntry). y.id.0 == e.id.0) rows e rises.0 found in
+      let other : (x.id.0 == e.id.0) ≡ false = lower-number x.id.0 e.id.0 before in
+      says e (rw other found)
+
+-- a request that an option names
+named : (r : RequestId) (o : Option RequestId) → is_request r o ≡ true → o ≡ Some r
+named r None is = absurd cc
+named r (Some other) is = ap (λ (x : RequestId). Some x) (request-equal other r is)
+
+-- the nodes of a request that stands are those of its record
+nodes-are : (s : State) (r : RequestId) (request : RequestRecord) → request_in r s.requests ≡ Some request → request.nodes ≡ nodes_of r s.requests
+nodes-are s r request stands = ap (λ (o : Option RequestRecord). option_map_or (λ k. k.nodes) o []) (sym stands)
+
+-- the node has a place in the list if it is allocated to the request
+abbrev IsAmong : RequestId → List NodeId → NodeEntry → Type 0
+IsAmong r numbers e = is_request r e.kept.allocated_to ≡ true → list_any (λ n. n.0 == e.id.0) numbers ≡ true
+
+-- each node that is allocated to a request that stands is in its list
+each-listed : (s : State) → AllocationsListed s → (r : RequestId) (request : RequestRecord) → request_in r s.requests ≡ Some request → (e : NodeEntry) → node_entry e.id s.nodes ≡ Some e → IsAmong r request.nodes e
+each-listed s listed r request stands e found is =
+    let record_found : node_in e.id s.nodes ≡ Some e.kept = ap (λ (o : Option NodeEntry). option_map (λ x. x.kept) o) found in
+    (listed e.id e.kept r record_found (named r e.kept.allocated_to is)).listed request stands
+
+module _ (c : Configuration) (s : State) (fits : Fits c s) (invariant : Invariant c s) (carried : IsCarried c s) where
+  -- the nodes of a request are free
+  free-ready : (tick : ℕ) (r : RequestId) → IsInRows s r → NodesReady (NodesChange.FreeAll r) tick s.requests s.nodes
+  free-ready tick r stands =
+      let request = stands.0 in
+      let same = nodes-are s r request stands.1 in
+      let rises = invariant.numbered.nodes_rise in
+      let few = (request-row c s fits carried r request stands.1).is.few_nodes in
+      let listed : AllByRecursion (IsAmong r request.nodes) s.nodes = each-found (IsAmong r request.nodes) s.nodes rises (each-listed s invariant.owned.allocations r request stands.1) in
+      (subst (λ (numbers : List NodeId). length numbers ≤ 32) same few, (rises, subst (λ (numbers : List NodeId). AllByRecursion (IsAmong r numbers) s.nodes) same listed))
+
+  -- what happens to the nodes is ready for the tree
+  pub nodes-ready : (ch : Changes) (change : NodesChange) → ch.nodes ≡ change → RequestsPremise c s ch ch.requests → NodesPremise c s ch change → NodesReady change s.tick s.requests s.nodes
+  nodes-ready ch (NodesChange.FreeAll r) is premise of_nodes = free-ready s.tick r (emptied-stands c s ch r is premise of_nodes)
+  nodes-ready ch (NodesChange.TakeOver numbers) is premise of_nodes =
+      let takes = of_nodes.1 in
+      let few = (request-row c s fits carried of_nodes.0 takes.request takes.request_stands).is.few_nodes in
+      let tick = fits.tick in
+      (subst (λ (list : List NodeId). length list ≤ 32) (sym of_nodes.2.1) few, omega arith)
+  nodes-ready ch _ is premise of_nodes = tt
+
+-- # every accepted event is ready for the tree
+
+-- no session is twice in a queue, in the words of the layout
+distinct : (queue : List SessionId) → DistinctSessions queue → AreDistinct queue
+distinct [] once = tt
+distinct (session ∷ queue) once = (once.0, distinct queue once.1)
+
+-- no session waits twice for one request
+requests-once : (s : State) → IsQueued s → WaitOnce s.requests
+requests-once s queued = all-weaker (λ (e : RequestEntry). IsLiveQueue s e.queue) (λ (e : RequestEntry). AreDistinct e.queue) (λ e queue. distinct e.queue queue.once) s.requests queued.at_requests
+
+-- nor for one node
+nodes-once : (s : State) → IsQueued s → AllByRecursion (λ e. AreDistinct e.queue) s.nodes
+nodes-once s queued = all-weaker (λ (e : NodeEntry). IsLiveQueue s e.queue) (λ (e : NodeEntry). AreDistinct e.queue) (λ e queue. distinct e.queue queue.once) s.nodes queued.at_nodes
+
+-- every accepted event is ready for the tree, if each record has a spelling after the call
+pub events-are-ready : RecordsAreSpelled → EventsAreReady
+events-are-ready spelled c s e accepted =
+    let ch = plan c s e in
+    let known = known-accepted c s e accepted in
+    let tick = accepted.fits.tick in
+    record {
+      premises = known.premises;
+      apart = plan-apart c s e;
+      grows = growth-ready c s ch known ch.grows refl (plan-unmade c s e) known.typed.grows known.premises.grows;
+      nodes = nodes-ready c s accepted.fits accepted.invariant accepted.carried ch ch.nodes refl known.premises.requests known.premises.nodes;
+      sessions = plan-sessions c s e;
+      request_waits = requests-once s accepted.invariant.queued;
+      node_waits = nodes-once s accepted.invariant.queued;
+      spelled = accepted.carried.spelled;
+      spelled_later = spelled c s e accepted;
+      tick = omega arith;
+    }
+
+-- # the changes of a whole event
 
 -- ## what grows
 
 -- the requests of the grown state have a spelling
 requests-grown : (c : Configuration) (maker : Option Maker) (growth : Growth) (s : State) → GrowthReady c maker growth s → AllByRecursion (λ e. IsRequest e.kept) s.requests → AllByRecursion (λ e. IsRequest e.kept) (grown c maker growth s).requests
-requests-grown c maker (grow.Request priority asked) s ready all =
+requests-grown c maker (Growth.Request priority asked) s ready all =
     all-insert_before (λ (e : RequestEntry). IsRequest e.kept) (λ (e : RequestEntry). is_id_before (next_id priority s) e.id) (record { id = next_id priority s; kept = new_record asked; queue = [] }) s.requests ready.1.0 all
-requests-grown c (Some maker) (grow.JoinRequest r) s ready all =
+requests-grown c (Some maker) (Growth.JoinRequest r) s ready all =
     all-change_first (λ (e : RequestEntry). IsRequest e.kept) (λ (e : RequestEntry). same_request e.id r) (λ (e : RequestEntry). record e { queue = joined maker.session (request_queue r s.requests) }) s.requests (λ e is. is) all
 requests-grown c None _ s ready all = all
 requests-grown c (Some maker) _ s ready all = all
 
 -- so have the nodes
 nodes-grown : (c : Configuration) (maker : Option Maker) (growth : Growth) (s : State) → GrowthReady c maker growth s → AllByRecursion (λ e. IsNode e.kept) s.nodes → AllByRecursion (λ e. IsNode e.kept) (grown c maker growth s).nodes
-nodes-grown c maker (grow.Node kept) s ready all = all-push (λ (e : NodeEntry). IsNode e.kept) s.nodes _ all ready.1.0
-nodes-grown c (Some maker) (grow.JoinNode n) s ready all =
+nodes-grown c maker (Growth.Node kept) s ready all = all-push (λ (e : NodeEntry). IsNode e.kept) s.nodes _ all ready.1.0
+nodes-grown c (Some maker) (Growth.JoinNode n) s ready all =
     all-change_first (λ (e : NodeEntry). IsNode e.kept) (λ (e : NodeEntry). e.id.0 == n.0) (λ (e : NodeEntry). record e { queue = joined maker.session (node_queue n s.nodes) }) s.nodes (λ e is. is) all
-nodes-grown c (Some maker) (grow.Allocate n r tenant) s ready all =
+nodes-grown c (Some maker) (Growth.Allocate n r tenant) s ready all =
     all-change_first (λ (e : NodeEntry). IsNode e.kept) (λ (e : NodeEntry). e.id.0 == n.0) (allocated r tenant maker.session) s.nodes (λ e is. granted-is e.kept (Some r) tenant is ready.1.0 ready.0) all
 nodes-grown c None _ s ready all = all
 nodes-grown c (Some maker) _ s ready all = all
 
 -- and the sessions
 sessions-grown : (c : Configuration) (maker : Option Maker) (growth : Growth) (s : State) → GrowthReady c maker growth s → AllByRecursion (λ f. IsSessionRole f.role) s.sessions → AllByRecursion (λ f. IsSessionRole f.role) (grown c maker growth s).sessions
-sessions-grown c maker (grow.Session role) s ready all = all-push (λ (f : SessionFacts). IsSessionRole f.role) s.sessions _ all ready.1.1
+sessions-grown c maker (Growth.Session role) s ready all = all-push (λ (f : SessionFacts). IsSessionRole f.role) s.sessions _ all ready.1.1
 sessions-grown c None _ s ready all = all
 sessions-grown c (Some maker) _ s ready all = all
 
@@ -51,20 +325,20 @@ spelled-grown c maker growth s ready spelled = record {
 
 -- table after table leaves the state after the call
 called-is : (c : Configuration) (ch : Changes) (g : State) (change : SessionsChange) → with_all c (record ch { sessions = change }) g ≡ settled c (record ch { sessions = in_call change }) g
-called-is c ch g sessions.Same = refl
-called-is c ch g (sessions.Mute session) = refl
-called-is c ch g (sessions.End session) = refl
+called-is c ch g SessionsChange.Same = refl
+called-is c ch g (SessionsChange.Mute session) = refl
+called-is c ch g (SessionsChange.End session) = refl
 
 -- the end of a session leaves the changed state
 abbrev pub state_with_end : SessionsChange → State → State
-state_with_end sessions.Same s = s
-state_with_end (sessions.Mute session) s = s
-state_with_end (sessions.End session) s = without_session session s
+state_with_end SessionsChange.Same s = s
+state_with_end (SessionsChange.Mute session) s = s
+state_with_end (SessionsChange.End session) s = without_session session s
 
 changed-is : (c : Configuration) (ch : Changes) (g : State) (change : SessionsChange) → state_with_end change (settled c (record ch { sessions = in_call change }) g) ≡ settled c (record ch { sessions = change }) g
-changed-is c ch g sessions.Same = refl
-changed-is c ch g (sessions.Mute session) = refl
-changed-is c ch g (sessions.End session) = refl
+changed-is c ch g SessionsChange.Same = refl
+changed-is c ch g (SessionsChange.Mute session) = refl
+changed-is c ch g (SessionsChange.End session) = refl
 
 -- sessions count from one
 first-session : (session : SessionId) (s : State) (facts : SessionFacts) → session_of session s ≡ Some facts → 1 ≤ session.0
@@ -84,9 +358,9 @@ record IsLeft (later : State) (t : TreeState) (number more : ℕ) : Type 0 where
   room : HasRoomFor more t
 
 left-by : (s : State) (ch : Changes) (change : SessionsChange) → SessionsPremise s ch change → (later : State) (u : TreeState) (w more : ℕ) → u.changes + 1 < 18_446_744_073_709_551_615 → Stands later u w more → IsLeft (state_with_end change later) (with_end change u) u.changes more
-left-by s ch sessions.Same premise later u w more low stands = record { whole = stands.whole; good = stands.good; lays = stands.lays; numbers = omega arith; room = stands.room }
-left-by s ch (sessions.Mute session) premise later u w more low stands = record { whole = stands.whole; good = stands.good; lays = stands.lays; numbers = omega arith; room = stands.room }
-left-by s ch (sessions.End session) premise later u w more low stands =
+left-by s ch SessionsChange.Same premise later u w more low stands = record { whole = stands.whole; good = stands.good; lays = stands.lays; numbers = omega arith; room = stands.room }
+left-by s ch (SessionsChange.Mute session) premise later u w more low stands = record { whole = stands.whole; good = stands.good; lays = stands.lays; numbers = omega arith; room = stands.room }
+left-by s ch (SessionsChange.End session) premise later u w more low stands =
     let next = low-min (u.changes + 1) 18_446_744_073_709_551_615 in
     record {
       whole = IsWhole-after_end (next_change u) (tree_session session) u.nodes stands.whole;
@@ -102,12 +376,12 @@ record BeginsLast (growth : Growth) (t : TreeState) (w : ℕ) (parts : List Op) 
   is : after_parts (with_begin growth t) w parts ≡ with_begin growth (after_parts t w parts)
 
 begin-last : (growth : Growth) (t : TreeState) (w : ℕ) (parts : List Op) → is_in t.live w ≡ true → Goes (with_begin growth t) w parts (after_parts (with_begin growth t) w parts) → BeginsLast growth t w parts
-begin-last (grow.Session role) t w parts live goes = record { goes = goes-begun t w parts live goes; is = parts-begun t w parts }
+begin-last (Growth.Session role) t w parts live goes = record { goes = goes-begun t w parts live goes; is = parts-begun t w parts }
 begin-last _ t w parts live goes = record { goes = goes; is = refl }
 
 -- the begin of a session does not see the number
 begin-numbered : (growth : Growth) (t : TreeState) (number : ℕ) → with_begin growth (numbered number t) ≡ numbered number (with_begin growth t)
-begin-numbered (grow.Session role) t number = refl
+begin-numbered (Growth.Session role) t number = refl
 begin-numbered _ t number = refl
 
 module _ (growths : GrowthsEnact) (tables : TablesEnact) (c : Configuration) (ch : Changes) (s : State) (t : TreeState) (more : ℕ) (ready : IsReady c ch s) (stands : Stands s t (writer ch.maker) (more + 64)) (low : t.changes + 2 < 18_446_744_073_709_551_615) where
@@ -178,3 +452,17 @@ module _ (growths : GrowthsEnact) (tables : TablesEnact) (c : Configuration) (ch
 -- the changes of an accepted event are enacted
 pub events-enact : GrowthsEnact → TablesEnact → EventsEnact
 events-enact growths tables c ch s t more ready stands low = event-enacted growths tables c ch s t more ready stands low
+
+-- # every accepted event is enacted
+
+-- the law on whole events, of an accepted one
+pub events-are-enacted : EventsEnact → EventsAreReady → StepsAreCarried → ((c : Configuration) (s : State) (e : Event) → is_ok (judge c s e) ≡ true → changed c (plan c s e) s ≡ next c s e) → EventsAreEnacted
+events-are-enacted enact ready carried lead c s e t more accepted stands low =
+    let done : IsEnacted c (plan c s e) s t more = enact c (plan c s e) s t more (ready c s e accepted) stands low in (
+      done,
+      record {
+        whole = done.whole;
+        lays = subst (λ (later : State). LaysOut later (enacted c (plan c s e) s t)) (lead c s e accepted.accepted) done.lays;
+        carried = carried c s e accepted;
+      },
+    )

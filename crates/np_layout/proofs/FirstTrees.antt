@@ -1,19 +1,166 @@
--- the first tree of a sound site
-use Rattle.np_layout.proofs.Prelude.{AllByRecursion, AreSemaphores, Configuration, Goes, HasGoodIds, HasHandles, HasLeaves, HasRoomFor, IsGood, IsOk, IsSound, JobId, Jobs, LaysOut, List, Nodepool, None, Op, Persistent, Place, Poolsim, Roles, Root, Row, Semaphore, Semaphores, Some, Tick, TreeState, Zuul, [], after_begin, answers_from, ap, arith, by_name, decimal, first_directories, first_parts, first_tree, fold-append, goes-answered, goes-joined, goes-under-one-number, handle_row, janitor_role_row, job_row, job_text, launcher_role_row, length, length-map, make, make_each, map, new_job, new_tree, no_deeds, nothing-below_nothing, path_of, persistent, range_with_len, refl, requester_role_row, role_text, rows_from, seen_at, semaphore_row, start, subst, sym, under, with_next_number, with_row, ℕ, ◌++◌, ◌+◌, ◌<◌, ◌^◌, ◌∙◌, ◌∷◌, ◌≡◌, ◌≤◌}
-use Rattle.std.specs.Fmt.{digits}
-use Rattle.np_lists.proofs.Each.{all-map}
-use Rattle.np_layout.proofs.CreateSteps.{Step, counter-there, make-step}
-use Rattle.np_layout.proofs.EachTable.{Says, Table, all-tables, of_frame, of_jobs, of_live, of_roles, of_semaphores, same-lays, table-beside}
-use Rattle.np_layout.proofs.Elsewhere.{IsBeside, Stays, live-stays, rows-stay, stays-both, stays-more}
-use Rattle.np_layout.proofs.FirstBlocks.{Block, Ready, block, free-below, ready-after}
-use Rattle.np_layout.proofs.FirstDirectories.{based, based-goes, based-room, based-says, based-shows, based-whole}
-use Rattle.np_layout.proofs.FirstKinds.{rows_put}
-use Rattle.np_layout.proofs.FirstLists.{all-range, get-empty, no_jobs, rows_from-equal}
-use Rattle.np_layout.proofs.LengthLemmas.{length-two}
-use Rattle.np_layout.proofs.SetTables.{IsTable, janitor-table, janitor_place, job-table, job_place, launcher-table, launcher_place, place_number, requester-table, requester_place}
-use Rattle.np_tree.proofs.ViewRoomLemmas.{room-gives}
-use Rattle.np_tree.specs.Prelude.{after_part, below, owner_at, rows_at}
-use Rattle.np_layout.specs.declared.place.Place.TheVariants.{Job}
+-- the first tree of a sound site, from its fixed directories on, and that it can carry the first state
+use Rattle.np_layout.proofs.Prelude.{AllByRecursion, AreHolders, AreSemaphores, Bool, Configuration, Goes, HasGoodIds, HasHandles, HasLeaves, HasRoomFor, HasSpellings, IsGood, IsJob, IsOk, IsOrdered, IsPart, IsRole, IsSound, IsWhole, IsWhole-new_tree, Job, JobId, Jobs, Launchers, LaysOut, List, Nodepool, Nodes, None, Op, Persistent, Place, Poolsim, RequestLocks, Requests, Roles, Root, Row, Seen, Semaphore, Semaphores, Sessions, Some, StartsAreCarried, SweptPairs, Tick, TreeState, Zuul, above, after_begin, after_part, after_parts, all-map, answers_from, ap, arith, below, by_name, decimal, digits, directories, false, find_named, first_directories, first_parts, first_tree, fold-append, goes-answered, goes-joined, goes-under-one-number, goes-whole, handle_row, is_in, janitor_role_row, job_row, job_text, launcher_role_row, length, length-map, make, make_each, map, name_of, new_job, new_tree, no_deeds, nothing-below_nothing, option_map, owner_at, path_of, persistent, range_with_len, refl, requester_role_row, role_text, room-falls, room-gives, rows_at, rows_from, seen-is-row, seen_at, seen_in, semaphore_row, start, subst, suc, sym, true, under, with_next_number, with_row, zero, ℕ, [], ◌++◌, ◌+◌, ◌<◌, ◌^◌, ◌∙◌, ◌∷◌, ◌≡◌, ◌≤◌}
+use Rattle.np_layout.proofs.Names.{IsGood-above, is_path-of, length-two, parts-of}
+use Rattle.np_layout.proofs.Steps.{Step, counter-there, make-step, over_leaves}
+use Rattle.np_layout.proofs.Elsewhere.{IsBeside, Says, Stays, Table, all-tables, live-stays, of_frame, of_jobs, of_launchers, of_live, of_node_locks, of_nodes, of_request_locks, of_requests, of_roles, of_semaphores, of_sessions, of_swept, rows-stay, same-lays, stays-both, stays-more, stays-same, table-beside}
+use Rattle.np_layout.proofs.Rows.{all-range, get-empty, no_jobs, rows_from-equal, rows_put}
+use Rattle.np_layout.proofs.Sets.{IsTable, janitor-table, janitor_place, job-table, job_place, launcher-table, launcher_place, place_number, requester-table, requester_place}
+
+-- # several parts of the first call make the nodes of one kind
+
+-- a directory in which the first session can make nodes
+pub record Ready (dir : Place) (t : TreeState) : Type 0 where
+  pub whole : IsWhole t.nodes
+  pub live : is_in t.live 1 ≡ true
+  pub owner : owner_at t (path_of dir) ≡ Some None
+
+-- the tree after so many places of one kind, from a number on: a directory has their rows more
+pub record Block (place : ℕ → Place) (dir : Place) (bytes : List ℕ) (at count more : ℕ) (t : TreeState) : Type 0 where
+  pub u : TreeState
+  pub goes : Goes t 1 (map (λ n. make bytes (place n)) (range_with_len at count)) u
+  pub whole : IsWhole u.nodes
+  pub live : u.live ≡ t.live
+  pub begun : u.begun ≡ t.begun
+  pub stays : Stays (dir ∷ []) t u
+  pub rows : under dir u ≡ rows_put (under dir t) (map (λ n. persistent (place n) bytes) (range_with_len at count))
+  pub leaves : HasLeaves dir t → HasLeaves dir u
+  pub seen : (other : Place) → IsGood other → ((n : ℕ) → other ≡ place n → ⊥) → seen_at u (path_of other) ≡ seen_at t (path_of other)
+  pub room : HasRoomFor more u
+
+-- a directory that was ready is so when nodes of a kind were made
+pub ready-after : {place : ℕ → Place} {into : Place} {bytes : List ℕ} {at count more : ℕ} {t : TreeState} (b : Block place into bytes at count more t) (dir : Place) → IsGood dir → ((n : ℕ) → dir ≡ place n → ⊥) → Ready dir t → Ready dir b.u
+ready-after b dir good beside ready = record {
+  whole = b.whole;
+  live = ap (λ (list : List ℕ). is_in list 1) b.live ∙ ready.live;
+  owner = ap (option_map (λ (seen : Seen). seen.owner)) (b.seen dir good beside) ∙ ready.owner;
+}
+
+-- each good place below an empty directory is free
+pub free-below : (t : TreeState) (dir p : Place) → IsWhole t.nodes → under dir t ≡ [] → IsGood p → above p ≡ Some dir → seen_at t (path_of p) ≡ None
+free-below t dir p whole empty good over =
+    seen-is-row t (path_of p) (path_of dir) whole (is_path-of p good) ((parts-of p good).0 ∙ ap (option_map path_of) over)
+    ∙ ap (λ (rows : List Row). option_map seen_in (find_named (name_of (path_of p)) rows)) empty
+
+module _ {A : Type 0} (place : ℕ → Place) (number : Place → ℕ) (dir : Place) (bytes : List ℕ) (list : List A) (is : IsTable place number dir 0 list) (top : over_leaves (above dir) ≡ false) (beside : (n : ℕ) → dir ≡ place n → ⊥) (short : length bytes ≤ 65536) where
+  -- the nodes of one kind are made, if none of them is there
+  pub block : (count at more : ℕ) (t : TreeState) → at + count ≤ length list → Ready dir t → HasRoomFor (count + more) t → ((n : ℕ) → at ≤ n → n < length list → seen_at t (path_of (place n)) ≡ None) → Block place dir bytes at count more t
+  block zero at more t within ready room free = record {
+    u = t;
+    goes = refl;
+    whole = ready.whole;
+    live = refl;
+    begun = refl;
+    stays = stays-same (dir ∷ []) t;
+    rows = refl;
+    leaves = λ leaves. leaves;
+    seen = λ other good apart. refl;
+    room = let same : 0 + more ≡ more = omega arith in subst (λ (n : ℕ). HasRoomFor n t) same room;
+  }
+  block (suc count) at more t within ready room free =
+      let same : suc count + more ≡ (count + more) + 1 = omega arith in
+      let left = subst (λ (n : ℕ). HasRoomFor n t) same room in
+      let good = is.good at (omega arith) in
+      let counter = counter-there t dir ready.owner in
+      let one : Step dir (place at) Persistent (persistent (place at) bytes) t 1 (make bytes (place at)) =
+      make-step t 1 dir (place at) bytes Persistent counter.0 good (is.over at) top refl short
+      (record { whole = ready.whole; live = ready.live; owner = ready.owner; gives = counter.1; free = free at (omega arith) (omega arith); room = room-gives t (count + more) left }) in
+      let u : TreeState = after_part t 1 (make bytes (place at)) in
+      let next : Ready dir u = record {
+        whole = one.creates.whole;
+        live = ap (λ (known : List ℕ). is_in known 1) one.creates.live ∙ ready.live;
+        owner = ap (option_map (λ (seen : Seen). seen.owner)) (one.creates.other_seen dir (IsGood-above (place at) dir good (is.over at)) (beside at)) ∙ ready.owner;
+      } in
+      let later = block count (at + 1) more u (omega arith) next (room-falls t 1 (make bytes (place at)) (count + more) left)
+      (λ n from below. one.creates.other_seen (place n) (is.good n (omega arith)) (λ equal. let numbers : n ≡ at = sym (is.numbers n) ∙ ap number equal ∙ is.numbers at in absurd (omega arith)) ∙ free n (omega arith) below) in
+      record {
+        u = later.u;
+        goes = (one.ok, later.goes);
+        whole = later.whole;
+        live = later.live ∙ one.creates.live;
+        begun = later.begun ∙ one.creates.begun;
+        stays = stays-both (dir ∷ []) t u later.u one.creates.stays later.stays;
+        rows = later.rows ∙ ap (λ (sorted : List Row). rows_put sorted (map (λ (n : ℕ). persistent (place n) bytes) (range_with_len (at + 1) count))) one.creates.rows;
+        leaves = λ leaves. later.leaves (one.creates.leaves leaves);
+        seen = λ other other_good apart. later.seen other other_good apart ∙ one.creates.other_seen other other_good (apart at);
+        room = later.room;
+      }
+
+-- # the tree of the fixed directories alone
+
+-- each part takes the room of one
+pub room-after : (t : TreeState) (w : ℕ) (parts : List Op) (more : ℕ) → HasRoomFor (length parts + more) t → HasRoomFor more (after_parts t w parts)
+room-after t w [] more room = subst (λ (k : ℕ). HasRoomFor k t) (omega arith) room
+room-after t w (part ∷ parts) more room =
+    room-after (after_part t w part) w parts more (room-falls t w part (length parts + more) (subst (λ (k : ℕ). HasRoomFor k t) (omega arith) room))
+
+-- the fixed directories
+pub based : TreeState
+based = after_parts (after_begin new_tree) 1 (map (make []) first_directories)
+
+-- they are all made
+pub based-goes : Goes (after_begin new_tree) 1 (map (make []) first_directories) based
+unfolding based path_of
+based-goes = (refl, (refl, (refl, (refl, (refl, (refl, (refl, (refl, (refl, (refl, (refl, (refl, refl))))))))))))
+
+-- they are whole
+pub based-whole : IsWhole based.nodes
+based-whole = goes-whole (after_begin new_tree) based 1 (map (make []) first_directories) IsWhole-new_tree
+    (at Nodepool tt, (at Launchers tt, (at Nodes tt, (at Requests tt, (at RequestLocks tt, (at Poolsim tt, (at Jobs tt, (at Roles tt, (at Sessions tt, (at SweptPairs tt, (at Zuul tt, (at Semaphores tt, tt)))))))))))) based-goes where
+      -- a create at a good place can be requested
+      at : (p : Place) → IsGood p → IsPart (make [] p)
+      at p good = record { path = is_path-of p good; numbered = refl }
+
+-- there is room for many nodes
+pub based-room : (more : ℕ) → more ≤ 1_000_000 → HasRoomFor more based
+unfolding based
+based-room more few = room-after (after_begin new_tree) 1 (map (make []) first_directories) more (record {
+  change = omega arith;
+  versions = (omega arith, tt);
+  counters = (omega arith, tt);
+  rows = λ dir. let none : 0 + (12 + more) ≤ 4_294_967_295 = omega arith in none;
+  few = omega arith;
+})
+
+-- what they show
+pub record Shows (t : TreeState) : Type 0 where
+  pub root : under Root t ≡ directories (Nodepool ∷ Poolsim ∷ Zuul ∷ [])
+  pub nodepool : under Nodepool t ≡ directories (Launchers ∷ Nodes ∷ Requests ∷ RequestLocks ∷ [])
+  pub zuul : under Zuul t ≡ directories (Semaphores ∷ [])
+  pub poolsim : under Poolsim t ≡ directories (Jobs ∷ Roles ∷ Sessions ∷ SweptPairs ∷ [])
+  pub semaphores : under Semaphores t ≡ []
+  pub jobs : under Jobs t ≡ []
+  pub roles : under Roles t ≡ []
+  pub leaf : under Tick t ≡ []
+  pub free : seen_at t (path_of Tick) ≡ None
+  pub owners : AllByRecursion (λ dir. owner_at t (path_of dir) ≡ Some None) (Semaphores ∷ Jobs ∷ Roles ∷ Poolsim ∷ [])
+  pub live : is_in t.live 1 ≡ true
+
+pub based-shows : Shows based
+unfolding based path_of
+based-shows = record { root = refl; nodepool = refl; zuul = refl; poolsim = refl; semaphores = refl; jobs = refl; roles = refl; leaf = refl; free = refl; owners = (refl, (refl, (refl, (refl, tt)))); live = refl }
+
+-- the tables that are not empty before the first event
+abbrev pub is_filled : Table → Bool
+is_filled of_frame = true
+is_filled of_semaphores = true
+is_filled of_jobs = true
+is_filled of_roles = true
+is_filled other = false
+
+-- the other ones are laid out
+pub based-says : (c : Configuration) (k : Table) → is_filled k ≡ false → Says (start c) based k
+unfolding based path_of
+based-says c of_requests empty = record { rows = refl; leaves = tt; gives = refl }
+based-says c of_request_locks empty = record { rows = refl; queues = tt }
+based-says c of_nodes empty = record { rows = tt; gives = refl }
+based-says c of_node_locks empty = tt
+based-says c of_launchers empty = refl
+based-says c of_sessions empty = record { rows = refl; leaves = tt }
+based-says c of_swept empty = record { rows = refl; leaves = tt }
+based-says c of_live empty = record { begun = refl; first = refl; each = refl }
+based-says c filled empty = absurd cc
+
+-- # the first tree of a sound site
 
 -- the place of each semaphore
 abbrev semaphore_at : ℕ → Place
@@ -281,3 +428,54 @@ module _ (c : Configuration) (sound : IsSound c) where
   -- the call that makes it is accepted
   pub first-goes : IsOk (answers_from 0 (after_begin new_tree) 1 (first_parts c))
   first-goes = goes-answered 0 (after_begin new_tree) made 1 (first_parts c) made-goes
+
+-- # a tree can carry the state before the first event
+
+-- no job has a handle
+abbrev handles_of_no_job : List JobId
+handles_of_no_job = []
+
+-- a job that nobody has begun has a spelling
+new-job : IsJob new_job
+new-job = record { ending = tt; parts = tt; few = omega arith; nodes = tt; pool = tt; request = tt }
+
+-- so has a role that has done nothing
+no-deeds : IsRole no_deeds
+no-deeds = record { acts = omega arith; starts = omega arith; strikes = omega arith }
+
+roles-spelled : {A : Type 0} (rows : List A) → AllByRecursion IsRole (map (λ _. no_deeds) rows)
+roles-spelled rows = all-map IsRole (λ _. no_deeds) rows (λ row. no-deeds)
+
+module _ (c : Configuration) (sound : IsSound c) where
+  start-spelled : HasSpellings (start c)
+  start-spelled = record {
+    requests = tt;
+    nodes = tt;
+    jobs = all-map IsJob (λ _. new_job) c.jobs (λ row. new-job);
+    launchers = roles-spelled c.pools;
+    janitors = roles-spelled c.pools;
+    requesters = roles-spelled c.requesters;
+    sessions = tt;
+  }
+
+  start-ordered : IsOrdered c (start c)
+  start-ordered = record {
+    registrations = tt;
+    pools = tt;
+    handles = all-map (AreHolders (length c.jobs)) (λ _. handles_of_no_job) c.semaphores (λ row. record { rise = tt; exist = tt });
+    swept = tt;
+  }
+
+-- a tree can carry the state before the first event of a sound site
+pub starts-are-carried : StartsAreCarried
+starts-are-carried c sound = record {
+  good = start-good c sound;
+  spelled = start-spelled c sound;
+  ordered = start-ordered c sound;
+  semaphores = length-map c.semaphores (λ _. handles_of_no_job);
+  jobs = length-map c.jobs (λ _. new_job);
+  launchers = length-map c.pools (λ _. no_deeds);
+  janitors = length-map c.pools (λ _. no_deeds);
+  requesters = length-map c.requesters (λ _. no_deeds);
+  tick = omega arith;
+}

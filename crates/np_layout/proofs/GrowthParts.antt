@@ -1,12 +1,387 @@
--- the parts for what grows
-use Rattle.np_layout.proofs.EnactPrelude.{Enacts, GrowthsEnact, None, Some, Stands, State, TreeState, [], arith, false, length, new_record, semaphores_of, tree_session, writer, ℕ, ◌+◌}
-use Rattle.np_changes.specs.declared.changes.Growth.TheVariants as grow
-use Rattle.np_layout.proofs.Lengths.{node-short, request-short, session-short}
-use Rattle.np_layout.proofs.StandsLemmas.{enacts-none, stands-less}
-use Rattle.np_layout.proofs.HandleParts.{acquire-enacts}
-use Rattle.np_layout.proofs.MarkParts.{registration-enacts, swept-enacts}
-use Rattle.np_layout.proofs.GrownRows.{node-grows, request-grows, session-grows}
-use Rattle.np_layout.proofs.GrownWaits.{node-allocated, node-joins, request-joins}
+-- the parts for what grows by an event, and for handles that are given back
+use Rattle.np_layout.proofs.Prelude.{AllByRecursion, Bool, DeleteLaysOut, Enacts, Ephemeral, Growth, GrowthsEnact, Handle, HandlesChange, HandlesEnact, HasGoodIds, HasRoomFor, IfSome, IsGood, IsNode, IsPart, Job, JobId, Launcher, List, Node, NodeEntry, NodeId, NodeLock, NodeRecord, Nodes, None, Op, Option, PartsLayOut, Persistent, Place, PoolId, Registration, Request, RequestEntry, RequestId, RequestLock, RequestRecord, Requests, Role, SemId, Session, SessionFacts, SessionId, Some, Stands, State, Swept, SweptPlace, TenantId, TreeState, acquire_parts, after_begin, after_parts, all-change_at, all-change_first, all-filter, all-find, all-insert_before, all-push, all_with_handle, all_without_handle, allocate_parts, allocated, ap, arith, change_at, change_first, change_first-absent, change_first-same, cond, delete, false, filter-not_none, find-change_first, find-passes, goes-whole, has_handle, inl, insert_before, insert_request, is_among, is_id_before, is_in, is_pair_after, is_path-below, is_queued, is_swept, join_parts, joined, length, length-append, length-change_at, list_any-append, make, nat_lt, nat_tests, new_record, next_id, node_entry, node_parts, node_queue, node_text, none-list_any, not, option_map, option_map_or, path_of, put_node_queue, put_request_queue, refl, registered, registers, release_parts, request_entry, request_parts, request_prefix, request_queue, request_record_text, room-falls, same_request, semaphores_of, session_text, set, slice_get, subst, suc, sym, tree_session, true, unwrap_or, wait_at, where_there, with_handle, with_pair, without_handle, writer, zero, ℕ, [], ◌++◌, ◌+◌, ◌<◌, ◌==◌, ◌^◌, ◌||◌, ◌∙◌, ◌∷◌, ◌≡◌, ◌≤◌}
+use Rattle.np_layout.proofs.Creates.{grown_nodes-lay-out, node_waits-lay-out, request_waits-lay-out, registrations-lay-out, swept_pairs-lay-out, handles-lay-out as made-lays-out, returned-handle-handles-lay-out as gone-lays-out}
+use Rattle.np_layout.proofs.CreateRequests.{grown_requests-lay-out, is_element-prefix}
+use Rattle.np_layout.proofs.Names.{is_path-of}
+use Rattle.np_layout.proofs.Sessions.{sessions-lay-out}
+use Rattle.np_layout.proofs.Sets.{nodes-lay-out, same-is as node-is}
+use Rattle.np_layout.proofs.ChangeParts.{good-nodes, good-requests, good-rows, queue-kept}
+use Rattle.np_layout.proofs.Stands.{enacts-deletes, enacts-joined, enacts-less, enacts-none, enacts-parts, enacts-set, live-after, node-short, part-create, part-delete, part-wait, request-short, room-less, session-short, stands-less}
+use Rattle.np_layout.proofs.Deletes.{node-good, request-good}
+
+-- # what grows by a record of its own: a session, a request and a node
+
+-- ## a session
+
+-- a session that begins changes no node, and the tree's first session stays live
+begun-room : (t : TreeState) (more : ℕ) → HasRoomFor more t → HasRoomFor more (after_begin t)
+begun-room t more room = record { change = room.change; versions = room.versions; counters = room.counters; rows = room.rows; few = room.few }
+
+begun-live : (t : TreeState) (w : ℕ) → is_in t.live w ≡ true → is_in (after_begin t).live w ≡ true
+begun-live t w live = list_any-append (λ (s : ℕ). s == w) t.live ((t.begun + 1) ∷ []) ∙ ap (λ (b : Bool). b || is_in ((t.begun + 1) ∷ []) w) live
+
+good-session : (s : State) (facts : SessionFacts) → length s.sessions + 1 < 2 ^ 32 → HasGoodIds s → HasGoodIds (record s { sessions = s.sessions ++ facts ∷ [] })
+good-session s facts small good =
+    let long = length-append s.sessions (facts ∷ []) in
+    record {
+      sessions = omega arith;
+      requests = good.requests;
+      nodes = good.nodes;
+      registrations = good.registrations;
+      semaphores = good.semaphores;
+      handles = good.handles;
+      jobs = good.jobs;
+      launchers = good.launchers;
+      janitors = good.janitors;
+      requesters = good.requesters;
+      swept = good.swept;
+    }
+
+-- the begin of a session, and the create of its record by the tree's first session
+pub session-grows : (s : State) (t : TreeState) (role : Role) (more : ℕ) → Stands s t 1 (more + 1) → length s.sessions + 1 < 2 ^ 32 → length (session_text (record { mute = false; role = role })) ≤ 65_536 →
+    Enacts (after_begin t) 1 (make (session_text (record { mute = false; role = role })) (Session (record { 0 = length s.sessions + 1 })) ∷ []) (record s { sessions = s.sessions ++ record { role = role; live = true; mute = false } ∷ [] }) more
+session-grows s t role more stands small short =
+    let from : TreeState = after_begin t in
+    let part : Op = make (session_text (record { mute = false; role = role })) (Session (record { 0 = length s.sessions + 1 })) in
+    let lays = sessions-lay-out s t role stands.whole stands.good stands.lays (room-less t (more + 1) 1 (omega arith) stands.room) small short in
+    record {
+      goes = lays.goes;
+      leaves = record {
+        whole = goes-whole from (after_parts from 1 (part ∷ [])) 1 (part ∷ []) stands.whole (part-create (Session (record { 0 = length s.sessions + 1 })) (session_text (record { mute = false; role = role })) Persistent small, tt) lays.goes;
+        good = good-session s (record { role = role; live = true; mute = false }) small stands.good;
+        lays = lays.lays;
+        live = ap (λ (known : List ℕ). is_in known 1) (live-after from 1 (part ∷ [])) ∙ begun-live t 1 stands.live;
+        room = room-falls from 1 part more (begun-room t (more + 1) stands.room);
+      };
+    }
+
+-- ## a request
+
+part-request : (r : RequestId) (bytes : List ℕ) → IsGood (Request r) → AllByRecursion IsPart (request_parts r bytes)
+part-request r bytes good = (
+  record { path = is_path-below (path_of Requests) (request_prefix r) (is_path-of Requests tt) (is_element-prefix r good); numbered = refl },
+  (part-create (RequestLock r) [] Persistent good, tt),
+)
+
+-- the creates of a request's record and of its lock
+pub request-grows : (s : State) (t : TreeState) (w priority : ℕ) (kept : RequestRecord) (more : ℕ) → Stands s t w (more + 2) → IsGood (Request (next_id priority s)) → length (request_record_text kept) ≤ 65_536 → request_entry (next_id priority s) s.requests ≡ None →
+    Enacts t w (request_parts (next_id priority s) (request_record_text kept)) (record s { requests = insert_request (record { id = next_id priority s; kept = kept; queue = [] }) s.requests; next_request = s.next_request + 1 }) more
+request-grows s t w priority kept more stands r_good short none =
+    let r : RequestId = next_id priority s in
+    let entry : RequestEntry = record { id = r; kept = kept; queue = [] } in
+    enacts-parts s (record s { requests = insert_request entry s.requests; next_request = s.next_request + 1 }) t w (request_parts r (request_record_text kept)) more
+    (stands-less s t w (more + 2) (2 + more) (omega arith) stands)
+    (good-requests s (insert_request entry s.requests) (s.next_request + 1) stands.good (all-insert_before (λ (e : RequestEntry). IsGood (Request e.id)) (λ (e : RequestEntry). is_id_before r e.id) entry s.requests r_good stands.good.requests))
+    (part-request r (request_record_text kept) r_good)
+    (grown_requests-lay-out s t w priority kept stands.whole stands.good stands.lays stands.live (room-less t (more + 2) 2 (omega arith) stands.room) r_good short none)
+
+-- ## a node
+
+part-node : (n : NodeId) (bytes : List ℕ) → IsGood (Node n) → AllByRecursion IsPart (node_parts n bytes)
+part-node n bytes good = (
+  record { path = is_path-of Nodes tt; numbered = refl },
+  (part-create (NodeLock n) [] Persistent good, (part-wait (NodeLock n) good, tt)),
+)
+
+-- the creates of a node's record, of its lock and of its maker's wait there
+pub node-grows : (s : State) (t : TreeState) (session : SessionId) (kept : NodeRecord) (more : ℕ) → Stands s t (tree_session session) (more + 3) → IsNode kept → length (node_text kept) ≤ 65_536 → s.next_node < 2 ^ 32 → AllByRecursion (λ e. e.id.0 < s.next_node) s.nodes →
+    Enacts t (tree_session session) (node_parts (record { 0 = s.next_node }) (node_text kept)) (record s { nodes = s.nodes ++ record { id = record { 0 = s.next_node }; kept = kept; queue = session ∷ [] } ∷ []; next_node = s.next_node + 1 }) more
+node-grows s t session kept more stands is_node short small low =
+    let w : ℕ = tree_session session in
+    let n : NodeId = record { 0 = s.next_node } in
+    let entry : NodeEntry = record { id = n; kept = kept; queue = session ∷ [] } in
+    enacts-parts s (record s { nodes = s.nodes ++ entry ∷ []; next_node = s.next_node + 1 }) t w (node_parts n (node_text kept)) more
+    (stands-less s t w (more + 3) (3 + more) (omega arith) stands)
+    (good-nodes s (s.nodes ++ entry ∷ []) (s.next_node + 1) stands.good (all-push (λ (e : NodeEntry). IsGood (Node e.id)) s.nodes entry stands.good.nodes small))
+    (part-node n (node_text kept) small)
+    (grown_nodes-lay-out s t session kept (node_text kept) stands.whole stands.good stands.lays stands.live (room-less t (more + 3) 3 (omega arith) stands.room) (is_node, inl refl) short low)
+
+-- # who joins a queue, and a node that is allocated
+
+-- ## lists
+
+module _ {A : Type 0} (p : A → Bool) where
+  twice-by : (f g : A → A) (x : A) (xs : List A) (b : Bool) → p x ≡ b → p (f x) ≡ b → change_first p g (change_first p f xs) ≡ change_first p (λ y. g (f y)) xs →
+      change_first p g (cond b (f x ∷ xs) (x ∷ change_first p f xs)) ≡ cond b (g (f x) ∷ xs) (x ∷ change_first p (λ y. g (f y)) xs)
+  twice-by f g x xs true is kept later = ap (λ (b : Bool). cond b (g (f x) ∷ xs) (f x ∷ change_first p g xs)) kept
+  twice-by f g x xs false is kept later = ap (λ (b : Bool). cond b (g x ∷ change_first p f xs) (x ∷ change_first p g (change_first p f xs))) is ∙ ap (λ (ys : List A). x ∷ ys) later
+
+  -- two changes of the same member are one
+  pub change_first-twice : (f g : A → A) → ((x : A) → p (f x) ≡ p x) → (xs : List A) → change_first p g (change_first p f xs) ≡ change_first p (λ y. g (f y)) xs
+  change_first-twice f g keeps [] = refl
+  change_first-twice f g keeps (x ∷ xs) = twice-by f g x xs (p x) refl (keeps x) (change_first-twice f g keeps xs)
+
+-- ## a session joins a queue
+
+-- the state with a queue for that of a lock
+module _ (s : State) (t : TreeState) (session : SessionId) (lock : Place) (queue : List SessionId) (with : List SessionId → State) (more : ℕ) (stands : Stands s t (tree_session session) (more + 1)) (same : with queue ≡ s) (lock_good : IsGood lock) (good : HasGoodIds (with (queue ++ session ∷ [])))
+    (lays : is_queued session queue ≡ false → PartsLayOut (with (joined session queue)) t (tree_session session) (wait_at lock ∷ [])) where
+  joins-by : (b : Bool) → is_queued session queue ≡ b → Enacts t (tree_session session) (cond b [] (wait_at lock ∷ [])) (with (cond b queue (queue ++ session ∷ []))) more
+  joins-by true queued =
+      subst (λ (later : State). Enacts t (tree_session session) [] later more) (sym same) (enacts-none s t (tree_session session) more (stands-less s t (tree_session session) (more + 1) more (omega arith) stands))
+  joins-by false queued =
+      enacts-parts s (with (queue ++ session ∷ [])) t (tree_session session) (wait_at lock ∷ []) more (stands-less s t (tree_session session) (more + 1) (1 + more) (omega arith) stands) good (part-wait lock lock_good, tt)
+      (subst (λ (later : List SessionId). PartsLayOut (with later) t (tree_session session) (wait_at lock ∷ [])) (ap (λ (b : Bool). cond b queue (queue ++ session ∷ [])) queued) (lays queued))
+
+  lock-joins : Enacts t (tree_session session) (join_parts lock queue session) (with (joined session queue)) more
+  lock-joins = joins-by (is_queued session queue) refl
+
+-- a session joins the queue of a request, if it is not there yet
+pub request-joins : (s : State) (t : TreeState) (session : SessionId) (r : RequestId) (e : RequestEntry) (more : ℕ) → Stands s t (tree_session session) (more + 1) → request_entry r s.requests ≡ Some e →
+    Enacts t (tree_session session) (join_parts (RequestLock r) (request_queue r s.requests) session) (record s { requests = put_request_queue r (joined session (request_queue r s.requests)) s.requests }) more
+request-joins s t session r e more stands there =
+    let queue : List SessionId = request_queue r s.requests in
+    let is : queue ≡ e.queue = ap (λ (o : Option RequestEntry). option_map_or (λ (x : RequestEntry). x.queue) o []) there in
+    let with : List SessionId → State = λ (list : List SessionId). record s { requests = put_request_queue r list s.requests } in
+    lock-joins s t session (RequestLock r) queue with more stands (ap (λ (rows : List RequestEntry). record s { requests = rows }) (queue-kept (λ x. same_request x.id r) queue s.requests e there is)) (request-good r s.requests e stands.good.requests there)
+    (good-requests s (put_request_queue r (queue ++ session ∷ []) s.requests) s.next_request stands.good (all-change_first (λ (x : RequestEntry). IsGood (Request x.id)) (λ x. same_request x.id r) (λ (x : RequestEntry). record x { queue = queue ++ session ∷ [] }) s.requests (λ x good. good) stands.good.requests))
+    (λ queued. request_waits-lay-out s t session r e stands.whole stands.good stands.lays stands.live (room-less t (more + 1) 1 (omega arith) stands.room) there (ap (is_queued session) (sym is) ∙ queued))
+
+-- a session joins the queue of a node, if it is not there yet
+pub node-joins : (s : State) (t : TreeState) (session : SessionId) (n : NodeId) (e : NodeEntry) (more : ℕ) → Stands s t (tree_session session) (more + 1) → node_entry n s.nodes ≡ Some e →
+    Enacts t (tree_session session) (join_parts (NodeLock n) (node_queue n s.nodes) session) (record s { nodes = put_node_queue n (joined session (node_queue n s.nodes)) s.nodes }) more
+node-joins s t session n e more stands there =
+    let queue : List SessionId = node_queue n s.nodes in
+    let is : queue ≡ e.queue = ap (λ (o : Option NodeEntry). option_map_or (λ (x : NodeEntry). x.queue) o []) there in
+    let with : List SessionId → State = λ (list : List SessionId). record s { nodes = put_node_queue n list s.nodes } in
+    lock-joins s t session (NodeLock n) queue with more stands (ap (λ (rows : List NodeEntry). record s { nodes = rows }) (queue-kept (λ x. x.id.0 == n.0) queue s.nodes e there is)) (node-good n s.nodes e stands.good.nodes there)
+    (good-nodes s (put_node_queue n (queue ++ session ∷ []) s.nodes) s.next_node stands.good (all-change_first (λ (x : NodeEntry). IsGood (Node x.id)) (λ x. x.id.0 == n.0) (λ (x : NodeEntry). record x { queue = queue ++ session ∷ [] }) s.nodes (λ x good. good) stands.good.nodes))
+    (λ queued. node_waits-lay-out s t session n e stands.whole stands.good stands.lays stands.live (room-less t (more + 1) 1 (omega arith) stands.room) there (ap (is_queued session) (sym is) ∙ queued))
+
+-- ## a node is allocated
+
+module _ (r : RequestId) (tenant : Option TenantId) (session : SessionId) (r_good : IsGood (Request r)) (tenant_good : IfSome tenant (λ t. t.0 < 2 ^ 16))
+    (s : State) (t : TreeState) (more : ℕ) (stands : Stands s t (tree_session session) (more + 2)) (nodes_are : AllByRecursion (λ e. IsNode e.kept) s.nodes) where
+  abbrev w : ℕ
+  w = tree_session session
+
+  allocated-is : (k : NodeRecord) → IsNode k → IsNode (record k { allocated_to = Some r; tenant = tenant })
+  allocated-is k is = record { allocated_to = r_good; attempts = is.attempts; label = is.label; pool = is.pool; server = is.server; since = is.since; start = is.start; tenant = tenant_good }
+
+  entry-allocated : (e : NodeEntry) → node_entry e.id s.nodes ≡ Some e → Enacts t w (allocate_parts r tenant session e) (record s { nodes = change_first (λ x. x.id.0 == e.id.0) (allocated r tenant session) s.nodes }) more
+  entry-allocated e there =
+      let is_it : NodeEntry → Bool = λ (x : NodeEntry). x.id.0 == e.id.0 in
+      let kept : NodeRecord = (allocated r tenant session e).kept in
+      let with_kept : NodeEntry → NodeEntry = λ (x : NodeEntry). record x { kept = kept } in
+      let with_queue : NodeEntry → NodeEntry = λ (x : NodeEntry). record x { queue = joined session e.queue } in
+      let mid : State = record s { nodes = change_first is_it with_kept s.nodes } in
+      let last : List NodeEntry → State = λ (rows : List NodeEntry). record s { nodes = rows } in
+      let kept_is : IsNode kept = allocated-is e.kept (all-find (λ (x : NodeEntry). IsNode x.kept) is_it s.nodes e nodes_are there) in
+      let e_good : IsGood (Node e.id) = all-find (λ (x : NodeEntry). IsGood (Node x.id)) is_it s.nodes e stands.good.nodes there in
+      let sets : List Op = set (node_text kept) (Node e.id) ∷ [] in
+      let first : Enacts t w sets mid (more + 1) =
+      enacts-set s mid t w (Node e.id) (node_text kept) (more + 1) (stands-less s t w (more + 2) ((more + 1) + 1) (omega arith) stands) e_good
+      (good-nodes s (change_first is_it with_kept s.nodes) s.next_node stands.good (all-change_first (λ (x : NodeEntry). IsGood (Node x.id)) is_it with_kept s.nodes (λ x good. good) stands.good.nodes))
+      (node-short kept kept_is)
+      (nodes-lay-out s t e.id (λ (k : NodeRecord). kept) e.kept (node_text kept) stands.whole stands.good stands.lays (ap (option_map (λ (x : NodeEntry). x.kept)) there) (kept_is, inl refl)) in
+      let later : Enacts (after_parts t w sets) w (join_parts (NodeLock e.id) e.queue session) (last (change_first is_it with_queue (change_first is_it with_kept s.nodes))) more =
+      let found : node_entry e.id mid.nodes ≡ Some (with_kept e) = find-change_first is_it with_kept (λ x. refl) s.nodes e there in
+      subst (λ (queue : List SessionId). Enacts (after_parts t w sets) w (join_parts (NodeLock e.id) queue session) (last (put_node_queue e.id (joined session queue) mid.nodes)) more) (ap (λ (o : Option NodeEntry). option_map_or (λ (x : NodeEntry). x.queue) o []) found)
+      (node-joins mid (after_parts t w sets) session e.id (with_kept e) more first.leaves found) in
+      let same : change_first is_it with_queue (change_first is_it with_kept s.nodes) ≡ change_first is_it (allocated r tenant session) s.nodes =
+      change_first-twice is_it with_kept with_queue (λ x. refl) s.nodes
+      ∙ change_first-same is_it (λ (x : NodeEntry). with_queue (with_kept x)) (allocated r tenant session) s.nodes (λ x found.
+      let is : e ≡ x = cc in
+      ap (λ (y : NodeEntry). record x { kept = (allocated r tenant session y).kept; queue = joined session y.queue }) is) in
+      subst (λ (rows : List NodeEntry). Enacts t w (allocate_parts r tenant session e) (last rows) more) same
+      (enacts-joined mid (last (change_first is_it with_queue (change_first is_it with_kept s.nodes))) t w sets (join_parts (NodeLock e.id) e.queue session) (more + 1) more first later)
+
+  allocated-by : (n : NodeId) (o : Option NodeEntry) → node_entry n s.nodes ≡ o → Enacts t w (where_there o (allocate_parts r tenant session)) (record s { nodes = change_first (λ x. x.id.0 == n.0) (allocated r tenant session) s.nodes }) more
+  allocated-by n None there =
+      subst (λ (rows : List NodeEntry). Enacts t w [] (record s { nodes = rows }) more) (sym (change_first-absent (λ (x : NodeEntry). x.id.0 == n.0) (allocated r tenant session) s.nodes there))
+      (enacts-none s t w more (stands-less s t w (more + 2) more (omega arith) stands))
+  allocated-by n (Some e) there =
+      let is : e.id ≡ n = node-is e.id n (find-passes (λ (x : NodeEntry). x.id.0 == n.0) s.nodes e there) in
+      subst (λ (k : NodeId). Enacts t w (allocate_parts r tenant session e) (record s { nodes = change_first (λ x. x.id.0 == k.0) (allocated r tenant session) s.nodes }) more) is
+      (entry-allocated e (subst (λ (k : NodeId). node_entry k s.nodes ≡ Some e) (sym is) there))
+
+  -- the set of a node's record, and the wait at its lock, if the node is there
+  pub node-allocated : (n : NodeId) → Enacts t w (where_there (node_entry n s.nodes) (allocate_parts r tenant session)) (record s { nodes = change_first (λ x. x.id.0 == n.0) (allocated r tenant session) s.nodes }) more
+  node-allocated n = allocated-by n (node_entry n s.nodes) refl
+
+-- # the parts that make a job's handles and that give them back
+
+-- ## lists
+
+-- a change that changes nothing of the member there leaves the list
+kept-at : {X : Type 0} (i : ℕ) (f : X → X) (xs : List X) → ((x : X) → slice_get xs i ≡ Some x → f x ≡ x) → change_at i f xs ≡ xs
+kept-at i f [] same = refl
+kept-at zero f (x ∷ xs) same = ap (λ (first : _). first ∷ xs) (same x refl)
+kept-at (suc i) f (x ∷ xs) same = ap (λ (rest : List _). x ∷ rest) (kept-at i f xs same)
+
+-- the jobs with a handle are those of the list there
+among-there : (j : JobId) (x : SemId) (handles : List (List JobId)) (jobs : List JobId) (b : Bool) → has_handle j handles x ≡ b → slice_get handles x.0 ≡ Some jobs → is_among j jobs ≡ b
+among-there j x handles jobs b has there = ap (λ (o : Option (List JobId)). is_among j (unwrap_or o [])) (sym there) ∙ has
+
+-- a job with a handle gets no other
+again-same : (j : JobId) (x : SemId) (handles : List (List JobId)) → has_handle j handles x ≡ true → change_at x.0 (with_handle j) handles ≡ handles
+again-same j x handles has = kept-at x.0 (with_handle j) handles (λ jobs there.
+    ap (λ (b : Bool). cond b jobs (insert_before (λ (other : JobId). nat_lt j.0 other.0) j jobs)) (among-there j x handles jobs true has there))
+
+-- a job with no handle has none to give back
+none-same : (j : JobId) (x : SemId) (handles : List (List JobId)) → has_handle j handles x ≡ false → change_at x.0 (without_handle j) handles ≡ handles
+none-same j x handles has = kept-at x.0 (without_handle j) handles (λ jobs there.
+    filter-not_none (λ (other : JobId). other.0 == j.0) jobs (none-list_any (λ (other : JobId). other.0 == j.0) jobs (among-there j x handles jobs false has there)))
+
+-- ## ids
+
+abbrev AreJobs : List JobId → Type 0
+AreJobs jobs = AllByRecursion (λ k. IsGood (Job k)) jobs
+
+-- the state with other handles: as many semaphores, and each job has a place
+handles-good : (s : State) (list : List (List JobId)) → HasGoodIds s → length list ≡ length s.handles → AllByRecursion AreJobs list → HasGoodIds (record s { handles = list })
+handles-good s list good same all =
+    good-rows s s.requests s.nodes s.registrations list s.swept s.next_request s.next_node good
+    good.requests good.nodes good.registrations (let few = good.semaphores in omega arith) all good.swept
+
+with-by : (j : JobId) (jobs : List JobId) (b : Bool) → IsGood (Job j) → AreJobs jobs → AreJobs (cond b jobs (insert_before (λ (other : JobId). nat_lt j.0 other.0) j jobs))
+with-by j jobs true small all = all
+with-by j jobs false small all = all-insert_before (λ (k : JobId). IsGood (Job k)) (λ (other : JobId). nat_lt j.0 other.0) j jobs small all
+
+with-good : (j : JobId) (x : SemId) (s : State) → IsGood (Job j) → HasGoodIds s → HasGoodIds (record s { handles = change_at x.0 (with_handle j) s.handles })
+with-good j x s small good =
+    handles-good s (change_at x.0 (with_handle j) s.handles) good (length-change_at x.0 (with_handle j) s.handles)
+    (all-change_at AreJobs x.0 (with_handle j) s.handles (λ jobs all. with-by j jobs (is_among j jobs) small all) good.handles)
+
+without-good : (j : JobId) (x : SemId) (s : State) → HasGoodIds s → HasGoodIds (record s { handles = change_at x.0 (without_handle j) s.handles })
+without-good j x s good =
+    handles-good s (change_at x.0 (without_handle j) s.handles) good (length-change_at x.0 (without_handle j) s.handles)
+    (all-change_at AreJobs x.0 (without_handle j) s.handles (λ jobs all. all-filter (λ (k : JobId). IsGood (Job k)) (λ other. not (other.0 == j.0)) jobs all) good.handles)
+
+job-by : (j other : JobId) (jobs : List JobId) (b : Bool) → (other.0 == j.0) ≡ b → (b || is_among j jobs) ≡ true → IsGood (Job other) → (is_among j jobs ≡ true → IsGood (Job j)) → IsGood (Job j)
+job-by j other jobs true same any good later = let number : other.0 ≡ j.0 = grind (arith, nat_tests) in subst (λ (n : ℕ). n < 2 ^ 32) number good
+job-by j other jobs false same any good later = later any
+
+-- a job among those with a place has one
+job-good : (j : JobId) (jobs : List JobId) → AreJobs jobs → is_among j jobs ≡ true → IsGood (Job j)
+job-good j [] all any = absurd cc
+job-good j (other ∷ jobs) all any = job-by j other jobs (other.0 == j.0) refl any all.0 (job-good j jobs all.1)
+
+-- a handle is one of a semaphore of the site, and of a job with a place
+there-good : (j : JobId) (list : List (List JobId)) (at : ℕ) → AllByRecursion AreJobs list → is_among j (unwrap_or (slice_get list at) []) ≡ true → (at < length list) × IsGood (Job j)
+there-good j [] at all any = absurd cc
+there-good j (jobs ∷ list) zero all any = (omega arith, job-good j jobs all.0 any)
+there-good j (jobs ∷ list) (suc at) all any = let later = there-good j list at all.1 any in (let low = later.0 in omega arith, later.1)
+
+handle-good : (j : JobId) (x : SemId) (s : State) → HasGoodIds s → has_handle j s.handles x ≡ true → IsGood (Handle x j)
+handle-good j x s good has =
+    let there = there-good j s.handles x.0 good.handles has in
+    let few = good.semaphores in
+    let low = there.0 in
+    (omega arith, there.1)
+
+-- ## handles are made
+
+acquire-by : (j : JobId) (x : SemId) (s : State) (t : TreeState) (w more : ℕ) (b : Bool) → has_handle j s.handles x ≡ b → j.0 < 2 ^ 32 → x.0 < length s.handles → Stands s t w (more + 1) →
+    Enacts t w (cond b [] (make [] (Handle x j) ∷ [])) (record s { handles = change_at x.0 (with_handle j) s.handles }) more
+acquire-by j x s t w more true has small low stands =
+    subst (λ (list : List (List JobId)). Enacts t w [] (record s { handles = list }) more) (sym (again-same j x s.handles has))
+    (enacts-none s t w more (stands-less s t w (more + 1) more (omega arith) stands))
+acquire-by j x s t w more false has small low stands =
+    let good = stands.good in
+    let few = good.semaphores in
+    let x_good : x.0 < 2 ^ 16 = omega arith in
+    enacts-parts s (record s { handles = change_at x.0 (with_handle j) s.handles }) t w (make [] (Handle x j) ∷ []) more (stands-less s t w (more + 1) (1 + more) (omega arith) stands)
+    (with-good j x s small good) (part-create (Handle x j) [] Persistent (x_good, small), tt)
+    (made-lays-out s t w x j stands.whole good stands.lays stands.live (room-less t (more + 1) 1 (omega arith) stands.room) low small has)
+
+-- the parts that make a job's handles lay out the state in which it has them
+pub acquire-enacts : (j : JobId) (semaphores : List SemId) (s : State) (t : TreeState) (w more : ℕ) → j.0 < 2 ^ 32 → AllByRecursion (λ x. x.0 < length s.handles) semaphores → Stands s t w (length semaphores + more) →
+    Enacts t w (acquire_parts j semaphores s.handles) (record s { handles = all_with_handle j semaphores s.handles }) more
+acquire-enacts j [] s t w more small low stands = enacts-none s t w more (stands-less s t w (0 + more) more (omega arith) stands)
+acquire-enacts j (x ∷ semaphores) s t w more small low stands =
+    let list : List (List JobId) = change_at x.0 (with_handle j) s.handles in
+    let later : State = record s { handles = list } in
+    let parts : List Op = cond (has_handle j s.handles x) [] (make [] (Handle x j) ∷ []) in
+    let room : length semaphores + more + 1 ≤ length (x ∷ semaphores) + more = omega arith in
+    let first = acquire-by j x s t w (length semaphores + more) (has_handle j s.handles x) refl small low.0
+    (stands-less s t w (length (x ∷ semaphores) + more) (length semaphores + more + 1) room stands) in
+    let low_later : AllByRecursion (λ y. y.0 < length list) semaphores =
+    subst (λ (n : ℕ). AllByRecursion (λ (y : SemId). y.0 < n) semaphores) (sym (length-change_at x.0 (with_handle j) s.handles)) low.1 in
+    enacts-joined later (record s { handles = all_with_handle j semaphores list }) t w parts (acquire_parts j semaphores list) (length semaphores + more) more first
+    (acquire-enacts j semaphores later (after_parts t w parts) w more small low_later first.leaves)
+
+-- ## handles are given back
+
+release-by : (j : JobId) (x : SemId) (s : State) (t : TreeState) (w more : ℕ) (b : Bool) → has_handle j s.handles x ≡ b → Stands s t w (more + 1) →
+    Enacts t w (cond b (delete (Handle x j) ∷ []) []) (record s { handles = change_at x.0 (without_handle j) s.handles }) (more + 1)
+release-by j x s t w more true has stands =
+    let lays : DeleteLaysOut (record s { handles = change_at x.0 (without_handle j) s.handles }) t w (Handle x j) =
+    gone-lays-out s t w x j (record { whole = stands.whole; good = stands.good; lays = stands.lays; live = stands.live; room = room-less t (more + 1) 1 (omega arith) stands.room }) has in
+    enacts-deletes s (record s { handles = change_at x.0 (without_handle j) s.handles }) t w (delete (Handle x j) ∷ []) (more + 1) stands
+    (without-good j x s stands.good) (part-delete (Handle x j) (handle-good j x s stands.good has), tt) (tt, tt)
+    (record { goes = (lays.goes, refl); lays = lays.lays })
+release-by j x s t w more false has stands =
+    subst (λ (list : List (List JobId)). Enacts t w [] (record s { handles = list }) (more + 1)) (sym (none-same j x s.handles has)) (enacts-none s t w (more + 1) stands)
+
+-- the parts that give a job's handles back lay out the state in which it has none of them
+pub release-enacts : (j : JobId) (semaphores : List SemId) (s : State) (t : TreeState) (w more : ℕ) → Stands s t w (more + 1) →
+    Enacts t w (release_parts j semaphores s.handles) (record s { handles = all_without_handle j semaphores s.handles }) (more + 1)
+release-enacts j [] s t w more stands = enacts-none s t w (more + 1) stands
+release-enacts j (x ∷ semaphores) s t w more stands =
+    let list : List (List JobId) = change_at x.0 (without_handle j) s.handles in
+    let later : State = record s { handles = list } in
+    let parts : List Op = cond (has_handle j s.handles x) (delete (Handle x j) ∷ []) [] in
+    let first = release-by j x s t w more (has_handle j s.handles x) refl stands in
+    enacts-joined later (record s { handles = all_without_handle j semaphores list }) t w parts (release_parts j semaphores list) (more + 1) (more + 1) first
+    (release-enacts j semaphores later (after_parts t w parts) w more first.leaves)
+
+-- the parts for a change of handles are accepted, and leave a tree with the changed handles
+pub handles-enact : HandlesEnact
+handles-enact c w HandlesChange.Same s t more stands = enacts-none s t w more (stands-less s t w (more + 1) more (omega arith) stands)
+handles-enact c w (HandlesChange.Release j) s t more stands =
+    enacts-less (record s { handles = all_without_handle j (semaphores_of c j) s.handles }) t w (release_parts j (semaphores_of c j) s.handles) (more + 1) more (omega arith)
+    (release-enacts j (semaphores_of c j) s t w more stands)
+
+-- # the parts that mark a pair as swept and that register a launcher
+
+-- ## a pair is swept
+
+abbrev ArePairs : List Swept → Type 0
+ArePairs list = AllByRecursion (λ pair. IsGood (SweptPlace pair.node pair.server)) list
+
+pair-by : (n : NodeId) (server : ℕ) (list : List Swept) (b : Bool) → IsGood (SweptPlace n server) → ArePairs list → ArePairs (cond b list (insert_before (is_pair_after n server) (record { node = n; server = server }) list))
+pair-by n server list true is_good all = all
+pair-by n server list false is_good all = all-insert_before (λ (pair : Swept). IsGood (SweptPlace pair.node pair.server)) (is_pair_after n server) (record { node = n; server = server }) list is_good all
+
+swept-good : (n : NodeId) (server : ℕ) (s : State) → IsGood (SweptPlace n server) → HasGoodIds s → HasGoodIds (record s { swept = with_pair n server s.swept })
+swept-good n server s is_good good =
+    good-rows s s.requests s.nodes s.registrations s.handles (with_pair n server s.swept) s.next_request s.next_node good
+    good.requests good.nodes good.registrations good.semaphores good.handles (pair-by n server s.swept (is_swept n server s.swept) is_good good.swept)
+
+swept-by : (n : NodeId) (server : ℕ) (s : State) (t : TreeState) (w more : ℕ) (b : Bool) → is_swept n server s.swept ≡ b → IsGood (SweptPlace n server) → Stands s t w (more + 1) →
+    Enacts t w (cond b [] (make [] (SweptPlace n server) ∷ [])) (record s { swept = with_pair n server s.swept }) more
+swept-by n server s t w more true is is_good stands =
+    let same : with_pair n server s.swept ≡ s.swept = ap (λ (b : Bool). cond b s.swept (insert_before (is_pair_after n server) (record { node = n; server = server }) s.swept)) is in
+    subst (λ (list : List Swept). Enacts t w [] (record s { swept = list }) more) (sym same) (enacts-none s t w more (stands-less s t w (more + 1) more (omega arith) stands))
+swept-by n server s t w more false is is_good stands =
+    enacts-parts s (record s { swept = with_pair n server s.swept }) t w (make [] (SweptPlace n server) ∷ []) more (stands-less s t w (more + 1) (1 + more) (omega arith) stands)
+    (swept-good n server s is_good stands.good) (part-create (SweptPlace n server) [] Persistent is_good, tt)
+    (swept_pairs-lay-out s t w n server stands.whole stands.good stands.lays stands.live (room-less t (more + 1) 1 (omega arith) stands.room) is_good is)
+
+-- the part for a swept pair, if it was not, lays out the state in which it is
+pub swept-enacts : (n : NodeId) (server : ℕ) (s : State) (t : TreeState) (w more : ℕ) → IsGood (SweptPlace n server) → Stands s t w (more + 1) →
+    Enacts t w (cond (is_swept n server s.swept) [] (make [] (SweptPlace n server) ∷ [])) (record s { swept = with_pair n server s.swept }) more
+swept-enacts n server s t w more is_good stands = swept-by n server s t w more (is_swept n server s.swept) refl is_good stands
+
+-- ## a launcher registers
+
+registers-good : (session : SessionId) (p : PoolId) (s : State) → IsGood (Launcher p) → HasGoodIds s → HasGoodIds (registers s session p)
+registers-good session p s is_good good =
+    good-rows s s.requests s.nodes (registers s session p).registrations s.handles s.swept s.next_request s.next_node good good.requests good.nodes
+    (all-insert_before (λ (g : Registration). IsGood (Launcher g.pool)) (λ (g : Registration). nat_lt p.0 g.pool.0) (record { pool = p; session = session }) s.registrations is_good good.registrations)
+    good.semaphores good.handles good.swept
+
+-- the part for a registration lays out the state in which the launcher is registered
+pub registration-enacts : (session : SessionId) (p : PoolId) (s : State) (t : TreeState) (more : ℕ) → IsGood (Launcher p) → registered p s.registrations ≡ None → Stands s t (tree_session session) (more + 1) →
+    Enacts t (tree_session session) (Op.Create (path_of (Launcher p)) [] Ephemeral ∷ []) (registers s session p) more
+registration-enacts session p s t more is_good new stands =
+    enacts-parts s (registers s session p) t (tree_session session) (Op.Create (path_of (Launcher p)) [] Ephemeral ∷ []) more
+    (stands-less s t (tree_session session) (more + 1) (1 + more) (omega arith) stands)
+    (registers-good session p s is_good stands.good) (part-create (Launcher p) [] Ephemeral is_good, tt)
+    (registrations-lay-out s t session p stands.whole stands.good stands.lays stands.live (room-less t (more + 1) 1 (omega arith) stands.room) is_good new)
+
+-- # the parts for what grows
 
 -- no parts take no room
 none : (s : State) (t : TreeState) (w more : ℕ) → Stands s t w (more + 8) → Enacts t w [] s more
@@ -14,27 +389,27 @@ none s t w more stands = enacts-none s t w more (stands-less s t w (more + 8) mo
 
 -- the parts for what grows are accepted, and leave a tree of the grown state
 pub growths-enact : GrowthsEnact
-growths-enact c maker grow.Nothing s t more stands ready = none s t (writer maker) more stands
-growths-enact c None (grow.Session role) s t more stands ready = session-grows s t role more (stands-less s t 1 (more + 8) (more + 1) (omega arith) stands) ready.1.0 (session-short false role ready.1.1)
-growths-enact c (Some maker) (grow.Session role) s t more stands ready = absurd (let is = ready.0 in cc)
-growths-enact c None (grow.Registration p) s t more stands ready = none s t 1 more stands
-growths-enact c (Some maker) (grow.Registration p) s t more stands ready =
+growths-enact c maker Growth.Nothing s t more stands ready = none s t (writer maker) more stands
+growths-enact c None (Growth.Session role) s t more stands ready = session-grows s t role more (stands-less s t 1 (more + 8) (more + 1) (omega arith) stands) ready.1.0 (session-short false role ready.1.1)
+growths-enact c (Some maker) (Growth.Session role) s t more stands ready = absurd (let is = ready.0 in cc)
+growths-enact c None (Growth.Registration p) s t more stands ready = none s t 1 more stands
+growths-enact c (Some maker) (Growth.Registration p) s t more stands ready =
     registration-enacts maker.session p s t more ready.0 ready.1 (stands-less s t (tree_session maker.session) (more + 8) (more + 1) (omega arith) stands)
-growths-enact c maker (grow.Request priority asked) s t more stands ready =
+growths-enact c maker (Growth.Request priority asked) s t more stands ready =
     request-grows s t (writer maker) priority (new_record asked) more (stands-less s t (writer maker) (more + 8) (more + 2) (omega arith) stands) ready.0 (request-short (new_record asked) ready.1.0) ready.1.1
-growths-enact c None (grow.Node kept) s t more stands ready = absurd (let is = ready.0 in cc)
-growths-enact c (Some maker) (grow.Node kept) s t more stands ready =
+growths-enact c None (Growth.Node kept) s t more stands ready = absurd (let is = ready.0 in cc)
+growths-enact c (Some maker) (Growth.Node kept) s t more stands ready =
     node-grows s t maker.session kept more (stands-less s t (tree_session maker.session) (more + 8) (more + 3) (omega arith) stands) ready.1.0 (node-short kept ready.1.0) ready.1.1.0 ready.1.1.1
-growths-enact c None (grow.JoinRequest r) s t more stands ready = none s t 1 more stands
-growths-enact c (Some maker) (grow.JoinRequest r) s t more stands ready =
+growths-enact c None (Growth.JoinRequest r) s t more stands ready = none s t 1 more stands
+growths-enact c (Some maker) (Growth.JoinRequest r) s t more stands ready =
     request-joins s t maker.session r ready.0 more (stands-less s t (tree_session maker.session) (more + 8) (more + 1) (omega arith) stands) ready.1
-growths-enact c None (grow.JoinNode n) s t more stands ready = none s t 1 more stands
-growths-enact c (Some maker) (grow.JoinNode n) s t more stands ready =
+growths-enact c None (Growth.JoinNode n) s t more stands ready = none s t 1 more stands
+growths-enact c (Some maker) (Growth.JoinNode n) s t more stands ready =
     node-joins s t maker.session n ready.0 more (stands-less s t (tree_session maker.session) (more + 8) (more + 1) (omega arith) stands) ready.1
-growths-enact c None (grow.Allocate n r tenant) s t more stands ready = none s t 1 more stands
-growths-enact c (Some maker) (grow.Allocate n r tenant) s t more stands ready =
+growths-enact c None (Growth.Allocate n r tenant) s t more stands ready = none s t 1 more stands
+growths-enact c (Some maker) (Growth.Allocate n r tenant) s t more stands ready =
     node-allocated r tenant maker.session ready.1.0 ready.0 s t more (stands-less s t (tree_session maker.session) (more + 8) (more + 2) (omega arith) stands) ready.1.1 n
-growths-enact c maker (grow.Handles j) s t more stands ready =
+growths-enact c maker (Growth.Handles j) s t more stands ready =
     let few = ready.1.0 in
     acquire-enacts j (semaphores_of c j) s t (writer maker) more ready.0 ready.1.1 (stands-less s t (writer maker) (more + 8) (length (semaphores_of c j) + more) (omega arith) stands)
-growths-enact c maker (grow.Swept n x) s t more stands ready = swept-enacts n x s t (writer maker) more ready (stands-less s t (writer maker) (more + 8) (more + 1) (omega arith) stands)
+growths-enact c maker (Growth.Swept n x) s t more stands ready = swept-enacts n x s t (writer maker) more ready (stands-less s t (writer maker) (more + 8) (more + 1) (omega arith) stands)

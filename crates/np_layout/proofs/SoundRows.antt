@@ -1,9 +1,7 @@
 -- what the rows of a sound configuration say of the numbers in records
-use Rattle.np_layout.proofs.EnactPrelude.{All, All-head, All-tail, AllByRecursion, Configuration, EachAfter, IfSome, IsLabel, IsOffer, IsPool, IsPriority, IsSessionRole, IsSound, IsWanted, JobId, LabelId, List, None, Offer, Option, Pool, PoolId, RequestRecord, Role, Some, StandsByOwner, [], all-at, all-find, arith, find, find-passes, is_offered, is_role, is_some, length, nat_tests, offers_of, option_and_then, option_map, option_map_or, refl, slice_get, some-within, tenant_of_request, true, ◌++◌, ◌<◌, ◌==◌, ◌^◌, ◌∷◌, ◌≡◌, ◌≤◌}
+use Rattle.np_layout.proofs.Prelude.{All, All-head, All-tail, AllByRecursion, Configuration, EachAfter, IfSome, IsLabel, IsOffer, IsPool, IsPriority, IsSessionRole, IsSound, IsWanted, JobId, LabelId, List, None, Offer, Option, Pool, PoolId, RequestRecord, Role, SemId, Some, StandsByOwner, all-at, all-find, arith, find, find-passes, is_offered, is_role, is_some, length, nat_tests, offers_of, option_and_then, option_map, option_map_or, refl, slice_get, some-within, tenant_of_request, true, [], ◌++◌, ◌<◌, ◌==◌, ◌^◌, ◌∷◌, ◌≡◌, ◌≤◌}
 use Rattle.np_machine.specs.Prelude.{IsTaken}
-use Rattle.np_changes.specs.Prelude.{SemId}
 use Rattle.np_changes.specs.Prelude.{IsJob, Job}
-use Rattle.np_text.specs.declared.id.Role.TheVariants as role
 
 -- ## rows
 
@@ -25,13 +23,13 @@ pool-low c p sound low = let few = sound.supply.few_pools in omega arith
 
 -- a role of the configuration may have a session
 pub role-low : (c : Configuration) (r : Role) → IsSound c → is_role c r ≡ true → IsSessionRole r
-role-low c (role.Launcher p) sound is = pool-low c p sound (some-within c.pools p.0 (slice_get c.pools p.0) refl is)
-role-low c (role.Janitor p) sound is = pool-low c p sound (some-within c.pools p.0 (slice_get c.pools p.0) refl is)
-role-low c (role.Requester q) sound is =
+role-low c (Role.Launcher p) sound is = pool-low c p sound (some-within c.pools p.0 (slice_get c.pools p.0) refl is)
+role-low c (Role.Janitor p) sound is = pool-low c p sound (some-within c.pools p.0 (slice_get c.pools p.0) refl is)
+role-low c (Role.Requester q) sound is =
     let few = sound.few_requesters in
     let low = some-within c.requesters q.0 (slice_get c.requesters q.0) refl is in
     omega arith
-role-low c role.Reaper sound is = absurd cc
+role-low c Role.Reaper sound is = absurd cc
 
 -- ## jobs
 

@@ -1,11 +1,8 @@
 -- what a tree needs of a state so that it can carry it: the state can be read from its tree
 use Rattle.std.specs.Prelude.{◌≡◌, ◌<◌, ◌^◌, ℕ, Bool, nat_lt, List, length}
-use Rattle.np_machine.specs.Prelude.{AllByRecursion, Configuration, JobId, Rises, State, is_pair_after}
-use Rattle.np_machine.specs.declared.state.Swept.{Swept}
-use Rattle.np_tree.specs.Prelude.{IsWhole, TreeState}
 use Rattle.np_layout.specs.Layout.{LaysOut}
 use Rattle.np_layout.specs.Sets.{HasGoodIds}
-use Rattle.np_spelling.specs.Spelling.{IsJob, IsNode, IsRequest, IsRole, IsSessionRole}
+use Rattle.np_layout.specs.Lower.{AllByRecursion, Configuration, IsJob, IsNode, IsRequest, IsRole, IsSessionRole, IsWhole, JobId, Rises, State, Swept, TreeState, is_pair_after}
 
 -- by node, and then by server
 abbrev pub is_pair_before : Swept → Swept → Bool

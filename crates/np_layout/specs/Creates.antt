@@ -2,10 +2,7 @@
 -- which it is, and each of them is accepted
 use Rattle.std.specs.Prelude.{◌≡◌, ◌<◌, ◌≤◌, ◌+◌, ◌^◌, ℕ, true, false, List, [], ◌∷◌, ◌++◌, codes, length, Some, None}
 use Rattle.std.specs.Fmt.{decimal}
-use Rattle.np_machine.specs.Prelude.{AllByRecursion, JobId, NodeEntry, NodeId, NodeRecord, PoolId, RequestEntry, RequestId, RequestRecord, Role, SemId, SessionId, State, change_at, has_handle, insert_request, is_queued, is_swept, joined, next_id, node_entry, node_queue, put_node_queue, put_request_queue, registered, registers, request_entry, request_queue, with_handle, with_pair}
-use Rattle.np_tree.specs.Prelude.{Ephemeral, EphemeralSequential, Goes, HasRoomFor, IsWhole, Op, PersistentSequential, TreeState, after_begin, after_parts, below, is_in}
-use Rattle.np_tree_nodes.specs.declared.op.Op.TheVariants as op
-use Rattle.np_spelling.specs.Spelling.{SpellsNode, request_record_text, session_text}
+use Rattle.np_tree.specs.Prelude.{after_begin}
 use Rattle.np_layout.specs.Place.{IsGood, path_of}
 use Rattle.np_layout.specs.declared.place.Place.{Place}
 use Rattle.np_layout.specs.declared.place.Place.TheVariants.{Requests, Request, RequestLock, Nodes, NodeLock, Launcher, Handle, Session, Swept}
@@ -13,6 +10,7 @@ use Rattle.np_layout.specs.First.{make}
 use Rattle.np_layout.specs.Layout.{LaysOut}
 use Rattle.np_layout.specs.Rows.{tree_session}
 use Rattle.np_layout.specs.Sets.{HasGoodIds}
+use Rattle.np_layout.specs.Lower.{AllByRecursion, Ephemeral, EphemeralSequential, Goes, HasRoomFor, IsWhole, JobId, NodeEntry, NodeId, NodeRecord, Op, PersistentSequential, PoolId, RequestEntry, RequestId, RequestRecord, Role, SemId, SessionId, SpellsNode, State, TreeState, after_parts, below, change_at, has_handle, insert_request, is_in, is_queued, is_swept, joined, next_id, node_entry, node_queue, put_node_queue, put_request_queue, registered, registers, request_entry, request_queue, request_record_text, session_text, with_handle, with_pair}
 
 -- the parts are accepted one after another from the session, and what they leave lays out the state
 pub record PartsLayOut (s : State) (t : TreeState) (w : ℕ) (parts : List Op) : Type 0 where
@@ -21,7 +19,7 @@ pub record PartsLayOut (s : State) (t : TreeState) (w : ℕ) (parts : List Op) :
 
 -- a wait in the queue of a lock, by its session (ZooKeeper Recipes, Locks)
 abbrev pub wait_at : Place → Op
-wait_at lock = op.Create (below (path_of lock) (codes "lock-")) [] EphemeralSequential
+wait_at lock = Op.Create (below (path_of lock) (codes "lock-")) [] EphemeralSequential
 
 -- what a request's name begins with: its number follows (Nodepool developer guide: `200-0000000000`)
 abbrev pub request_prefix : RequestId → List ℕ
@@ -29,11 +27,11 @@ request_prefix r = decimal r.priority ++ codes "-"
 
 -- a request's record and its lock
 abbrev pub request_parts : RequestId → List ℕ → List Op
-request_parts r bytes = op.Create (below (path_of Requests) (request_prefix r)) bytes PersistentSequential ∷ make [] (RequestLock r) ∷ []
+request_parts r bytes = Op.Create (below (path_of Requests) (request_prefix r)) bytes PersistentSequential ∷ make [] (RequestLock r) ∷ []
 
 -- a node's record, its lock, and the wait of its maker
 abbrev pub node_parts : NodeId → List ℕ → List Op
-node_parts n bytes = op.CreateUnder (path_of Nodes) bytes PersistentSequential ∷ make [] (NodeLock n) ∷ wait_at (NodeLock n) ∷ []
+node_parts n bytes = Op.CreateUnder (path_of Nodes) bytes PersistentSequential ∷ make [] (NodeLock n) ∷ wait_at (NodeLock n) ∷ []
 
 -- ## the laws
 
@@ -50,7 +48,7 @@ SweptPairsLayOut = (s : State) (t : TreeState) (w : ℕ) (n : NodeId) (server : 
 -- a launcher registers for a pool that nobody is registered for
 abbrev pub RegistrationsLayOut : Type 0
 RegistrationsLayOut = (s : State) (t : TreeState) (session : SessionId) (p : PoolId) → IsWhole t.nodes → HasGoodIds s → LaysOut s t → is_in t.live (tree_session session) ≡ true → HasRoomFor 1 t → IsGood (Launcher p) → registered p s.registrations ≡ None →
-    PartsLayOut (registers s session p) t (tree_session session) (op.Create (path_of (Launcher p)) [] Ephemeral ∷ [])
+    PartsLayOut (registers s session p) t (tree_session session) (Op.Create (path_of (Launcher p)) [] Ephemeral ∷ [])
 
 -- a session waits at a request's lock, and was not in its queue
 abbrev pub RequestWaitsLayOut : Type 0

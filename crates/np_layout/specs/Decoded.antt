@@ -2,20 +2,14 @@
 -- directory, the bytes at a path, the counters, and which sessions are live. Where a text spells nothing
 -- there is a default (own); a tree of a state that it can carry has no such text
 use Rattle.std.specs.Prelude.{◌≡◌, ℕ, ◌+◌, ◌-◌, false, List, [], ◌∷◌, Option, None, filter_map, fold, map, take, drop, unwrap_or}
-use Rattle.np_machine.specs.Prelude.{Configuration, JobId, JobRecord, NodeEntry, NodeId, NodeRecord, Reaper, RequestEntry, RequestId, RequestRecord, RoleRecord, SemId, SessionId, SessionRecord, State, insert_before, new_job, no_deeds, number_of, option_map, request_of, sequence_of}
-use Rattle.np_text.specs.declared.word.NodeState.TheVariants.{Building}
-use Rattle.np_text.specs.declared.word.RequestState.TheVariants.{Requested}
-use Rattle.np_tree.specs.Prelude.{Row, TreeState, bytes_at, find_named, is_in}
-use Rattle.np_spelling.specs.Reading.{job_in, max_u32, max_u64, node_in, request_record_in, role_in, session_in}
-use Rattle.np_machine.specs.declared.state.Registration.{Registration}
-use Rattle.np_machine.specs.declared.state.SessionFacts.{SessionFacts}
-use Rattle.np_machine.specs.declared.state.Swept.{Swept}
+use Rattle.np_spelling.specs.Reading.{role_in}
 use Rattle.np_layout.specs.Place.{path_of, place_name}
 use Rattle.np_layout.specs.declared.place.Place.{Place}
 use Rattle.np_layout.specs.declared.place.Place.TheVariants.{Requests, RequestLock, Nodes, NodeLock, Launchers, Launcher, Semaphore, Handle, Job, LauncherRole, JanitorRole, RequesterRole, Sessions, SweptPairs, Tick}
 use Rattle.np_layout.specs.Layout.{next_under, under}
 use Rattle.np_layout.specs.Rows.{places, tree_session}
 use Rattle.np_layout.specs.Carried.{IsStored, is_pair_before}
+use Rattle.np_layout.specs.Lower.{Building, Configuration, JobId, JobRecord, NodeEntry, NodeId, NodeRecord, Reaper, Registration, RequestEntry, RequestId, RequestRecord, Requested, RoleRecord, Row, SemId, SessionFacts, SessionId, SessionRecord, State, Swept, TreeState, bytes_at, find_named, insert_before, is_in, job_in, max_u32, max_u64, new_job, no_deeds, node_in, number_of, option_map, request_of, request_record_in, sequence_of, session_in}
 
 -- ## what the tree shows of a place
 

@@ -1,9 +1,6 @@
 -- what goes: if a tree lays a state out, the delete of the node of what goes lays out the state
 -- without it, and the delete is accepted
 use Rattle.std.specs.Prelude.{◌≡◌, ◌≤◌, ℕ, true, false, not, List, [], ◌∷◌, ◌++◌, filter, map, slice_get, Some, IsOk}
-use Rattle.np_machine.specs.Prelude.{JobId, NodeEntry, NodeId, RequestEntry, RequestId, SemId, SessionId, State, change_at, change_session, ended, has_handle, is_queued, is_session, left, node_entry, node_left, node_queue, put_node_queue, put_request_queue, remove_node, remove_request, request_entry, request_left, request_queue, without_handle}
-use Rattle.np_tree.specs.Prelude.{Any, HasRoomFor, IsWhole, Op, TreeState, after_end, after_part, delete_parts, is_in, part_answer}
-use Rattle.np_tree_nodes.specs.declared.op.Op.TheVariants as op
 use Rattle.np_layout.specs.Place.{IsGood, path_of}
 use Rattle.np_layout.specs.declared.place.Place.{Place}
 use Rattle.np_layout.specs.declared.place.Place.TheVariants.{Handle, Node, NodeLock, NodeWait, Request, RequestLock, RequestWait}
@@ -11,10 +8,11 @@ use Rattle.np_layout.specs.Creates.{PartsLayOut}
 use Rattle.np_layout.specs.Layout.{LaysOut, under}
 use Rattle.np_layout.specs.Rows.{tree_session, wait_row}
 use Rattle.np_layout.specs.Sets.{HasGoodIds}
+use Rattle.np_layout.specs.Lower.{Any, HasRoomFor, IsWhole, JobId, NodeEntry, NodeId, Op, RequestEntry, RequestId, SemId, SessionId, State, TreeState, after_end, after_part, change_at, change_session, delete_parts, ended, has_handle, is_in, is_queued, is_session, left, node_entry, node_left, node_queue, part_answer, put_node_queue, put_request_queue, remove_node, remove_request, request_entry, request_left, request_queue, without_handle}
 
 -- the node of a place is deleted, whatever its version
 abbrev pub delete : Place → Op
-delete p = op.Delete (path_of p) Any
+delete p = Op.Delete (path_of p) Any
 
 -- the tree lays the state out, and the session may make one part more
 pub record MayDelete (s : State) (t : TreeState) (w : ℕ) : Type 0 where

@@ -1,22 +1,17 @@
 -- the law of a whole event: if a tree lays a state out, the parts for the changes of an accepted event are
 -- accepted, and what they leave lays out the changed state
 use Rattle.std.specs.Prelude.{◌≡◌, ◌<◌, ◌≤◌, ◌+◌, ◌^◌, ℕ}
-use Rattle.np_changes.specs.Prelude.{AllByRecursion, Configuration, JobId, Premises, SessionId, State, changed, grown}
 use Rattle.np_layout.specs.Prelude.{AreDistinct, Goes, HasGoodIds, HasRoomFor, HasSpellings, IsWhole, LaysOut, TreeState, after_parts}
-use Rattle.np_changes.specs.declared.changes.Changes.{Changes}
-use Rattle.np_changes.specs.declared.changes.Growth.TheVariants as grow
-use Rattle.np_changes.specs.declared.changes.HandlesChange.TheVariants as handles
-use Rattle.np_changes.specs.declared.changes.SessionsChange.{SessionsChange}
-use Rattle.np_changes.specs.declared.changes.SessionsChange.TheVariants as sessions
 use Rattle.np_layout.specs.Parts.{enacted, parts_of, writer}
 use Rattle.np_layout.specs.Stands.{Stands}
 use Rattle.np_layout.specs.Ways.{GrowthReady, NodesReady, SessionReady, WaitOnce}
+use Rattle.np_layout.specs.Lower.{AllByRecursion, Changes, Configuration, Growth, HandlesChange, JobId, Premises, SessionId, SessionsChange, State, changed, grown}
 
 -- the end of a session has no part in the call
 abbrev pub in_call : SessionsChange → SessionsChange
-in_call sessions.Same = sessions.Same
-in_call (sessions.Mute session) = sessions.Mute session
-in_call (sessions.End session) = sessions.Same
+in_call SessionsChange.Same = SessionsChange.Same
+in_call (SessionsChange.Mute session) = SessionsChange.Mute session
+in_call (SessionsChange.End session) = SessionsChange.Same
 
 -- the state after the call, before a session ends
 abbrev pub called : Configuration → Changes → State → State
@@ -24,8 +19,8 @@ called c ch s = changed c (record ch { sessions = in_call ch.sessions }) s
 
 -- nothing grows beside handles that are given back, and beside a session that is muted
 pub record IsApart (ch : Changes) : Type 0 where
-  pub handles : (j : JobId) → ch.handles ≡ handles.Release j → ch.grows ≡ grow.Nothing
-  pub sessions : (session : SessionId) → ch.sessions ≡ sessions.Mute session → ch.grows ≡ grow.Nothing
+  pub handles : (j : JobId) → ch.handles ≡ HandlesChange.Release j → ch.grows ≡ Growth.Nothing
+  pub sessions : (session : SessionId) → ch.sessions ≡ SessionsChange.Mute session → ch.grows ≡ Growth.Nothing
 
 -- what the changes of an accepted event need of the state
 pub record IsReady (c : Configuration) (ch : Changes) (s : State) : Type 0 where

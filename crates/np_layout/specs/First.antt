@@ -1,20 +1,15 @@
 -- the tree before the first event: one call makes all that is there from the start
 use Rattle.std.specs.Prelude.{ℕ, List, [], ◌∷◌, ◌++◌, map}
 use Rattle.std.specs.Fmt.{decimal}
-use Rattle.np_machine.specs.Prelude.{Configuration, new_job, no_deeds}
-use Rattle.np_spelling.specs.Spelling.{job_text, role_text}
-use Rattle.np_tree.specs.TreeState.{TreeState, new_tree}
-use Rattle.np_tree.specs.Calls.{after_begin}
-use Rattle.np_tree.specs.Multi.{after_multi}
-use Rattle.np_tree.specs.Prelude.{Op, Persistent}
-use Rattle.np_tree_nodes.specs.declared.op.Op.TheVariants as op
+use Rattle.np_tree.specs.TreeState.{TreeState}
 use Rattle.np_layout.specs.Place.{path_of}
 use Rattle.np_layout.specs.declared.place.Place.{Place}
 use Rattle.np_layout.specs.declared.place.Place.TheVariants.{Nodepool, Requests, RequestLocks, Nodes, Launchers, Zuul, Semaphores, Semaphore, Poolsim, Jobs, Job, Roles, LauncherRole, JanitorRole, RequesterRole, Sessions, SweptPairs, Tick}
 use Rattle.np_layout.specs.Rows.{places}
+use Rattle.np_layout.specs.Lower.{Configuration, Op, Persistent, after_begin, after_multi, job_text, new_job, new_tree, no_deeds, role_text}
 
 abbrev pub make : List ℕ → Place → Op
-make bytes p = op.Create (path_of p) bytes Persistent
+make bytes p = Op.Create (path_of p) bytes Persistent
 
 -- the directories, each after the one that it is in
 abbrev pub first_directories : List Place

@@ -1,11 +1,8 @@
 -- what is true of each sound site
 use Rattle.std.specs.Prelude.{IsOk}
-use Rattle.np_machine.specs.Prelude.{Configuration, IsSound, start}
-use Rattle.np_tree.specs.TreeState.{new_tree}
-use Rattle.np_tree.specs.Calls.{after_begin}
-use Rattle.np_tree.specs.Multi.{answers_from}
 use Rattle.np_layout.specs.First.{first_parts, first_tree}
 use Rattle.np_layout.specs.Layout.{LaysOut}
+use Rattle.np_layout.specs.Lower.{Configuration, IsSound, after_begin, answers_from, new_tree, start}
 
 -- the call that makes the first tree is accepted
 abbrev pub FirstCallsAreAccepted : Type 0

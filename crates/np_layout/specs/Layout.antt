@@ -2,17 +2,12 @@
 -- (Nodepool developer guide: `/nodepool`; what is below `/poolsim` is own)
 use Rattle.std.specs.Prelude.{◌≡◌, ◌<◌, ℕ, ◌+◌, true, List, [], ◌∷◌, ◌++◌, length, map, Option, Some}
 use Rattle.std.specs.Fmt.{decimal}
-use Rattle.np_machine.specs.Prelude.{AllByRecursion, AllZip, JobId, JobRecord, NodeEntry, RequestEntry, RoleRecord, SemId, SessionId, State, handles_of, range_with_len}
-use Rattle.np_tree.specs.Prelude.{Row, below, counter_at, is_in, rows_at}
 use Rattle.np_tree.specs.TreeState.{TreeState}
-use Rattle.np_spelling.specs.Spelling.{SpellsNode}
-use Rattle.np_machine.specs.declared.state.Registration.{Registration}
-use Rattle.np_machine.specs.declared.state.SessionFacts.{SessionFacts}
-use Rattle.np_machine.specs.declared.state.Swept.{Swept}
 use Rattle.np_layout.specs.Place.{path_of}
 use Rattle.np_layout.specs.declared.place.Place.{Place}
 use Rattle.np_layout.specs.declared.place.Place.TheVariants.{Root, Nodepool, Requests, RequestLocks, RequestLock, Nodes, Node, NodeLock, Launchers, Zuul, Semaphores, Semaphore, Poolsim, Jobs, Roles, Sessions, SweptPairs, Tick}
 use Rattle.np_layout.specs.Rows.{by_name, handle_row, janitor_role_row, job_row, launcher_role_row, launcher_row, persistent, places, request_lock_row, request_row, requester_role_row, rows_from, semaphore_row, session_row, swept_row, wait_row}
+use Rattle.np_layout.specs.Lower.{AllByRecursion, AllZip, JobId, JobRecord, NodeEntry, Registration, RequestEntry, RoleRecord, Row, SemId, SessionFacts, SessionId, SpellsNode, State, Swept, below, counter_at, handles_of, is_in, range_with_len, rows_at}
 
 -- the children of a place
 abbrev pub under : Place → TreeState → List Row

@@ -1,3 +1,4 @@
+pub mod Lower
 pub mod Rows
 pub mod Layout
 pub mod First

@@ -2,9 +2,9 @@
 -- name there (own)
 use Rattle.std.specs.Prelude.{ℕ, ◌^◌, ◌<◌, List, [], ◌++◌, codes, Option, Some, None}
 use Rattle.std.specs.Fmt.{decimal}
-use Rattle.np_machine.specs.Prelude.{HasText, request_text_of, ten_digits_of}
 use Rattle.np_layout.specs.declared.place.Place.{Place}
 use Rattle.np_layout.specs.declared.place.Place.TheVariants.{Root, Nodepool, Requests, Request, RequestLocks, RequestLock, RequestWait, Nodes, Node, NodeLock, NodeWait, Launchers, Launcher, Zuul, Semaphores, Semaphore, Handle, Poolsim, Jobs, Job, Roles, LauncherRole, JanitorRole, RequesterRole, Sessions, Session, SweptPairs, Swept, Tick}
+use Rattle.np_layout.specs.Lower.{HasText, request_text_of, ten_digits_of}
 
 -- the path of a place (Nodepool developer guide: `/nodepool/requests/200-0000000000`; what is below `/poolsim` is own)
 unfoldable pub path_of : Place → List ℕ

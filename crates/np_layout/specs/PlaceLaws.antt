@@ -1,12 +1,11 @@
 -- what is true of all places whose ids have a text
 use Rattle.std.specs.Prelude.{◌≡◌, ℕ, ◌^◌, ◌<◌, ◌≤◌, true, length, Some}
-use Rattle.np_tree.specs.Prelude.{NodeId, RequestId, SessionId, below, is_path, name_of, option_map, parent_of}
 use Rattle.std.specs.Ordering.{nat_cmp}
 use Rattle.std.specs.Cmp.Lexicographic.{slice_cmp}
-use Rattle.np_text.specs.Request.{HasText, request_cmp}
 use Rattle.np_layout.specs.Place.{IsGood, above, path_of, place_name}
 use Rattle.np_layout.specs.declared.place.Place.{Place}
 use Rattle.np_layout.specs.declared.place.Place.TheVariants.{Request, RequestLock, RequestWait, Node, NodeWait, Session}
+use Rattle.np_layout.specs.Lower.{HasText, NodeId, RequestId, SessionId, below, is_path, name_of, option_map, parent_of, request_cmp}
 
 -- ## paths and their parts
 

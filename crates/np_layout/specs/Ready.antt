@@ -1,50 +1,39 @@
 -- every accepted event is ready for the tree, and leaves a state that a tree can carry
 use Rattle.std.specs.Prelude.{◌≡◌, ◌<◌, ◌^◌, ◌+◌, ℕ, true, is_ok, IfSome}
 use Rattle.np_layout.specs.Prelude.{HasSpellings, IsCarried, IsGood, IsStored, TreeState}
-use Rattle.np_changes.specs.Prelude.{Configuration, Event, Fits, IsSound, State, judge, next, plan, start}
-use Rattle.np_spelling.specs.Spelling.{IsReason}
-use Rattle.np_changes.specs.declared.changes.Changes.{Changes}
-use Rattle.np_changes.specs.declared.changes.Growth.{Growth}
-use Rattle.np_changes.specs.declared.changes.Growth.TheVariants as grow
-use Rattle.np_changes.specs.declared.changes.NodesChange.{NodesChange}
-use Rattle.np_changes.specs.declared.changes.NodesChange.TheVariants as nodes
-use Rattle.np_changes.specs.declared.changes.RequestEdit.{RequestEdit}
-use Rattle.np_changes.specs.declared.changes.RequestEdit.TheVariants as edit
-use Rattle.np_changes.specs.declared.changes.RequestsChange.{RequestsChange}
-use Rattle.np_changes.specs.declared.changes.RequestsChange.TheVariants as requests
-use Rattle.np_changes.specs.Parts.{Invariant}
 use Rattle.np_layout.specs.declared.place.Place.TheVariants.{Swept}
 use Rattle.np_layout.specs.Events.{IsEnacted, IsReady, called}
 use Rattle.np_layout.specs.Parts.{enacted, writer}
 use Rattle.np_layout.specs.Stands.{Stands}
+use Rattle.np_layout.specs.Lower.{Changes, Configuration, Event, Fits, Growth, Invariant, IsReason, IsSound, NodesChange, RequestEdit, RequestsChange, State, judge, next, plan, start}
 
 -- ## numbers that come with an event are within their types
 
 abbrev pub IsTypedEdit : RequestEdit → Type 0
-IsTypedEdit (edit.Serve p) = Unit {0}
-IsTypedEdit (edit.AddNode n) = Unit {0}
-IsTypedEdit (edit.Decline p why failed) = IsReason why
-IsTypedEdit edit.Fulfil = Unit {0}
-IsTypedEdit edit.GiveBack = Unit {0}
-IsTypedEdit edit.Fail = Unit {0}
-IsTypedEdit (edit.Revise relative) = relative < 2 ^ 32
+IsTypedEdit (RequestEdit.Serve p) = Unit {0}
+IsTypedEdit (RequestEdit.AddNode n) = Unit {0}
+IsTypedEdit (RequestEdit.Decline p why failed) = IsReason why
+IsTypedEdit RequestEdit.Fulfil = Unit {0}
+IsTypedEdit RequestEdit.GiveBack = Unit {0}
+IsTypedEdit RequestEdit.Fail = Unit {0}
+IsTypedEdit (RequestEdit.Revise relative) = relative < 2 ^ 32
 
 abbrev pub IsTypedRequests : RequestsChange → Type 0
-IsTypedRequests requests.Same = Unit {0}
-IsTypedRequests (requests.Edit r change) = IsTypedEdit change
-IsTypedRequests (requests.Remove r) = Unit {0}
-IsTypedRequests (requests.Leave r) = Unit {0}
+IsTypedRequests RequestsChange.Same = Unit {0}
+IsTypedRequests (RequestsChange.Edit r change) = IsTypedEdit change
+IsTypedRequests (RequestsChange.Remove r) = Unit {0}
+IsTypedRequests (RequestsChange.Leave r) = Unit {0}
 
 abbrev pub IsTypedNodes : NodesChange → Type 0
-IsTypedNodes nodes.Same = Unit {0}
-IsTypedNodes (nodes.Put n kept) = (kept.start < 2 ^ 32) × IfSome kept.server (λ server. server < 2 ^ 64)
-IsTypedNodes (nodes.Remove n) = Unit {0}
-IsTypedNodes (nodes.Leave n) = Unit {0}
-IsTypedNodes (nodes.FreeAll r) = Unit {0}
-IsTypedNodes (nodes.TakeOver numbers) = Unit {0}
+IsTypedNodes NodesChange.Same = Unit {0}
+IsTypedNodes (NodesChange.Put n kept) = (kept.start < 2 ^ 32) × IfSome kept.server (λ server. server < 2 ^ 64)
+IsTypedNodes (NodesChange.Remove n) = Unit {0}
+IsTypedNodes (NodesChange.Leave n) = Unit {0}
+IsTypedNodes (NodesChange.FreeAll r) = Unit {0}
+IsTypedNodes (NodesChange.TakeOver numbers) = Unit {0}
 
 abbrev pub IsTypedGrowth : Growth → Type 0
-IsTypedGrowth (grow.Swept n x) = IsGood (Swept n x)
+IsTypedGrowth (Growth.Swept n x) = IsGood (Swept n x)
 IsTypedGrowth other = Unit {0}
 
 pub record IsTyped (ch : Changes) : Type 0 where

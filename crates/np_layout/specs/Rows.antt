@@ -1,14 +1,9 @@
 -- the row of each record, lock and mark among its siblings
 use Rattle.std.specs.Prelude.{ℕ, ◌+◌, List, [], ◌∷◌, codes, ◌++◌, fold, length, Some, None}
-use Rattle.np_machine.specs.Prelude.{JobId, JobRecord, RequestEntry, RoleRecord, SemId, SessionId, range_with_len, ten_digits_of}
-use Rattle.np_spelling.specs.Spelling.{job_text, request_record_text, role_text, session_text}
-use Rattle.np_machine.specs.declared.state.Registration.{Registration}
-use Rattle.np_machine.specs.declared.state.SessionFacts.{SessionFacts}
-use Rattle.np_machine.specs.declared.state.Swept.{Swept}
 use Rattle.np_layout.specs.Place.{place_name}
 use Rattle.np_layout.specs.declared.place.Place.{Place}
 use Rattle.np_layout.specs.declared.place.Place.TheVariants.{Request, RequestLock, Launcher, Semaphore, Handle, Job, LauncherRole, JanitorRole, RequesterRole, Session, Swept as SweptPlace}
-use Rattle.np_tree.specs.Views.{Row, with_row}
+use Rattle.np_layout.specs.Lower.{JobId, JobRecord, Registration, RequestEntry, RoleRecord, Row, SemId, SessionFacts, SessionId, Swept, job_text, range_with_len, request_record_text, role_text, session_text, ten_digits_of, with_row}
 
 -- a session of the machine is the tree's session of the next number, since the tree's first session
 -- makes what no party makes (own)

@@ -2,16 +2,13 @@
 -- another record's text lays out the state with that record, and the set is accepted
 use Rattle.std.specs.Prelude.{◌≡◌, ◌==◌, ◌<◌, ◌≤◌, ◌^◌, ℕ, true, List, length, slice_get, Some, IsOk}
 use Rattle.std.specs.Fmt.{decimal}
-use Rattle.np_machine.specs.Prelude.{AllByRecursion, JobId, JobRecord, NodeId, NodeRecord, RequestId, RequestRecord, Role, RoleRecord, SessionId, State, change_at, change_first, change_role, change_session, muted, node_in, put_job, request_in, role_in, same_request, session_of}
-use Rattle.np_tree.specs.Prelude.{Any, HasRoomFor, IsWhole, Op, TreeState, after_part, is_in, part_answer}
-use Rattle.np_tree_nodes.specs.declared.op.Op.TheVariants as op
-use Rattle.np_spelling.specs.Spelling.{SpellsNode, job_text, request_record_text, role_text, session_text}
-use Rattle.np_machine.specs.declared.state.SessionFacts.{SessionFacts}
+use Rattle.np_machine.specs.Prelude.{node_in}
 use Rattle.np_layout.specs.Place.{IsGood, path_of}
 use Rattle.np_layout.specs.Roles.{place_of_role}
 use Rattle.np_layout.specs.declared.place.Place.{Place}
 use Rattle.np_layout.specs.declared.place.Place.TheVariants.{Request, Node, Launcher, Job, Session, Swept, Tick}
 use Rattle.np_layout.specs.Layout.{LaysOut}
+use Rattle.np_layout.specs.Lower.{AllByRecursion, Any, HasRoomFor, IsWhole, JobId, JobRecord, NodeId, NodeRecord, Op, RequestId, RequestRecord, Role, RoleRecord, SessionFacts, SessionId, SpellsNode, State, TreeState, after_part, change_at, change_first, change_role, change_session, is_in, job_text, muted, part_answer, put_job, request_in, request_record_text, role_in, role_text, same_request, session_of, session_text}
 
 -- each record, lock, registration, handle and swept pair of the state has a place whose ids have a text
 pub record HasGoodIds (s : State) : Type 0 where
@@ -29,7 +26,7 @@ pub record HasGoodIds (s : State) : Type 0 where
 
 -- the bytes of a place are set, whatever its version
 abbrev pub set : List ℕ → Place → Op
-set bytes p = op.Set (path_of p) bytes Any
+set bytes p = Op.Set (path_of p) bytes Any
 
 -- the set lays out the state, whichever session makes it; and it is accepted if the session is live,
 -- the bytes fit a node and there is room for one part more

@@ -1,7 +1,7 @@
 -- parts that go from a tree of one state to a tree of another
 use Rattle.std.specs.Prelude.{◌≡◌, ℕ, true, List}
 use Rattle.np_layout.specs.Prelude.{Goes, HasGoodIds, HasRoomFor, IsWhole, LaysOut, Op, TreeState, after_parts, is_in}
-use Rattle.np_machine.specs.State.{State}
+use Rattle.np_layout.specs.Lower.{State}
 
 -- the tree lays the state out, and the session can make so many more creates and sets
 pub record Stands (s : State) (t : TreeState) (w more : ℕ) : Type 0 where

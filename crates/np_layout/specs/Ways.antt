@@ -1,37 +1,26 @@
 -- one law for each table that an event may change: the parts for the change are accepted, and leave a
 -- tree of the changed state
 use Rattle.std.specs.Prelude.{◌≡◌, ◌<◌, ◌≤◌, ◌+◌, ◌^◌, ◌==◌, ℕ, Bool, true, List, length, Option, Some, None, if◌then◌else◌, is_some, IfSome, nat_lt}
-use Rattle.np_changes.specs.Prelude.{AllByRecursion, Configuration, NodeEntry, RequestEntry, Rises, SessionFacts, State, change_janitor, change_launcher, change_requester, grown, handles_changed, is_request, jobs_changed, list_any, new_record, next_id, node_entry, nodes_changed, registered, request_entry, requests_changed, semaphores_of, session_of, sessions_changed, with_deed}
-use Rattle.np_layout.specs.Prelude.{AreDistinct, HasSpellings, IsGood, IsJob, IsNode, IsRequest, IsRole, IsSessionRole, TreeState}
-use Rattle.np_changes.specs.declared.changes.Deed.{Deed}
-use Rattle.np_changes.specs.declared.changes.Growth.{Growth}
-use Rattle.np_changes.specs.declared.changes.Growth.TheVariants as grow
-use Rattle.np_changes.specs.declared.changes.HandlesChange.{HandlesChange}
-use Rattle.np_changes.specs.declared.changes.JobsChange.{JobsChange}
-use Rattle.np_changes.specs.declared.changes.Maker.{Maker}
-use Rattle.np_changes.specs.declared.changes.NodesChange.{NodesChange}
-use Rattle.np_changes.specs.declared.changes.NodesChange.TheVariants as nodes
-use Rattle.np_changes.specs.declared.changes.RequestsChange.{RequestsChange}
-use Rattle.np_changes.specs.declared.changes.SessionsChange.{SessionsChange}
-use Rattle.np_changes.specs.declared.changes.SessionsChange.TheVariants as sessions
+use Rattle.np_layout.specs.Prelude.{AreDistinct, HasSpellings, IsGood, IsJob, IsNode, IsRequest, IsSessionRole, TreeState}
 use Rattle.np_layout.specs.declared.place.Place.TheVariants.{Request, Launcher, Swept}
 use Rattle.np_layout.specs.Parts.{deed_parts, grown_parts, handles_parts, jobs_parts, nodes_of, nodes_parts, requests_parts, session_parts, tick_parts, with_begin, writer}
 use Rattle.np_layout.specs.Stands.{Enacts, Stands}
+use Rattle.np_layout.specs.Lower.{AllByRecursion, Configuration, Deed, Growth, HandlesChange, JobsChange, Maker, NodeEntry, NodesChange, RequestEntry, RequestsChange, Rises, SessionFacts, SessionsChange, State, change_janitor, change_launcher, change_requester, grown, handles_changed, is_request, jobs_changed, list_any, new_record, next_id, node_entry, nodes_changed, registered, request_entry, requests_changed, semaphores_of, session_of, sessions_changed, with_deed}
 
 -- ## what grows
 
 -- what each way of growing needs of the state, beside that a tree lays it out
 abbrev pub GrowthReady : Configuration → Option Maker → Growth → State → Type 0
-GrowthReady c maker grow.Nothing s = Unit {0}
-GrowthReady c maker (grow.Session role) s = (maker ≡ None) × ((length s.sessions + 1 < 2 ^ 32) × IsSessionRole role)
-GrowthReady c maker (grow.Registration p) s = IsGood (Launcher p) × (registered p s.registrations ≡ None)
-GrowthReady c maker (grow.Request priority asked) s = IsGood (Request (next_id priority s)) × (IsRequest (new_record asked) × (request_entry (next_id priority s) s.requests ≡ None))
-GrowthReady c maker (grow.Node kept) s = (is_some maker ≡ true) × (IsNode kept × ((s.next_node < 2 ^ 32) × AllByRecursion (λ e. e.id.0 < s.next_node) s.nodes))
-GrowthReady c maker (grow.JoinRequest r) s = (e : RequestEntry) × (request_entry r s.requests ≡ Some e)
-GrowthReady c maker (grow.JoinNode n) s = (e : NodeEntry) × (node_entry n s.nodes ≡ Some e)
-GrowthReady c maker (grow.Allocate n r tenant) s = IfSome tenant (λ t. t.0 < 2 ^ 16) × ((IsGood (Request r)) × AllByRecursion (λ e. IsNode e.kept) s.nodes)
-GrowthReady c maker (grow.Handles j) s = (j.0 < 2 ^ 32) × ((length (semaphores_of c j) ≤ 8) × AllByRecursion (λ x. x.0 < length s.handles) (semaphores_of c j))
-GrowthReady c maker (grow.Swept n x) s = IsGood (Swept n x)
+GrowthReady c maker Growth.Nothing s = Unit {0}
+GrowthReady c maker (Growth.Session role) s = (maker ≡ None) × ((length s.sessions + 1 < 2 ^ 32) × IsSessionRole role)
+GrowthReady c maker (Growth.Registration p) s = IsGood (Launcher p) × (registered p s.registrations ≡ None)
+GrowthReady c maker (Growth.Request priority asked) s = IsGood (Request (next_id priority s)) × (IsRequest (new_record asked) × (request_entry (next_id priority s) s.requests ≡ None))
+GrowthReady c maker (Growth.Node kept) s = (is_some maker ≡ true) × (IsNode kept × ((s.next_node < 2 ^ 32) × AllByRecursion (λ e. e.id.0 < s.next_node) s.nodes))
+GrowthReady c maker (Growth.JoinRequest r) s = (e : RequestEntry) × (request_entry r s.requests ≡ Some e)
+GrowthReady c maker (Growth.JoinNode n) s = (e : NodeEntry) × (node_entry n s.nodes ≡ Some e)
+GrowthReady c maker (Growth.Allocate n r tenant) s = IfSome tenant (λ t. t.0 < 2 ^ 16) × ((IsGood (Request r)) × AllByRecursion (λ e. IsNode e.kept) s.nodes)
+GrowthReady c maker (Growth.Handles j) s = (j.0 < 2 ^ 32) × ((length (semaphores_of c j) ≤ 8) × AllByRecursion (λ x. x.0 < length s.handles) (semaphores_of c j))
+GrowthReady c maker (Growth.Swept n x) s = IsGood (Swept n x)
 
 -- one thing grows: a session begins before the parts
 abbrev pub GrowthsEnact : Type 0
@@ -51,12 +40,12 @@ RequestsEnact = (maker : Option Maker) (change : RequestsChange) (s : State) (t 
 -- the list of the request's nodes is no longer than a job's, and has each node that is allocated to it;
 -- the nodes that are taken over are no more than a job's
 abbrev pub NodesReady : NodesChange → ℕ → List RequestEntry → List NodeEntry → Type 0
-NodesReady nodes.Same tick requests rows = Unit {0}
-NodesReady (nodes.Put n kept) tick requests rows = Unit {0}
-NodesReady (nodes.Remove n) tick requests rows = Unit {0}
-NodesReady (nodes.Leave n) tick requests rows = Unit {0}
-NodesReady (nodes.FreeAll r) tick requests rows = (length (nodes_of r requests) ≤ 32) × (Rises (λ a b. nat_lt a.id.0 b.id.0) rows × AllByRecursion (λ e. is_request r e.kept.allocated_to ≡ true → list_any (λ n. n.0 == e.id.0) (nodes_of r requests) ≡ true) rows)
-NodesReady (nodes.TakeOver numbers) tick requests rows = (length numbers ≤ 32) × (tick < 2 ^ 32)
+NodesReady NodesChange.Same tick requests rows = Unit {0}
+NodesReady (NodesChange.Put n kept) tick requests rows = Unit {0}
+NodesReady (NodesChange.Remove n) tick requests rows = Unit {0}
+NodesReady (NodesChange.Leave n) tick requests rows = Unit {0}
+NodesReady (NodesChange.FreeAll r) tick requests rows = (length (nodes_of r requests) ≤ 32) × (Rises (λ a b. nat_lt a.id.0 b.id.0) rows × AllByRecursion (λ e. is_request r e.kept.allocated_to ≡ true → list_any (λ n. n.0 == e.id.0) (nodes_of r requests) ≡ true) rows)
+NodesReady (NodesChange.TakeOver numbers) tick requests rows = (length numbers ≤ 32) × (tick < 2 ^ 32)
 
 abbrev pub NodesEnact : Type 0
 NodesEnact = (maker : Option Maker) (requests : List RequestEntry) (change : NodesChange) (s : State) (t : TreeState) (more : ℕ) → Stands s t (writer maker) (more + 32) → AllByRecursion (λ e. AreDistinct e.queue) s.nodes → AllByRecursion (λ e. IsNode e.kept) s.nodes → AllByRecursion (λ e. IsNode e.kept) (nodes_changed maker s.tick change s.nodes) → NodesReady change s.tick requests s.nodes →
@@ -87,9 +76,9 @@ DeedsEnact = (w : ℕ) (maker : Option Maker) (what : Option Deed) (s : State) (
 
 -- a session that is muted was begun; the end of one has no parts
 abbrev pub SessionReady : SessionsChange → State → Type 0
-SessionReady sessions.Same s = Unit {0}
-SessionReady (sessions.Mute session) s = (facts : SessionFacts) × (session_of session s ≡ Some facts)
-SessionReady (sessions.End session) s = ⊥
+SessionReady SessionsChange.Same s = Unit {0}
+SessionReady (SessionsChange.Mute session) s = (facts : SessionFacts) × (session_of session s ≡ Some facts)
+SessionReady (SessionsChange.End session) s = ⊥
 
 abbrev pub SessionsEnact : Type 0
 SessionsEnact = (w : ℕ) (change : SessionsChange) (s : State) (t : TreeState) (more : ℕ) → Stands s t w (more + 1) → AllByRecursion (λ f. IsSessionRole f.role) s.sessions → SessionReady change s →

@@ -143,7 +143,7 @@ fn swept(node: NodeId, server: u64) -> Buffer
 }
 
 /// A text with a decimal number behind it.
-#[tactic(auto, using(crate::proofs::LengthLemmas::short_numbers))]
+#[tactic(auto, using(crate::proofs::Names::short_numbers))]
 fn numbered(text: &[u8], n: u16) -> Buffer
     requires { length text.now ≤ 44 }
     ensures path { result ≡ text.now ++ decimal n }

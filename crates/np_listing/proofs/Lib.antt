@@ -1,8 +1,3 @@
-pub mod Cells
+pub mod Prelude
 pub mod Walks
-pub mod Numbers
-pub mod Numbered
 pub mod Counting
-pub mod Peaks
-pub mod Full
-pub mod Lists

@@ -1,11 +1,9 @@
 -- the text of what a run took
 use Rattle.std.specs.Prelude.{ℕ, Bool, true, false, ◌==◌, List, [], ◌++◌, codes, decimal, length, if◌then◌else◌, Option, Some, None}
 use Rattle.np_changes.specs.Prelude.{Configuration, Ending, Entry, State, after, count_by, flat_map, limit_of, limit_of_tenant}
-use Rattle.np_text.specs.declared.word.Ending.TheVariants as end
 use Rattle.np_explain_lines.specs.Line.{amount_words}
 use Rattle.np_explain_lines.specs.Words.{pool_words, semaphore_words, tenant_words}
 use Rattle.np_listing.specs.declared.fates.Fate.{Fate}
-use Rattle.np_listing.specs.declared.fates.Fate.TheVariants as fate
 use Rattle.np_listing.specs.declared.rows.KindCount.{KindCount}
 use Rattle.np_listing.specs.declared.rows.PoolPeak.{PoolPeak}
 use Rattle.np_listing.specs.declared.rows.TenantPeak.{TenantPeak}
@@ -21,11 +19,11 @@ count_words n words = decimal n ++ codes " " ++ words
 
 -- a job that ended so has this fate
 abbrev pub has_fate : Fate → Option Ending → Bool
-has_fate fate.Served (Some end.Served) = true
-has_fate fate.Failed (Some end.Failed) = true
-has_fate fate.Lost (Some end.Lost) = true
-has_fate fate.Withdrawn (Some end.Withdrawn) = true
-has_fate fate.Open None = true
+has_fate Fate.Served (Some Ending.Served) = true
+has_fate Fate.Failed (Some Ending.Failed) = true
+has_fate Fate.Lost (Some Ending.Lost) = true
+has_fate Fate.Withdrawn (Some Ending.Withdrawn) = true
+has_fate Fate.Open None = true
 has_fate _ _ = false
 
 -- how many jobs have it
@@ -34,9 +32,9 @@ fate_count s what = count_by (λ job. has_fate what job.ending) s.jobs
 
 abbrev pub fates_line : State → List ℕ
 fates_line s =
-    codes "jobs: " ++ count_words (length s.jobs) (codes "in all, ") ++ count_words (fate_count s fate.Served) (codes "served, ")
-    ++ count_words (fate_count s fate.Failed) (codes "failed, ") ++ count_words (fate_count s fate.Lost) (codes "lost, ")
-    ++ count_words (fate_count s fate.Withdrawn) (codes "withdrawn, ") ++ count_words (fate_count s fate.Open) (codes "not over\n")
+    codes "jobs: " ++ count_words (length s.jobs) (codes "in all, ") ++ count_words (fate_count s Fate.Served) (codes "served, ")
+    ++ count_words (fate_count s Fate.Failed) (codes "failed, ") ++ count_words (fate_count s Fate.Lost) (codes "lost, ")
+    ++ count_words (fate_count s Fate.Withdrawn) (codes "withdrawn, ") ++ count_words (fate_count s Fate.Open) (codes "not over\n")
 
 -- ## the other lines
 

@@ -1,14 +1,7 @@
--- Truth values, numbers, options and lists: what every crate may need.
-use Rattle.std.proofs.Common.{Bool, List, None, Option, Some, [], ap, arith, cond, drop, false, get_or, inl, inr, length, refl, suc, sym, take, true, zero, ℕ, ◌++◌, ◌-◌, ◌<◌, ◌^◌, ◌∙◌, ◌∷◌, ◌≡◌, ◌≢◌, ◌≤◌}
-use Rattle.std.proofs.lemmas.Bool.Decides.{nat_tests}
-use Rattle.std.proofs.lemmas.Fmt.{length-decimal-le}
-use Rattle.std.proofs.lemmas.Option.{slice_get-get_or, slice_get_within}
-use Rattle.std.proofs.lemmas.Slice.Eq.{bytes_eq-Decides}
-use Rattle.std.specs.Fmt.{decimal}
-use Rattle.std.specs.List.{list_any}
-use Rattle.std.specs.Option.{option_map}
-use Rattle.std.specs.Prelude.{find, is_none, is_some, map, min, nat_le, nat_lt, slice_get, slice_set, ◌&&◌, ◌==◌, ◌||◌, ◌⊎◌}
-use Rattle.std.specs.Str.{bytes_eq}
+-- truth values, numbers, options, lists and tests that may refuse: what every crate may need
+use Rattle.np_lists.proofs.Prelude.{Bool, Err, List, None, Ok, Option, Result, Some, ap, arith, bytes_eq, bytes_eq-Decides, cond, decimal, drop, false, find, found, get_or, inl, inr, is_none, is_some, length, length-decimal-le, list_any, map, min, nat_le, nat_lt, nat_tests, need, option_map, refl, slice_get, slice_get-get_or, slice_get_within, slice_set, suc, sym, take, true, zero, ℕ, [], ◌&&◌, ◌++◌, ◌-◌, ◌<◌, ◌==◌, ◌>>=◌, ◌>>◌, ◌^◌, ◌||◌, ◌∙◌, ◌∷◌, ◌≡◌, ◌≢◌, ◌≤◌, ◌⊎◌}
+
+-- # Truth values, numbers, options and lists: what every crate may need.
 
 pub false-apart : false ≡ true → ⊥
 false-apart is = cc
@@ -216,3 +209,39 @@ length-none (e ∷ es) h = absurd (omega (arith, h))
 pub find-alike : {X : Type 0} (p r : X → Bool) (xs : List X) → ((x : X) → p x ≡ r x) → find p xs ≡ find r xs
 find-alike p r [] alike = refl
 find-alike p r (x ∷ xs) alike = rw (alike x, find-alike p r xs alike) refl
+
+-- # what it means that tests passed
+
+-- the test was true, and the rest passed
+pub need-ok : {B E : Type 0} (b : Bool) (refusal : E) (rest : Result B E) (x : B) → (need b refusal >> rest) ≡ Ok x → (b ≡ true) × (rest ≡ Ok x)
+need-ok true refusal rest x is = (refl, is)
+need-ok false refusal rest x is = absurd cc
+
+-- the last test was true
+pub need-last : {E : Type 0} (b : Bool) (refusal : E) → need b refusal ≡ Ok tt → b ≡ true
+need-last true refusal is = refl
+need-last false refusal is = absurd cc
+
+-- something was found, and the rest passed
+pub found-ok : {A B E : Type 0} (o : Option A) (refusal : E) (rest : A → Result B E) (x : B) → (found o refusal >>= rest) ≡ Ok x → (a : A) × (o ≡ Some a) × (rest a ≡ Ok x)
+found-ok None refusal rest x is = absurd cc
+found-ok (Some a) refusal rest x is = (a, refl, is)
+
+-- what was found is there
+pub found-some : {A E : Type 0} (o : Option A) (refusal : E) (a : A) → found o refusal ≡ Ok a → o ≡ Some a
+found-some None refusal a is = absurd cc
+found-some (Some x) refusal a is = cc
+
+-- the first of two passed, and then the second
+pub bind-ok : {A B E : Type 0} (r : Result A E) (rest : A → Result B E) (x : B) → (r >>= rest) ≡ Ok x → (a : A) × (r ≡ Ok a) × (rest a ≡ Ok x)
+bind-ok (Ok a) rest x is = (a, refl, is)
+bind-ok (Err refusal) rest x is = absurd cc
+
+pub then-ok : {B E : Type 0} (r : Result (Unit {0}) E) (rest : Result B E) (x : B) → (r >> rest) ≡ Ok x → r ≡ Ok tt
+then-ok (Ok u) rest x is = refl
+then-ok (Err refusal) rest x is = absurd cc
+
+-- what came after a test
+pub rest-ok : {B E : Type 0} (r : Result (Unit {0}) E) (rest : Result B E) (x : B) → (r >> rest) ≡ Ok x → rest ≡ Ok x
+rest-ok (Ok u) rest x is = is
+rest-ok (Err refusal) rest x is = absurd cc

@@ -1,21 +1,5 @@
 -- a queue with one session more
-use Rattle.std.proofs.Common.{◌≡◌, ℕ, ◌+◌, ◌<◌, ◌≤◌, Bool, true, false, not, ◌||◌, List, [], ◌∷◌, ◌++◌, map, Option, Some, Ok, refl, sym, ap, ◌∙◌, subst, arith}
-use Rattle.std.specs.Prelude.{◌==◌}
-use Rattle.np_tree.specs.Prelude.{AllByRecursion, EphemeralSequential, IsWhole, Node, NonePass, Rises, TreeState, after_create, below, counter_at, is_in, is_path, list_any, name_of, option_map, parent_of, ten_digits_of}
-use Rattle.std.specs.Ordering.{nat_cmp, is_lt}
-use Rattle.std.specs.Cmp.Lexicographic.{slice_cmp}
-use Rattle.std.proofs.lemmas.Bool.{leb-true}
-use Rattle.np_text.proofs.OrderLemmas.{nat_cmp-more, slice_cmp-ten}
-use Rattle.np_lists.proofs.ChangeLemmas.{insert_before-end}
-use Rattle.np_lists.proofs.Each.{all-push, all-weaker}
-use Rattle.np_path.proofs.PathLaws.{HasParts-below}
-use Rattle.np_path.proofs.PartsLemmas.{is_path-below}
-use Rattle.np_tree.proofs.PassedLemmas.{child_answer-passed}
-use Rattle.np_tree.specs.Relations.{Creates}
-use Rattle.np_tree.specs.Views.{Row, row_before, row_given, with_row}
-use Rattle.np_tree.proofs.RelationLemmas.{child-line, creates-show}
-use Rattle.np_lock.specs.Calls.{join_answer}
-use Rattle.np_lock.specs.Queue.{IsGivenOut, IsQueue, Wait, of_others, prefix, queue_at, row_of_wait, wait_path}
+use Rattle.np_lock.proofs.Prelude.{AllByRecursion, Bool, Creates, EphemeralSequential, HasParts-below, IsGivenOut, IsQueue, IsWhole, List, Node, NonePass, Ok, Option, Rises, Row, Some, TreeState, Wait, after_create, all-push, all-weaker, ap, arith, below, child-line, child_answer-passed, counter_at, creates-show, false, insert_before-end, is_in, is_lt, is_path, is_path-below, join_answer, leb-true, list_any, map, name_of, nat_cmp, nat_cmp-more, not, of_others, option_map, parent_of, prefix, queue_at, refl, row_before, row_given, row_of_wait, slice_cmp, slice_cmp-ten, subst, sym, ten_digits_of, true, wait_path, with_row, ℕ, [], ◌++◌, ◌+◌, ◌<◌, ◌==◌, ◌||◌, ◌∙◌, ◌∷◌, ◌≡◌, ◌≤◌}
 use Rattle.np_lock.proofs.WaitLemmas.{queue-waits}
 
 -- ## the path

@@ -1,22 +1,8 @@
 -- how a queue changes with the tree
-use Rattle.std.proofs.Common.{◌≡◌, ℕ, Bool, true, false, not, cond, List, [], ◌∷◌, ◌++◌, map, Option, Some, None, Result, Ok, Err, refl, sym, ap, ◌∙◌, subst}
-use Rattle.std.specs.Prelude.{IsOk, filter, ◌==◌}
-use Rattle.np_tree.specs.Prelude.{AllByRecursion, Any, IsTree, Node, Row, TreeRefusal, TreeState, after_end, at_path, counter_at, delete_answer, is_owner, option_map, row_of, rows_at, seen_of, without, ◌>>=◌, ◌>>◌}
-use Rattle.std.proofs.lemmas.Bool.{eqb-true}
-use Rattle.np_lists.proofs.Each.{all-filter}
-use Rattle.np_lists.proofs.RisingLemmas.{Rises-filter}
-use Rattle.np_tree_nodes.specs.declared.op.OpDone.TheVariants as done
-use Rattle.np_tree.proofs.StandingLemmas.{children_of-ephemeral}
-use Rattle.np_tree.specs.Relations.{is_kept}
-use Rattle.np_tree.proofs.GoesLemmas.{unspent-goes}
-use Rattle.np_tree.proofs.RelationLemmas.{ends-show}
-use Rattle.np_lock.specs.Calls.{join_answer}
-use Rattle.np_lock.specs.Laws.{EmptiesAreLocks, EndsLeave, PartsJoin, PartsLeave, QueuesAreShown}
-use Rattle.np_lock.specs.Queue.{IsGivenOut, IsQueue, Wait, of_others, row_of_wait}
+use Rattle.np_lock.proofs.Prelude.{AllByRecursion, Any, Bool, EmptiesAreLocks, EndsLeave, Err, IsGivenOut, IsOk, IsQueue, IsTree, List, Node, None, Ok, OpDone, Option, PartsJoin, PartsLeave, QueuesAreShown, Result, Rises-filter, Row, Some, TreeRefusal, TreeState, Wait, after_end, all-filter, ap, at_path, children_of-ephemeral, cond, counter_at, delete_answer, ends-show, eqb-true, false, filter, is_kept, is_owner, join_answer, map, not, of_others, ok-then, option_map, refl, row_of, row_of_wait, rows_at, seen_of, subst, sym, true, unspent-goes, without, ℕ, [], ◌++◌, ◌==◌, ◌>>=◌, ◌>>◌, ◌∙◌, ◌∷◌, ◌≡◌}
 use Rattle.np_lock.proofs.JoinLemmas.{Joins-accepted, queue-joined}
 use Rattle.np_lock.proofs.LeaveLemmas.{Leaves-path, left-sessions, left_by, of_session}
 use Rattle.np_lock.proofs.WaitLemmas.{queue-waits}
-use Rattle.np_tree.proofs.ClearLemmas.{ok-then}
 
 pub queues-are-shown : QueuesAreShown
 queues-are-shown t u dir waits rows counter queue =
@@ -27,7 +13,7 @@ empties-are-locks t dir none = record { rows = none; given = tt; once = tt }
 
 -- ## parts
 
-made-of : (r : Result (List ℕ) TreeRefusal) → IsOk (r >>= (λ made. Ok (done.Created made))) → (made : List ℕ) × (r ≡ Ok made)
+made-of : (r : Result (List ℕ) TreeRefusal) → IsOk (r >>= (λ made. Ok (OpDone.Created made))) → (made : List ℕ) × (r ≡ Ok made)
 made-of (Ok made) ok = (made, refl)
 made-of (Err refusal) ok = absurd cc
 

@@ -1,38 +1,7 @@
 -- a queue with one session fewer
-use Rattle.std.proofs.Common.{◌≡◌, ℕ, zero, suc, ◌+◌, ◌<◌, ◌≤◌, Bool, true, false, not, cond, List, [], ◌∷◌, ◌++◌, length, get_or, map, Option, Some, None, Ok, Err, refl, sym, ap, ◌∙◌, subst, arith}
-use Rattle.std.specs.Prelude.{filter, find, is_some, nat_lt, slice_get, ◌==◌}
-use Rattle.std.specs.List.{AllByRecursion, position_or_len}
-use Rattle.np_tree.specs.Prelude.{Any, Node, NonePass, Rises, Row, Seen, TreeRefusal, TreeState, after_delete, at_path, below, child_name, children_of, counter_at, delete_answer, find_named, is_at, is_element, is_in, is_named, is_path, name_of, need, option_map, parent_of, row_before, row_of, rows_at, seen_at, seen_in, seen_of, ten_digits_of, unspent, without}
-use Rattle.std.proofs.lemmas.Bool.{eqb-true, ltb-false, ltb-true}
-use Rattle.std.proofs.lemmas.Bool.Decides.{nat_tests}
-use Rattle.std.proofs.lemmas.List.{length-map}
-use Rattle.std.proofs.lemmas.Option.{slice_get-get_or}
-use Rattle.std.proofs.lemmas.List.Folds.{find_at}
-use Rattle.np_lists.proofs.Each.{all-filter, all-find, all-weaker}
-use Rattle.np_lists.proofs.FilterLemmas.{filter-not_none}
-use Rattle.np_lists.proofs.FoundLemmas.{find-passes}
-use Rattle.np_lists.proofs.RisingLemmas.{Rises-filter}
-use Rattle.np_path.specs.Faults.{name_fault}
-use Rattle.np_path.specs.Makes.{Makes}
-use Rattle.np_path.specs.declared.path.Path.{Path}
-use Rattle.np_path.proofs.PathLaws.{HasParts-below}
-use Rattle.np_path.proofs.PartsLemmas.{is_element-numbered, is_path-below}
-use Rattle.np_tree_nodes.specs.declared.refusal.TreeFault.{TreeFault}
-use Rattle.np_tree_nodes.specs.declared.refusal.TreeFault.TheVariants.{NoMemory, Refused}
-use Rattle.np_tree_nodes.specs.declared.refusal.TreeRefusal.TheVariants as no
-use Rattle.np_tree_nodes.proofs.PlaceLemmas.{bytes_eq-from}
-use Rattle.np_tree.specs.Inners.{Answers}
-use Rattle.np_tree.specs.Whole.{IsTree, IsWhole, OwnerLives}
-use Rattle.np_tree.proofs.StandingLemmas.{children_of-ephemeral}
-use Rattle.np_tree.specs.Relations.{Deletes}
-use Rattle.np_tree.proofs.GoesLemmas.{delete-changes}
-use Rattle.np_tree.proofs.RelationLemmas.{apart-below, deletes-show, rows-rise, seen-is-row}
-use Rattle.np_tree.proofs.SiblingLemmas.{other-name, other-name_back}
-use Rattle.np_lock.specs.Faults.{fault_of}
-use Rattle.np_lock.specs.Calls as calls
-use Rattle.np_lock.specs.Calls.{ahead_in, find_owned, path_in}
-use Rattle.np_lock.specs.Queue.{IsGivenOut, IsLock, IsQueue, Wait, of_others, prefix, queue_at, row_of_wait}
+use Rattle.np_lock.proofs.Prelude.{AllByRecursion, Answers, Any, Bool, Deletes, Err, HasParts-below, IsGivenOut, IsLock, IsQueue, IsTree, IsWhole, List, Makes, NoMemory, Node, None, NonePass, Ok, Option, OwnerLives, Path, Refused, Rises, Rises-filter, Row, Seen, Some, TreeFault, TreeRefusal, TreeState, Wait, after_delete, ahead_in, all-filter, all-find, all-weaker, ap, apart-below, arith, at_path, below, bytes_eq-from, child_name, children_of, children_of-ephemeral, cond, counter_at, delete-changes, delete_answer, deletes-show, eqb-true, false, fault_of, filter, filter-not_none, find, find-passes, find_at, find_named, find_owned, get_or, is_at, is_element, is_element-numbered, is_in, is_named, is_path, is_path-below, is_some, length, length-map, ltb-false, ltb-true, map, name_fault, name_of, nat_lt, nat_tests, need, not, of_others, option_map, other-name, other-name_back, parent_of, path_in, position_or_len, prefix, queue_at, refl, row_before, row_of, row_of_wait, rows-rise, rows_at, seen-is-row, seen_at, seen_in, seen_of, slice_get, slice_get-get_or, subst, suc, sym, ten_digits_of, true, unspent, without, zero, ℕ, [], ◌++◌, ◌+◌, ◌<◌, ◌==◌, ◌∙◌, ◌∷◌, ◌≡◌, ◌≤◌}
 use Rattle.np_lock.proofs.WaitLemmas.{queue-waits}
+use Rattle.np_lock.specs.Calls as calls
 
 abbrev pub of_session : ℕ → Wait → Bool
 of_session session w = w.session == session
@@ -305,7 +274,7 @@ child-makes name text path is makes = makes-by (is_element name) is makes where
   makes-by false is made = absurd cc
 
 -- the delete is refused only because there is no change number left
-spent-by : (changes : ℕ) (refusal : TreeRefusal) (b : Bool) → nat_lt changes 18_446_744_073_709_551_615 ≡ b → changes ≤ 18_446_744_073_709_551_615 → need b no.ChangesSpent ≡ Err refusal → (refusal ≡ no.ChangesSpent) × (changes ≡ 18_446_744_073_709_551_615)
+spent-by : (changes : ℕ) (refusal : TreeRefusal) (b : Bool) → nat_lt changes 18_446_744_073_709_551_615 ≡ b → changes ≤ 18_446_744_073_709_551_615 → need b TreeRefusal.ChangesSpent ≡ Err refusal → (refusal ≡ TreeRefusal.ChangesSpent) × (changes ≡ 18_446_744_073_709_551_615)
 spent-by changes refusal true is most refused = absurd cc
 spent-by changes refusal false is most refused = (cc, (let past = ltb-false changes 18_446_744_073_709_551_615 is in omega arith))
 

@@ -1,3 +1,4 @@
+pub mod Prelude
 pub mod WaitLemmas
 pub mod PlaceLemmas
 pub mod JoinLemmas

@@ -1,13 +1,5 @@
 -- the place of a session in a queue
-use Rattle.std.proofs.Common.{◌≡◌, ℕ, zero, suc, ◌+◌, ◌≤◌, Bool, true, false, ◌||◌, cond, List, [], ◌∷◌, ◌++◌, length, drop, Option, Some, None, Err, refl, sym, ap, ◌∙◌, arith}
-use Rattle.std.specs.Prelude.{slice_get, ◌==◌}
-use Rattle.std.specs.List.{list_any, position_from}
-use Rattle.std.proofs.lemmas.Iterator.Adapters.{position_from-zero}
-use Rattle.std.proofs.lemmas.List.{drop_all}
-use Rattle.np_lists.proofs.FilterLemmas.{filter-not_none, none-list_any}
-use Rattle.np_tree.specs.Prelude.{is_in, is_owner, without}
-use Rattle.np_lock.specs.Calls.{Leaves, Releases, ahead_in, first_of}
-use Rattle.np_lock.specs.declared.answer.LockFault.{LockFault}
+use Rattle.np_lock.proofs.Prelude.{Bool, Err, Leaves, List, LockFault, None, Option, Releases, Some, ahead_in, ap, arith, cond, drop, drop_all, false, filter-not_none, first_of, is_in, is_owner, length, list_any, none-list_any, position_from, position_from-zero, refl, slice_get, suc, sym, true, without, zero, ℕ, [], ◌++◌, ◌+◌, ◌==◌, ◌||◌, ◌∙◌, ◌∷◌, ◌≡◌, ◌≤◌}
 use Rattle.np_lock.specs.declared.answer.LockFault.TheVariants.{NoMemory, Refused}
 
 abbrev pub is_session : ℕ → ℕ → Bool

@@ -1,12 +1,5 @@
 -- the rows of a queue, and the sessions in it
-use Rattle.std.proofs.Common.{◌≡◌, ℕ, zero, suc, List, [], ◌∷◌, length, map, Option, Some, None, refl, sym, ap, ◌∙◌}
-use Rattle.std.specs.Prelude.{filter_map, slice_get, option_and_then}
-use Rattle.np_tree.specs.Prelude.{IsTree, Node, Row, Stat, TreeState, at_path, children_of, is_at, option_map, row_of, stat_at, stat_of, stat_of_child, with_next_number}
-use Rattle.np_lists.proofs.FoundLemmas.{find-passes}
-use Rattle.np_tree_nodes.proofs.PlaceLemmas.{bytes_eq-is}
-use Rattle.np_tree.proofs.RelationLemmas.{rows-nothing}
-use Rattle.np_lock.specs.Queue.{IsLock, IsQueue, Wait, queue_at, row_of_wait}
-use Rattle.std.proofs.lemmas.List.{length-map}
+use Rattle.np_lock.proofs.Prelude.{IsLock, IsQueue, IsTree, List, Node, None, Option, Row, Some, Stat, TreeState, Wait, ap, at_path, bytes_eq-is, children_of, filter_map, find-passes, is_at, length, length-map, map, option_and_then, option_map, queue_at, refl, row_of, row_of_wait, rows-nothing, slice_get, stat_at, stat_of, stat_of_child, suc, sym, with_next_number, zero, ℕ, [], ◌∙◌, ◌∷◌, ◌≡◌}
 
 -- the sessions of rows
 abbrev pub sessions_of : List Row → List ℕ

@@ -1,15 +1,11 @@
 -- what each call of a lock answers, and what it does to the tree
 use Rattle.std.specs.Prelude.{◌≡◌, ⊤, ℕ, zero, suc, ◌<◌, ◌==◌, Bool, true, false, List, [], ◌∷◌, ◌++◌, find, position, slice_get, Option, Some, None, Result, Ok, Err, IsOk, if◌then◌else◌}
 use Rattle.np_tree.specs.Prelude.{Any, EphemeralSequential, NoMemory, Op, Row, TreeRefusal, TreeState, after_create, after_delete, below, create_answer, is_in, is_none, is_owner, option_map, rows_at, where_found, with_next_number}
-use Rattle.np_tree_nodes.specs.declared.op.Op.TheVariants as op
-use Rattle.np_tree_nodes.specs.declared.refusal.TreeRefusal.TheVariants as no
 use Rattle.np_lock.specs.Queue.{queue_at, wait_path}
 use Rattle.np_lock.specs.declared.answer.Place.{Place}
 use Rattle.np_lock.specs.declared.answer.Place.TheVariants.{Held, Queued}
 use Rattle.np_lock.specs.declared.answer.Tried.{Tried}
-use Rattle.np_lock.specs.declared.answer.Tried.TheVariants as tried
 use Rattle.np_lock.specs.declared.answer.LockFault.{LockFault}
-use Rattle.np_lock.specs.declared.answer.LockFault.TheVariants as fault
 
 -- ## places
 
@@ -41,16 +37,16 @@ after_join t session dir = with_next_number (after_create t session (wait_path d
 -- the create may be refused, and memory may run out (own)
 abbrev pub Joins : Result (List ℕ) TreeRefusal → Result (Unit {0}) LockFault → Type 0
 Joins made (Ok _) = IsOk made
-Joins made (Err (fault.Refused refusal)) = made ≡ Err refusal
-Joins made (Err fault.NoMemory) = ⊤
+Joins made (Err (LockFault.Refused refusal)) = made ≡ Err refusal
+Joins made (Err LockFault.NoMemory) = ⊤
 
 -- the place that the session has or gets. Only if it has none, the create may be refused or memory
 -- may run out
 abbrev pub Enqueues : Option ℕ → Result (List ℕ) TreeRefusal → ℕ → Result Place LockFault → Type 0
 Enqueues (Some ahead) made others result = result ≡ Ok (place_with ahead)
 Enqueues None made others (Ok place) = (IsOk made) × (place ≡ place_with others)
-Enqueues None made others (Err (fault.Refused refusal)) = made ≡ Err refusal
-Enqueues None made others (Err fault.NoMemory) = ⊤
+Enqueues None made others (Err (LockFault.Refused refusal)) = made ≡ Err refusal
+Enqueues None made others (Err LockFault.NoMemory) = ⊤
 
 abbrev pub after_enqueue : TreeState → ℕ → List ℕ → TreeState
 after_enqueue t session dir = if is_in (queue_at t dir) session then t else after_join t session dir
@@ -59,10 +55,10 @@ after_enqueue t session dir = if is_in (queue_at t dir) session then t else afte
 
 -- if there is a holder, it is the answer; otherwise the session joins
 abbrev pub Tries : Option ℕ → Result (List ℕ) TreeRefusal → ℕ → Result Tried LockFault → Type 0
-Tries (Some holder) made session result = result ≡ Ok (if holder == session then tried.Held else tried.Busy holder)
-Tries None made session (Ok answer) = (IsOk made) × (answer ≡ tried.Held)
-Tries None made session (Err (fault.Refused refusal)) = made ≡ Err refusal
-Tries None made session (Err fault.NoMemory) = ⊤
+Tries (Some holder) made session result = result ≡ Ok (if holder == session then Tried.Held else Tried.Busy holder)
+Tries None made session (Ok answer) = (IsOk made) × (answer ≡ Tried.Held)
+Tries None made session (Err (LockFault.Refused refusal)) = made ≡ Err refusal
+Tries None made session (Err LockFault.NoMemory) = ⊤
 
 abbrev pub after_try : TreeState → ℕ → List ℕ → TreeState
 after_try t session dir = if is_none (first_of (queue_at t dir)) then after_join t session dir else t
@@ -84,15 +80,15 @@ path_in t session dir = option_map (λ row. below dir row.name) (find_owned sess
 -- the delete is refused only if no change has a number left
 abbrev pub Leaves : ℕ → Result (Unit {0}) LockFault → Type 0
 Leaves changes (Ok _) = changes < 18_446_744_073_709_551_615
-Leaves changes (Err (fault.Refused refusal)) = (refusal ≡ no.ChangesSpent) × (changes ≡ 18_446_744_073_709_551_615)
-Leaves changes (Err fault.NoMemory) = ⊤
+Leaves changes (Err (LockFault.Refused refusal)) = (refusal ≡ TreeRefusal.ChangesSpent) × (changes ≡ 18_446_744_073_709_551_615)
+Leaves changes (Err LockFault.NoMemory) = ⊤
 
 -- whether the session was there. The delete is refused only if no change has a number left
 abbrev pub Releases : Bool → ℕ → Result Bool LockFault → Type 0
 Releases false changes result = result ≡ Ok false
 Releases true changes (Ok was) = (was ≡ true) × (changes < 18_446_744_073_709_551_615)
-Releases true changes (Err (fault.Refused refusal)) = (refusal ≡ no.ChangesSpent) × (changes ≡ 18_446_744_073_709_551_615)
-Releases true changes (Err fault.NoMemory) = ⊤
+Releases true changes (Err (LockFault.Refused refusal)) = (refusal ≡ TreeRefusal.ChangesSpent) × (changes ≡ 18_446_744_073_709_551_615)
+Releases true changes (Err LockFault.NoMemory) = ⊤
 
 abbrev pub after_release : TreeState → ℕ → List ℕ → TreeState
 after_release t session dir = where_found (path_in t session dir) t (λ path. with_next_number (after_delete t path))
@@ -100,10 +96,10 @@ after_release t session dir = where_found (path_in t session dir) t (λ path. wi
 -- ## parts of a call of several
 
 abbrev pub join_part : List ℕ → Op
-join_part dir = op.Create (wait_path dir) [] EphemeralSequential
+join_part dir = Op.Create (wait_path dir) [] EphemeralSequential
 
 abbrev pub leave_part : List ℕ → Op
-leave_part path = op.Delete path Any
+leave_part path = Op.Delete path Any
 
 -- the part that takes the session out, and none if it is not there; memory may run out only if it
 -- is there

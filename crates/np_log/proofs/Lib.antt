@@ -1,11 +1,3 @@
 pub mod Prelude
-pub mod LengthLemmas
-pub mod BatchLemmas
-pub mod RecordLemmas
-pub mod WalkLemmas
-pub mod CrashLemmas
-pub mod AppendLemmas
-pub mod PartLemmas
-pub mod CreateLemmas
-pub mod FaultLemmas
-pub mod LoadLemmas
+pub mod Writes
+pub mod Walks

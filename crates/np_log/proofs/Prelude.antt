@@ -1,6 +1,6 @@
 -- The names that the proofs cite from elsewhere, passed on from one place. Declares nothing.
-pub use Rattle.np_event.proofs.EventLemmas.{event_in-spelled, event_in-words, inside-event_line}
-pub use Rattle.np_event.proofs.SpellingLemmas.{is_line-inside}
+pub use Rattle.np_event.proofs.Lines.{event_in-spelled, event_in-words, inside-event_line}
+pub use Rattle.np_event.proofs.Fields.{is_line-inside}
 unfoldable pub use Rattle.np_event.specs.EventForm.{event_forms}
 pub use Rattle.np_event.specs.Kind.{lettered}
 pub use Rattle.np_event.specs.Line.{HasEventLine, event_line}

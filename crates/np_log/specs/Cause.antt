@@ -5,37 +5,34 @@ use Rattle.np_io.specs.Counts.{Rose}
 use Rattle.np_io.specs.Disk.{DiskFacts, Stays}
 use Rattle.np_event.specs.declared.event.Event.{Event}
 use Rattle.np_log.specs.declared.fault.AppendFault.{AppendFault}
-use Rattle.np_log.specs.declared.fault.AppendFault.TheVariants as append
 use Rattle.np_log.specs.declared.fault.CreateFault.{CreateFault}
-use Rattle.np_log.specs.declared.fault.CreateFault.TheVariants as create
 use Rattle.np_log.specs.declared.fault.LoadFault.{LoadFault}
-use Rattle.np_log.specs.declared.fault.LoadFault.TheVariants as load
 use Rattle.np_log.specs.Log.{content_of, content_with}
 use Rattle.np_log.specs.Place.{IsSettled, Place}
 
 -- the file has bytes, and what reads give and what a crash leaves stay; or the disk failed; or memory
 -- ran out, and then the disk is as it was
 abbrev pub CreateCause : {D : Type 0} → (D → DiskFacts) → D → D → CreateFault → Type 0
-CreateCause facts old new create.NotEmpty = IfSome (facts old).now (λ file. 0 < length file) × Stays (facts old) (facts new)
-CreateCause facts old new create.DiskFault = Rose (facts old).faults (facts new).faults
-CreateCause facts old new create.NoMemory = new ≡ old
+CreateCause facts old new CreateFault.NotEmpty = IfSome (facts old).now (λ file. 0 < length file) × Stays (facts old) (facts new)
+CreateCause facts old new CreateFault.DiskFault = Rose (facts old).faults (facts new).faults
+CreateCause facts old new CreateFault.NoMemory = new ≡ old
 
 -- the bytes are damaged at this record; or the disk failed; or memory ran out
 abbrev pub LoadCause : DiskFacts → DiskFacts → LoadFault → Type 0
-LoadCause old new (load.Damaged number) = IfSome old.now (λ file. content_of file ≡ Err number)
-LoadCause old new load.DiskFault = Rose old.faults new.faults
-LoadCause old new load.NoMemory = Unit {0}
+LoadCause old new (LoadFault.Damaged number) = IfSome old.now (λ file. content_of file ≡ Err number)
+LoadCause old new LoadFault.DiskFault = Rose old.faults new.faults
+LoadCause old new LoadFault.NoMemory = Unit {0}
 
 -- the file is not read: the disk failed, or memory ran out
 abbrev pub ReadCause : DiskFacts → DiskFacts → LoadFault → Type 0
-ReadCause old new (load.Damaged number) = ⊥
-ReadCause old new load.DiskFault = Rose old.faults new.faults
-ReadCause old new load.NoMemory = Unit {0}
+ReadCause old new (LoadFault.Damaged number) = ⊥
+ReadCause old new LoadFault.DiskFault = Rose old.faults new.faults
+ReadCause old new LoadFault.NoMemory = Unit {0}
 
 -- the disk failed; or memory ran out, and then the log comes back and the disk is as it was
 abbrev pub AppendCause : {D : Type 0} → (D → DiskFacts) → D → D → Place → AppendFault → Type 0
-AppendCause facts old new log append.DiskFault = Rose (facts old).faults (facts new).faults
-AppendCause facts old new log (append.NoMemory back) = (back ≡ log) × (new ≡ old)
+AppendCause facts old new log AppendFault.DiskFault = Rose (facts old).faults (facts new).faults
+AppendCause facts old new log (AppendFault.NoMemory back) = (back ≡ log) × (new ≡ old)
 
 -- a log comes back that is settled and has the first n of these events
 pub record HasFirst (old new : DiskFacts) (log back : Place) (events : List Event) : Type 0 where
@@ -47,5 +44,5 @@ pub record HasFirst (old new : DiskFacts) (log back : Place) (events : List Even
 
 -- the disk failed; or memory ran out, and then a log comes back that has the first of these events
 abbrev pub AppendAllCause : DiskFacts → DiskFacts → Place → List Event → AppendFault → Type 0
-AppendAllCause old new log events append.DiskFault = Rose old.faults new.faults
-AppendAllCause old new log events (append.NoMemory back) = HasFirst old new log back events
+AppendAllCause old new log events AppendFault.DiskFault = Rose old.faults new.faults
+AppendAllCause old new log events (AppendFault.NoMemory back) = HasFirst old new log back events

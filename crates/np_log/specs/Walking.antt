@@ -1,7 +1,6 @@
 -- A walk from gate to gate in memory: what `src/walk.rt` finds, in the words of `Log`.
 use Rattle.std.specs.Prelude.{◌≡◌, ◌≤◌, ℕ, ◌+◌, ◌*◌, length, Result, Ok, Err}
 use Rattle.np_log.specs.declared.fault.LoadFault.{LoadFault}
-use Rattle.np_log.specs.declared.fault.LoadFault.TheVariants as load
 use Rattle.np_log.specs.declared.walk.LogWalk.{LogWalk}
 use Rattle.np_log.specs.Log.{Walk}
 
@@ -18,9 +17,9 @@ pub record IsNear (w : Walk) : Type 0 where
 
 -- a walk that is not done fails as is said, unless memory ran out
 abbrev pub Fails : LoadFault → Result Walk ℕ → Type 0
-Fails (load.Damaged number) said = said ≡ Err number
-Fails load.DiskFault said = ⊥
-Fails load.NoMemory said = Unit {0}
+Fails (LoadFault.Damaged number) said = said ≡ Err number
+Fails LoadFault.DiskFault said = ⊥
+Fails LoadFault.NoMemory said = Unit {0}
 
 -- a walk ends as is said, unless memory ran out
 abbrev pub Walks : Result LogWalk LoadFault → Result Walk ℕ → Type 0

@@ -1,7 +1,6 @@
 -- A worked log: the configuration `{}` and one tick (own).
 use Rattle.std.specs.Prelude.{ℕ, List, [], ◌∷◌}
 use Rattle.np_event.specs.declared.event.Event.{Event}
-use Rattle.np_event.specs.declared.event.Event.TheVariants as ev
 use Rattle.np_log.specs.Log.{Content}
 
 -- `{}`
@@ -10,7 +9,7 @@ worked_config = 123 ∷ 125 ∷ []
 
 -- one tick
 abbrev pub worked_events : List Event
-worked_events = ev.Tick ∷ []
+worked_events = Event.Tick ∷ []
 
 -- what a log of `{}` and these events says
 abbrev pub worked_content : List Event → Content

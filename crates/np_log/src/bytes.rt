@@ -37,7 +37,7 @@ pub(crate) fn record_and_gate(alloc: Global, payload: &[u8]) -> Result<Vec<u8>, 
 }
 
 /// The record of these events, and a closed gate behind it.
-#[tactic(auto, using(crate::proofs::LengthLemmas::batch_fits))]
+#[tactic(auto, using(crate::proofs::Writes::batch_fits))]
 pub(crate) fn batch_record(alloc: Global, events: &[Event]) -> Result<Vec<u8>, NoMemory>
     requires few { length events.now ≤ 64 }
     requires lines { AllByRecursion HasEventLine events.now }

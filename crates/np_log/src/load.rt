@@ -42,7 +42,7 @@ fn read_whole<D: Disk>(alloc: Global, disk: &mut D) -> Result<Vec<u8>, LoadFault
 }
 
 /// Syncs, so that a crash leaves only what reads give, and then reads all bytes of the file.
-#[tactic(auto, using(crate::proofs::LoadLemmas::only_kept))]
+#[tactic(auto, using(crate::proofs::Walks::only_kept))]
 fn sync_and_read<D: Disk>(alloc: Global, disk: &mut D) -> Result<Vec<u8>, LoadFault>
     ensures all { IfOk result (λ bytes. IfSome (D.facts disk.old).now (λ file.
         bytes.items ≡ file)) }

@@ -1,9 +1,2 @@
-pub mod CountLemmas
-pub mod OwnerLemmas
-pub mod Walks
-pub mod Seen
-pub mod Used
-pub mod Blocking
-pub mod Placed
-pub mod Speakers
-pub mod Due
+pub mod Prelude
+pub mod Looks

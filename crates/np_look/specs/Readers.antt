@@ -1,10 +1,8 @@
 -- what the readers of a state return, beyond the machine's own definitions
 use Rattle.std.specs.Prelude.{ℕ, suc, drop, Bool, true, false, ◌==◌, ◌&&◌, ◌||◌, not, if◌then◌else◌, List, [], ◌∷◌, filter, find, fold, map, Option, Some, None, is_some, is_none, option_and_then, slice_get, length, nat_lt}
 use Rattle.np_changes.specs.Prelude.{Amount, Configuration, JobId, JobRecord, LabelId, Limit, NodeEntry, NodeId, NodeRecord, NodeState, PoolId, RequestEntry, RequestId, RequestRecord, RequestState, RequesterId, Role, SessionFacts, SessionId, State, TenantId, amount_of, amount_of_all, amount_of_node, fits, holder, is_declined_by, is_last_pool, is_over, is_pending_by, is_pending_of, is_queued, is_requested, is_tenant, limit_of, limit_of_tenant, list_any, may_fit, nothing, option_map, option_map_or, option_or, plus, request_in, rest_of_request, speaks_for, standing, tenant_of_request, undeclined}
-use Rattle.np_text.specs.declared.word.NodeState.TheVariants as node_state
 use Rattle.np_machine.specs.Reasons.{next_label, is_spare, ready_age, due_tick}
 use Rattle.np_look.specs.declared.asked.UnheldKind.{UnheldKind}
-use Rattle.np_look.specs.declared.asked.UnheldKind.TheVariants as kind
 
 -- whether the pool is among the request's declines
 abbrev pub is_declined : PoolId → RequestId → State → Bool
@@ -158,23 +156,23 @@ is_unclaimed s k = is_none (standing s k.allocated_to)
 -- the kind of a node in this state, by whether it is unclaimed; a ready node that a request claims is
 -- of no kind
 abbrev pub unheld_kind_as : NodeState → Bool → NodeRecord → Option UnheldKind
-unheld_kind_as node_state.Building unclaimed k = Some kind.Abandoned
-unheld_kind_as node_state.Ready unclaimed k =
-    if unclaimed then (if is_none k.allocated_to then Some kind.Free else Some kind.LeftOver) else None
-unheld_kind_as node_state.InUse unclaimed k = Some kind.Abandoned
-unheld_kind_as node_state.Used unclaimed k = Some kind.Abandoned
-unheld_kind_as node_state.Hold unclaimed k = Some kind.Hold
-unheld_kind_as node_state.Deleting unclaimed k = Some kind.Abandoned
-unheld_kind_as node_state.Failed unclaimed k = Some kind.Abandoned
+unheld_kind_as NodeState.Building unclaimed k = Some UnheldKind.Abandoned
+unheld_kind_as NodeState.Ready unclaimed k =
+    if unclaimed then (if is_none k.allocated_to then Some UnheldKind.Free else Some UnheldKind.LeftOver) else None
+unheld_kind_as NodeState.InUse unclaimed k = Some UnheldKind.Abandoned
+unheld_kind_as NodeState.Used unclaimed k = Some UnheldKind.Abandoned
+unheld_kind_as NodeState.Hold unclaimed k = Some UnheldKind.Hold
+unheld_kind_as NodeState.Deleting unclaimed k = Some UnheldKind.Abandoned
+unheld_kind_as NodeState.Failed unclaimed k = Some UnheldKind.Abandoned
 
 abbrev pub unheld_kind : Bool → NodeRecord → Option UnheldKind
 unheld_kind unclaimed k = unheld_kind_as k.state unclaimed k
 
 abbrev pub same_kind : UnheldKind → UnheldKind → Bool
-same_kind kind.Free kind.Free = true
-same_kind kind.LeftOver kind.LeftOver = true
-same_kind kind.Hold kind.Hold = true
-same_kind kind.Abandoned kind.Abandoned = true
+same_kind UnheldKind.Free UnheldKind.Free = true
+same_kind UnheldKind.LeftOver UnheldKind.LeftOver = true
+same_kind UnheldKind.Hold UnheldKind.Hold = true
+same_kind UnheldKind.Abandoned UnheldKind.Abandoned = true
 same_kind _ _ = false
 
 -- a node of the pool that nobody holds, of this kind, by whether it is unclaimed
@@ -195,10 +193,10 @@ due_after age since = if age == 0 then never else due_tick age since
 -- the tick at which a node of the kind is due: when it is past its age, or when its state began if no
 -- age counts
 abbrev pub due_of : Configuration → UnheldKind → NodeRecord → ℕ
-due_of c kind.Free k = due_after (ready_age c k.label) k.since
-due_of c kind.LeftOver k = k.since
-due_of c kind.Hold k = due_after c.max_hold_age k.since
-due_of c kind.Abandoned k = k.since
+due_of c UnheldKind.Free k = due_after (ready_age c k.label) k.since
+due_of c UnheldKind.LeftOver k = k.since
+due_of c UnheldKind.Hold k = due_after c.max_hold_age k.since
+due_of c UnheldKind.Abandoned k = k.since
 
 -- of two nodes the one that is due first; of two that are due at one tick the first
 abbrev pub sooner : Configuration → UnheldKind → Option NodeEntry → NodeEntry → Option NodeEntry

@@ -1,12 +1,9 @@
--- the lines that have ranks, one after another, and that the requests of a line are alike
-use Rattle.np_lookups.proofs.OpenPrelude.{AllByRecursion, AreOpen, Bool, Configuration, Group, IsLineFrom, Job, JobId, LabelId, List, Member, None, OpenOf, Option, PoolId, Rank, RequestRecord, Rises, Some, State, TenantId, [], all-weaker, ap, arith, cond, equal-numbers, false, find, find-alike, first_line, first_unoffered, group-equal, group-itself, group-transitive, group_from, if◌then◌else◌, inl, inr, is_group_before, is_like, is_member_before, is_none, is_of_line, is_rank_before, length, line_after, line_if, line_of, map, nat_lt, nat_tests, never_fits, none-is, not, open_group, option_and_then, option_map, option_map_or, ranks_of, refl, same_group, same_labels, same_number, slice_get, step, subst, suc, sym, true, ℕ, ◌&&◌, ◌<◌, ◌==◌, ◌∙◌, ◌∷◌, ◌≡◌, ◌≤◌, ◌⊎◌}
-use Rattle.std.specs.Bool.{Decides}
-use Rattle.std.proofs.lemmas.Slice.Eq.{slice_eq-Decides}
-use Rattle.np_text.specs.declared.word.RequestState.TheVariants.{Requested}
-use Rattle.np_lists.proofs.FilterLemmas.{filter-nothing}
-use Rattle.np_machine.specs.First.{blocking, short_tenant}
-use Rattle.np_machine.specs.Tenants.{is_tenant, limit_of_tenant, passes_tenant, tenant_of_request}
-use Rattle.np_look.specs.Readers.{has_limit}
+-- the lines of requests: their ranks one after another, in runs, how many are past one, and which a search passes over
+use Rattle.np_lookups.proofs.Prelude.{AllByRecursion, AreOpen, AreRequested, Bool, Configuration, Decides, Group, IsLineFrom, IsOpenFrom, IsRunEnd, IsWaiting, Job, JobId, LabelId, List, Member, None, NonePass, OpenOf, Option, PoolId, Rank, RequestEntry, RequestRecord, Requested, Rises, Rises-filter, Some, State, TenantId, all-at, all-filter, all-weaker, and-first, and-second, and_false, ap, arith, blocking, closed_group, cond, count_before, count_by, count_by-le-length, drop, equal-numbers, false, false_from_ne_true, filter, filter-nothing, find, find-alike, first_line, first_unoffered, group-equal, group-itself, group-transitive, group_from, has_limit, has_member, holder, ids-has, ids-rise, ids_in, if◌then◌else◌, inl, inr, is_closed_rank, is_declined_by, is_found_in, is_group_before, is_like, is_member_before, is_none, is_of_line, is_open_to, is_pinned_away, is_rank_before, is_requested, is_requested_at, is_run, is_tenant, length, limit_of_tenant, line_after, line_if, line_of, list_any, list_any-there, map, nat_lt, nat_tests, never_fits, none-is, not, open_group, option_and_then, option_map, option_map_or, passes_tenant, prefix_len, rank_equal, rank_one_way, rank_some_way, rank_transitive, ranks_of, refl, request_entry, request_in, same-list, same_group, same_labels, same_number, same_rank, short_tenant, slice_eq-Decides, slice_get, slice_get_within, step, subst, suc, sum_by-cons, sym, take, tenant_of_request, true, zero, ℕ, [], ◌&&◌, ◌+◌, ◌-◌, ◌<◌, ◌==◌, ◌||◌, ◌∙◌, ◌∷◌, ◌≡◌, ◌≤◌, ◌⊎◌}
+
+-- # the lines of requests: their ranks one after another, in runs, how many are past one, and which a search passes over
+
+-- # the lines that have ranks, one after another, and that the requests of a line are alike
 
 -- ## the requests of a line
 
@@ -225,3 +222,440 @@ module _ (c : Configuration) (s : State) (kept : OpenOf) (are : AreOpen c s kept
       (ap (λ (o : Option (Member Rank)). line_if (option_map (λ (m : Member Rank). m.group) o))
       (sym (find-alike (λ m. is_group_before (open_group line) m.group) (λ m. not (is_group_before m.group (open_group (suc line)))) kept.members (λ m. after-is line m.group))))
       (line-from (suc line) kept.members are.rises)
+
+-- # runs by counts
+
+-- ## how many pass up to a place
+
+module _ {X : Type 0} (p : X → Bool) where
+  abbrev pub counted : List X → ℕ → ℕ
+  counted xs at = length (filter p (take at xs))
+
+  counted-next : (xs : List X) (at : ℕ) (x : X) → slice_get xs at ≡ Some x → counted xs (suc at) ≡ counted xs at + cond (p x) 1 0
+  counted-next [] at x there = absurd cc
+  counted-next (y ∷ ys) zero x there = let here : y ≡ x = cc in rw here (by (p x)) where
+    by : (b : Bool) → length (cond b (x ∷ []) []) ≡ 0 + cond b 1 0
+    by true = refl
+    by false = refl
+  counted-next (y ∷ ys) (suc at) x there = by (p y) (counted-next ys at x there) where
+    by : (b : Bool) → counted ys (suc at) ≡ counted ys at + cond (p x) 1 0
+        → length (cond b (y ∷ filter p (take (suc at) ys)) (filter p (take (suc at) ys))) ≡ length (cond b (y ∷ filter p (take at ys)) (filter p (take at ys))) + cond (p x) 1 0
+    by true rest = omega (arith, rest)
+    by false rest = rest
+
+  -- the item at a place before the end
+  there-is : (xs : List X) (at : ℕ) → at < length xs → (x : X) × (slice_get xs at ≡ Some x)
+  there-is [] at within = absurd (omega arith)
+  there-is (y ∷ ys) zero within = (y, refl)
+  there-is (y ∷ ys) (suc at) within = there-is ys at (omega arith)
+
+  at-most : (b : Bool) → cond b 1 0 ≤ 1
+  at-most true = omega arith
+  at-most false = omega arith
+
+  counted-most : (xs : List X) (at d : ℕ) → at + d ≤ length xs → counted xs (at + d) ≤ counted xs at + d
+  counted-most xs at zero within = let same : at + zero ≡ at = omega arith in rw same (omega arith)
+  counted-most xs at (suc d) within =
+      let one : at + suc d ≡ suc (at + d) = omega arith in
+      let item = there-is xs (at + d) (omega arith) in
+      rw one (omega (arith, counted-next xs (at + d) item.0 item.1, counted-most xs at d (omega arith), at-most (p item.0)))
+
+  -- as many as there are places: all pass
+  pub run-all : (xs : List X) (at d : ℕ) → at + d ≤ length xs → counted xs (at + d) ≡ counted xs at + d
+      → (k : ℕ) (x : X) → at ≤ k → k < at + d → slice_get xs k ≡ Some x → p x ≡ true
+  run-all xs at zero within all k x low high there = absurd (omega arith)
+  run-all xs at (suc d) within all k x low high there = by (p item.0) refl (k == (at + d)) refl (λ room same less. run-all xs at d room same k x low less there) where
+    item : (y : X) × (slice_get xs (at + d) ≡ Some y)
+    item = there-is xs (at + d) (omega arith)
+
+    next : counted xs (suc (at + d)) ≡ counted xs at + suc d
+    next = let one : at + suc d ≡ suc (at + d) = omega arith in rw one at all
+
+    by : (b : Bool) → p item.0 ≡ b → (e : Bool) → (k == (at + d)) ≡ e → (at + d ≤ length xs → counted xs (at + d) ≡ counted xs at + d → k < at + d → p x ≡ true) → p x ≡ true
+    by true passes true is earlier =
+        let same : k ≡ at + d = grind (arith, nat_tests) in
+        let here : slice_get xs (at + d) ≡ Some x = rw (← same) there in
+        let alike : Some item.0 ≡ Some x = sym item.1 ∙ here in
+        let it : item.0 ≡ x = cc in
+        rw (← it) passes
+    by true passes false other earlier =
+        let less : k < at + d = grind (arith, nat_tests) in
+        let one : counted xs (suc (at + d)) ≡ counted xs (at + d) + 1 = counted-next xs (at + d) item.0 item.1 ∙ rw passes refl in
+        earlier (omega arith) (omega (arith, one, next)) less
+    by false fails e is earlier =
+        let none : counted xs (suc (at + d)) ≡ counted xs (at + d) + 0 = counted-next xs (at + d) item.0 item.1 ∙ rw fails refl in
+        absurd (omega (arith, none, next, counted-most xs at d (omega arith)))
+
+  pub all-run : (xs : List X) (at d : ℕ) → at + d ≤ length xs → ((k : ℕ) (x : X) → at ≤ k → k < at + d → slice_get xs k ≡ Some x → p x ≡ true)
+      → counted xs (at + d) ≡ counted xs at + d
+  all-run xs at zero within all = let same : at + zero ≡ at = omega arith in rw same (omega arith)
+  all-run xs at (suc d) within all =
+      let one : at + suc d ≡ suc (at + d) = omega arith in
+      let item = there-is xs (at + d) (omega arith) in
+      let passes : p item.0 ≡ true = all (at + d) item.0 (omega arith) (omega arith) item.1 in
+      let next : counted xs (suc (at + d)) ≡ counted xs (at + d) + 1 = counted-next xs (at + d) item.0 item.1 ∙ rw passes refl in
+      rw one (omega (arith, next, all-run xs at d (omega arith) (λ k x low high there. all k x low (omega arith) there)))
+
+  -- past the end all are counted
+  counted-past : (xs : List X) (at : ℕ) → slice_get xs at ≡ None → length (filter p xs) ≡ counted xs at
+  counted-past [] zero none = refl
+  counted-past [] (suc at) none = refl
+  counted-past (y ∷ ys) zero none = absurd cc
+  counted-past (y ∷ ys) (suc at) none = by (p y) (counted-past ys at none) where
+    by : (b : Bool) → length (filter p ys) ≡ counted ys at → length (cond b (y ∷ filter p ys) (filter p ys)) ≡ length (cond b (y ∷ filter p (take at ys)) (filter p (take at ys)))
+    by true rest = omega (arith, rest)
+    by false rest = rest
+
+  -- those before the item at a place, of a list in order
+  module _ (before : X → X → Bool) (one_way : (a b : X) → before a b ≡ true → before b a ≡ false) where
+    not_itself : (x : X) → before x x ≡ false
+    not_itself x = false_from_ne_true (before x x) (λ is. let out : before x x ≡ false = one_way x x is in cc)
+
+    none-prefix : (q : X → Bool) (xs : List X) → NonePass q xs → prefix_len q xs ≡ 0
+    none-prefix q [] none = refl
+    none-prefix q (x ∷ xs) none = rw (none.0) refl
+
+    pub counted-before : (xs : List X) → Rises before xs → (at : ℕ) (x : X) → slice_get xs at ≡ Some x → prefix_len (λ k. before k x) (filter p xs) ≡ counted xs at
+    counted-before [] rises at x there = absurd cc
+    counted-before (y ∷ ys) rises zero x there =
+        let here : y ≡ x = cc in
+        let none : NonePass (λ k. before k y) (y ∷ ys) = (not_itself y, all-weaker (λ k. before y k ≡ true) (λ k. before k y ≡ false) (λ k order. one_way y k order) ys rises.0) in
+        rw (← here) (none-prefix (λ k. before k y) (filter p (y ∷ ys)) (all-filter (λ k. before k y ≡ false) p (y ∷ ys) none))
+    counted-before (y ∷ ys) rises (suc at) x there = by (p y) (counted-before ys rises.1 at x there) where
+      first : before y x ≡ true
+      first = all-at (λ k. before y k ≡ true) ys at x rises.0 there
+
+      by : (b : Bool) → prefix_len (λ k. before k x) (filter p ys) ≡ counted ys at
+          → prefix_len (λ k. before k x) (cond b (y ∷ filter p ys) (filter p ys)) ≡ length (cond b (y ∷ filter p (take at ys)) (filter p (take at ys)))
+      by true rest = rw first (omega (arith, rest))
+      by false rest = rest
+
+-- ## the closed ranks are a part of all
+
+pub same_rank-itself : (a : Rank) → same_rank a a ≡ true
+same_rank-itself a = grind (arith, nat_tests)
+
+-- the rank is among those that pass if it passes and is there
+pub has-passes : (q : Rank → Bool) (x : Rank) (ranks : List Rank) → list_any (λ k. same_rank k x) (filter q ranks) ≡ (q x && list_any (λ k. same_rank k x) ranks)
+has-passes q x [] = sym (and_false (q x))
+has-passes q x (k ∷ ks) = by (same_rank k x) (q k) (q x) refl refl refl (has-passes q x ks) where
+  by : (a b d : Bool) → same_rank k x ≡ a → q k ≡ b → q x ≡ d → list_any (λ k. same_rank k x) (filter q ks) ≡ (d && list_any (λ k. same_rank k x) ks)
+      → list_any (λ k. same_rank k x) (cond b (k ∷ filter q ks) (filter q ks)) ≡ (d && (a || list_any (λ k. same_rank k x) ks))
+  by true true true is passes that later = rw is refl
+  by true false false is passes that later = later
+  by true true false is passes that later = absurd (let e : true ≡ false = sym passes ∙ ap q (rank_equal k x is) ∙ that in cc)
+  by true false true is passes that later = absurd (let e : false ≡ true = sym passes ∙ ap q (rank_equal k x is) ∙ that in cc)
+  by false true d is passes that later = rw is later
+  by false false d is passes that later = later
+
+-- a record that is in the group of a pool is in the line's open group
+found-open : (pools : ℕ) (of : RequestRecord → ℕ) (line : ℕ) (p : PoolId) (x : Rank) (found : Option RequestRecord)
+    → is_found_in pools of (closed_group line p) x found ≡ true → is_found_in pools of (open_group line) x found ≡ true
+found-open pools of line p x None is = is
+found-open pools of line p x (Some k) is = by (k.relative_priority == x.relative) (is_requested k.state) (of k == line) (p.0 == p.0) _ is where
+  by : (a b e i d : Bool) → (a && (b && ((i && e) && d))) ≡ true → (a && (b && (e || false))) ≡ true
+  by true true true i d is = refl
+  by true true false true d is = absurd cc
+  by true true false false d is = absurd cc
+  by true false e i d is = is
+  by false b e i d is = is
+
+module _ (c : Configuration) (s : State) (kept : OpenOf) (are : AreOpen c s kept) (line : ℕ) (p : PoolId) where
+  abbrev closed : Rank → Bool
+  closed x = is_closed_rank line p x kept.members
+
+  both : (x : Rank) → (closed x && has_member same_rank (open_group line) x kept.members) ≡ closed x
+  both x = by (closed x) refl where
+    by : (b : Bool) → closed x ≡ b → (b && has_member same_rank (open_group line) x kept.members) ≡ b
+    by true is = are.each (open_group line) x ∙ found-open (length c.pools) (line_of c kept.lines) line p x (request_in x.request s.requests) (sym (are.each (closed_group line p) x) ∙ is)
+    by false out = refl
+
+  pub closed-part : ids_in (closed_group line p) kept.members ≡ filter closed (ranks_of line kept.members)
+  closed-part =
+      same-list is_rank_before same_rank rank_one_way rank_equal same_rank-itself
+      (ids_in (closed_group line p) kept.members) (filter closed (ranks_of line kept.members))
+      (ids-rise (closed_group line p) is_rank_before kept.members are.rises)
+      (Rises-filter is_rank_before closed (ranks_of line kept.members) (ids-rise (open_group line) is_rank_before kept.members are.rises))
+      (λ x. ids-has same_rank (closed_group line p) x kept.members
+      ∙ sym (has-passes closed x (ranks_of line kept.members) ∙ ap (λ (b : Bool). closed x && b) (ids-has same_rank (open_group line) x kept.members) ∙ both x))
+
+  -- so the count before a place is that of the closed ranks up to it
+  count-is : (at : ℕ) → count_before line (closed_group line p) kept.members at ≡ counted closed (ranks_of line kept.members) at
+  count-is at = by (slice_get (ranks_of line kept.members) at) refl where
+    by : (o : Option Rank) → slice_get (ranks_of line kept.members) at ≡ o
+        → option_map_or (λ rank. prefix_len (λ k. is_rank_before k rank) (ids_in (closed_group line p) kept.members)) o (length (ids_in (closed_group line p) kept.members)) ≡ counted closed (ranks_of line kept.members) at
+    by None none = ap length closed-part ∙ counted-past closed (ranks_of line kept.members) at none
+    by (Some rank) there =
+        ap (prefix_len (λ k. is_rank_before k rank)) closed-part
+        ∙ counted-before closed is_rank_before rank_one_way (ranks_of line kept.members) (ids-rise (open_group line) is_rank_before kept.members are.rises) at rank there
+
+  test-false : (a b : ℕ) → (a == b) ≡ false → a ≡ b → ⊥
+  test-false a b is same = grind (arith, nat_tests)
+
+  run-closed : (place after : ℕ) → place < after → after ≤ length (ranks_of line kept.members) → is_run line (closed_group line p) kept.members place after ≡ true
+      → (at : ℕ) (rank : Rank) → place ≤ at → at < after → slice_get (ranks_of line kept.members) at ≡ Some rank → closed rank ≡ true
+  run-closed place after some within run at rank low high there =
+      let whole : place + (after - place) ≡ after = omega arith in
+      let counts = equal-numbers _ _ run in
+      run-all closed (ranks_of line kept.members) place (after - place) (omega arith)
+      (ap (counted closed (ranks_of line kept.members)) whole ∙ sym (count-is after) ∙ counts ∙ ap (λ (n : ℕ). n + (after - place)) (count-is place))
+      at rank low (omega arith) there
+
+  closed-run : (place after : ℕ) → place < after → after ≤ length (ranks_of line kept.members)
+      → ((at : ℕ) (rank : Rank) → place ≤ at → at < after → slice_get (ranks_of line kept.members) at ≡ Some rank → closed rank ≡ true)
+      → is_run line (closed_group line p) kept.members place after ≡ false → ⊥
+  closed-run place after some within all out =
+      let whole : place + (after - place) ≡ after = omega arith in
+      test-false _ _ out
+      (count-is after
+      ∙ ap (counted closed (ranks_of line kept.members)) (sym whole)
+      ∙ all-run closed (ranks_of line kept.members) place (after - place) (omega arith) (λ k x low high there. all k x low (omega arith) there)
+      ∙ ap (λ (n : ℕ). n + (after - place)) (sym (count-is place)))
+
+  module _ (place : ℕ) (rank : Rank) (there : slice_get (ranks_of line kept.members) place ≡ Some rank) where
+    same-there : (o : Rank) (at : ℕ) → at ≡ place → slice_get (ranks_of line kept.members) at ≡ Some o → rank ≡ o
+    same-there o at is here = let also : Some rank ≡ Some o = sym there ∙ ap (slice_get (ranks_of line kept.members)) (sym is) ∙ here in cc
+
+    module _ (is_closed : closed rank ≡ true) (after : ℕ) (ends : IsRunEnd line (closed_group line p) kept.members place after) where
+      up-to : (at : ℕ) (x : Rank) → place ≤ at → at < after → slice_get (ranks_of line kept.members) at ≡ Some x → closed x ≡ true
+      up-to at x low high here = by ends.run where
+        by : (after ≡ place + 1) ⊎ (is_run line (closed_group line p) kept.members place after ≡ true) → closed x ≡ true
+        by (inl one) = let first : at ≡ place = omega arith in subst (λ (y : Rank). closed y ≡ true) (same-there x at first here) is_closed
+        by (inr run) = run-closed place after ends.some ends.within run at x low high here
+
+      not-there : (x : Rank) → slice_get (ranks_of line kept.members) after ≡ Some x → closed x ≡ false
+      not-there x here = by (closed x) refl ends.longest where
+        within : after < length (ranks_of line kept.members)
+        within = slice_get_within (ranks_of line kept.members) after x here
+
+        more : closed x ≡ true → (at : ℕ) (y : Rank) → place ≤ at → at < after + 1 → slice_get (ranks_of line kept.members) at ≡ Some y → closed y ≡ true
+        more is at y low high at_y = at_end (at == after) refl where
+          at_end : (b : Bool) → (at == after) ≡ b → closed y ≡ true
+          at_end true same =
+              let last : at ≡ after = equal-numbers at after same in
+              let alike : Some x ≡ Some y = sym here ∙ ap (slice_get (ranks_of line kept.members)) (sym last) ∙ at_y in
+              let it : x ≡ y = cc in
+              subst (λ (k : Rank). closed k ≡ true) it is
+          at_end false other =
+              let less : at < after = grind (arith, nat_tests) in
+              up-to at y low less at_y
+
+        by : (b : Bool) → closed x ≡ b → (after ≡ length (ranks_of line kept.members)) ⊎ (is_run line (closed_group line p) kept.members place (after + 1) ≡ false) → b ≡ false
+        by true is (inl last) = absurd (omega (arith, within, last))
+        by true is (inr out) = absurd (let some : place < after + 1 = omega (arith, ends.some) in closed-run place (after + 1) some (omega (arith, within)) (more is) out)
+        by false is longest = refl
+
+      pub open-after : IsOpenFrom kept.members line p place after
+      open-after =
+          let some : place < after = ends.some in
+          let within : after ≤ length (ranks_of line kept.members) = ends.within in
+          record { from = omega arith; within = omega arith; closed_before = up-to; open_there = not-there }
+
+-- # what the ranks of a line say of the requests of a state, and which of them a search passes over
+
+-- ## the ranks
+
+found-requested : (c : Configuration) (lines : List JobId) (line : ℕ) (x : Rank) (found : Option RequestRecord)
+    → is_found_in (length c.pools) (line_of c lines) (open_group line) x found ≡ is_requested_at c lines line x found
+found-requested c lines line x None = refl
+found-requested c lines line x (Some k) = by (k.relative_priority == x.relative) (is_requested k.state) (line_of c lines k == line) where
+  by : (a b e : Bool) → (a && (b && (e || false))) ≡ (b && a && e)
+  by true true true = refl
+  by true true false = refl
+  by true false e = refl
+  by false true e = refl
+  by false false e = refl
+
+module _ (c : Configuration) (s : State) (kept : OpenOf) (are : AreOpen c s kept) (line : ℕ) where
+  -- they are those of the line's requested requests
+  pub ranks-are : AreRequested c s kept.lines line (ranks_of line kept.members)
+  ranks-are = record {
+    rises = ids-rise (open_group line) is_rank_before kept.members are.rises;
+    each = λ x.
+        ids-has same_rank (open_group line) x kept.members
+        ∙ are.each (open_group line) x
+        ∙ found-requested c kept.lines line x (request_in x.request s.requests);
+    once = are.once;
+  }
+
+  -- a requested request waits in its line
+  pub waits-there : (x : Rank) (k : RequestRecord) → IsWaiting c s kept.lines line x k → list_any (λ other. same_rank other x) (ranks_of line kept.members) ≡ true
+  waits-there x k waits =
+      ranks-are.each x
+      ∙ ap (is_requested_at c kept.lines line x) waits.there
+      ∙ rw (waits.requested) (both (k.relative_priority == x.relative) (line_of c kept.lines k == line) (same_number k.relative_priority x.relative waits.relative) (same_number (line_of c kept.lines k) line waits.of_line))
+    where
+      both : (a b : Bool) → a ≡ true → b ≡ true → (true && a && b) ≡ true
+      both a b first second = rw (first, second) refl
+
+  -- and each rank of the line is that of such a request
+  pub rank-waits : (at : ℕ) (x : Rank) → slice_get (ranks_of line kept.members) at ≡ Some x → (k : RequestRecord) × IsWaiting c s kept.lines line x k
+  rank-waits at x is = by (request_in x.request s.requests) refl (sym (ranks-are.each x) ∙ list_any-there (λ other. same_rank other x) (ranks_of line kept.members) at x is (same_rank-itself x)) where
+    by : (o : Option RequestRecord) → request_in x.request s.requests ≡ o → is_requested_at c kept.lines line x o ≡ true → (k : RequestRecord) × IsWaiting c s kept.lines line x k
+    by None none all = absurd cc
+    by (Some k) there all =
+        let both = and-first (is_requested k.state && (k.relative_priority == x.relative)) (line_of c kept.lines k == line) all in (
+          k,
+          record {
+            there = there;
+            requested = and-first (is_requested k.state) (k.relative_priority == x.relative) both;
+            relative = equal-numbers k.relative_priority x.relative (and-second (is_requested k.state) (k.relative_priority == x.relative) both);
+            of_line = equal-numbers (line_of c kept.lines k) line (and-second (is_requested k.state && (k.relative_priority == x.relative)) (line_of c kept.lines k == line) all);
+          },
+        )
+
+-- ## closed ranks
+
+found-closed : (pools : ℕ) (of : RequestRecord → ℕ) (line : ℕ) (p : PoolId) (x : Rank) (o : Option RequestEntry)
+    → is_found_in pools of (closed_group line p) x (option_map (λ e. e.kept) o) ≡ true → option_map_or (is_open_to p) o false ≡ false
+found-closed pools of line p x None is = refl
+found-closed pools of line p x (Some e) is =
+    by (e.kept.relative_priority == x.relative) (is_requested e.kept.state) (same_group (closed_group (of e.kept) p) (closed_group line p)) _
+    (is_declined_by p e.kept.declined) (is_pinned_away p e.kept) (is_none (holder e.queue)) is where
+      by : (a b g w d q h : Bool) → (a && (b && (g && (w && (d || q))))) ≡ true → (b && h && not d && not q) ≡ false
+      by true true true true true q true is = refl
+      by true true true true false true true is = refl
+      by true true true true false false h is = absurd cc
+      by true true true true d q false is = refl
+      by true true true false d q h is = absurd cc
+      by true true false w d q h is = absurd cc
+      by true false g w d q h is = refl
+      by false b g w d q h is = absurd cc
+
+-- the request of a closed rank is not open to the pool
+pub closed-shut : (c : Configuration) (s : State) (kept : OpenOf) → AreOpen c s kept → (line : ℕ) (p : PoolId) (x : Rank) → is_closed_rank line p x kept.members ≡ true
+    → option_map_or (is_open_to p) (request_entry x.request s.requests) false ≡ false
+closed-shut c s kept are line p x is =
+    found-closed (length c.pools) (line_of c kept.lines) line p x (request_entry x.request s.requests) (sym (are.each (closed_group line p) x) ∙ is)
+
+-- ## a search
+
+module _ {X : Type 0} (q : X → Bool) where
+  filter-over : (xs : List X) (at : ℕ) (x : X) → slice_get xs at ≡ Some x → q x ≡ false → filter q (drop at xs) ≡ filter q (drop (suc at) xs)
+  filter-over [] at x there out = absurd cc
+  filter-over (y ∷ ys) zero x there out = let here : y ≡ x = cc in rw (here, out) refl
+  filter-over (y ∷ ys) (suc at) x there out = filter-over ys at x there out
+
+  filter-past : (xs : List X) (at : ℕ) → slice_get xs at ≡ None → filter q (drop at xs) ≡ filter q (drop (suc at) xs)
+  filter-past [] zero none = refl
+  filter-past [] (suc at) none = refl
+  filter-past (y ∷ ys) zero none = absurd cc
+  filter-past (y ∷ ys) (suc at) none = filter-past ys at none
+
+  filter-next : (xs : List X) (at : ℕ) → ((x : X) → slice_get xs at ≡ Some x → q x ≡ false) → filter q (drop at xs) ≡ filter q (drop (suc at) xs)
+  filter-next xs at none = by (slice_get xs at) refl where
+    by : (o : Option X) → slice_get xs at ≡ o → filter q (drop at xs) ≡ filter q (drop (suc at) xs)
+    by None past = filter-past xs at past
+    by (Some x) there = filter-over xs at x there (none x there)
+
+  filter-run : (xs : List X) (at d : ℕ) → ((k : ℕ) (x : X) → at ≤ k → k < at + d → slice_get xs k ≡ Some x → q x ≡ false) → filter q (drop at xs) ≡ filter q (drop (at + d) xs)
+  filter-run xs at zero none = let same : at + zero ≡ at = omega arith in rw same refl
+  filter-run xs at (suc d) none =
+      let one : at + suc d ≡ suc (at + d) = omega arith in
+      filter-run xs at d (λ k x low high there. none k x low (omega arith) there)
+      ∙ filter-next xs (at + d) (λ x there. none (at + d) x (omega arith) (omega arith) there)
+      ∙ ap (λ (n : ℕ). filter q (drop n xs)) (sym one)
+
+-- what passes from a place on passes from where the search ends on, if no closed rank passes
+pub filter-open_from : (q : Rank → Bool) (line : ℕ) (p : PoolId) (members : List (Member Rank)) → ((x : Rank) → is_closed_rank line p x members ≡ true → q x ≡ false)
+    → (place found : ℕ) → IsOpenFrom members line p place found → filter q (drop place (ranks_of line members)) ≡ filter q (drop found (ranks_of line members))
+filter-open_from q line p members shut place found is =
+    let from : place ≤ found = is.from in
+    let whole : place + (found - place) ≡ found = omega arith in
+    filter-run q (ranks_of line members) place (found - place) (λ k x low high there. shut x (is.closed_before k x low (omega arith) there))
+    ∙ ap (λ (n : ℕ). filter q (drop n (ranks_of line members))) whole
+
+-- # how many ranks of a line do not come after a rank
+
+rank-not_itself : (x : Rank) → is_rank_before x x ≡ false
+rank-not_itself x = false_from_ne_true (is_rank_before x x) (λ is. let out : is_rank_before x x ≡ false = rank_one_way x x is in cc)
+
+module _ (x : Rank) where
+  abbrev earlier : Rank → Bool
+  earlier k = is_rank_before k x
+
+  abbrev is_past : Rank → Bool
+  is_past k = not (is_rank_before x k)
+
+  abbrev is_it : Rank → Bool
+  is_it k = same_rank k x
+
+  abbrev AreLater : List Rank → Type 0
+  AreLater ks = AllByRecursion (λ k. is_rank_before x k ≡ true) ks
+
+  count-cons : (k : Rank) (ks : List Rank) → count_by is_past (k ∷ ks) ≡ cond (not (is_rank_before x k)) 1 0 + count_by is_past ks
+  count-cons k ks = sum_by-cons (λ y. cond (is_past y) 1 0) k ks
+
+  -- of ranks that come after it none is tallied
+  none-counted : (ks : List Rank) → AreLater ks → count_by is_past ks ≡ 0
+  none-counted [] later = refl
+  none-counted (k ∷ ks) later = count-cons k ks ∙ rw (later.0) (omega (arith, none-counted ks later.1))
+
+  -- and none is the rank itself
+  none-same : (ks : List Rank) → AreLater ks → list_any is_it ks ≡ false
+  none-same [] later = refl
+  none-same (k ∷ ks) later = rw (other k later.0) (none-same ks later.1) where
+    other : (k : Rank) → is_rank_before x k ≡ true → same_rank k x ≡ false
+    other k after = false_from_ne_true (same_rank k x) (λ same.
+        let itself : is_rank_before x x ≡ true = subst (λ (y : Rank). is_rank_before x y ≡ true) (rank_equal k x same) after in
+        let out : is_rank_before x x ≡ false = rank-not_itself x in
+        cc)
+
+  all-later : (k : Rank) (ks : List Rank) → is_rank_before x k ≡ true → AllByRecursion (λ y. is_rank_before k y ≡ true) ks → AreLater ks
+  all-later k [] first later = tt
+  all-later k (y ∷ ys) first later = (rank_transitive x k y first later.0, all-later k ys first later.1)
+
+  -- they are those before it, and the rank itself if it is there
+  past-count : (ks : List Rank) → Rises is_rank_before ks → count_by is_past ks ≡ prefix_len earlier ks + cond (list_any is_it ks) 1 0
+  past-count [] rises = refl
+  past-count (k ∷ ks) rises = count-cons k ks ∙ by (is_rank_before k x) (same_rank k x) refl refl (past-count ks rises.1) where
+    by : (a b : Bool) → is_rank_before k x ≡ a → same_rank k x ≡ b → count_by is_past ks ≡ prefix_len earlier ks + cond (list_any is_it ks) 1 0
+        → cond (not (is_rank_before x k)) 1 0 + count_by is_past ks ≡ cond a (1 + prefix_len earlier ks) 0 + cond (b || list_any is_it ks) 1 0
+    by true true before same rest = absurd (
+        let itself : is_rank_before x x ≡ true = subst (λ (y : Rank). is_rank_before y x ≡ true) (rank_equal k x same) before in
+        let out : is_rank_before x x ≡ false = rank-not_itself x in
+        cc)
+    by true false before other rest = rw (rank_one_way k x before) (omega (arith, rest))
+    by false true past same rest =
+        let it : k ≡ x = rank_equal k x same in
+        let later : AreLater ks = subst (λ (y : Rank). AllByRecursion (λ z. is_rank_before y z ≡ true) ks) it rises.0 in
+        let itself : is_rank_before x k ≡ false = subst (λ (y : Rank). is_rank_before x y ≡ false) (sym it) (rank-not_itself x) in
+        rw (itself, none-counted ks later) refl
+    by false false past other rest =
+        let first : is_rank_before x k ≡ true = rank_some_way k x past other in
+        let later : AreLater ks = all-later k ks first rises.0 in
+        rw (first, none-counted ks later, none-same ks later) refl
+
+-- the same, by what is found of a group in the members
+module _ (line : ℕ) (x : Rank) (ms : List (Member Rank)) (rises : Rises (is_member_before is_rank_before) ms) (own : List (Member Rank)) (seen : own ≡ ms)
+    (n : ℕ) (g : Group) (group : g ≡ open_group line) (before : n ≡ prefix_len (λ k. is_rank_before k x) (ids_in g own)) where
+  abbrev tallied : ℕ
+  tallied = count_by (λ k. not (is_rank_before x k)) (ranks_of line ms)
+
+  -- the ranks before it in a group, and the rank itself
+  abbrev up_to : Group → List (Member Rank) → ℕ
+  up_to h rows = prefix_len (λ k. is_rank_before k x) (ids_in h rows) + cond (has_member same_rank h x rows) 1 0
+
+  all-counted : tallied ≡ n + cond (has_member same_rank g x own) 1 0
+  all-counted =
+      past-count x (ranks_of line ms) (ids-rise (open_group line) is_rank_before ms rises)
+      ∙ ap (λ (there : Bool). prefix_len (λ k. is_rank_before k x) (ranks_of line ms) + cond there 1 0) (ids-has same_rank (open_group line) x ms)
+      ∙ sym (ap (λ (m : ℕ). m + cond (has_member same_rank g x own) 1 0) before
+      ∙ ap (λ (h : Group). up_to h own) group
+      ∙ ap (λ (rows : List (Member Rank)). up_to (open_group line) rows) seen)
+
+  pub past-there : has_member same_rank g x own ≡ true → n + 1 ≡ tallied
+  past-there there = sym (rw there at all-counted)
+
+  pub past-not_there : has_member same_rank g x own ≡ false → n ≡ tallied
+  past-not_there out = let all : tallied ≡ n + 0 = rw out at all-counted in omega (arith, all)
+
+  -- if all come before it, it is not there
+  pub past-end : (all : ℕ) → all ≡ length (ids_in g own) → all ≤ n → n ≡ tallied
+  past-end all is less = by (has_member same_rank g x own) refl where
+    long : all ≡ length (ranks_of line ms)
+    long = is ∙ ap (λ (h : Group). length (ids_in h own)) group ∙ ap (λ (rows : List (Member Rank)). length (ranks_of line rows)) seen
+
+    by : (b : Bool) → has_member same_rank g x own ≡ b → n ≡ tallied
+    by true there = absurd (omega (arith, past-there there, count_by-le-length (λ (k : Rank). not (is_rank_before x k)) (ranks_of line ms), long, less))
+    by false out = past-not_there out

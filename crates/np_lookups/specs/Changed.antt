@@ -4,8 +4,6 @@ use Rattle.np_changes.specs.Prelude.{Configuration, JobId, Marked, NodeId, Reque
 use Rattle.np_changes.specs.declared.changes.Changes.{Changes}
 use Rattle.np_changes.specs.declared.changes.Growth.{Growth}
 use Rattle.np_changes.specs.declared.changes.JobsChange.{JobsChange}
-use Rattle.np_changes.specs.declared.changes.Growth.TheVariants as grow
-use Rattle.np_changes.specs.declared.changes.JobsChange.TheVariants as jobs
 use Rattle.np_look.specs.Keys.{is_node_before, same_node, same_job}
 use Rattle.np_lookups.specs.declared.waits.Wait.{Wait}
 use Rattle.np_lookups.specs.Lookups.{LookupsOf}
@@ -51,23 +49,23 @@ holder_at request s = option_and_then (λ r. request_holder r s.requests) reques
 
 -- a job that is over leaves the list of its requester
 abbrev pub unfinished_changed : Configuration → JobsChange → List (List JobId) → List (List JobId)
-unfinished_changed c jobs.Same lists = lists
-unfinished_changed c (jobs.Put j kept) lists =
+unfinished_changed c JobsChange.Same lists = lists
+unfinished_changed c (JobsChange.Put j kept) lists =
     if is_over kept.phase
     then option_map_or (λ row. change_at row.requester.0 (without_id same_job j) lists) (slice_get c.jobs j.0) lists
     else lists
-unfinished_changed c (jobs.EndNode j n) lists = lists
+unfinished_changed c (JobsChange.EndNode j n) lists = lists
 
 -- ## the owners of nodes
 
 -- a new node has a place at the end, and no owner
 abbrev pub owners_grown : Growth → List (Option JobId) → List (Option JobId)
-owners_grown (grow.Node kept) owners = owners ++ None ∷ []
+owners_grown (Growth.Node kept) owners = owners ++ None ∷ []
 owners_grown growth owners = owners
 
 -- its place leaves the end again
 abbrev pub owners_taken_back : Growth → List (Option JobId) → List (Option JobId)
-owners_taken_back (grow.Node kept) owners = take (length owners - 1) owners
+owners_taken_back (Growth.Node kept) owners = take (length owners - 1) owners
 owners_taken_back growth owners = owners
 
 -- at the place of each of the nodes is the job
@@ -77,9 +75,9 @@ owners_with j (m ∷ nodes) owners = owners_with j nodes (slice_set owners m.nod
 
 -- a job that is using its nodes is their owner: only by taking them over does a job get nodes
 abbrev pub owners_changed : JobsChange → List (Option JobId) → List (Option JobId)
-owners_changed jobs.Same owners = owners
-owners_changed (jobs.Put j kept) owners = if is_using kept.phase then owners_with j kept.nodes owners else owners
-owners_changed (jobs.EndNode j n) owners = owners
+owners_changed JobsChange.Same owners = owners
+owners_changed (JobsChange.Put j kept) owners = if is_using kept.phase then owners_with j kept.nodes owners else owners
+owners_changed (JobsChange.EndNode j n) owners = owners
 
 -- ## all parts
 

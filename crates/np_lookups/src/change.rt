@@ -46,7 +46,7 @@ impl Model for Prepared {
 impl Lookups {
     /// Adds what the changes let grow, before the state has changed: a row to one list at most, and
     /// the place of a new node; true if a row was added. If memory runs out, nothing changes.
-    #[tactic(auto, using(crate::proofs::Joins::alone))]
+    #[tactic(auto, using(crate::proofs::QueueLemmas::alone))]
     fn grow(&mut self, changes: &Changes, next: u32) -> Result<bool, AllocError>
         ensures ok { OnOk result (self.new ≡ lookups_grown changes.now next self.old) }
         ensures undo { IfOk result (λ added.

@@ -1,28 +1,6 @@
 -- the acts of each role
-use Rattle.std.proofs.Common.{◌≡◌, ℕ, ◌+◌, List, refl, ap, ◌∙◌, arith, true, false, Option, Some, None, Ok, Err}
-use Rattle.std.specs.Prelude.{slice_get, is_ok, option_and_then, ◌==◌}
-use Rattle.std.specs.Option.{option_map}
-use Rattle.std.proofs.lemmas.Bool.Decides.{nat_tests}
-use Rattle.np_text.specs.declared.id.SessionId.{SessionId}
-use Rattle.np_text.specs.declared.id.Role.{Role}
-use Rattle.np_text.specs.declared.id.Role.TheVariants.{Launcher, Janitor, Requester, Reaper}
-use Rattle.np_config.specs.Configuration.{Configuration}
-use Rattle.np_record.specs.declared.record.RoleRecord.{RoleRecord}
-use Rattle.np_event.specs.declared.event.Event.{Event}
-use Rattle.np_event.specs.declared.event.Event.TheVariants as ev
-use Rattle.np_machine.specs.State.{State}
-use Rattle.np_machine.specs.Laws.{acts_of, same_role}
-use Rattle.np_machine.specs.Tables.{session_of, role_of, request_in, node_in, change_launcher, change_janitor, change_requester}
-use Rattle.np_lists.specs.Change.{change_at}
-use Rattle.np_machine.specs.Reasons.{next_label}
-use Rattle.np_machine.specs.Tests.{Answer, launcher}
-use Rattle.np_machine.specs.Request.{registers, submit_for, submitted, request_of_job, revise_request, revised, kept_ready, accept_by, accepted, decline_by, declined, fulfilled, given_back, failed}
-use Rattle.np_machine.specs.Node.{took_ready, create_by, create_for, created, start_by, started, one_more_start, reported, node_ended, given_up, node_freed}
-use Rattle.np_machine.specs.Semaphore.{acquired, take_for, take_from, taken, finished, withdrawn, released}
-use Rattle.np_machine.specs.Session.{crashed, expired, struck_unless}
-use Rattle.np_machine.specs.Step.{judge, effect, next, maker_of, acting, with_act, one_more_act}
+use Rattle.np_machine.proofs.Prelude.{Answer, Configuration, Err, Event, Janitor, Launcher, List, None, Ok, Option, Reaper, Requester, Role, RoleRecord, SessionId, Some, State, accept_by, accepted, acquired, acting, acts_of, ap, arith, change_at, change_janitor, change_launcher, change_requester, crashed, create_by, create_for, created, decline_by, declined, effect, expired, failed, false, finished, fulfilled, given_back, given_up, is_ok, judge, kept-change_at, kept_ready, launcher, maker_of, nat_tests, next, next_label, node_ended, node_freed, node_in, one_more_act, one_more_start, option_and_then, option_map, refl, registers, released, reported, request_in, request_of_job, revise_request, revised, role_of, same_role, session_of, slice_get, slice_get-change_at, slice_get-change_at_other, start_by, started, struck_unless, submit_for, submitted, take_for, take_from, taken, took_ready, true, with_act, withdrawn, ℕ, ◌+◌, ◌==◌, ◌∙◌, ◌≡◌}
 use Rattle.np_machine.proofs.Steps.{after_found-keeps, after_given-keeps}
-use Rattle.np_lists.proofs.ChangeLemmas.{slice_get-change_at, slice_get-change_at_other, kept-change_at}
 
 -- each role has as many acts as before
 pub record SameActs (s t : State) : Type 0 where
@@ -70,54 +48,54 @@ struck-at s t f role keeps launchers janitors requesters Reaper = refl
 
 -- no effect counts an act
 pub SameActs-effect : (c : Configuration) (s : State) (e : Event) → SameActs s (effect c s e)
-SameActs-effect c s ev.Tick = unchanged s _ refl refl refl
-SameActs-effect c s (ev.OpenSession role) = unchanged s _ refl refl refl
-SameActs-effect c s (ev.Crash session) = after_found-keeps (SameActs s) (session_of session s) s (crashed s session) (unchanged s s refl refl refl) (λ facts _. record { same = struck-at s (crashed s session facts) (struck_unless false) facts.role (λ x. refl) refl refl refl })
-SameActs-effect c s (ev.Expire session) = after_found-keeps (SameActs s) (session_of session s) s (expired s session) (unchanged s s refl refl refl) (λ facts _. record { same = struck-at s (expired s session facts) (struck_unless facts.mute) facts.role (λ x. refl) refl refl refl })
-SameActs-effect c s (ev.Register session) = after_given-keeps (SameActs s) (launcher s session) s (registers s session) (unchanged s s refl refl refl) (λ p _. unchanged s _ refl refl refl)
-SameActs-effect c s (ev.Submit session j) =
+SameActs-effect c s Event.Tick = unchanged s _ refl refl refl
+SameActs-effect c s (Event.OpenSession role) = unchanged s _ refl refl refl
+SameActs-effect c s (Event.Crash session) = after_found-keeps (SameActs s) (session_of session s) s (crashed s session) (unchanged s s refl refl refl) (λ facts _. record { same = struck-at s (crashed s session facts) (struck_unless false) facts.role (λ x. refl) refl refl refl })
+SameActs-effect c s (Event.Expire session) = after_found-keeps (SameActs s) (session_of session s) s (expired s session) (unchanged s s refl refl refl) (λ facts _. record { same = struck-at s (expired s session facts) (struck_unless facts.mute) facts.role (λ x. refl) refl refl refl })
+SameActs-effect c s (Event.Register session) = after_given-keeps (SameActs s) (launcher s session) s (registers s session) (unchanged s s refl refl refl) (λ p _. unchanged s _ refl refl refl)
+SameActs-effect c s (Event.Submit session j) =
     after_found-keeps (SameActs s) (slice_get c.jobs j.0) s (submit_for s j) (unchanged s s refl refl refl) (λ job _.
     after_found-keeps (SameActs s) (slice_get s.jobs j.0) s (submitted s j job) (unchanged s s refl refl refl) (λ kept _. unchanged s _ refl refl refl))
-SameActs-effect c s (ev.Revise session j relative) =
+SameActs-effect c s (Event.Revise session j relative) =
     after_found-keeps (SameActs s) (request_of_job j s) s (revise_request s relative) (unchanged s s refl refl refl) (λ r _.
     after_found-keeps (SameActs s) (request_in r s.requests) s (revised s relative r) (unchanged s s refl refl refl) (λ request _. unchanged s _ refl refl refl))
-SameActs-effect c s (ev.MinReady session l) = after_given-keeps (SameActs s) (launcher s session) s (kept_ready s l) (unchanged s s refl refl refl) (λ p _. unchanged s _ refl refl refl)
-SameActs-effect c s (ev.LockRequest session r) = unchanged s _ refl refl refl
-SameActs-effect c s (ev.UnlockRequest session r) = unchanged s _ refl refl refl
-SameActs-effect c s (ev.Accept session r) =
+SameActs-effect c s (Event.MinReady session l) = after_given-keeps (SameActs s) (launcher s session) s (kept_ready s l) (unchanged s s refl refl refl) (λ p _. unchanged s _ refl refl refl)
+SameActs-effect c s (Event.LockRequest session r) = unchanged s _ refl refl refl
+SameActs-effect c s (Event.UnlockRequest session r) = unchanged s _ refl refl refl
+SameActs-effect c s (Event.Accept session r) =
     after_given-keeps (SameActs s) (launcher s session) s (accept_by s r) (unchanged s s refl refl refl) (λ p _.
     after_found-keeps (SameActs s) (request_in r s.requests) s (accepted s r p) (unchanged s s refl refl refl) (λ request _. unchanged s _ refl refl refl))
-SameActs-effect c s (ev.Decline session r why) =
+SameActs-effect c s (Event.Decline session r why) =
     after_given-keeps (SameActs s) (launcher s session) s (decline_by s r why) (unchanged s s refl refl refl) (λ p _.
     after_found-keeps (SameActs s) (request_in r s.requests) s (declined s r why p) (unchanged s s refl refl refl) (λ request _. unchanged s _ refl refl refl))
-SameActs-effect c s (ev.TakeReady session r n) = after_found-keeps (SameActs s) (request_in r s.requests) s (took_ready c s session r n) (unchanged s s refl refl refl) (λ request _. unchanged s _ refl refl refl)
-SameActs-effect c s (ev.Create session r) =
+SameActs-effect c s (Event.TakeReady session r n) = after_found-keeps (SameActs s) (request_in r s.requests) s (took_ready c s session r n) (unchanged s s refl refl refl) (λ request _. unchanged s _ refl refl refl)
+SameActs-effect c s (Event.Create session r) =
     after_given-keeps (SameActs s) (launcher s session) s (create_by c s session r) (unchanged s s refl refl refl) (λ p _.
     after_found-keeps (SameActs s) (request_in r s.requests) s (create_for c s session r p) (unchanged s s refl refl refl) (λ request _.
     after_found-keeps (SameActs s) (next_label request) s (created c s session r p request) (unchanged s s refl refl refl) (λ l _. unchanged s _ refl refl refl)))
-SameActs-effect c s (ev.Start session n) =
+SameActs-effect c s (Event.Start session n) =
     after_given-keeps (SameActs s) (launcher s session) s (start_by s n) (unchanged s s refl refl refl) (λ p _.
     after_found-keeps (SameActs s) (node_in n s.nodes) s (started s n p) (unchanged s s refl refl refl) (λ k _.
     record { same = struck-at s (started s n p k) one_more_start (Launcher p) (λ x. refl) refl refl refl }))
-SameActs-effect c s (ev.Done session n attempt o) = after_found-keeps (SameActs s) (node_in n s.nodes) s (reported c s n o) (unchanged s s refl refl refl) (λ k _. unchanged s _ refl refl refl)
-SameActs-effect c s (ev.Fulfil session r) = after_found-keeps (SameActs s) (request_in r s.requests) s (fulfilled s r) (unchanged s s refl refl refl) (λ request _. unchanged s _ refl refl refl)
-SameActs-effect c s (ev.LockNode session n) = unchanged s _ refl refl refl
-SameActs-effect c s (ev.UnlockNode session n) = unchanged s _ refl refl refl
-SameActs-effect c s (ev.Acquire session j) = after_found-keeps (SameActs s) (slice_get c.jobs j.0) s (acquired s j) (unchanged s s refl refl refl) (λ job _. unchanged s _ refl refl refl)
-SameActs-effect c s (ev.Take session j) =
+SameActs-effect c s (Event.Done session n attempt o) = after_found-keeps (SameActs s) (node_in n s.nodes) s (reported c s n o) (unchanged s s refl refl refl) (λ k _. unchanged s _ refl refl refl)
+SameActs-effect c s (Event.Fulfil session r) = after_found-keeps (SameActs s) (request_in r s.requests) s (fulfilled s r) (unchanged s s refl refl refl) (λ request _. unchanged s _ refl refl refl)
+SameActs-effect c s (Event.LockNode session n) = unchanged s _ refl refl refl
+SameActs-effect c s (Event.UnlockNode session n) = unchanged s _ refl refl refl
+SameActs-effect c s (Event.Acquire session j) = after_found-keeps (SameActs s) (slice_get c.jobs j.0) s (acquired s j) (unchanged s s refl refl refl) (λ job _. unchanged s _ refl refl refl)
+SameActs-effect c s (Event.Take session j) =
     after_found-keeps (SameActs s) (slice_get s.jobs j.0) s (take_for s j) (unchanged s s refl refl refl) (λ kept _.
     after_found-keeps (SameActs s) kept.request s (take_from s j kept) (unchanged s s refl refl refl) (λ r _.
     after_found-keeps (SameActs s) (request_in r s.requests) s (taken s j kept r) (unchanged s s refl refl refl) (λ request _. unchanged s _ refl refl refl)))
-SameActs-effect c s (ev.EndNode session n as_what) = after_found-keeps (SameActs s) (node_in n s.nodes) s (node_ended s n as_what) (unchanged s s refl refl refl) (λ k _. unchanged s _ refl refl refl)
-SameActs-effect c s (ev.Finish session j) = after_found-keeps (SameActs s) (slice_get s.jobs j.0) s (finished s j) (unchanged s s refl refl refl) (λ kept _. unchanged s _ refl refl refl)
-SameActs-effect c s (ev.Withdraw session j) = after_found-keeps (SameActs s) (slice_get s.jobs j.0) s (withdrawn s j) (unchanged s s refl refl refl) (λ kept _. unchanged s _ refl refl refl)
-SameActs-effect c s (ev.Release session j) = after_found-keeps (SameActs s) (slice_get c.jobs j.0) s (released s j) (unchanged s s refl refl refl) (λ job _. unchanged s _ refl refl refl)
-SameActs-effect c s (ev.MarkDeleting session n) = after_found-keeps (SameActs s) (node_in n s.nodes) s (given_up s n) (unchanged s s refl refl refl) (λ k _. unchanged s _ refl refl refl)
-SameActs-effect c s (ev.Gone session n) = unchanged s _ refl refl refl
-SameActs-effect c s (ev.Reset session r) = after_found-keeps (SameActs s) (request_in r s.requests) s (given_back s r) (unchanged s s refl refl refl) (λ request _. unchanged s _ refl refl refl)
-SameActs-effect c s (ev.FreeNode session n) = after_found-keeps (SameActs s) (node_in n s.nodes) s (node_freed s n) (unchanged s s refl refl refl) (λ k _. unchanged s _ refl refl refl)
-SameActs-effect c s (ev.FailDeclined session r) = after_found-keeps (SameActs s) (request_in r s.requests) s (failed s r) (unchanged s s refl refl refl) (λ request _. unchanged s _ refl refl refl)
-SameActs-effect c s (ev.Sweep session n x) = unchanged s _ refl refl refl
+SameActs-effect c s (Event.EndNode session n as_what) = after_found-keeps (SameActs s) (node_in n s.nodes) s (node_ended s n as_what) (unchanged s s refl refl refl) (λ k _. unchanged s _ refl refl refl)
+SameActs-effect c s (Event.Finish session j) = after_found-keeps (SameActs s) (slice_get s.jobs j.0) s (finished s j) (unchanged s s refl refl refl) (λ kept _. unchanged s _ refl refl refl)
+SameActs-effect c s (Event.Withdraw session j) = after_found-keeps (SameActs s) (slice_get s.jobs j.0) s (withdrawn s j) (unchanged s s refl refl refl) (λ kept _. unchanged s _ refl refl refl)
+SameActs-effect c s (Event.Release session j) = after_found-keeps (SameActs s) (slice_get c.jobs j.0) s (released s j) (unchanged s s refl refl refl) (λ job _. unchanged s _ refl refl refl)
+SameActs-effect c s (Event.MarkDeleting session n) = after_found-keeps (SameActs s) (node_in n s.nodes) s (given_up s n) (unchanged s s refl refl refl) (λ k _. unchanged s _ refl refl refl)
+SameActs-effect c s (Event.Gone session n) = unchanged s _ refl refl refl
+SameActs-effect c s (Event.Reset session r) = after_found-keeps (SameActs s) (request_in r s.requests) s (given_back s r) (unchanged s s refl refl refl) (λ request _. unchanged s _ refl refl refl)
+SameActs-effect c s (Event.FreeNode session n) = after_found-keeps (SameActs s) (node_in n s.nodes) s (node_freed s n) (unchanged s s refl refl refl) (λ k _. unchanged s _ refl refl refl)
+SameActs-effect c s (Event.FailDeclined session r) = after_found-keeps (SameActs s) (request_in r s.requests) s (failed s r) (unchanged s s refl refl refl) (λ request _. unchanged s _ refl refl refl)
+SameActs-effect c s (Event.Sweep session n x) = unchanged s _ refl refl refl
 
 -- ## the act itself
 

@@ -1,8 +1,5 @@
 -- Ids, sessions and queues: what proofs of several crates need.
-use Rattle.np_machine.specs.Prelude.{NodeId, RequestId, SessionId, is_session, same_request}
-use Rattle.std.proofs.Common.{ap, arith, refl, true, ℕ, ◌≡◌}
-use Rattle.std.proofs.lemmas.Bool.Decides.{nat_tests}
-use Rattle.std.specs.Prelude.{◌==◌}
+use Rattle.np_machine.proofs.Prelude.{NodeId, RequestId, SessionId, ap, arith, is_session, nat_tests, refl, same_request, true, ℕ, ◌==◌, ◌≡◌}
 
 pub request-itself : (a : RequestId) → same_request a a ≡ true
 request-itself a = grind (arith, nat_tests)

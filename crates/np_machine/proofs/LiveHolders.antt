@@ -1,22 +1,5 @@
 -- a live holder, in terms of one entry
-use Rattle.std.proofs.Common.{◌≡◌, Bool, true, false, List, [], ◌∷◌, ◌++◌, refl, ap, subst, inl, inr}
-use Rattle.std.specs.Prelude.{◌⊎◌, ◌&&◌, cond}
-use Rattle.std.specs.List.{AllByRecursion}
-use Rattle.np_text.specs.declared.id.SessionId.{SessionId}
-use Rattle.np_text.specs.declared.id.NodeId.{NodeId}
-use Rattle.np_text.specs.declared.id.RequestId.{RequestId}
-use Rattle.np_config.specs.Configuration.{Configuration}
-use Rattle.np_event.specs.declared.event.Event.{Event}
-use Rattle.np_event.specs.declared.event.Event.TheVariants as ev
-use Rattle.np_event.specs.declared.entry.Entry.{Entry}
-use Rattle.np_event.specs.declared.reply.Done.{Done}
-use Rattle.np_event.specs.declared.reply.Reply.{Reply}
-use Rattle.np_event.specs.declared.reply.Reply.TheVariants as reply
-use Rattle.np_machine.specs.State.{State}
-use Rattle.np_machine.specs.Step.{next}
-use Rattle.np_machine.specs.History.{state_after}
-use Rattle.np_machine.specs.Turns.{is_done}
-use Rattle.np_machine.specs.LiveHolder.{is_holding, is_ending, holds_after, holds_from, ends_hold, HoldsSince, is_locking, is_unlocking, locks_after, locks_from, ends_lock, LockedSince}
+use Rattle.np_machine.proofs.Prelude.{AllByRecursion, Bool, Configuration, Done, Entry, Event, HoldsSince, List, LockedSince, NodeId, Reply, RequestId, SessionId, State, ap, cond, ends_hold, ends_lock, false, holds_after, holds_from, inl, inr, is_done, is_ending, is_holding, is_locking, is_unlocking, locks_after, locks_from, next, refl, state_after, subst, true, [], ◌&&◌, ◌++◌, ◌∷◌, ◌≡◌, ◌⊎◌}
 
 -- what was held stays held if nothing ends it
 flag-kept : (ends holds held : Bool) → ends ≡ false → held ≡ true → cond ends false (cond holds true held) ≡ true
@@ -32,7 +15,7 @@ module _ (c : Configuration) (session : SessionId) (n : NodeId) where
     first : held ≡ true
     on : AllByRecursion (λ (e : Entry). ends_hold session n e ≡ false) journal
 
-  on-done : (s : State) (held : Bool) (e : Entry) (journal : List Entry) (what : Done) → e.reply ≡ reply.Done what
+  on-done : (s : State) (held : Bool) (e : Entry) (journal : List Entry) (what : Done) → e.reply ≡ Reply.Done what
       → (ends : Bool) → is_ending session n e.event ≡ ends → (holds : Bool) → is_holding session n (next c s e.event) e.event what ≡ holds
       → cond ends false (cond holds true held) ≡ true → AllByRecursion (λ (e : Entry). ends_hold session n e ≡ false) journal
       → HeldOn held (e ∷ journal) ⊎ HoldsSince c s (e ∷ journal) session n
@@ -44,8 +27,8 @@ module _ (c : Configuration) (session : SessionId) (n : NodeId) where
   on-entry : (s : State) (held : Bool) (e : Entry) (journal : List Entry) (r : Reply) → e.reply ≡ r
       → holds_after session n held (next c s e.event) e.event r ≡ true → AllByRecursion (λ (e : Entry). ends_hold session n e ≡ false) journal
       → HeldOn held (e ∷ journal) ⊎ HoldsSince c s (e ∷ journal) session n
-  on-entry s held e journal (reply.Refused why) says now on = inl (record { first = now; on = (rw says refl, on) })
-  on-entry s held e journal (reply.Done what) says now on =
+  on-entry s held e journal (Reply.Refused why) says now on = inl (record { first = now; on = (rw says refl, on) })
+  on-entry s held e journal (Reply.Done what) says now on =
       on-done s held e journal what says (is_ending session n e.event) refl (is_holding session n (next c s e.event) e.event what) refl now on
 
   after-entry : (s : State) (held : Bool) (e : Entry) (journal : List Entry)
@@ -77,8 +60,8 @@ module _ (c : Configuration) (session : SessionId) (n : NodeId) where
   holder-since s journal is = since-entry s journal (held-since s false journal is)
 
   kept-entry : (later : State) (held : Bool) (e : Entry) (r : Reply) → e.reply ≡ r → held ≡ true → ends_hold session n e ≡ false → holds_after session n held later e.event r ≡ true
-  kept-entry later held e (reply.Refused why) says now none = now
-  kept-entry later held e (reply.Done what) says now none =
+  kept-entry later held e (Reply.Refused why) says now none = now
+  kept-entry later held e (Reply.Done what) says now none =
       let goes : is_ending session n e.event ≡ false = subst (λ (x : Reply). (is_done x && is_ending session n e.event) ≡ false) says none in
       flag-kept (is_ending session n e.event) (is_holding session n later e.event what) held goes now
 
@@ -89,15 +72,15 @@ module _ (c : Configuration) (session : SessionId) (n : NodeId) where
 
   -- an entry that makes a session hold a node ends no hold
   holds-on : (later : State) (e : Event) (what : Done) → is_holding session n later e what ≡ true → is_ending session n e ≡ false
-  holds-on later (ev.Expire other) what is = absurd cc
-  holds-on later (ev.UnlockNode by m) what is = absurd cc
-  holds-on later (ev.Gone by m) what is = absurd cc
+  holds-on later (Event.Expire other) what is = absurd cc
+  holds-on later (Event.UnlockNode by m) what is = absurd cc
+  holds-on later (Event.Gone by m) what is = absurd cc
   holds-on later _ what is = refl
 
-  first-entry : (later : State) (held : Bool) (e : Entry) (what : Done) → e.reply ≡ reply.Done what → is_holding session n later e.event what ≡ true → holds_after session n held later e.event e.reply ≡ true
+  first-entry : (later : State) (held : Bool) (e : Entry) (what : Done) → e.reply ≡ Reply.Done what → is_holding session n later e.event what ≡ true → holds_after session n held later e.event e.reply ≡ true
   first-entry later held e what says is = rw (says, holds-on later e.event what is, is) refl
 
-  split-holds : (s : State) (held : Bool) (before : List Entry) (e : Entry) (rest : List Entry) (what : Done) → e.reply ≡ reply.Done what
+  split-holds : (s : State) (held : Bool) (before : List Entry) (e : Entry) (rest : List Entry) (what : Done) → e.reply ≡ Reply.Done what
       → is_holding session n (state_after c s (before ++ e ∷ [])) e.event what ≡ true → AllByRecursion (λ (e : Entry). ends_hold session n e ≡ false) rest
       → holds_from c s session n held (before ++ e ∷ rest) ≡ true
   split-holds s held [] e rest what says is on =
@@ -116,7 +99,7 @@ module _ (session : SessionId) (r : RequestId) where
     first : held ≡ true
     on : AllByRecursion (λ (e : Entry). ends_lock session r e ≡ false) journal
 
-  lock-done : (held : Bool) (e : Entry) (journal : List Entry) (what : Done) → e.reply ≡ reply.Done what
+  lock-done : (held : Bool) (e : Entry) (journal : List Entry) (what : Done) → e.reply ≡ Reply.Done what
       → (ends : Bool) → is_unlocking session r e.event ≡ ends → (locks : Bool) → is_locking session r e.event what ≡ locks
       → cond ends false (cond locks true held) ≡ true → AllByRecursion (λ (e : Entry). ends_lock session r e ≡ false) journal
       → LockedOn held (e ∷ journal) ⊎ LockedSince (e ∷ journal) session r
@@ -128,8 +111,8 @@ module _ (session : SessionId) (r : RequestId) where
   lock-entry : (held : Bool) (e : Entry) (journal : List Entry) (x : Reply) → e.reply ≡ x
       → locks_after session r held e.event x ≡ true → AllByRecursion (λ (e : Entry). ends_lock session r e ≡ false) journal
       → LockedOn held (e ∷ journal) ⊎ LockedSince (e ∷ journal) session r
-  lock-entry held e journal (reply.Refused why) says now on = inl (record { first = now; on = (rw says refl, on) })
-  lock-entry held e journal (reply.Done what) says now on =
+  lock-entry held e journal (Reply.Refused why) says now on = inl (record { first = now; on = (rw says refl, on) })
+  lock-entry held e journal (Reply.Done what) says now on =
       lock-done held e journal what says (is_unlocking session r e.event) refl (is_locking session r e.event what) refl now on
 
   after-lock : (held : Bool) (e : Entry) (journal : List Entry)
@@ -159,8 +142,8 @@ module _ (session : SessionId) (r : RequestId) where
   locker-since journal is = since-lock journal (locked-since false journal is)
 
   lock-kept : (held : Bool) (e : Entry) (x : Reply) → e.reply ≡ x → held ≡ true → ends_lock session r e ≡ false → locks_after session r held e.event x ≡ true
-  lock-kept held e (reply.Refused why) says now none = now
-  lock-kept held e (reply.Done what) says now none =
+  lock-kept held e (Reply.Refused why) says now none = now
+  lock-kept held e (Reply.Done what) says now none =
       let goes : is_unlocking session r e.event ≡ false = subst (λ (x : Reply). (is_done x && is_unlocking session r e.event) ≡ false) says none in
       flag-kept (is_unlocking session r e.event) (is_locking session r e.event what) held goes now
 
@@ -170,11 +153,11 @@ module _ (session : SessionId) (r : RequestId) where
 
   -- an entry that locks a request ends no lock
   locks-on : (e : Event) (what : Done) → is_locking session r e what ≡ true → is_unlocking session r e ≡ false
-  locks-on (ev.Expire other) what is = absurd cc
-  locks-on (ev.UnlockRequest by q) what is = absurd cc
+  locks-on (Event.Expire other) what is = absurd cc
+  locks-on (Event.UnlockRequest by q) what is = absurd cc
   locks-on _ what is = refl
 
-  split-locks : (held : Bool) (before : List Entry) (e : Entry) (rest : List Entry) (what : Done) → e.reply ≡ reply.Done what
+  split-locks : (held : Bool) (before : List Entry) (e : Entry) (rest : List Entry) (what : Done) → e.reply ≡ Reply.Done what
       → is_locking session r e.event what ≡ true → AllByRecursion (λ (e : Entry). ends_lock session r e ≡ false) rest
       → locks_from session r held (before ++ e ∷ rest) ≡ true
   split-locks held [] e rest what says is on =

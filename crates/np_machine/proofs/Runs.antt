@@ -1,11 +1,5 @@
 -- laws of whole runs
-use Rattle.std.proofs.Common.{◌≡◌, List, [], ◌∷◌, ◌++◌, refl, ap, arith, length-append}
-use Rattle.np_config.specs.Configuration.{Configuration}
-use Rattle.np_event.specs.declared.entry.Entry.{Entry}
-use Rattle.np_event.specs.declared.reply.Reply.TheVariants as reply
-use Rattle.np_machine.specs.State.{State, start}
-use Rattle.np_machine.specs.Step.{judge, next, reply_of}
-use Rattle.np_machine.specs.History.{state_after, replayed, after, Runs}
+use Rattle.np_machine.proofs.Prelude.{Configuration, Entry, List, Runs, State, after, ap, arith, judge, length-append, next, refl, replayed, reply_of, start, state_after, [], ◌++◌, ◌∷◌, ◌≡◌}
 
 pub state_after-push : (c : Configuration) (s : State) (journal : List Entry) (entry : Entry) → state_after c s (journal ++ entry ∷ []) ≡ next c (state_after c s journal) entry.event
 state_after-push c s [] entry = refl

@@ -1,12 +1,5 @@
 -- how a fact goes through an effect, and through a step
-use Rattle.std.proofs.Common.{◌≡◌, refl, Option, Some, None, Result, Ok, Err}
-use Rattle.np_config.specs.Configuration.{Configuration}
-use Rattle.np_event.specs.declared.event.Event.{Event}
-use Rattle.np_event.specs.declared.reply.Done.{Done}
-use Rattle.np_event.specs.declared.reply.Refusal.{Refusal}
-use Rattle.np_machine.specs.State.{State}
-use Rattle.np_machine.specs.Tests.{Answer, after_found, after_given}
-use Rattle.np_machine.specs.Step.{judge, effect, acting, with_act, next}
+use Rattle.np_machine.proofs.Prelude.{Answer, Configuration, Done, Err, Event, None, Ok, Option, Refusal, Result, Some, State, acting, after_found, after_given, effect, judge, next, refl, with_act, ◌≡◌}
 
 pub after_found-keeps : {A : Type 0} (P : State → Type 0) (o : Option A) (s : State) (f : A → State) → P s → ((a : A) → o ≡ Some a → P (f a)) → P (after_found o s f)
 after_found-keeps P None s f old new = old

@@ -1,21 +1,6 @@
 -- why a request failed
 use Rattle.std.specs.Prelude.{◌≡◌, ◌<◌, ℕ, Bool, true, false, ◌==◌, List, [], ◌∷◌, ◌++◌, Some, None, ◌⊎◌, length, ◌&&◌, Contains, count_by}
 use Rattle.std.specs.Option.{option_map_or}
-use Rattle.np_text.specs.declared.id.SessionId.{SessionId}
-use Rattle.np_text.specs.declared.id.PoolId.{PoolId}
-use Rattle.np_text.specs.declared.id.NodeId.{NodeId}
-use Rattle.np_text.specs.declared.id.RequestId.{RequestId}
-use Rattle.np_text.specs.declared.id.Role.TheVariants.{Launcher}
-use Rattle.np_text.specs.declared.word.Reason.{Reason}
-use Rattle.np_text.specs.declared.word.Reason.TheVariants as reason
-use Rattle.np_config.specs.Configuration.{Configuration}
-use Rattle.np_record.specs.declared.record.RequestRecord.{RequestRecord}
-use Rattle.np_record.specs.declared.record.NodeRecord.{NodeRecord}
-use Rattle.np_event.specs.declared.event.Event.{Event}
-use Rattle.np_event.specs.declared.event.Event.TheVariants as ev
-use Rattle.np_event.specs.declared.event.Outcome.{Outcome}
-use Rattle.np_event.specs.declared.event.Outcome.TheVariants as outcome
-use Rattle.np_event.specs.declared.entry.Entry.{Entry}
 use Rattle.np_machine.specs.declared.state.Registration.{Registration}
 use Rattle.np_machine.specs.Kinds.{is_failed}
 use Rattle.np_machine.specs.Tables.{role_of, request_in, node_in}
@@ -23,6 +8,7 @@ use Rattle.np_machine.specs.Count.{retries_of}
 use Rattle.np_machine.specs.Reasons.{is_true}
 use Rattle.np_machine.specs.Turns.{Turn, turns, SomeTurn, EachTurn, is_done, IsAccepted}
 use Rattle.np_machine.specs.State.{State}
+use Rattle.np_machine.specs.Lower.{Configuration, Entry, Event, Launcher, NodeId, NodeRecord, Outcome, PoolId, Reason, RequestId, RequestRecord, SessionId}
 
 -- the request is there and failed
 abbrev pub has_failed : RequestId → State → Bool
@@ -38,7 +24,7 @@ pub record FailsNow (t : Turn) (r : RequestId) (request : RequestRecord) : Type 
 pub record IsTrueDecline (c : Configuration) (r : RequestId) (p : PoolId) (why : Reason) (t : Turn) : Type 0 where
   pub session : SessionId
   pub request : RequestRecord
-  pub event : t.entry.event ≡ ev.Decline session r why
+  pub event : t.entry.event ≡ Event.Decline session r why
   pub accepted : IsAccepted t
   pub of_pool : role_of session t.before ≡ Some (Launcher p)
   pub stood : request_in r t.before.requests ≡ Some request
@@ -60,17 +46,17 @@ pub record DeclinedByAll (c : Configuration) (past : List Turn) (t : Turn) (r : 
 pub record Reports (n : NodeId) (o : Outcome) (t : Turn) : Type 0 where
   pub session : SessionId
   pub attempt : ℕ
-  pub event : t.entry.event ≡ ev.Done session n attempt o
+  pub event : t.entry.event ≡ Event.Done session n attempt o
   pub accepted : IsAccepted t
 
 -- the event reports on a launch of the node
 abbrev pub is_report_on : NodeId → Event → Bool
-is_report_on n (ev.Done session m attempt o) = m.0 == n.0
+is_report_on n (Event.Done session m attempt o) = m.0 == n.0
 is_report_on n _ = false
 
 -- an accepted report on the node says that its launch failed; any other turn may be anything
 abbrev pub ReportsFailure : NodeId → Turn → Type 0
-ReportsFailure n t = is_report_on n t.entry.event ≡ true → IsAccepted t → Reports n outcome.Failed t
+ReportsFailure n t = is_report_on n t.entry.event ≡ true → IsAccepted t → Reports n Outcome.Failed t
 
 -- how many accepted reports on the node the turns have
 abbrev pub reports_on : NodeId → List Turn → ℕ
@@ -82,7 +68,7 @@ pub record LaunchesSpent (c : Configuration) (past : List Turn) (t : Turn) (r : 
   pub pinned : request.pinned ≡ Some pool
   pub session : SessionId
   pub number : NodeId
-  pub event : t.entry.event ≡ ev.Decline session r (reason.Spent number)
+  pub event : t.entry.event ≡ Event.Decline session r (Reason.Spent number)
   pub by_launcher : role_of session t.before ≡ Some (Launcher pool)
   pub node : NodeRecord
   pub stood : node_in number t.before.nodes ≡ Some node

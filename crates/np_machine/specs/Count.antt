@@ -1,15 +1,9 @@
 -- what a pool uses, and what it may use
 use Rattle.std.specs.Prelude.{ℕ, List, [], Bool, ◌==◌, ◌&&◌, not, Option, is_some, length, map, filter, find, slice_get, option_and_then}
 use Rattle.std.specs.Option.{option_map_or}
-use Rattle.np_amount.specs.declared.amount.Amount.{Amount}
-use Rattle.np_amount.specs.declared.amount.Limit.{Limit}
-use Rattle.np_amount.specs.Amounts.{no_limit, nothing, plus, fits, total}
-use Rattle.np_text.specs.declared.id.PoolId.{PoolId}
-use Rattle.np_text.specs.declared.id.LabelId.{LabelId}
-use Rattle.np_config.specs.Configuration.{Configuration}
-use Rattle.np_config.specs.declared.row.Offer.{Offer}
 use Rattle.np_machine.specs.Entries.{NodeEntry}
 use Rattle.np_machine.specs.State.{State}
+use Rattle.np_machine.specs.Lower.{Amount, Configuration, LabelId, Limit, Offer, PoolId, fits, no_limit, nothing, plus, total}
 
 -- what the pool offers (Nodepool: a pool's labels)
 abbrev pub offers_of : Configuration → PoolId → List Offer

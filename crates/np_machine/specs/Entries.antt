@@ -1,9 +1,6 @@
 -- rows of the state under a lock
-use Rattle.np_text.specs.declared.id.NodeId.{NodeId}
-use Rattle.np_text.specs.declared.id.RequestId.{RequestId}
-use Rattle.np_record.specs.declared.record.RequestRecord.{RequestRecord}
-use Rattle.np_record.specs.declared.record.NodeRecord.{NodeRecord}
 use Rattle.np_machine.specs.declared.state.Locked.{Locked}
+use Rattle.np_machine.specs.Lower.{NodeId, NodeRecord, RequestId, RequestRecord}
 
 -- a request with its id, its record and its lock's queue
 abbrev pub RequestEntry : Type 0

@@ -1,15 +1,9 @@
 -- what became of each job
 use Rattle.std.specs.Prelude.{List, [], Option, Some, None, map, option_and_then}
 use Rattle.std.specs.Option.{option_map_or}
-use Rattle.np_text.specs.declared.id.PoolId.{PoolId}
-use Rattle.np_text.specs.declared.id.NodeId.{NodeId}
-use Rattle.np_text.specs.declared.word.Ending.{Ending}
-use Rattle.np_text.specs.declared.word.Ending.TheVariants as ending
-use Rattle.np_text.specs.declared.word.Phase.{Phase}
-use Rattle.np_record.specs.declared.record.Declined.{Declined}
-use Rattle.np_record.specs.declared.record.JobRecord.{JobRecord}
 use Rattle.np_machine.specs.Tables.{request_in}
 use Rattle.np_machine.specs.State.{State}
+use Rattle.np_machine.specs.Lower.{Declined, Ending, JobRecord, NodeId, Phase, PoolId}
 
 -- a job's end, or how far it has come (own)
 pub data Fate : Type 0 where
@@ -27,10 +21,10 @@ declines_of s job = option_map_or (λ request. request.declined) (option_and_the
 
 -- a job has an ending if and only if it is over
 abbrev pub fate_as : State → JobRecord → Option Ending → Fate
-fate_as s job (Some ending.Served) = served job.pool (map (λ m. m.node) job.nodes)
-fate_as s job (Some ending.Lost) = lost
-fate_as s job (Some ending.Failed) = failed (declines_of s job)
-fate_as s job (Some ending.Withdrawn) = withdrawn
+fate_as s job (Some Ending.Served) = served job.pool (map (λ m. m.node) job.nodes)
+fate_as s job (Some Ending.Lost) = lost
+fate_as s job (Some Ending.Failed) = failed (declines_of s job)
+fate_as s job (Some Ending.Withdrawn) = withdrawn
 fate_as s job None = waiting job.phase
 
 abbrev pub fate_of : State → JobRecord → Fate

@@ -1,16 +1,9 @@
 -- who may change a node
 use Rattle.std.specs.Prelude.{◌≡◌, true, List, Option, Some, None, ◌⊎◌}
-use Rattle.np_text.specs.declared.id.SessionId.{SessionId}
-use Rattle.np_text.specs.declared.id.NodeId.{NodeId}
-use Rattle.np_text.specs.declared.id.RequestId.{RequestId}
-use Rattle.np_config.specs.Configuration.{Configuration}
-use Rattle.np_record.specs.declared.record.NodeRecord.{NodeRecord}
-use Rattle.np_event.specs.declared.event.Event.{Event}
-use Rattle.np_event.specs.declared.event.Event.TheVariants as ev
-use Rattle.np_event.specs.declared.entry.Entry.{Entry}
 use Rattle.np_machine.specs.Tables.{is_session_of, is_request, request_holder, node_in, node_holder, freed}
 use Rattle.np_machine.specs.Step.{maker_of}
 use Rattle.np_machine.specs.Turns.{Turn, turns, EachTurn}
+use Rattle.np_machine.specs.Lower.{Configuration, Entry, Event, NodeId, NodeRecord, RequestId, SessionId}
 
 -- the turn's maker holds the node before it or after it
 pub record ByHolder (t : Turn) (n : NodeId) : Type 0 where
@@ -20,8 +13,8 @@ pub record ByHolder (t : Turn) (n : NodeId) : Type 0 where
 
 -- the request that the event gives back, by a decline or a reset
 abbrev pub given_back_by : Event → Option RequestId
-given_back_by (ev.Decline session r why) = Some r
-given_back_by (ev.Reset session r) = Some r
+given_back_by (Event.Decline session r why) = Some r
+given_back_by (Event.Reset session r) = Some r
 given_back_by _ = None
 
 -- the holder of the request's lock took the node's allocation to it and its tenant away, and changed nothing else of the node

@@ -1,11 +1,6 @@
 -- which request a pool's launcher takes up next
 use Rattle.std.specs.Prelude.{List, Bool, ◌&&◌, not, if◌then◌else◌, Option, Some, None, is_none, filter, fold, option_and_then}
 use Rattle.std.specs.Option.{option_map}
-use Rattle.np_text.specs.declared.id.PoolId.{PoolId}
-use Rattle.np_text.specs.declared.id.TenantId.{TenantId}
-use Rattle.np_text.specs.declared.id.RequestId.{RequestId}
-use Rattle.np_config.specs.Configuration.{Configuration}
-use Rattle.np_record.specs.declared.record.RequestRecord.{RequestRecord}
 use Rattle.np_machine.specs.Entries.{RequestEntry}
 use Rattle.np_machine.specs.Kinds.{is_requested}
 use Rattle.np_machine.specs.Tables.{holder}
@@ -13,6 +8,7 @@ use Rattle.np_machine.specs.Tenants.{tenant_of_request, tenant_never_fits, is_sh
 use Rattle.np_machine.specs.Reasons.{first_unoffered, never_fits}
 use Rattle.np_machine.specs.Order.{comes_before, is_pinned_away, is_declined_by}
 use Rattle.np_machine.specs.State.{State}
+use Rattle.np_machine.specs.Lower.{Configuration, PoolId, RequestId, RequestRecord, TenantId}
 
 -- the pool may serve the request, as far as its offers and the limits go
 abbrev pub may_fit : Configuration → PoolId → RequestRecord → Bool

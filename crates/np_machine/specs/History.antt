@@ -1,9 +1,8 @@
 -- whole runs: the machine over a journal
 use Rattle.std.specs.Prelude.{◌≡◌, ◌≤◌, List, [], ◌∷◌, length}
-use Rattle.np_config.specs.Configuration.{Configuration}
-use Rattle.np_event.specs.declared.entry.Entry.{Entry}
 use Rattle.np_machine.specs.Step.{judge, next, reply_of}
 use Rattle.np_machine.specs.State.{State, start}
+use Rattle.np_machine.specs.Lower.{Configuration, Entry}
 
 -- the state after the entries' events
 abbrev pub state_after : Configuration → State → List Entry → State

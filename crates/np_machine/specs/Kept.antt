@@ -1,28 +1,18 @@
 -- what no crash and no expiry loses
 use Rattle.std.specs.Prelude.{◌≡◌, Bool, true, false, ◌==◌, ◌&&◌, List, [], ◌∷◌, Option, Some, None, is_some, ◌⊎◌, length, map}
 use Rattle.std.specs.Option.{option_map_or}
-use Rattle.np_text.specs.declared.id.NodeId.{NodeId}
-use Rattle.np_text.specs.declared.id.JobId.{JobId}
-use Rattle.np_text.specs.declared.id.RequestId.{RequestId}
-use Rattle.np_config.specs.Configuration.{Configuration}
-use Rattle.np_record.specs.declared.record.RequestRecord.{RequestRecord}
-use Rattle.np_event.specs.declared.event.Event.{Event}
-use Rattle.np_event.specs.declared.event.Event.TheVariants as ev
-use Rattle.np_event.specs.declared.entry.Entry.{Entry}
-use Rattle.np_event.specs.declared.reply.Reply.{Reply}
-use Rattle.np_event.specs.declared.reply.Reply.TheVariants as reply
-use Rattle.np_event.specs.declared.reply.Done.TheVariants as done
 use Rattle.np_machine.specs.Tables.{same_request, request_in, node_in}
 use Rattle.np_machine.specs.Turns.{Turn, turns, SomeTurn, EachTurn, IsAccepted}
 use Rattle.np_machine.specs.History.{after}
 use Rattle.np_machine.specs.State.{State}
+use Rattle.np_machine.specs.Lower.{Configuration, Done, Entry, Event, JobId, NodeId, Reply, RequestId, RequestRecord}
 
 -- ## a crash or an expiry changes no record
 
 -- a crash, or the end of a session
 abbrev pub is_loss : Event → Bool
-is_loss (ev.Crash session) = true
-is_loss (ev.Expire session) = true
+is_loss (Event.Crash session) = true
+is_loss (Event.Expire session) = true
 is_loss _ = false
 
 -- the same requests, nodes, jobs, handles, swept pairs and next numbers; queues, registrations, sessions and what roles did may differ
@@ -45,8 +35,8 @@ LosesNothing t = is_loss t.entry.event ≡ true → IsAccepted t → SameRecords
 
 -- the reply names the request that was made
 abbrev pub is_request_made : RequestId → Event → Reply → Bool
-is_request_made r (ev.Submit session j) (reply.Done (done.Request made)) = same_request made r
-is_request_made r (ev.MinReady session l) (reply.Done (done.Request made)) = same_request made r
+is_request_made r (Event.Submit session j) (Reply.Done (Done.Request made)) = same_request made r
+is_request_made r (Event.MinReady session l) (Reply.Done (Done.Request made)) = same_request made r
 is_request_made r _ _ = false
 
 -- the request is the job's
@@ -60,9 +50,9 @@ is_pinned (Some request) = is_some request.pinned
 
 -- the request's job took its nodes or was withdrawn, or a min-ready request was fulfilled
 abbrev pub is_request_end : RequestId → Option RequestRecord → Event → Bool
-is_request_end r request (ev.Take session j) = is_request_of j request
-is_request_end r request (ev.Withdraw session j) = is_request_of j request
-is_request_end r request (ev.Fulfil session other) = same_request other r && is_pinned request
+is_request_end r request (Event.Take session j) = is_request_of j request
+is_request_end r request (Event.Withdraw session j) = is_request_of j request
+is_request_end r request (Event.Fulfil session other) = same_request other r && is_pinned request
 is_request_end r request _ = false
 
 -- that happened, and the request is gone
@@ -81,11 +71,11 @@ RequestsKept final (t ∷ ts) =
 -- ## a node that was made is still there, or it is gone by an entry
 
 abbrev pub is_node_made : NodeId → Event → Reply → Bool
-is_node_made n (ev.Create session r) (reply.Done (done.Node made)) = made.0 == n.0
+is_node_made n (Event.Create session r) (Reply.Done (Done.Node made)) = made.0 == n.0
 is_node_made n _ _ = false
 
 abbrev pub is_gone : NodeId → Event → Bool
-is_gone n (ev.Gone session other) = other.0 == n.0
+is_gone n (Event.Gone session other) = other.0 == n.0
 is_gone n _ = false
 
 -- that happened, and the node's record is gone

@@ -1,11 +1,10 @@
 -- words of the laws over every state
 use Rattle.std.specs.Prelude.{ℕ, ◌≤◌, Bool, true, false, ◌==◌, ◌&&◌, not, Option, length}
 use Rattle.std.specs.Option.{option_map}
-use Rattle.np_text.specs.declared.id.Role.{Role}
-use Rattle.np_text.specs.declared.id.Role.TheVariants.{Launcher, Janitor, Requester, Reaper}
 use Rattle.np_machine.specs.declared.state.SessionFacts.{SessionFacts}
 use Rattle.np_machine.specs.Tables.{role_in}
 use Rattle.np_machine.specs.State.{State}
+use Rattle.np_machine.specs.Lower.{Janitor, Launcher, Reaper, Requester, Role}
 
 -- the next numbers of the second state are at least those of the first
 pub record RisesFrom (s t : State) : Type 0 where

@@ -1,3 +1,4 @@
+pub mod Lower
 pub mod Entries
 pub mod State
 pub mod Kinds

@@ -2,33 +2,22 @@
 use Rattle.std.specs.Prelude.{◌≡◌, Bool, true, false, ◌==◌, ◌&&◌, if◌then◌else◌, List, [], ◌∷◌, ◌++◌, is_some, slice_get}
 use Rattle.std.specs.List.{AllByRecursion}
 use Rattle.std.specs.Option.{option_map_or}
-use Rattle.np_text.specs.declared.id.SessionId.{SessionId}
-use Rattle.np_text.specs.declared.id.NodeId.{NodeId}
-use Rattle.np_text.specs.declared.id.JobId.{JobId}
-use Rattle.np_text.specs.declared.id.RequestId.{RequestId}
-use Rattle.np_config.specs.Configuration.{Configuration}
-use Rattle.np_event.specs.declared.event.Event.{Event}
-use Rattle.np_event.specs.declared.event.Event.TheVariants as ev
-use Rattle.np_event.specs.declared.entry.Entry.{Entry}
-use Rattle.np_event.specs.declared.reply.Done.{Done}
-use Rattle.np_event.specs.declared.reply.Done.TheVariants as done
-use Rattle.np_event.specs.declared.reply.Reply.{Reply}
-use Rattle.np_event.specs.declared.reply.Reply.TheVariants as reply
 use Rattle.np_machine.specs.Tables.{is_session, same_request, is_marked, request_in}
 use Rattle.np_machine.specs.Step.{next}
 use Rattle.np_machine.specs.History.{after, state_after}
 use Rattle.np_machine.specs.Turns.{is_done}
 use Rattle.np_machine.specs.State.{State, start}
+use Rattle.np_machine.specs.Lower.{Configuration, Done, Entry, Event, JobId, NodeId, Reply, RequestId, SessionId}
 
 -- ## replies
 
 abbrev pub is_held : Done → Bool
-is_held done.Held = true
+is_held Done.Held = true
 is_held _ = false
 
 -- the reply names the node that was made
 abbrev pub is_new_node : NodeId → Done → Bool
-is_new_node n (done.Node m) = m.0 == n.0
+is_new_node n (Done.Node m) = m.0 == n.0
 is_new_node n _ = false
 
 -- ## nodes
@@ -42,29 +31,29 @@ has_node n j s = option_map_or (is_marked n) (slice_get s.jobs j.0) false
 
 -- an entry by which the session holds the node; later is the state after it
 abbrev pub is_holding : SessionId → NodeId → State → Event → Done → Bool
-is_holding session n later (ev.TakeReady by r m) what = is_session by session && is_node n m && is_held what
-is_holding session n later (ev.Create by r) what = is_session by session && is_new_node n what
-is_holding session n later (ev.Start by m) what = is_session by session && is_node n m
-is_holding session n later (ev.Done by m attempt o) what = is_session by session && is_node n m
-is_holding session n later (ev.LockNode by m) what = is_session by session && is_node n m && is_held what
-is_holding session n later (ev.Take by j) what = is_session by session && has_node n j later
-is_holding session n later (ev.EndNode by m as_what) what = is_session by session && is_node n m
-is_holding session n later (ev.MarkDeleting by m) what = is_session by session && is_node n m
-is_holding session n later (ev.FreeNode by m) what = is_session by session && is_node n m
+is_holding session n later (Event.TakeReady by r m) what = is_session by session && is_node n m && is_held what
+is_holding session n later (Event.Create by r) what = is_session by session && is_new_node n what
+is_holding session n later (Event.Start by m) what = is_session by session && is_node n m
+is_holding session n later (Event.Done by m attempt o) what = is_session by session && is_node n m
+is_holding session n later (Event.LockNode by m) what = is_session by session && is_node n m && is_held what
+is_holding session n later (Event.Take by j) what = is_session by session && has_node n j later
+is_holding session n later (Event.EndNode by m as_what) what = is_session by session && is_node n m
+is_holding session n later (Event.MarkDeleting by m) what = is_session by session && is_node n m
+is_holding session n later (Event.FreeNode by m) what = is_session by session && is_node n m
 is_holding session n later _ what = false
 
 -- an entry after which the session no longer holds the node: it unlocked it, it expired, or the
 -- node is gone
 abbrev pub is_ending : SessionId → NodeId → Event → Bool
-is_ending session n (ev.Expire other) = is_session other session
-is_ending session n (ev.UnlockNode by m) = is_session by session && is_node n m
-is_ending session n (ev.Gone by m) = is_node n m
+is_ending session n (Event.Expire other) = is_session other session
+is_ending session n (Event.UnlockNode by m) = is_session by session && is_node n m
+is_ending session n (Event.Gone by m) = is_node n m
 is_ending session n _ = false
 
 -- a refused entry changes nothing
 abbrev pub holds_after : SessionId → NodeId → Bool → State → Event → Reply → Bool
-holds_after session n held later e (reply.Refused why) = held
-holds_after session n held later e (reply.Done what) =
+holds_after session n held later e (Reply.Refused why) = held
+holds_after session n held later e (Reply.Done what) =
     if is_ending session n e then false else (if is_holding session n later e what then true else held)
 
 -- over the rest of a journal, from the state before it
@@ -90,7 +79,7 @@ pub record HoldsSince (c : Configuration) (s : State) (journal : List Entry) (se
   pub rest : List Entry
   pub what : Done
   pub splits : journal ≡ before ++ entry ∷ rest
-  pub accepted : entry.reply ≡ reply.Done what
+  pub accepted : entry.reply ≡ Reply.Done what
   pub holds : is_holding session n (state_after c s (before ++ entry ∷ [])) entry.event what ≡ true
   pub none_ends : AllByRecursion (λ e. ends_hold session n e ≡ false) rest
 
@@ -98,18 +87,18 @@ pub record HoldsSince (c : Configuration) (s : State) (journal : List Entry) (se
 
 -- the session locked the request
 abbrev pub is_locking : SessionId → RequestId → Event → Done → Bool
-is_locking session r (ev.LockRequest by q) what = is_session by session && same_request q r && is_held what
+is_locking session r (Event.LockRequest by q) what = is_session by session && same_request q r && is_held what
 is_locking session r _ what = false
 
 -- the session unlocked the request, or expired
 abbrev pub is_unlocking : SessionId → RequestId → Event → Bool
-is_unlocking session r (ev.Expire other) = is_session other session
-is_unlocking session r (ev.UnlockRequest by q) = is_session by session && same_request q r
+is_unlocking session r (Event.Expire other) = is_session other session
+is_unlocking session r (Event.UnlockRequest by q) = is_session by session && same_request q r
 is_unlocking session r _ = false
 
 abbrev pub locks_after : SessionId → RequestId → Bool → Event → Reply → Bool
-locks_after session r held e (reply.Refused why) = held
-locks_after session r held e (reply.Done what) =
+locks_after session r held e (Reply.Refused why) = held
+locks_after session r held e (Reply.Done what) =
     if is_unlocking session r e then false else (if is_locking session r e what then true else held)
 
 abbrev pub locks_from : SessionId → RequestId → Bool → List Entry → Bool
@@ -132,6 +121,6 @@ pub record LockedSince (journal : List Entry) (session : SessionId) (r : Request
   pub rest : List Entry
   pub what : Done
   pub splits : journal ≡ before ++ entry ∷ rest
-  pub accepted : entry.reply ≡ reply.Done what
+  pub accepted : entry.reply ≡ Reply.Done what
   pub locks : is_locking session r entry.event what ≡ true
   pub none_ends : AllByRecursion (λ e. ends_lock session r e ≡ false) rest

@@ -2,40 +2,17 @@
 use Rattle.std.specs.Prelude.{ℕ, ◌+◌, List, [], ◌∷◌, ◌++◌, Bool, true, false, ◌==◌, ◌&&◌, ◌||◌, not, if◌then◌else◌, Option, Some, None, is_some, is_none, Ok, Err, map, slice_get, nat_lt}
 use Rattle.std.specs.Option.{option_map, option_map_or}
 use Rattle.std.specs.List.{list_any}
-use Rattle.np_text.specs.declared.id.SessionId.{SessionId}
-use Rattle.np_text.specs.declared.id.PoolId.{PoolId}
-use Rattle.np_text.specs.declared.id.LabelId.{LabelId}
-use Rattle.np_text.specs.declared.id.NodeId.{NodeId}
-use Rattle.np_text.specs.declared.id.RequestId.{RequestId}
-use Rattle.np_text.specs.declared.id.RequesterId.{RequesterId}
-use Rattle.np_text.specs.declared.id.TenantId.{TenantId}
-use Rattle.np_text.specs.declared.word.EndAs.{EndAs}
-use Rattle.np_text.specs.declared.word.EndAs.TheVariants as end
-use Rattle.np_text.specs.declared.word.NodeState.{NodeState}
-use Rattle.np_text.specs.declared.word.NodeState.TheVariants as node_state
-use Rattle.np_config.specs.Configuration.{Configuration}
-use Rattle.np_config.specs.declared.row.Job.{Job}
-use Rattle.np_record.specs.declared.record.RequestRecord.{RequestRecord}
-use Rattle.np_record.specs.declared.record.NodeRecord.{NodeRecord}
-use Rattle.np_record.specs.declared.record.JobRecord.{JobRecord}
-use Rattle.np_record.specs.declared.record.Marked.{Marked}
-use Rattle.np_record.specs.declared.record.RoleRecord.{RoleRecord}
-use Rattle.np_event.specs.declared.event.Outcome.{Outcome}
-use Rattle.np_event.specs.declared.event.Outcome.TheVariants as outcome
-use Rattle.np_event.specs.declared.reply.Done.{Done}
-use Rattle.np_event.specs.declared.reply.Done.TheVariants as done
-use Rattle.np_event.specs.declared.reply.Refusal.TheVariants as no
 use Rattle.np_machine.specs.Entries.{NodeEntry}
 use Rattle.np_machine.specs.declared.state.Swept.{Swept}
 use Rattle.np_machine.specs.Kinds.{is_building, is_ready, is_in_use, is_deleting}
-use Rattle.np_lists.specs.Change.{change_first, insert_before, change_at}
 use Rattle.np_machine.specs.Tables.{freed, is_queued, ahead_of, joined, left, request_in, put_request, node_in, node_queue, node_holder, put_node, put_node_queue, remove_node, is_marked}
 use Rattle.np_machine.specs.Count.{retries_of, count_of, is_short}
 use Rattle.np_machine.specs.Tenants.{tenant_of_request}
 use Rattle.np_machine.specs.Reasons.{next_label, ready_age, due_tick, is_old_ready, is_old_hold, is_paused}
 use Rattle.np_machine.specs.Tests.{Answer, Check, maker, launcher, janitor, requester, request_at, node_at, by_registrant, by_request_holder, by_node_holder, of_pool, wrong_node, in_pending_by, incomplete, quota_short, after_found, after_given}
-use Rattle.np_lists.specs.Refusals.{◌>>=◌, ◌>>◌, need, vacant}
+use Rattle.np_lists.specs.Refusals.{◌>>=◌, ◌>>◌}
 use Rattle.np_machine.specs.State.{State}
+use Rattle.np_machine.specs.Lower.{Configuration, Done, EndAs, Job, JobRecord, LabelId, Marked, NodeId, NodeRecord, NodeState, Outcome, PoolId, Refusal, RequestId, RequestRecord, RequesterId, RoleRecord, SessionId, TenantId, change_at, change_first, insert_before, need, vacant}
 
 -- ## take-ready: the launcher gives a ready node to the request (Nodepool: ready nodes are used first)
 abbrev pub judge_take_ready : State → SessionId → RequestId → NodeId → Answer
@@ -46,13 +23,13 @@ judge_take_ready s session r n = do
   by_registrant s p session
   by_request_holder s r session
   in_pending_by p request
-  need (is_none request.pinned) no.NotOwner
+  need (is_none request.pinned) Refusal.NotOwner
   l ← incomplete request
   need (is_ready k.state) (wrong_node k)
-  vacant k.allocated_to no.Allocated
-  need ((k.pool.0 == p.0) && (k.label.0 == l.0)) (no.NoLabel l)
-  vacant (node_holder n s.nodes) no.Busy
-  Ok done.Held
+  vacant k.allocated_to Refusal.Allocated
+  need ((k.pool.0 == p.0) && (k.label.0 == l.0)) (Refusal.NoLabel l)
+  vacant (node_holder n s.nodes) Refusal.Busy
+  Ok Done.Held
 
 -- the node joins the request's list
 abbrev pub with_node : RequestRecord → NodeId → RequestRecord
@@ -81,7 +58,7 @@ judge_create c s session r = do
   in_pending_by p request
   l ← incomplete request
   need (not (is_short c s p l)) (quota_short (count_of c s p))
-  Ok (done.Node (record { 0 = s.next_node }))
+  Ok (Done.Node (record { 0 = s.next_node }))
 
 -- a node that nobody has launched yet, for the tenant of the request's job
 abbrev pub made : Configuration → State → SessionId → RequestId → PoolId → RequestRecord → LabelId → NodeEntry
@@ -96,7 +73,7 @@ made c s session r p request l = record {
     server = None;
     since = s.tick;
     start = 0;
-    state = node_state.Building;
+    state = NodeState.Building;
     tenant = tenant_of_request c request;
   };
   queue = session ∷ [];
@@ -131,7 +108,7 @@ judge_start s session n = do
   of_pool p k
   by_node_holder s n session
   need (is_building k.state && not k.in_flight) (wrong_node k)
-  Ok (done.Started (k.attempts + 1) (starts_of p s + 1))
+  Ok (Done.Started (k.attempts + 1) (starts_of p s + 1))
 
 abbrev pub one_more_start : RoleRecord → RoleRecord
 one_more_start role = record role { starts = role.starts + 1 }
@@ -156,22 +133,22 @@ judge_done s session n attempt = do
   of_pool p k
   by_node_holder s n session
   need k.in_flight (wrong_node k)
-  need (k.attempts == attempt) (no.WrongAttempt k.attempts)
-  Ok done.Plain
+  need (k.attempts == attempt) (Refusal.WrongAttempt k.attempts)
+  Ok Done.Plain
 
 -- ready if it was launched; failed if the last attempt failed
 abbrev pub state_after_launch : ℕ → NodeRecord → Outcome → NodeState
-state_after_launch retries k (outcome.Launched x) = node_state.Ready
-state_after_launch retries k outcome.Failed = if k.attempts == retries then node_state.Failed else k.state
+state_after_launch retries k (Outcome.Launched x) = NodeState.Ready
+state_after_launch retries k Outcome.Failed = if k.attempts == retries then NodeState.Failed else k.state
 
 abbrev pub server_after_launch : NodeRecord → Outcome → Option ℕ
-server_after_launch k (outcome.Launched x) = Some x
-server_after_launch k outcome.Failed = k.server
+server_after_launch k (Outcome.Launched x) = Some x
+server_after_launch k Outcome.Failed = k.server
 
 -- a ready node's age counts from here
 abbrev pub since_after_launch : ℕ → NodeRecord → Outcome → ℕ
-since_after_launch tick k (outcome.Launched x) = tick
-since_after_launch tick k outcome.Failed = k.since
+since_after_launch tick k (Outcome.Launched x) = tick
+since_after_launch tick k Outcome.Failed = k.since
 
 abbrev pub launched : ℕ → ℕ → Outcome → NodeRecord → NodeRecord
 launched retries tick o k = record k {
@@ -191,7 +168,7 @@ effect_done c s n o = after_found (node_in n s.nodes) s (reported c s n o)
 
 -- first in the queue, or how many sessions are before it
 abbrev pub place_reply : ℕ → Done
-place_reply ahead = if ahead == 0 then done.Held else done.Queued ahead
+place_reply ahead = if ahead == 0 then Done.Held else Done.Queued ahead
 
 abbrev pub judge_lock_node : State → SessionId → NodeId → Answer
 judge_lock_node s session n = do
@@ -207,8 +184,8 @@ abbrev pub judge_unlock_node : State → SessionId → NodeId → Answer
 judge_unlock_node s session n = do
   _role ← maker s session
   _k ← node_at s n
-  need (is_queued session (node_queue n s.nodes)) no.NotHeld
-  Ok done.Plain
+  need (is_queued session (node_queue n s.nodes)) Refusal.NotHeld
+  Ok Done.Plain
 
 abbrev pub effect_unlock_node : State → SessionId → NodeId → State
 effect_unlock_node s session n = record s { nodes = put_node_queue n (left session (node_queue n s.nodes)) s.nodes }
@@ -231,12 +208,12 @@ judge_end_node c s session n = do
   k ← node_at s n
   by_node_holder s n session
   need (is_in_use k.state) (wrong_node k)
-  need (is_own q (owner_from n s.jobs c.jobs)) no.NotOwner
-  Ok done.Plain
+  need (is_own q (owner_from n s.jobs c.jobs)) Refusal.NotOwner
+  Ok Done.Plain
 
 abbrev pub ended_as : EndAs → NodeState
-ended_as end.Used = node_state.Used
-ended_as end.Hold = node_state.Hold
+ended_as EndAs.Used = NodeState.Used
+ended_as EndAs.Hold = NodeState.Hold
 
 abbrev pub marked : NodeId → Marked → Marked
 marked n m = record m { ended = m.ended || (m.node.0 == n.0) }
@@ -259,15 +236,15 @@ effect_end_node s n as_what = after_found (node_in n s.nodes) s (node_ended s n 
 -- a ready node goes if nobody has it and it is old or its pool is paused; a held one if it is old;
 -- any other at once
 abbrev pub may_delete : Configuration → State → NodeRecord → NodeState → Check
-may_delete c s k node_state.Building = Ok tt
-may_delete c s k node_state.Ready = do
-  vacant k.allocated_to no.Allocated
-  need (is_old_ready c s k || is_paused c s k.pool) (no.NotDue (due_tick (ready_age c k.label) k.since))
-may_delete c s k node_state.InUse = Ok tt
-may_delete c s k node_state.Used = Ok tt
-may_delete c s k node_state.Hold = need (is_old_hold c s k) (no.NotDue (due_tick c.max_hold_age k.since))
-may_delete c s k node_state.Deleting = Err (wrong_node k)
-may_delete c s k node_state.Failed = Ok tt
+may_delete c s k NodeState.Building = Ok tt
+may_delete c s k NodeState.Ready = do
+  vacant k.allocated_to Refusal.Allocated
+  need (is_old_ready c s k || is_paused c s k.pool) (Refusal.NotDue (due_tick (ready_age c k.label) k.since))
+may_delete c s k NodeState.InUse = Ok tt
+may_delete c s k NodeState.Used = Ok tt
+may_delete c s k NodeState.Hold = need (is_old_hold c s k) (Refusal.NotDue (due_tick c.max_hold_age k.since))
+may_delete c s k NodeState.Deleting = Err (wrong_node k)
+may_delete c s k NodeState.Failed = Ok tt
 
 abbrev pub judge_mark_deleting : Configuration → State → SessionId → NodeId → Answer
 judge_mark_deleting c s session n = do
@@ -275,10 +252,10 @@ judge_mark_deleting c s session n = do
   k ← node_at s n
   by_node_holder s n session
   may_delete c s k k.state
-  Ok done.Plain
+  Ok Done.Plain
 
 abbrev pub given_up : State → NodeId → NodeRecord → State
-given_up s n k = record s { nodes = put_node n (record k { in_flight = false; state = node_state.Deleting }) s.nodes }
+given_up s n k = record s { nodes = put_node n (record k { in_flight = false; state = NodeState.Deleting }) s.nodes }
 
 abbrev pub effect_mark_deleting : State → NodeId → State
 effect_mark_deleting s n = after_found (node_in n s.nodes) s (given_up s n)
@@ -290,7 +267,7 @@ judge_gone s session n = do
   k ← node_at s n
   by_node_holder s n session
   need (is_deleting k.state) (wrong_node k)
-  Ok done.Plain
+  Ok Done.Plain
 
 abbrev pub effect_gone : State → NodeId → State
 effect_gone s n = record s { nodes = remove_node n s.nodes }
@@ -308,8 +285,8 @@ judge_free_node s session n = do
   k ← node_at s n
   by_node_holder s n session
   need (is_ready k.state && is_some k.allocated_to) (wrong_node k)
-  vacant (standing s k.allocated_to) no.Allocated
-  Ok done.Plain
+  vacant (standing s k.allocated_to) Refusal.Allocated
+  Ok Done.Plain
 
 abbrev pub node_freed : State → NodeId → NodeRecord → State
 node_freed s n k = record s { nodes = put_node n (freed k) s.nodes }
@@ -330,7 +307,7 @@ is_wanted s n x = option_map_or (λ k. is_building k.state || is_server x k.serv
 abbrev pub judge_sweep : State → SessionId → NodeId → ℕ → Answer
 judge_sweep s session n x = do
   _p ← janitor s session
-  Ok (if is_wanted s n x then done.Keep else done.Remove)
+  Ok (if is_wanted s n x then Done.Keep else Done.Remove)
 
 abbrev pub is_pair : NodeId → ℕ → Swept → Bool
 is_pair n x pair = (pair.node.0 == n.0) && (pair.server == x)

@@ -1,12 +1,9 @@
 -- the order of requests, and whose they are
 use Rattle.std.specs.Prelude.{List, Bool, false, ◌==◌, ◌&&◌, not, if◌then◌else◌, Option, Some, None, nat_lt}
 use Rattle.std.specs.List.{list_any}
-use Rattle.np_text.specs.declared.id.PoolId.{PoolId}
-use Rattle.np_text.specs.declared.id.RequestId.{RequestId}
-use Rattle.np_record.specs.declared.record.Declined.{Declined}
-use Rattle.np_record.specs.declared.record.RequestRecord.{RequestRecord}
 use Rattle.np_machine.specs.Entries.{RequestEntry}
 use Rattle.np_machine.specs.Kinds.{is_pending}
+use Rattle.np_machine.specs.Lower.{Declined, PoolId, RequestId, RequestRecord}
 
 -- the id comes before the other in the byte order of their texts
 abbrev pub is_id_before : RequestId → RequestId → Bool

@@ -2,15 +2,6 @@
 use Rattle.std.specs.Prelude.{ℕ, ◌-◌, ◌+◌, Bool, false, ◌==◌, ◌&&◌, ◌||◌, not, if◌then◌else◌, Option, is_some, is_none, length, find, slice_get, nat_lt}
 use Rattle.std.specs.Option.{option_map_or}
 use Rattle.std.specs.List.{list_any}
-use Rattle.np_amount.specs.Amounts.{fits}
-use Rattle.np_text.specs.declared.id.PoolId.{PoolId}
-use Rattle.np_text.specs.declared.id.LabelId.{LabelId}
-use Rattle.np_text.specs.declared.id.NodeId.{NodeId}
-use Rattle.np_text.specs.declared.word.Reason.{Reason}
-use Rattle.np_text.specs.declared.word.Reason.TheVariants.{NoLabel, NeverFits, TenantNeverFits, Spent}
-use Rattle.np_config.specs.Configuration.{Configuration}
-use Rattle.np_record.specs.declared.record.RequestRecord.{RequestRecord}
-use Rattle.np_record.specs.declared.record.NodeRecord.{NodeRecord}
 use Rattle.np_machine.specs.Entries.{RequestEntry, NodeEntry}
 use Rattle.np_machine.specs.Kinds.{is_ready, is_failed_node}
 use Rattle.np_machine.specs.Tables.{holder, node_in}
@@ -18,6 +9,7 @@ use Rattle.np_machine.specs.Count.{is_offered, amount_of_all, limit_of, is_kind,
 use Rattle.np_machine.specs.Tenants.{tenant_never_fits}
 use Rattle.np_machine.specs.Order.{is_pending_by}
 use Rattle.np_machine.specs.State.{State}
+use Rattle.np_machine.specs.Lower.{Configuration, LabelId, NeverFits, NoLabel, NodeId, NodeRecord, PoolId, Reason, RequestRecord, Spent, TenantNeverFits, fits}
 
 -- the label at the place after the request's last node; none if it has as many nodes as labels
 abbrev pub next_label : RequestRecord → Option LabelId

@@ -2,30 +2,9 @@
 use Rattle.std.specs.Prelude.{ℕ, ◌+◌, List, [], ◌∷◌, ◌++◌, Bool, false, ◌==◌, ◌&&◌, ◌||◌, not, if◌then◌else◌, Option, Some, None, is_some, is_none, Ok, Err, length, slice_get, count_by, nat_lt, option_and_then}
 use Rattle.std.specs.Option.{option_map_or}
 use Rattle.std.specs.List.{list_any, list_all}
-use Rattle.np_text.specs.declared.id.SessionId.{SessionId}
-use Rattle.np_text.specs.declared.id.PoolId.{PoolId}
-use Rattle.np_text.specs.declared.id.LabelId.{LabelId}
-use Rattle.np_text.specs.declared.id.JobId.{JobId}
-use Rattle.np_text.specs.declared.id.NodeId.{NodeId}
-use Rattle.np_text.specs.declared.id.RequestId.{RequestId}
-use Rattle.np_text.specs.declared.id.Role.{Role}
-use Rattle.np_text.specs.declared.id.Role.TheVariants.{Launcher, Janitor, Requester, Reaper}
-use Rattle.np_text.specs.declared.word.Reason.{Reason}
-use Rattle.np_text.specs.declared.word.Reason.TheVariants as reason
-use Rattle.np_text.specs.declared.word.RequestState.{RequestState}
-use Rattle.np_text.specs.declared.word.RequestState.TheVariants as request_state
-use Rattle.np_text.specs.declared.word.Phase.TheVariants as phase
-use Rattle.np_config.specs.Configuration.{Configuration}
-use Rattle.np_config.specs.declared.row.Job.{Job}
-use Rattle.np_record.specs.declared.record.RequestRecord.{RequestRecord}
-use Rattle.np_record.specs.declared.record.JobRecord.{JobRecord}
-use Rattle.np_record.specs.declared.record.Declined.{Declined}
-use Rattle.np_event.specs.declared.reply.Done.TheVariants as done
-use Rattle.np_event.specs.declared.reply.Refusal.TheVariants as no
 use Rattle.np_machine.specs.Entries.{RequestEntry, NodeEntry}
 use Rattle.np_machine.specs.declared.state.Registration.{Registration}
 use Rattle.np_machine.specs.Kinds.{is_requested, is_pending, is_failed, is_ready, is_new, is_asked}
-use Rattle.np_lists.specs.Change.{insert_before}
 use Rattle.np_machine.specs.Tables.{registered, same_request, is_request, is_session_of, joined, left, holder, request_in, request_queue, put_request, put_request_queue, remove_request, node_entry, all_freed, put_job}
 use Rattle.np_machine.specs.Count.{is_offered, count_of, is_short}
 use Rattle.np_machine.specs.Order.{is_id_before, is_pool, is_pinned_away, is_declined_by, is_pending_by}
@@ -33,8 +12,9 @@ use Rattle.np_machine.specs.Tenants.{tenant_never_fits}
 use Rattle.np_machine.specs.Reasons.{first_unoffered, never_fits, is_true}
 use Rattle.np_machine.specs.First.{first_of}
 use Rattle.np_machine.specs.Tests.{Answer, Check, maker, launcher, janitor, request_at, own_job, by_registrant, by_request_holder, unlocked, wrong_request, wrong_job, in_requested, in_pending, in_pending_by, not_declined, not_blocked, none_missing, quota_short, missing_handles, after_found, after_given}
-use Rattle.np_lists.specs.Refusals.{◌>>=◌, ◌>>◌, need, found, vacant}
+use Rattle.np_lists.specs.Refusals.{◌>>=◌, ◌>>◌}
 use Rattle.np_machine.specs.State.{State}
+use Rattle.np_machine.specs.Lower.{Configuration, Declined, Done, Janitor, Job, JobId, JobRecord, LabelId, Launcher, NodeId, Phase, PoolId, Reaper, Reason, Refusal, RequestId, RequestRecord, RequestState, Requester, Role, SessionId, found, insert_before, need, vacant}
 
 -- the request at its place in the order of ids
 abbrev pub insert_request : RequestEntry → List RequestEntry → List RequestEntry
@@ -44,8 +24,8 @@ insert_request new requests = insert_before (λ e. is_id_before new.id e.id) new
 abbrev pub judge_register : State → SessionId → Answer
 judge_register s session = do
   p ← launcher s session
-  vacant (registered p s.registrations) no.Taken
-  Ok done.Plain
+  vacant (registered p s.registrations) Refusal.Taken
+  Ok Done.Plain
 
 abbrev pub registers : State → SessionId → PoolId → State
 registers s session p = record s { registrations = insert_before (λ g. nat_lt p.0 g.pool.0) (record { pool = p; session = session }) s.registrations }
@@ -61,8 +41,8 @@ abbrev pub judge_submit : Configuration → State → SessionId → JobId → An
 judge_submit c s session j = do
   (job, kept) ← own_job c s session j
   need (is_new kept.phase) (wrong_job kept)
-  need (job.resources_first || (missing_handles s j job == 0)) (no.NotAll (missing_handles s j job))
-  Ok (done.Request (next_id job.priority s))
+  need (job.resources_first || (missing_handles s j job == 0)) (Refusal.NotAll (missing_handles s j job))
+  Ok (Done.Request (next_id job.priority s))
 
 -- the request of a job, before anybody took it up
 abbrev pub asked_by : RequestId → JobId → Job → RequestEntry
@@ -76,7 +56,7 @@ asked_by r j job = record {
     pinned = None;
     pool = None;
     relative_priority = job.relative_priority;
-    state = request_state.Requested;
+    state = RequestState.Requested;
   };
   queue = [];
 }
@@ -84,7 +64,7 @@ asked_by r j job = record {
 abbrev pub submitted : State → JobId → Job → JobRecord → State
 submitted s j job kept = record s {
   requests = insert_request (asked_by (next_id job.priority s) j job) s.requests;
-  jobs = put_job j (record kept { phase = phase.Asked; request = Some (next_id job.priority s) }) s.jobs;
+  jobs = put_job j (record kept { phase = Phase.Asked; request = Some (next_id job.priority s) }) s.jobs;
   next_request = s.next_request + 1;
 }
 
@@ -99,10 +79,10 @@ abbrev pub judge_revise : Configuration → State → SessionId → JobId → An
 judge_revise c s session j = do
   (_job, kept) ← own_job c s session j
   need (is_asked kept.phase) (wrong_job kept)
-  r ← found kept.request no.NoRequest
+  r ← found kept.request Refusal.NoRequest
   request ← request_at s r
   in_requested request
-  Ok done.Plain
+  Ok Done.Plain
 
 abbrev pub revised : State → ℕ → RequestId → RequestRecord → State
 revised s relative r request = record s { requests = put_request r (record request { relative_priority = relative }) s.requests }
@@ -142,13 +122,13 @@ ready_count l s = count_by (is_free_ready l) s.nodes + count_by (is_coming l) s.
 abbrev pub judge_min_ready : Configuration → State → SessionId → LabelId → Answer
 judge_min_ready c s session l = do
   p ← launcher s session
-  label ← found (slice_get c.labels l.0) (no.NoLabel l)
+  label ← found (slice_get c.labels l.0) (Refusal.NoLabel l)
   by_registrant s p session
-  need (is_offered c p l) (no.NoLabel l)
-  need (not (list_any (is_spent_min_ready p l) s.requests)) no.Spent
-  need (nat_lt (ready_count l s) label.min_ready) (no.Enough (ready_count l s))
+  need (is_offered c p l) (Refusal.NoLabel l)
+  need (not (list_any (is_spent_min_ready p l) s.requests)) Refusal.Spent
+  need (nat_lt (ready_count l s) label.min_ready) (Refusal.Enough (ready_count l s))
   need (not (is_short c s p l)) (quota_short (count_of c s p))
-  Ok (done.Request (next_id 400 s))
+  Ok (Done.Request (next_id 400 s))
 
 -- a min-ready request, of priority 400 (own) and pinned to the pool that makes it
 abbrev pub kept_ready_by : RequestId → PoolId → LabelId → RequestEntry
@@ -162,7 +142,7 @@ kept_ready_by r p l = record {
     pinned = Some p;
     pool = None;
     relative_priority = 0;
-    state = request_state.Requested;
+    state = RequestState.Requested;
   };
   queue = [];
 }
@@ -189,7 +169,7 @@ lock_pending s r = do
   request ← request_at s r
   in_pending request
   unlocked s r
-  Ok done.Held
+  Ok Done.Held
 
 abbrev pub lock_request_as : Configuration → State → SessionId → RequestId → Role → Answer
 lock_request_as c s session r (Launcher p) = do
@@ -197,14 +177,14 @@ lock_request_as c s session r (Launcher p) = do
   by_registrant s p session
   in_requested request
   not_declined p request
-  need (not (is_pinned_away p request)) no.NotOwner
+  need (not (is_pinned_away p request)) Refusal.NotOwner
   unlocked s r
   not_blocked c s p request
-  vacant (other_than r (first_of c s p)) no.NotFirst
-  Ok done.Held
+  vacant (other_than r (first_of c s p)) Refusal.NotFirst
+  Ok Done.Held
 lock_request_as c s session r (Janitor p) = lock_pending s r
-lock_request_as c s session r (Requester q) = Err no.WrongRole
-lock_request_as c s session r Reaper = Err no.WrongRole
+lock_request_as c s session r (Requester q) = Err Refusal.WrongRole
+lock_request_as c s session r Reaper = Err Refusal.WrongRole
 
 abbrev pub judge_lock_request : Configuration → State → SessionId → RequestId → Answer
 judge_lock_request c s session r = maker s session >>= lock_request_as c s session r
@@ -219,13 +199,13 @@ unlock_request_as s session r (Launcher p) = do
   request ← request_at s r
   by_request_holder s r session
   need (not (is_pending_by p request)) (wrong_request request)
-  Ok done.Plain
+  Ok Done.Plain
 unlock_request_as s session r (Janitor p) = do
   request ← request_at s r
   by_request_holder s r session
-  Ok done.Plain
-unlock_request_as s session r (Requester q) = Err no.WrongRole
-unlock_request_as s session r Reaper = Err no.WrongRole
+  Ok Done.Plain
+unlock_request_as s session r (Requester q) = Err Refusal.WrongRole
+unlock_request_as s session r Reaper = Err Refusal.WrongRole
 
 abbrev pub judge_unlock_request : State → SessionId → RequestId → Answer
 judge_unlock_request s session r = maker s session >>= unlock_request_as s session r
@@ -243,15 +223,15 @@ judge_accept c s session r = do
   by_request_holder s r session
   in_requested request
   not_declined p request
-  vacant (first_unoffered c p request) no.NoLabel
-  need (not (never_fits c p request)) no.NeverFits
-  need (not (tenant_never_fits c p request)) no.TenantNeverFits
+  vacant (first_unoffered c p request) Refusal.NoLabel
+  need (not (never_fits c p request)) Refusal.NeverFits
+  need (not (tenant_never_fits c p request)) Refusal.TenantNeverFits
   not_blocked c s p request
-  Ok done.Plain
+  Ok Done.Plain
 
 abbrev pub accepted : State → RequestId → PoolId → RequestRecord → State
 accepted s r p request =
-    record s { requests = put_request r (record request { state = request_state.Pending; pool = Some p }) s.requests }
+    record s { requests = put_request r (record request { state = RequestState.Pending; pool = Some p }) s.requests }
 
 abbrev pub accept_by : State → RequestId → PoolId → State
 accept_by s r p = after_found (request_in r s.requests) s (accepted s r p)
@@ -263,10 +243,10 @@ effect_accept s session r = after_given (launcher s session) s (accept_by s r)
 
 -- a pool gives up with a failed node while it serves the request, and otherwise before it took it
 abbrev pub in_state_for : PoolId → RequestRecord → Reason → Check
-in_state_for p request (reason.NoLabel l) = in_requested request
-in_state_for p request reason.NeverFits = in_requested request
-in_state_for p request reason.TenantNeverFits = in_requested request
-in_state_for p request (reason.Spent n) = in_pending_by p request
+in_state_for p request (Reason.NoLabel l) = in_requested request
+in_state_for p request Reason.NeverFits = in_requested request
+in_state_for p request Reason.TenantNeverFits = in_requested request
+in_state_for p request (Reason.Spent n) = in_pending_by p request
 
 abbrev pub judge_decline : Configuration → State → SessionId → RequestId → Reason → Answer
 judge_decline c s session r why = do
@@ -276,8 +256,8 @@ judge_decline c s session r why = do
   by_request_holder s r session
   in_state_for p request why
   not_declined p request
-  need (is_true c s p request why) no.FalseReason
-  Ok done.Plain
+  need (is_true c s p request why) Refusal.FalseReason
+  Ok Done.Plain
 
 -- every registered pool is among the declines
 abbrev pub all_declined : List Registration → List Declined → Bool
@@ -287,7 +267,7 @@ all_declined registrations declined = list_all (λ g. is_declined_by g.pool decl
 -- fails)
 abbrev pub state_after_decline : List Registration → RequestRecord → List Declined → RequestState
 state_after_decline registrations request declined =
-    if is_some request.pinned || all_declined registrations declined then request_state.Failed else request_state.Requested
+    if is_some request.pinned || all_declined registrations declined then RequestState.Failed else RequestState.Requested
 
 abbrev pub declined_with : RequestRecord → PoolId → Reason → List Declined
 declined_with request p why = request.declined ++ record { pool = p; reason = why } ∷ []
@@ -332,14 +312,14 @@ judge_fulfil s session r = do
   by_request_holder s r session
   in_pending_by p request
   none_missing (unfilled p session r s.nodes request.labels request.nodes)
-  Ok done.Plain
+  Ok Done.Plain
 
 -- a job's request is fulfilled; a min-ready request goes, and its node is free (Nodepool)
 abbrev pub fulfilled : State → RequestId → RequestRecord → State
 fulfilled s r request = record s {
   requests =
       if is_some request.pinned then remove_request r s.requests
-      else put_request r (record request { state = request_state.Fulfilled }) s.requests;
+      else put_request r (record request { state = RequestState.Fulfilled }) s.requests;
   nodes = if is_some request.pinned then all_freed r s.nodes else s.nodes;
 }
 
@@ -353,11 +333,11 @@ judge_reset s session r = do
   request ← request_at s r
   by_request_holder s r session
   in_pending request
-  Ok done.Plain
+  Ok Done.Plain
 
 abbrev pub given_back : State → RequestId → RequestRecord → State
 given_back s r request = record s {
-  requests = put_request r (record request { nodes = []; pool = None; state = request_state.Requested }) s.requests;
+  requests = put_request r (record request { nodes = []; pool = None; state = RequestState.Requested }) s.requests;
   nodes = all_freed r s.nodes;
 }
 
@@ -373,12 +353,12 @@ judge_fail_declined s session r = do
   _p ← janitor s session
   request ← request_at s r
   in_requested request
-  need (not (length s.registrations == 0)) no.NotRegistered
+  need (not (length s.registrations == 0)) Refusal.NotRegistered
   none_missing (undeclined s.registrations request)
-  Ok done.Plain
+  Ok Done.Plain
 
 abbrev pub failed : State → RequestId → RequestRecord → State
-failed s r request = record s { requests = put_request r (record request { state = request_state.Failed }) s.requests }
+failed s r request = record s { requests = put_request r (record request { state = RequestState.Failed }) s.requests }
 
 abbrev pub effect_fail_declined : State → RequestId → State
 effect_fail_declined s r = after_found (request_in r s.requests) s (failed s r)

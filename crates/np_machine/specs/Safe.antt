@@ -1,22 +1,6 @@
 -- what no step breaks
 use Rattle.std.specs.Prelude.{◌≡◌, ◌≤◌, ℕ, true, false, ◌==◌, List, [], ◌∷◌, Some, IsTrue, length, slice_get}
 use Rattle.std.specs.List.{list_any}
-use Rattle.np_amount.specs.Amounts.{fits}
-use Rattle.np_text.specs.declared.id.SessionId.{SessionId}
-use Rattle.np_text.specs.declared.id.PoolId.{PoolId}
-use Rattle.np_text.specs.declared.id.LabelId.{LabelId}
-use Rattle.np_text.specs.declared.id.SemId.{SemId}
-use Rattle.np_text.specs.declared.id.NodeId.{NodeId}
-use Rattle.np_text.specs.declared.id.JobId.{JobId}
-use Rattle.np_text.specs.declared.id.RequestId.{RequestId}
-use Rattle.np_text.specs.declared.id.TenantId.{TenantId}
-use Rattle.np_config.specs.Configuration.{Configuration, tenant_of}
-use Rattle.np_config.specs.declared.row.Tenant.{Tenant}
-use Rattle.np_config.specs.declared.row.Pool.{Pool}
-use Rattle.np_config.specs.declared.row.Sem.{Sem}
-use Rattle.np_record.specs.declared.record.RequestRecord.{RequestRecord}
-use Rattle.np_record.specs.declared.record.NodeRecord.{NodeRecord}
-use Rattle.np_event.specs.declared.entry.Entry.{Entry}
 use Rattle.np_machine.specs.Kinds.{is_fulfilled, is_ready}
 use Rattle.np_machine.specs.Tables.{request_in, is_request, node_in, handles_of, is_among}
 use Rattle.np_machine.specs.Count.{count_of}
@@ -24,6 +8,7 @@ use Rattle.np_machine.specs.Tenants.{count_of_tenant}
 use Rattle.np_machine.specs.LiveHolder.{IsLiveHolder, IsLiveRequestHolder}
 use Rattle.np_machine.specs.History.{after}
 use Rattle.np_machine.specs.State.{State}
+use Rattle.np_machine.specs.Lower.{Configuration, Entry, JobId, LabelId, NodeId, NodeRecord, Pool, PoolId, RequestId, RequestRecord, Sem, SemId, SessionId, Tenant, TenantId, fits, tenant_of}
 
 -- no node and no request has two live holders (ZooKeeper Recipes: a lock)
 pub record OneHolder (c : Configuration) (journal : List Entry) : Type 0 where

@@ -2,32 +2,13 @@
 use Rattle.std.specs.Prelude.{ℕ, List, Bool, false, ◌==◌, ◌&&◌, ◌||◌, not, if◌then◌else◌, Option, Some, None, Ok, Err, length, map, filter, find, fold, slice_get, count_by, nat_le, nat_lt, option_and_then}
 use Rattle.std.specs.Option.{option_map_or}
 use Rattle.std.specs.List.{list_any, list_all}
-use Rattle.np_text.specs.declared.id.SessionId.{SessionId}
-use Rattle.np_text.specs.declared.id.NodeId.{NodeId}
-use Rattle.np_text.specs.declared.id.JobId.{JobId}
-use Rattle.np_text.specs.declared.id.SemId.{SemId}
-use Rattle.np_text.specs.declared.id.RequestId.{RequestId}
-use Rattle.np_text.specs.declared.id.RequesterId.{RequesterId}
-use Rattle.np_text.specs.declared.id.Role.{Role}
-use Rattle.np_text.specs.declared.id.Role.TheVariants.{Launcher, Janitor, Requester, Reaper}
-use Rattle.np_text.specs.declared.word.Ending.{Ending}
-use Rattle.np_text.specs.declared.word.Ending.TheVariants as ending
-use Rattle.np_text.specs.declared.word.NodeState.TheVariants as node_state
-use Rattle.np_text.specs.declared.word.Phase.TheVariants as phase
-use Rattle.np_config.specs.Configuration.{Configuration}
-use Rattle.np_config.specs.declared.row.Job.{Job}
-use Rattle.np_record.specs.declared.record.RequestRecord.{RequestRecord}
-use Rattle.np_record.specs.declared.record.JobRecord.{JobRecord}
-use Rattle.np_record.specs.declared.record.Marked.{Marked}
-use Rattle.np_event.specs.declared.reply.Done.TheVariants as done
-use Rattle.np_event.specs.declared.reply.Refusal.TheVariants as no
 use Rattle.np_machine.specs.Entries.{NodeEntry}
 use Rattle.np_machine.specs.Kinds.{is_fulfilled, is_failed, is_in_use, is_new, is_asked, is_using, is_over}
-use Rattle.np_lists.specs.Change.{change_first, change_at, insert_before}
 use Rattle.np_machine.specs.Tables.{role_of, is_session_of, holder, request_in, remove_request, node_entry, node_holder, put_job, handles_of, is_among, has_handle}
 use Rattle.np_machine.specs.Tests.{Answer, Check, maker, request_at, job_at, record_of, of_requester, own_job, wrong_request, wrong_job, none_missing, missing_handles, after_found}
-use Rattle.np_lists.specs.Refusals.{◌>>=◌, ◌>>◌, need, found, vacant}
+use Rattle.np_lists.specs.Refusals.{◌>>=◌, ◌>>◌}
 use Rattle.np_machine.specs.State.{State}
+use Rattle.np_machine.specs.Lower.{Configuration, Done, Ending, Janitor, Job, JobId, JobRecord, Launcher, Marked, NodeId, NodeState, Phase, Reaper, Refusal, RequestId, RequestRecord, Requester, RequesterId, Role, SemId, SessionId, change_at, change_first, found, insert_before, need, vacant}
 
 -- ## acquire: the job takes all its semaphores, or none (Zuul: semaphores)
 
@@ -46,8 +27,8 @@ abbrev pub judge_acquire : Configuration → State → SessionId → JobId → A
 judge_acquire c s session j = do
   (job, kept) ← own_job c s session j
   need (not (is_over kept.phase)) (wrong_job kept)
-  vacant (first_full c s j job) no.SemaphoreFull
-  Ok done.Plain
+  vacant (first_full c s j job) Refusal.SemaphoreFull
+  Ok Done.Plain
 
 -- the job at its place among those with a handle, once
 abbrev pub with_handle : JobId → List JobId → List JobId
@@ -72,7 +53,7 @@ unheld s session numbers = count_by (λ n. not (is_session_of session (node_hold
 abbrev pub may_take : State → SessionId → JobId → Job → JobRecord → Check
 may_take s session j job kept = do
   need (is_asked kept.phase) (wrong_job kept)
-  r ← found kept.request no.NoRequest
+  r ← found kept.request Refusal.NoRequest
   request ← request_at s r
   need (is_fulfilled request.state) (wrong_request request)
   none_missing (unheld s session request.nodes)
@@ -82,10 +63,10 @@ abbrev pub judge_take : Configuration → State → SessionId → JobId → Answ
 judge_take c s session j = do
   (job, kept) ← own_job c s session j
   may_take s session j job kept
-  Ok done.Plain
+  Ok Done.Plain
 
 abbrev pub in_use : ℕ → NodeEntry → NodeEntry
-in_use tick e = record e { kept = record e.kept { since = tick; state = node_state.InUse } }
+in_use tick e = record e { kept = record e.kept { since = tick; state = NodeState.InUse } }
 
 -- each of the nodes in use, from this tick
 abbrev pub all_in_use : ℕ → List NodeId → List NodeEntry → List NodeEntry
@@ -99,7 +80,7 @@ abbrev pub taken : State → JobId → JobRecord → RequestId → RequestRecord
 taken s j kept r request = record s {
   requests = remove_request r s.requests;
   nodes = all_in_use s.tick request.nodes s.nodes;
-  jobs = put_job j (record kept { nodes = map unended request.nodes; phase = phase.Using; pool = request.pool }) s.jobs;
+  jobs = put_job j (record kept { nodes = map unended request.nodes; phase = Phase.Using; pool = request.pool }) s.jobs;
 }
 
 abbrev pub take_from : State → JobId → JobRecord → RequestId → State
@@ -142,22 +123,22 @@ is_finishable s job kept =
 
 abbrev pub ending_of : JobRecord → Ending
 ending_of kept =
-    if is_asked kept.phase then ending.Failed
-    else (if list_all (λ m. m.ended) kept.nodes then ending.Served else ending.Lost)
+    if is_asked kept.phase then Ending.Failed
+    else (if list_all (λ m. m.ended) kept.nodes then Ending.Served else Ending.Lost)
 
 -- the requester its own job, the janitor one that was left alone
 abbrev pub may_finish : State → Job → Role → Check
-may_finish s job (Launcher p) = Err no.WrongRole
-may_finish s job (Janitor p) = need (not (has_live_session job.requester s)) no.NotOwner
+may_finish s job (Launcher p) = Err Refusal.WrongRole
+may_finish s job (Janitor p) = need (not (has_live_session job.requester s)) Refusal.NotOwner
 may_finish s job (Requester q) = of_requester q job
-may_finish s job Reaper = Err no.WrongRole
+may_finish s job Reaper = Err Refusal.WrongRole
 
 -- a requester or a janitor
 abbrev pub requester_or_janitor : Role → Check
-requester_or_janitor (Launcher p) = Err no.WrongRole
+requester_or_janitor (Launcher p) = Err Refusal.WrongRole
 requester_or_janitor (Janitor p) = Ok tt
 requester_or_janitor (Requester q) = Ok tt
-requester_or_janitor Reaper = Err no.WrongRole
+requester_or_janitor Reaper = Err Refusal.WrongRole
 
 abbrev pub judge_finish : Configuration → State → SessionId → JobId → Answer
 judge_finish c s session j = do
@@ -167,10 +148,10 @@ judge_finish c s session j = do
   kept ← record_of s j
   may_finish s job role
   need (is_finishable s job kept) (wrong_job kept)
-  Ok (done.Ended (ending_of kept))
+  Ok (Done.Ended (ending_of kept))
 
 abbrev pub finished : State → JobId → JobRecord → State
-finished s j kept = record s { jobs = put_job j (record kept { ending = Some (ending_of kept); phase = phase.Over }) s.jobs }
+finished s j kept = record s { jobs = put_job j (record kept { ending = Some (ending_of kept); phase = Phase.Over }) s.jobs }
 
 abbrev pub effect_finish : State → JobId → State
 effect_finish s j = after_found (slice_get s.jobs j.0) s (finished s j)
@@ -180,12 +161,12 @@ abbrev pub judge_withdraw : Configuration → State → SessionId → JobId → 
 judge_withdraw c s session j = do
   (job, kept) ← own_job c s session j
   need (is_new kept.phase || is_asked kept.phase) (wrong_job kept)
-  Ok done.Plain
+  Ok Done.Plain
 
 abbrev pub withdrawn : State → JobId → JobRecord → State
 withdrawn s j kept = record s {
   requests = option_map_or (λ r. remove_request r s.requests) kept.request s.requests;
-  jobs = put_job j (record kept { ending = Some ending.Withdrawn; phase = phase.Over }) s.jobs;
+  jobs = put_job j (record kept { ending = Some Ending.Withdrawn; phase = Phase.Over }) s.jobs;
 }
 
 abbrev pub effect_withdraw : State → JobId → State
@@ -195,10 +176,10 @@ effect_withdraw s j = after_found (slice_get s.jobs j.0) s (withdrawn s j)
 
 -- the requester its own job, any janitor
 abbrev pub may_release : Job → Role → Check
-may_release job (Launcher p) = Err no.WrongRole
+may_release job (Launcher p) = Err Refusal.WrongRole
 may_release job (Janitor p) = Ok tt
 may_release job (Requester q) = of_requester q job
-may_release job Reaper = Err no.WrongRole
+may_release job Reaper = Err Refusal.WrongRole
 
 abbrev pub judge_release : Configuration → State → SessionId → JobId → Answer
 judge_release c s session j = do
@@ -208,7 +189,7 @@ judge_release c s session j = do
   kept ← record_of s j
   may_release job role
   need (is_over kept.phase) (wrong_job kept)
-  Ok done.Plain
+  Ok Done.Plain
 
 abbrev pub without_handle : JobId → List JobId → List JobId
 without_handle j jobs = filter (λ other. not (other.0 == j.0)) jobs

@@ -1,18 +1,12 @@
 -- the rows on sessions and the tick
 use Rattle.std.specs.Prelude.{◌+◌, [], ◌∷◌, ◌++◌, Bool, true, false, not, if◌then◌else◌, is_some, Ok, length, map, filter, slice_get}
-use Rattle.np_text.specs.declared.id.SessionId.{SessionId}
-use Rattle.np_text.specs.declared.id.Role.{Role}
-use Rattle.np_text.specs.declared.id.Role.TheVariants.{Launcher, Janitor, Requester, Reaper}
-use Rattle.np_config.specs.Configuration.{Configuration}
-use Rattle.np_record.specs.declared.record.RoleRecord.{RoleRecord}
-use Rattle.np_event.specs.declared.reply.Done.TheVariants as done
-use Rattle.np_event.specs.declared.reply.Refusal.TheVariants as no
 use Rattle.np_machine.specs.Entries.{RequestEntry, NodeEntry}
 use Rattle.np_machine.specs.declared.state.SessionFacts.{SessionFacts}
 use Rattle.np_machine.specs.Tables.{session_of, change_session, is_session, left, change_launcher, change_janitor, change_requester}
 use Rattle.np_machine.specs.Tests.{Answer, maker, after_found}
-use Rattle.np_lists.specs.Refusals.{◌>>=◌, ◌>>◌, need, found}
+use Rattle.np_lists.specs.Refusals.{◌>>=◌, ◌>>◌}
 use Rattle.np_machine.specs.State.{State}
+use Rattle.np_machine.specs.Lower.{Configuration, Done, Janitor, Launcher, Reaper, Refusal, Requester, Role, RoleRecord, SessionId, found, need}
 
 -- ## tick: time advances by one (own)
 abbrev pub effect_tick : State → State
@@ -27,8 +21,8 @@ is_role c Reaper = false
 
 abbrev pub judge_open : Configuration → State → Role → Answer
 judge_open c s role = do
-  need (is_role c role) no.WrongRole
-  Ok (done.Session (record { 0 = length s.sessions + 1 }))
+  need (is_role c role) Refusal.WrongRole
+  Ok (Done.Session (record { 0 = length s.sessions + 1 }))
 
 abbrev pub effect_open : State → Role → State
 effect_open s role = record s { sessions = s.sessions ++ record { role = role; live = true; mute = false } ∷ [] }
@@ -37,7 +31,7 @@ effect_open s role = record s { sessions = s.sessions ++ record { role = role; l
 abbrev pub judge_crash : State → SessionId → Answer
 judge_crash s session = do
   _role ← maker s session
-  Ok done.Plain
+  Ok Done.Plain
 
 abbrev pub muted : SessionFacts → SessionFacts
 muted facts = record facts { mute = true }
@@ -60,9 +54,9 @@ effect_crash s session = after_found (session_of session s) s (crashed s session
 -- ## expire: the session ends, and leaves every queue and its registration (ZooKeeper Programmer's Guide: ephemeral nodes go with their session)
 abbrev pub judge_expire : State → SessionId → Answer
 judge_expire s session = do
-  facts ← found (session_of session s) no.NoSession
-  need facts.live no.Expired
-  Ok done.Plain
+  facts ← found (session_of session s) Refusal.NoSession
+  need facts.live Refusal.Expired
+  Ok Done.Plain
 
 abbrev pub ended : SessionFacts → SessionFacts
 ended facts = record facts { live = false }

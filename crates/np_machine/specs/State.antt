@@ -1,14 +1,10 @@
 -- the state of the machine: numbers and flat lists
 use Rattle.std.specs.Prelude.{ℕ, List, [], map, None}
-use Rattle.np_config.specs.Configuration.{Configuration}
-use Rattle.np_text.specs.declared.id.JobId.{JobId}
-use Rattle.np_text.specs.declared.word.Phase.TheVariants as phase
-use Rattle.np_record.specs.declared.record.JobRecord.{JobRecord}
-use Rattle.np_record.specs.declared.record.RoleRecord.{RoleRecord}
 use Rattle.np_machine.specs.Entries.{RequestEntry, NodeEntry}
 use Rattle.np_machine.specs.declared.state.SessionFacts.{SessionFacts}
 use Rattle.np_machine.specs.declared.state.Registration.{Registration}
 use Rattle.np_machine.specs.declared.state.Swept.{Swept}
+use Rattle.np_machine.specs.Lower.{Configuration, JobId, JobRecord, Phase, RoleRecord}
 
 -- what the machine knows (own, in the words of ZooKeeper, Nodepool and Zuul)
 pub record State : Type 0 where
@@ -35,7 +31,7 @@ pub record State : Type 0 where
 
 -- a job that nobody has begun (own)
 abbrev pub new_job : JobRecord
-new_job = record { ending = None; nodes = []; phase = phase.New; pool = None; request = None }
+new_job = record { ending = None; nodes = []; phase = Phase.New; pool = None; request = None }
 
 -- a role that has done nothing (own)
 abbrev pub no_deeds : RoleRecord

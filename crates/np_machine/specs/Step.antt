@@ -1,15 +1,6 @@
 -- the index of the machine: one line per event, in judge, in effect and in its maker
 use Rattle.std.specs.Prelude.{◌+◌, if◌then◌else◌, Option, Some, None, is_ok, Ok, Err, option_and_then}
 use Rattle.std.specs.Option.{option_map_or}
-use Rattle.np_text.specs.declared.id.SessionId.{SessionId}
-use Rattle.np_text.specs.declared.id.Role.{Role}
-use Rattle.np_config.specs.Configuration.{Configuration}
-use Rattle.np_record.specs.declared.record.RoleRecord.{RoleRecord}
-use Rattle.np_event.specs.declared.event.Event.{Event}
-use Rattle.np_event.specs.declared.event.Event.TheVariants as ev
-use Rattle.np_event.specs.declared.reply.Reply.{Reply}
-use Rattle.np_event.specs.declared.reply.Reply.TheVariants as reply
-use Rattle.np_event.specs.declared.reply.Done.TheVariants as done
 use Rattle.np_machine.specs.Tables.{role_of, change_launcher, change_janitor, change_requester}
 use Rattle.np_machine.specs.Tests.{Answer}
 use Rattle.np_machine.specs.Request.{judge_register, effect_register, judge_submit, effect_submit, judge_revise, effect_revise, judge_min_ready, effect_min_ready, judge_lock_request, effect_lock_request, judge_unlock_request, effect_unlock_request, judge_accept, effect_accept, judge_decline, effect_decline, judge_fulfil, effect_fulfil, judge_reset, effect_reset, judge_fail_declined, effect_fail_declined}
@@ -17,108 +8,109 @@ use Rattle.np_machine.specs.Node.{judge_take_ready, effect_take_ready, judge_cre
 use Rattle.np_machine.specs.Semaphore.{judge_acquire, effect_acquire, judge_take, effect_take, judge_finish, effect_finish, judge_withdraw, effect_withdraw, judge_release, effect_release}
 use Rattle.np_machine.specs.Session.{effect_tick, judge_open, effect_open, judge_crash, effect_crash, judge_expire, effect_expire}
 use Rattle.np_machine.specs.State.{State}
+use Rattle.np_machine.specs.Lower.{Configuration, Done, Event, Reply, Role, RoleRecord, SessionId}
 
 -- what the event is answered: the first of its row's tests that fails, or what was done
 abbrev pub judge : Configuration → State → Event → Answer
-judge c s ev.Tick = Ok done.Plain
-judge c s (ev.OpenSession role) = judge_open c s role
-judge c s (ev.Crash session) = judge_crash s session
-judge c s (ev.Expire session) = judge_expire s session
-judge c s (ev.Register session) = judge_register s session
-judge c s (ev.Submit session j) = judge_submit c s session j
-judge c s (ev.Revise session j relative) = judge_revise c s session j
-judge c s (ev.MinReady session l) = judge_min_ready c s session l
-judge c s (ev.LockRequest session r) = judge_lock_request c s session r
-judge c s (ev.UnlockRequest session r) = judge_unlock_request s session r
-judge c s (ev.Accept session r) = judge_accept c s session r
-judge c s (ev.Decline session r why) = judge_decline c s session r why
-judge c s (ev.TakeReady session r n) = judge_take_ready s session r n
-judge c s (ev.Create session r) = judge_create c s session r
-judge c s (ev.Start session n) = judge_start s session n
-judge c s (ev.Done session n attempt o) = judge_done s session n attempt
-judge c s (ev.Fulfil session r) = judge_fulfil s session r
-judge c s (ev.LockNode session n) = judge_lock_node s session n
-judge c s (ev.UnlockNode session n) = judge_unlock_node s session n
-judge c s (ev.Acquire session j) = judge_acquire c s session j
-judge c s (ev.Take session j) = judge_take c s session j
-judge c s (ev.EndNode session n as_what) = judge_end_node c s session n
-judge c s (ev.Finish session j) = judge_finish c s session j
-judge c s (ev.Withdraw session j) = judge_withdraw c s session j
-judge c s (ev.Release session j) = judge_release c s session j
-judge c s (ev.MarkDeleting session n) = judge_mark_deleting c s session n
-judge c s (ev.Gone session n) = judge_gone s session n
-judge c s (ev.Reset session r) = judge_reset s session r
-judge c s (ev.FreeNode session n) = judge_free_node s session n
-judge c s (ev.FailDeclined session r) = judge_fail_declined s session r
-judge c s (ev.Sweep session n x) = judge_sweep s session n x
+judge c s Event.Tick = Ok Done.Plain
+judge c s (Event.OpenSession role) = judge_open c s role
+judge c s (Event.Crash session) = judge_crash s session
+judge c s (Event.Expire session) = judge_expire s session
+judge c s (Event.Register session) = judge_register s session
+judge c s (Event.Submit session j) = judge_submit c s session j
+judge c s (Event.Revise session j relative) = judge_revise c s session j
+judge c s (Event.MinReady session l) = judge_min_ready c s session l
+judge c s (Event.LockRequest session r) = judge_lock_request c s session r
+judge c s (Event.UnlockRequest session r) = judge_unlock_request s session r
+judge c s (Event.Accept session r) = judge_accept c s session r
+judge c s (Event.Decline session r why) = judge_decline c s session r why
+judge c s (Event.TakeReady session r n) = judge_take_ready s session r n
+judge c s (Event.Create session r) = judge_create c s session r
+judge c s (Event.Start session n) = judge_start s session n
+judge c s (Event.Done session n attempt o) = judge_done s session n attempt
+judge c s (Event.Fulfil session r) = judge_fulfil s session r
+judge c s (Event.LockNode session n) = judge_lock_node s session n
+judge c s (Event.UnlockNode session n) = judge_unlock_node s session n
+judge c s (Event.Acquire session j) = judge_acquire c s session j
+judge c s (Event.Take session j) = judge_take c s session j
+judge c s (Event.EndNode session n as_what) = judge_end_node c s session n
+judge c s (Event.Finish session j) = judge_finish c s session j
+judge c s (Event.Withdraw session j) = judge_withdraw c s session j
+judge c s (Event.Release session j) = judge_release c s session j
+judge c s (Event.MarkDeleting session n) = judge_mark_deleting c s session n
+judge c s (Event.Gone session n) = judge_gone s session n
+judge c s (Event.Reset session r) = judge_reset s session r
+judge c s (Event.FreeNode session n) = judge_free_node s session n
+judge c s (Event.FailDeclined session r) = judge_fail_declined s session r
+judge c s (Event.Sweep session n x) = judge_sweep s session n x
 
 -- what an accepted event changes, except for its role's acts
 abbrev pub effect : Configuration → State → Event → State
-effect c s ev.Tick = effect_tick s
-effect c s (ev.OpenSession role) = effect_open s role
-effect c s (ev.Crash session) = effect_crash s session
-effect c s (ev.Expire session) = effect_expire s session
-effect c s (ev.Register session) = effect_register s session
-effect c s (ev.Submit session j) = effect_submit c s j
-effect c s (ev.Revise session j relative) = effect_revise s j relative
-effect c s (ev.MinReady session l) = effect_min_ready s session l
-effect c s (ev.LockRequest session r) = effect_lock_request s session r
-effect c s (ev.UnlockRequest session r) = effect_unlock_request s session r
-effect c s (ev.Accept session r) = effect_accept s session r
-effect c s (ev.Decline session r why) = effect_decline s session r why
-effect c s (ev.TakeReady session r n) = effect_take_ready c s session r n
-effect c s (ev.Create session r) = effect_create c s session r
-effect c s (ev.Start session n) = effect_start s session n
-effect c s (ev.Done session n attempt o) = effect_done c s n o
-effect c s (ev.Fulfil session r) = effect_fulfil s r
-effect c s (ev.LockNode session n) = effect_lock_node s session n
-effect c s (ev.UnlockNode session n) = effect_unlock_node s session n
-effect c s (ev.Acquire session j) = effect_acquire c s j
-effect c s (ev.Take session j) = effect_take s j
-effect c s (ev.EndNode session n as_what) = effect_end_node s n as_what
-effect c s (ev.Finish session j) = effect_finish s j
-effect c s (ev.Withdraw session j) = effect_withdraw s j
-effect c s (ev.Release session j) = effect_release c s j
-effect c s (ev.MarkDeleting session n) = effect_mark_deleting s n
-effect c s (ev.Gone session n) = effect_gone s n
-effect c s (ev.Reset session r) = effect_reset s r
-effect c s (ev.FreeNode session n) = effect_free_node s n
-effect c s (ev.FailDeclined session r) = effect_fail_declined s r
-effect c s (ev.Sweep session n x) = effect_sweep s n x
+effect c s Event.Tick = effect_tick s
+effect c s (Event.OpenSession role) = effect_open s role
+effect c s (Event.Crash session) = effect_crash s session
+effect c s (Event.Expire session) = effect_expire s session
+effect c s (Event.Register session) = effect_register s session
+effect c s (Event.Submit session j) = effect_submit c s j
+effect c s (Event.Revise session j relative) = effect_revise s j relative
+effect c s (Event.MinReady session l) = effect_min_ready s session l
+effect c s (Event.LockRequest session r) = effect_lock_request s session r
+effect c s (Event.UnlockRequest session r) = effect_unlock_request s session r
+effect c s (Event.Accept session r) = effect_accept s session r
+effect c s (Event.Decline session r why) = effect_decline s session r why
+effect c s (Event.TakeReady session r n) = effect_take_ready c s session r n
+effect c s (Event.Create session r) = effect_create c s session r
+effect c s (Event.Start session n) = effect_start s session n
+effect c s (Event.Done session n attempt o) = effect_done c s n o
+effect c s (Event.Fulfil session r) = effect_fulfil s r
+effect c s (Event.LockNode session n) = effect_lock_node s session n
+effect c s (Event.UnlockNode session n) = effect_unlock_node s session n
+effect c s (Event.Acquire session j) = effect_acquire c s j
+effect c s (Event.Take session j) = effect_take s j
+effect c s (Event.EndNode session n as_what) = effect_end_node s n as_what
+effect c s (Event.Finish session j) = effect_finish s j
+effect c s (Event.Withdraw session j) = effect_withdraw s j
+effect c s (Event.Release session j) = effect_release c s j
+effect c s (Event.MarkDeleting session n) = effect_mark_deleting s n
+effect c s (Event.Gone session n) = effect_gone s n
+effect c s (Event.Reset session r) = effect_reset s r
+effect c s (Event.FreeNode session n) = effect_free_node s n
+effect c s (Event.FailDeclined session r) = effect_fail_declined s r
+effect c s (Event.Sweep session n x) = effect_sweep s n x
 
 -- the session that makes the event; tick, open, crash and expire have none
 abbrev pub maker_of : Event → Option SessionId
-maker_of ev.Tick = None
-maker_of (ev.OpenSession role) = None
-maker_of (ev.Crash session) = None
-maker_of (ev.Expire session) = None
-maker_of (ev.Register session) = Some session
-maker_of (ev.Submit session j) = Some session
-maker_of (ev.Revise session j relative) = Some session
-maker_of (ev.MinReady session l) = Some session
-maker_of (ev.LockRequest session r) = Some session
-maker_of (ev.UnlockRequest session r) = Some session
-maker_of (ev.Accept session r) = Some session
-maker_of (ev.Decline session r why) = Some session
-maker_of (ev.TakeReady session r n) = Some session
-maker_of (ev.Create session r) = Some session
-maker_of (ev.Start session n) = Some session
-maker_of (ev.Done session n attempt o) = Some session
-maker_of (ev.Fulfil session r) = Some session
-maker_of (ev.LockNode session n) = Some session
-maker_of (ev.UnlockNode session n) = Some session
-maker_of (ev.Acquire session j) = Some session
-maker_of (ev.Take session j) = Some session
-maker_of (ev.EndNode session n as_what) = Some session
-maker_of (ev.Finish session j) = Some session
-maker_of (ev.Withdraw session j) = Some session
-maker_of (ev.Release session j) = Some session
-maker_of (ev.MarkDeleting session n) = Some session
-maker_of (ev.Gone session n) = Some session
-maker_of (ev.Reset session r) = Some session
-maker_of (ev.FreeNode session n) = Some session
-maker_of (ev.FailDeclined session r) = Some session
-maker_of (ev.Sweep session n x) = Some session
+maker_of Event.Tick = None
+maker_of (Event.OpenSession role) = None
+maker_of (Event.Crash session) = None
+maker_of (Event.Expire session) = None
+maker_of (Event.Register session) = Some session
+maker_of (Event.Submit session j) = Some session
+maker_of (Event.Revise session j relative) = Some session
+maker_of (Event.MinReady session l) = Some session
+maker_of (Event.LockRequest session r) = Some session
+maker_of (Event.UnlockRequest session r) = Some session
+maker_of (Event.Accept session r) = Some session
+maker_of (Event.Decline session r why) = Some session
+maker_of (Event.TakeReady session r n) = Some session
+maker_of (Event.Create session r) = Some session
+maker_of (Event.Start session n) = Some session
+maker_of (Event.Done session n attempt o) = Some session
+maker_of (Event.Fulfil session r) = Some session
+maker_of (Event.LockNode session n) = Some session
+maker_of (Event.UnlockNode session n) = Some session
+maker_of (Event.Acquire session j) = Some session
+maker_of (Event.Take session j) = Some session
+maker_of (Event.EndNode session n as_what) = Some session
+maker_of (Event.Finish session j) = Some session
+maker_of (Event.Withdraw session j) = Some session
+maker_of (Event.Release session j) = Some session
+maker_of (Event.MarkDeleting session n) = Some session
+maker_of (Event.Gone session n) = Some session
+maker_of (Event.Reset session r) = Some session
+maker_of (Event.FreeNode session n) = Some session
+maker_of (Event.FailDeclined session r) = Some session
+maker_of (Event.Sweep session n x) = Some session
 
 -- ## the step
 
@@ -142,8 +134,8 @@ abbrev pub next : Configuration → State → Event → State
 next c s e = if is_ok (judge c s e) then with_act (acting s e) (effect c s e) else s
 
 abbrev pub reply_of : Answer → Reply
-reply_of (Ok what) = reply.Done what
-reply_of (Err refusal) = reply.Refused refusal
+reply_of (Ok what) = Reply.Done what
+reply_of (Err refusal) = Reply.Refused refusal
 
 -- the machine: the answer to the event, and the state that it leaves
 abbrev pub react : Configuration → State → Event → Reply × State

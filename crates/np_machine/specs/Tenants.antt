@@ -1,17 +1,11 @@
 -- what a tenant uses, and what it may use (own; Zuul's tenants, with a pool's limits)
 use Rattle.std.specs.Prelude.{Bool, false, ◌==◌, ◌&&◌, not, Option, Some, None, is_none, length, map, filter, drop, slice_get, option_and_then}
 use Rattle.std.specs.Option.{option_map, option_map_or}
-use Rattle.np_amount.specs.declared.amount.Amount.{Amount}
-use Rattle.np_amount.specs.declared.amount.Limit.{Limit}
-use Rattle.np_amount.specs.Amounts.{no_limit, nothing, plus, fits, total}
-use Rattle.np_text.specs.declared.id.PoolId.{PoolId}
-use Rattle.np_text.specs.declared.id.TenantId.{TenantId}
-use Rattle.np_config.specs.Configuration.{Configuration, tenant_of}
-use Rattle.np_record.specs.declared.record.RequestRecord.{RequestRecord}
 use Rattle.np_machine.specs.Entries.{RequestEntry, NodeEntry}
 use Rattle.np_machine.specs.Kinds.{is_pending}
 use Rattle.np_machine.specs.Count.{amount_of, amount_of_all}
 use Rattle.np_machine.specs.State.{State}
+use Rattle.np_machine.specs.Lower.{Amount, Configuration, Limit, PoolId, RequestRecord, TenantId, fits, no_limit, nothing, plus, tenant_of, total}
 
 abbrev pub limit_of_tenant : Configuration → TenantId → Limit
 limit_of_tenant c t = option_map_or (λ tenant. tenant.limit) (tenant_of c t) no_limit

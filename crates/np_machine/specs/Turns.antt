@@ -1,11 +1,8 @@
 -- a journal as its turns: each entry with the states before and after it
 use Rattle.std.specs.Prelude.{◌≡◌, Bool, true, false, List, [], ◌∷◌, ◌⊎◌}
-use Rattle.np_config.specs.Configuration.{Configuration}
-use Rattle.np_event.specs.declared.entry.Entry.{Entry}
-use Rattle.np_event.specs.declared.reply.Reply.{Reply}
-use Rattle.np_event.specs.declared.reply.Reply.TheVariants as reply
 use Rattle.np_machine.specs.Step.{next}
 use Rattle.np_machine.specs.State.{State, start}
+use Rattle.np_machine.specs.Lower.{Configuration, Entry, Reply}
 
 pub record Turn : Type 0 where
   pub before : State
@@ -31,8 +28,8 @@ EachTurn P [] = Unit {0}
 EachTurn P (t ∷ ts) = P t × EachTurn P ts
 
 abbrev pub is_done : Reply → Bool
-is_done (reply.Done what) = true
-is_done (reply.Refused why) = false
+is_done (Reply.Done what) = true
+is_done (Reply.Refused why) = false
 
 -- the event was accepted
 abbrev pub IsAccepted : Turn → Type 0

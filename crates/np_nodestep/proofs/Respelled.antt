@@ -3,11 +3,10 @@ use Rattle.std.proofs.Common.{◌≡◌, ℕ, ◌+◌, ◌-◌, ◌*◌, ◌<◌
 use Rattle.np_changes.specs.Prelude.{Configuration, NodeEntry, NodeId, State, change_first}
 use Rattle.np_layout.specs.Prelude.{HasRoomFor, IsStored, IsWhole, LaysOut, TreeState, after_part, decoded, next_change, set, with_next_number}
 use Rattle.np_layout.specs.declared.place.Place.TheVariants.{Node}
-use Rattle.np_layout.proofs.DeleteNodeWaits.{is_node_it}
-use Rattle.np_layout.proofs.SetNodes.{nodes-lay-out}
+use Rattle.np_layout.proofs.Deletes.{is_node_it}
+use Rattle.np_layout.proofs.Sets.{nodes-lay-out}
 use Rattle.np_layout.specs.Stands.{Stands}
-use Rattle.np_layout.proofs.Calls.{stands-numbered}
-use Rattle.np_layout.proofs.StandsLemmas.{room-after, room-less}
+use Rattle.np_layout.proofs.Stands.{room-after, room-less, stands-numbered}
 use Rattle.np_layout.proofs.OneState.{trees-have-one_state}
 use Rattle.np_keeper.specs.Keeper.{IsHeld, most_changes, room_left}
 use Rattle.np_nodestep.specs.Spelling.{IsSpelling, respelled}

@@ -1,11 +1,5 @@
 -- a text with no fault is a path
-use Rattle.std.proofs.Common.{◌≡◌, ℕ, ◌+◌, nat_lt, Bool, true, false, not, ◌&&◌, cond, List, [], ◌∷◌, length, Option, Some, None, refl, sym, ap, ◌∙◌, arith}
-use Rattle.std.proofs.lemmas.Bool.Decides.{nat_tests}
-use Rattle.std.proofs.lemmas.List.Splits.{slice_split-cons_yes, slice_split-cons_no}
-use Rattle.std.specs.Option.{is_none}
-use Rattle.std.specs.List.{position, position_or_len, onto_first, list_all}
-use Rattle.np_path.specs.Grammar.{elements, is_kept, is_slash, is_control, is_dots, is_element, is_path}
-use Rattle.np_path.specs.Faults.{first_fault, fault_in, fault_or, path_fault}
+use Rattle.np_path.proofs.Prelude.{Bool, List, None, Option, Some, ap, arith, cond, elements, false, fault_in, fault_or, first_fault, is_control, is_dots, is_element, is_kept, is_none, is_path, is_slash, length, list_all, nat_lt, nat_tests, not, onto_first, path_fault, position, position_or_len, refl, slice_split-cons_no, slice_split-cons_yes, sym, true, ℕ, [], ◌&&◌, ◌+◌, ◌∙◌, ◌∷◌, ◌≡◌}
 
 pub both-first : (p q : Bool) → (p && q) ≡ true → p ≡ true
 both-first p q both = grind (arith, nat_tests)

@@ -1,3 +1,4 @@
+pub mod Prelude
 pub mod Walk
 pub mod GrammarLemmas
 pub mod PartsLemmas

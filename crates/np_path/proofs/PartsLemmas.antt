@@ -1,21 +1,5 @@
 -- how parent, name and child are related
-use Rattle.std.proofs.Common.{◌≡◌, ℕ, zero, suc, ◌+◌, ◌-◌, ◌<◌, ◌≤◌, ◌≢◌, Bool, true, false, not, List, [], ◌∷◌, ◌++◌, length, take, drop, get_or, Some, refl, sym, ap, ◌∙◌, subst, arith}
-use Rattle.std.proofs.lemmas.Bool.Decides.{nat_tests}
-use Rattle.std.proofs.lemmas.List.{append_assoc, length-append, length-take-le, get_or_at, get_or-append_right}
-use Rattle.std.proofs.lemmas.List.Elements.{All-from_get_or}
-use Rattle.std.proofs.lemmas.Bool.{and_from, and_parts}
-use Rattle.std.proofs.lemmas.List.Folds.{list_all-append, list_any_none}
-use Rattle.std.proofs.lemmas.List.Splits.{slice_split-cons_yes, slice_split-cons_no}
-use Rattle.std.proofs.lemmas.List.Sums.{suffix_len_is}
-use Rattle.std.proofs.lemmas.Str.{IsCharBoundary-after_ascii}
-use Rattle.std.specs.Str.{IsUtf8, IsCharBoundary}
-use Rattle.std.specs.Char.{is_ascii_digit}
-use Rattle.std.specs.Str.{all_ascii_digits}
-use Rattle.std.specs.List.{list_any, suffix_len, before_last, list_all, onto_first}
-use Rattle.np_path.specs.Grammar.{elements, is_dots, is_element, is_kept, is_path, is_slash}
-use Rattle.np_text.specs.Number.{ten_digits_of}
-use Rattle.np_text.proofs.OrderLemmas.{all_ascii_digits-ten, ten-le-length}
-use Rattle.np_path.specs.Parts.{IsNameAt, below, name_of, or_root, parent_of, root, slashed}
+use Rattle.np_path.proofs.Prelude.{All-from_get_or, Bool, IsCharBoundary, IsCharBoundary-after_ascii, IsNameAt, IsUtf8, List, Some, all_ascii_digits, all_ascii_digits-ten, and_from, and_parts, ap, append_assoc, arith, before_last, below, drop, elements, false, get_or, get_or-append_right, get_or_at, is_ascii_digit, is_dots, is_element, is_kept, is_path, is_slash, length, length-append, length-take-le, list_all, list_all-append, list_any, list_any_none, name_of, nat_tests, not, onto_first, or_root, parent_of, refl, root, slashed, slice_split-cons_no, slice_split-cons_yes, subst, suc, suffix_len, suffix_len_is, sym, take, ten-le-length, ten_digits_of, true, zero, ℕ, [], ◌++◌, ◌+◌, ◌-◌, ◌<◌, ◌∙◌, ◌∷◌, ◌≡◌, ◌≢◌, ◌≤◌}
 use Rattle.np_path.proofs.GrammarLemmas.{both-first, both-second}
 use Rattle.np_path.proofs.Walk.{IsKeptTo, elements-one, kept_no_slash, onto_any}
 

@@ -1,16 +1,7 @@
 -- each path is its parent and its name
-use Rattle.std.proofs.Common.{◌≡◌, ℕ, zero, suc, ◌+◌, ◌-◌, ◌<◌, ◌≤◌, Bool, true, false, not, ◌&&◌, ◌||◌, List, [], ◌∷◌, ◌++◌, length, take, drop, get_or, Some, None, refl, sym, ap, ◌∙◌, arith}
-use Rattle.std.proofs.lemmas.Bool.Decides.{nat_tests}
-use Rattle.std.proofs.lemmas.List.{append_assoc, length-append, length-drop, get_or-drop, take-append-drop, take_at, drop_at, drop_more}
-use Rattle.std.proofs.lemmas.List.Elements.{All-from_get_or}
-use Rattle.std.proofs.lemmas.List.Splits.{slice_split_none}
-use Rattle.std.proofs.lemmas.List.Folds.{list_all-append}
-use Rattle.std.specs.List.{before_last, list_all, list_any}
-use Rattle.np_path.specs.Grammar.{elements, is_element, is_path, is_slash}
-use Rattle.np_path.specs.Parts.{IsNameAt, below, name_of, or_root, parent_of, root, slashed}
+use Rattle.np_path.proofs.Prelude.{All-from_get_or, Bool, IsNameAt, List, None, Some, and_from, ap, append_assoc, arith, before_last, below, drop, drop_at, drop_more, elements, false, get_or, get_or-drop, is_element, is_path, is_slash, length, length-append, length-drop, list_all, list_all-append, list_any, name_of, nat_tests, not, or_root, parent_of, refl, root, slashed, slice_split_none, suc, sym, take, take-append-drop, take_at, true, zero, ℕ, [], ◌&&◌, ◌++◌, ◌+◌, ◌-◌, ◌<◌, ◌||◌, ◌∙◌, ◌∷◌, ◌≡◌, ◌≤◌}
 use Rattle.np_path.proofs.GrammarLemmas.{both-first, both-second, has_no_slash}
 use Rattle.np_path.proofs.PartsLemmas.{AfterLast, before_last-last, name_of-last, IsNameAt-below, begins_with_slash, elements-append, is_slash-is, name_of-at, parent_of-at}
-use Rattle.std.proofs.lemmas.Bool.{and_from}
 
 none_after : (bs : List ℕ) → has_no_slash bs ≡ true → (k : ℕ) → k < length bs → is_slash (get_or bs k 0) ≡ false
 none_after [] none k below = absurd (omega arith)

@@ -1,14 +1,5 @@
-use Rattle.std.proofs.Common.{◌≡◌, ℕ, zero, suc, ◌+◌, ◌-◌, ◌<◌, ◌≤◌, true, false, List, [], ◌∷◌, ◌++◌, length, take, drop, get_or, Some, None, refl, ap, ◌∙◌, inl, inr, arith, ◌≢◌}
-use Rattle.std.proofs.lemmas.List.{get_or-drop, length-drop, length-take-le, get_or-take, drop-drop, get_or_append_left, length-append}
-use Rattle.std.proofs.lemmas.Bool.{cases_lt}
-use Rattle.std.proofs.lemmas.Bool.Decides.{nat_tests}
-use Rattle.std.proofs.lemmas.List.Splits.{slice_split-cons_yes, slice_split-cons_no}
-use Rattle.std.specs.Option.{is_none}
-use Rattle.std.specs.List.{position, position_or_len, onto_first}
-use Rattle.np_path.specs.Grammar.{elements, is_kept, is_slash, is_control, is_dots}
-use Rattle.np_path.specs.Parts.{IsNameAt}
+use Rattle.np_path.proofs.Prelude.{IsNameAt, List, None, Some, ap, arith, cases_lt, drop, drop-drop, elements, false, fault_in, first_fault, get_or, get_or-drop, get_or-take, get_or_append_left, inl, inr, is_control, is_dots, is_kept, is_none, is_slash, length, length-append, length-drop, length-take-le, nat_tests, onto_first, path_fault, position, position_or_len, refl, slice_split-cons_no, slice_split-cons_yes, suc, take, true, zero, ℕ, [], ◌++◌, ◌+◌, ◌-◌, ◌<◌, ◌∙◌, ◌∷◌, ◌≡◌, ◌≢◌, ◌≤◌}
 use Rattle.np_path.proofs.GrammarLemmas.{is_path-no_fault}
-use Rattle.np_path.specs.Faults.{first_fault, fault_in, path_fault}
 
 -- how far a walk is: in the element that begins at start, with nothing at fault before at
 pub record IsWalked (text : List ℕ) (start at : ℕ) : Type 0 where

@@ -1,10 +1,3 @@
-pub mod Tests
-pub mod Same
-pub mod Seen
-pub mod Known
-pub mod Asked
+pub mod Prelude
+pub mod Accepted
 pub mod Fresh
-pub mod Firsts
-pub mod Stands
-pub mod Parents
-pub mod Gathered

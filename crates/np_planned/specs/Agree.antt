@@ -4,16 +4,15 @@ use Rattle.np_changes.specs.Prelude.{AllByRecursion, Configuration, Event, State
 use Rattle.np_useful.specs.Planned.{is_planned}
 use Rattle.np_planned.specs.Spots.{spots_of}
 use Rattle.np_planned.specs.declared.spot.Spot.{Spot}
-use Rattle.np_planned.specs.declared.spot.Spot.TheVariants as spot
 
 -- what is at a spot is the same in two states
 abbrev pub AgreeAt : State → State → Spot → Type 0
-AgreeAt s u (spot.Session session) = session_of session s ≡ session_of session u
-AgreeAt s u (spot.Launcher p) = registered p s.registrations ≡ registered p u.registrations
-AgreeAt s u (spot.Request r) = request_in r s.requests ≡ request_in r u.requests
-AgreeAt s u (spot.RequestLock r) = request_queue r s.requests ≡ request_queue r u.requests
-AgreeAt s u (spot.Node n) = node_in n s.nodes ≡ node_in n u.nodes
-AgreeAt s u (spot.NodeLock n) = node_queue n s.nodes ≡ node_queue n u.nodes
+AgreeAt s u (Spot.Session session) = session_of session s ≡ session_of session u
+AgreeAt s u (Spot.Launcher p) = registered p s.registrations ≡ registered p u.registrations
+AgreeAt s u (Spot.Request r) = request_in r s.requests ≡ request_in r u.requests
+AgreeAt s u (Spot.RequestLock r) = request_queue r s.requests ≡ request_queue r u.requests
+AgreeAt s u (Spot.Node n) = node_in n s.nodes ≡ node_in n u.nodes
+AgreeAt s u (Spot.NodeLock n) = node_queue n s.nodes ≡ node_queue n u.nodes
 
 abbrev pub Agree : State → State → List Spot → Type 0
 Agree s u spots = AllByRecursion (AgreeAt s u) spots

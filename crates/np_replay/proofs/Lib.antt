@@ -1,7 +1,4 @@
-pub mod Told
+pub mod Prelude
 pub mod Statuses
-pub mod KeepStatuses
-pub mod GoingOn
 pub mod ResumeStatuses
-mod WalkLemmas
 mod ReadingLemmas

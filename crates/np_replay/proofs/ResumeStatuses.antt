@@ -1,19 +1,9 @@
--- what each status of a resume shows
-use Rattle.std.proofs.Common.{◌≡◌, ◌<◌, ℕ, List, Option, Some, None, Ok, Err, refl, subst, arith, inl, inr}
-use Rattle.std.specs.Prelude.{◌⊎◌, IfSome}
-use Rattle.np_io.specs.Counts.{Rose}
-use Rattle.np_io.specs.Facts.{SourceFacts, SinkFacts, IsWritten}
-use Rattle.np_io.specs.Disk.{DiskFacts}
-use Rattle.np_changes.specs.Prelude.{Configuration, Event}
-use Rattle.np_event.specs.declared.fault.LineFault.{LineFault}
-use Rattle.np_report.specs.declared.lines.LinesFault.{LinesFault}
-use Rattle.np_replay.specs.declared.ending.Ending.{Ending}
-use Rattle.np_replay.specs.declared.ending.Ending.TheVariants as ending
-use Rattle.np_replay.specs.Input.{IsInput, Stops}
-use Rattle.np_replay.specs.Told.{IsTold, long_line, read_line}
-use Rattle.np_replay.proofs.Told.{HasOwn, ShowsOwn, tells, complete-read}
-use Rattle.np_replay.specs.Logged.{IsDamagedAt, disk_line, more_of}
-use Rattle.np_replay.specs.Resume.{EndsResume, IsDamaged, IsMisread, IsNotResumed, IsReadLogOf, IsResumed, IsStatusBy, IsStatusIf, Resumes, ResumesWhole}
+-- how a resume goes on with a log that was loaded, and what each of its statuses shows
+use Rattle.np_replay.proofs.Prelude.{Configuration, DiskFacts, Ending, EndsResume, Err, Event, IfSome, IsCutOff, IsDamaged, IsDamagedAt, IsInput, IsMisread, IsNotResumed, IsReadLogOf, IsResumed, IsTold, IsWritten, LineFault, LinesFault, List, None, Ok, Option, Resumes, ResumesWhole, Rose, SinkFacts, Some, SourceFacts, Stops, arith, disk_line, inl, inr, long_line, more_of, read_line, refl, subst, ℕ, ◌<◌, ◌≡◌, ◌⊎◌, AllByRecursion, HasEventLine, IsGoingOn, IsPartOfLog, IsPlayable, IsReady, LeavesOnly, LeavesOnly-then, Place, Script, event_in-spelled, event_said, length, length-append, lines-append, lines_of, lines_read-all, lines_read-few, most_lines, ◌++◌, ◌+◌, ◌-◌, ◌≤◌}
+use Rattle.np_replay.proofs.Statuses.{HasOwn, ShowsOwn, tells, complete-read}
+use Rattle.np_replay.specs.Resume.{IsStatusBy, IsStatusIf}
+
+-- # what each status of a resume shows
 
 -- ## 0, 4, 10 and 11 are statuses of its own
 
@@ -33,6 +23,13 @@ own d source source_now disk disk_now = record {
   prints = λ text n ends. inl (omega (arith, ends.0));
   says = λ line n ends. is-own n (not-resumed source source_now (d disk) (d disk_now) line.items n ends);
 }
+
+-- the reason that a status of a line shows
+reasons : (source source_now : SourceFacts) (disk disk_now : DiskFacts) (line : List ℕ) (n : ℕ) → IsNotResumed source source_now disk disk_now line n →
+    (n ≡ 4 → IsMisread source source_now disk disk_now line) × (n ≡ 10 → IsCutOff source source_now disk disk_now line) × (n ≡ 11 → IsDamaged source source_now disk disk_now line)
+reasons source source_now disk disk_now line n (inl misread) = (λ four. misread.1, λ ten. absurd (omega (arith, ten, misread.0)), λ eleven. absurd (omega (arith, eleven, misread.0)))
+reasons source source_now disk disk_now line n (inr (inl cut)) = (λ four. absurd (omega (arith, four, cut.0)), λ ten. cut.1, λ eleven. absurd (omega (arith, eleven, cut.0)))
+reasons source source_now disk disk_now line n (inr (inr damaged)) = (λ four. absurd (omega (arith, four, damaged.0)), λ ten. absurd (omega (arith, ten, damaged.0)), λ eleven. damaged.1)
 
 -- ## status by status
 
@@ -70,12 +67,7 @@ module _ {S K E D : Type 0} (s : S → SourceFacts) (k : K → SinkFacts) (e : E
   misread-of : Own → status ≡ 4 → IsShownMisread
   misread-of (inl printed) four = absurd (omega (arith, four, printed.ends.0))
   misread-of (inr (inl filled)) four = absurd filled.ends
-  misread-of (inr (inr said)) four = by_why said.ends
-    where
-      by_why : IsNotResumed (s source) (s source_now) (d disk) (d disk_now) said.chosen.items status → IsShownMisread
-      by_why (inl misread) = (said.chosen.items, misread.1, said.whole, said.untouched)
-      by_why (inr (inl cut)) = absurd (omega (arith, four, cut.0))
-      by_why (inr (inr damaged)) = absurd (omega (arith, four, damaged.0))
+  misread-of (inr (inr said)) four = (said.chosen.items, (reasons (s source) (s source_now) (d disk) (d disk_now) said.chosen.items status said.ends).0 four, said.whole, said.untouched)
 
   abbrev IsShownBroken : Type 0
   IsShownBroken = Rose (d disk).faults (d disk_now).faults × IsWritten (e err) (e err_now) disk_line × (out_now ≡ out)
@@ -83,12 +75,9 @@ module _ {S K E D : Type 0} (s : S → SourceFacts) (k : K → SinkFacts) (e : E
   broken-of : Own → status ≡ 10 → IsShownBroken
   broken-of (inl printed) ten = absurd (omega (arith, ten, printed.ends.0))
   broken-of (inr (inl filled)) ten = absurd filled.ends
-  broken-of (inr (inr said)) ten = by_why said.ends
-    where
-      by_why : IsNotResumed (s source) (s source_now) (d disk) (d disk_now) said.chosen.items status → IsShownBroken
-      by_why (inl misread) = absurd (omega (arith, ten, misread.0))
-      by_why (inr (inl cut)) = (cut.1.broken.rose, subst (λ (line : List ℕ). IsWritten (e err) (e err_now) line) cut.1.broken.told said.whole, said.untouched)
-      by_why (inr (inr damaged)) = absurd (omega (arith, ten, damaged.0))
+  broken-of (inr (inr said)) ten =
+      let broken = ((reasons (s source) (s source_now) (d disk) (d disk_now) said.chosen.items status said.ends).1 ten).broken in
+      (broken.rose, subst (λ (line : List ℕ). IsWritten (e err) (e err_now) line) broken.told said.whole, said.untouched)
 
   abbrev IsShownDamaged : Type 0
   IsShownDamaged = (line : List ℕ) × IsDamaged (s source) (s source_now) (d disk) (d disk_now) line × IsWritten (e err) (e err_now) line × (out_now ≡ out)
@@ -96,12 +85,7 @@ module _ {S K E D : Type 0} (s : S → SourceFacts) (k : K → SinkFacts) (e : E
   damaged-of : Own → status ≡ 11 → IsShownDamaged
   damaged-of (inl printed) eleven = absurd (omega (arith, eleven, printed.ends.0))
   damaged-of (inr (inl filled)) eleven = absurd filled.ends
-  damaged-of (inr (inr said)) eleven = by_why said.ends
-    where
-      by_why : IsNotResumed (s source) (s source_now) (d disk) (d disk_now) said.chosen.items status → IsShownDamaged
-      by_why (inl misread) = absurd (omega (arith, eleven, misread.0))
-      by_why (inr (inl cut)) = absurd (omega (arith, eleven, cut.0))
-      by_why (inr (inr damaged)) = (said.chosen.items, damaged.1, said.whole, said.untouched)
+  damaged-of (inr (inr said)) eleven = (said.chosen.items, (reasons (s source) (s source_now) (d disk) (d disk_now) said.chosen.items status said.ends).2 eleven, said.whole, said.untouched)
 
   abbrev IsByInput : Type 0
   IsByInput = (came : List ℕ) × IsInput (s source) (s source_now) came × IsStatusBy (d disk) (d disk_now) came status
@@ -139,7 +123,41 @@ module _ {S K E D : Type 0} (s : S → SourceFacts) (k : K → SinkFacts) (e : E
             (λ long came. IsStatusIf (d disk) (d disk_now) long came status) by_input (λ left five. five) (λ read. read.0) (λ long. long.0) all (s source).left refl;
       }
     where
-      read-of : (out_now ≡ out) × (((Stops (s source) (s source_now) ending.ReadFault × (disk_now ≡ disk)) × IsWritten (e err) (e err_now) read_line) ⊎ ((Stops (s source) (s source_now) ending.TooLong × (disk_now ≡ disk)) × IsWritten (e err) (e err_now) long_line)) →
-          (out_now ≡ out) × ((Stops (s source) (s source_now) ending.ReadFault × IsWritten (e err) (e err_now) read_line) ⊎ (Stops (s source) (s source_now) ending.TooLong × IsWritten (e err) (e err_now) long_line))
+      read-of : (out_now ≡ out) × (((Stops (s source) (s source_now) Ending.ReadFault × (disk_now ≡ disk)) × IsWritten (e err) (e err_now) read_line) ⊎ ((Stops (s source) (s source_now) Ending.TooLong × (disk_now ≡ disk)) × IsWritten (e err) (e err_now) long_line)) →
+          (out_now ≡ out) × ((Stops (s source) (s source_now) Ending.ReadFault × IsWritten (e err) (e err_now) read_line) ⊎ (Stops (s source) (s source_now) Ending.TooLong × IsWritten (e err) (e err_now) long_line))
       read-of (same, inl fault) = (same, inl (fault.0.0, fault.1))
       read-of (same, inr long) = (same, inr (long.0.0, long.1))
+
+-- # going on with a log that was loaded
+
+-- ## the lines
+
+pub more-lines : (before : List Event) (came : List ℕ) (more : List Event) → more_of before came ≡ Ok more → AllByRecursion HasEventLine more
+more-lines before came more read = lines_read-all HasEventLine event_said (most_lines - length before) 1 (lines_of came) more (λ line e is. (event_in-spelled line e is).0) read
+
+-- the log's events and these are no more than a script may have
+pub more-few : (before : List Event) (came : List ℕ) (more : List Event) → length before ≤ 262144 → more_of before came ≡ Ok more → length before + length more ≤ 262144
+more-few before came more few read = omega (arith, lines_read-few event_said (most_lines - length before) 1 (lines_of came) more (omega arith) read)
+
+-- all events can be played
+pub more-playable : (script : Script) (came : List ℕ) (more : List Event) → IsPlayable script → more_of script.events came ≡ Ok more → IsPlayable (record { config = script.config; events = script.events ++ more })
+more-playable script came more playable read = record {
+  sound = playable.sound;
+  few = omega (arith, length-append script.events more, more-few script.events came more playable.few read);
+  lines = lines-append script.events more playable.lines (more-lines script.events came more read);
+}
+
+-- ## what a crash leaves
+
+-- the log was loaded, and then events were appended
+pub appended-leaves : (a b c : DiskFacts) (place : Place) (script : Script) (came : List ℕ) (more : List Event) → LeavesOnly a b a.may_leave → b.now ≡ a.now → IsReady b place script →
+    more_of script.events came ≡ Ok more → IfSome b.now (λ _. LeavesOnly b c (IsPartOfLog script.config script.events more)) → IfSome a.now (λ file. LeavesOnly a c (IsGoingOn a.may_leave file came))
+appended-leaves a b c place script came more first same ready read then =
+    subst (λ (o : Option (List ℕ)). IfSome o (λ file. LeavesOnly a c (IsGoingOn a.may_leave file came))) same (each b.now ready.says then)
+  where
+    each : (o : Option (List ℕ)) → IfSome o (IsReadLogOf script.config script.events) → IfSome o (λ _. LeavesOnly b c (IsPartOfLog script.config script.events more)) →
+        IfSome o (λ file. LeavesOnly a c (IsGoingOn a.may_leave file came))
+    each None was run = tt
+    each (Some file) was run =
+        LeavesOnly-then a b c a.may_leave (IsPartOfLog script.config script.events more) (IsGoingOn a.may_leave file came) first run (λ image old. inl old)
+        (λ image part. inr (script.config, script.events, more, was, read, part))

@@ -1,10 +1,9 @@
 -- which words are a command
 use Rattle.std.specs.Prelude.{◌≤◌, ◌==◌, ℕ, List, [], ◌∷◌, codes, if◌then◌else◌, Option, Some, None}
 use Rattle.std.specs.Str.{bytes_eq}
-use Rattle.np_text.specs.Number.{number_of}
 use Rattle.np_replay.specs.FileName.{is_file_name}
 use Rattle.np_replay.specs.declared.command.Command.{Command}
-use Rattle.np_replay.specs.declared.command.Command.TheVariants as the
+use Rattle.np_replay.specs.Lower.{number_of}
 
 -- the first word that is two dashes, left out
 abbrev pub without_dashes : List (List ℕ) → List (List ℕ)
@@ -14,21 +13,21 @@ without_dashes (w ∷ ws) = if bytes_eq w (codes "--") then ws else w ∷ withou
 -- the command of a word
 abbrev pub command_word : List ℕ → Option Command
 command_word w =
-    if bytes_eq w (codes "replay") then Some the.Replay
-    else if bytes_eq w (codes "run") then Some the.Run
-    else if bytes_eq w (codes "audit") then Some the.Audit
+    if bytes_eq w (codes "replay") then Some Command.Replay
+    else if bytes_eq w (codes "run") then Some Command.Run
+    else if bytes_eq w (codes "audit") then Some Command.Audit
     else None
 
 -- a drill of this number of jobs, if it is a number and not 0
 abbrev pub drill_of : Option ℕ → Option Command
 drill_of None = None
-drill_of (Some n) = if n == 0 then None else Some (the.Drill n)
+drill_of (Some n) = if n == 0 then None else Some (Command.Drill n)
 
 -- what is run, by the word after `run`
 abbrev pub run_of : List ℕ → Option Command
 run_of w =
-    if bytes_eq w (codes "hosts") then Some the.RunHosts
-    else if bytes_eq w (codes "planned") then Some the.RunPlanned
+    if bytes_eq w (codes "hosts") then Some Command.RunHosts
+    else if bytes_eq w (codes "planned") then Some Command.RunPlanned
     else None
 
 -- the command of two words: `run` and what is run, `drill` and a decimal number of at most 4,000
@@ -37,8 +36,8 @@ abbrev pub command_pair : List ℕ → List ℕ → Option Command
 command_pair w v =
     if bytes_eq w (codes "run") then run_of v
     else if bytes_eq w (codes "drill") then drill_of (number_of 4000 v)
-    else if bytes_eq w (codes "keep") then (if is_file_name v then Some (the.Keep v) else None)
-    else if bytes_eq w (codes "resume") then (if is_file_name v then Some (the.Resume v) else None)
+    else if bytes_eq w (codes "keep") then (if is_file_name v then Some (Command.Keep v) else None)
+    else if bytes_eq w (codes "resume") then (if is_file_name v then Some (Command.Resume v) else None)
     else None
 
 -- the command of words without dashes
@@ -54,11 +53,11 @@ command words = bare_command (without_dashes words)
 
 -- a drill has from 1 to 4,000 jobs
 abbrev pub HasJobs : Command → Type 0
-HasJobs the.Replay = Unit {0}
-HasJobs the.Run = Unit {0}
-HasJobs the.RunHosts = Unit {0}
-HasJobs the.RunPlanned = Unit {0}
-HasJobs the.Audit = Unit {0}
-HasJobs (the.Drill jobs) = (1 ≤ jobs) × (jobs ≤ 4000)
-HasJobs (the.Keep file) = Unit {0}
-HasJobs (the.Resume file) = Unit {0}
+HasJobs Command.Replay = Unit {0}
+HasJobs Command.Run = Unit {0}
+HasJobs Command.RunHosts = Unit {0}
+HasJobs Command.RunPlanned = Unit {0}
+HasJobs Command.Audit = Unit {0}
+HasJobs (Command.Drill jobs) = (1 ≤ jobs) × (jobs ≤ 4000)
+HasJobs (Command.Keep file) = Unit {0}
+HasJobs (Command.Resume file) = Unit {0}

@@ -1,9 +1,8 @@
 -- what a command that reads its input shows of a failure
 use Rattle.std.specs.Prelude.{◌≡◌, ◌<◌, ◌⊎◌, ℕ, IfSome, length}
-use Rattle.np_io.specs.Counts.{Rose}
-use Rattle.np_io.specs.Facts.{SourceFacts, SinkFacts, IsWritten}
 use Rattle.np_replay.specs.Input.{most}
 use Rattle.np_replay.specs.Told.{read_line, long_line, memory_line}
+use Rattle.np_replay.specs.Lower.{IsWritten, Rose, SinkFacts, SourceFacts}
 
 pub record ShowsFailures {S K E : Type 0} (s : S → SourceFacts) (k : K → SinkFacts) (e : E → SinkFacts) (source source_now : S) (out out_now : K) (err err_now : E) (status : ℕ) : Type 0 where
   -- status 5: a read failed, or too many bytes came; err says which

@@ -1,9 +1,7 @@
 -- the whole input, or why there is none
 use Rattle.std.specs.Prelude.{◌≡◌, ◌≤◌, ◌<◌, ℕ, true, List, [], Some, IfSome, length}
-use Rattle.np_io.specs.Counts.{Rose}
-use Rattle.np_io.specs.Facts.{SourceFacts}
 use Rattle.np_replay.specs.declared.ending.Ending.{Ending}
-use Rattle.np_replay.specs.declared.ending.Ending.TheVariants as ending
+use Rattle.np_replay.specs.Lower.{Rose, SourceFacts}
 
 -- the most bytes of an input
 abbrev pub most : ℕ
@@ -19,10 +17,10 @@ pub record IsInput (source source_now : SourceFacts) (came : List ℕ) : Type 0 
 
 -- why there is no input
 abbrev pub Stops : SourceFacts → SourceFacts → Ending → Type 0
-Stops source source_now (ending.Prints text status) = ⊥
-Stops source source_now (ending.Full text) = ⊥
-Stops source source_now (ending.Says line status) = ⊥
-Stops source source_now ending.NoCommand = ⊥
-Stops source source_now ending.ReadFault = Rose source.faults source_now.faults
-Stops source source_now ending.TooLong = IfSome source.left (λ left. most < length left)
-Stops source source_now ending.NoMemory = Unit {0}
+Stops source source_now (Ending.Prints text status) = ⊥
+Stops source source_now (Ending.Full text) = ⊥
+Stops source source_now (Ending.Says line status) = ⊥
+Stops source source_now Ending.NoCommand = ⊥
+Stops source source_now Ending.ReadFault = Rose source.faults source_now.faults
+Stops source source_now Ending.TooLong = IfSome source.left (λ left. most < length left)
+Stops source source_now Ending.NoMemory = Unit {0}

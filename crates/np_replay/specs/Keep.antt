@@ -1,20 +1,13 @@
 -- what the command `keep` does: a replay whose script is in a log before it is played
 use Rattle.std.specs.Prelude.{◌≡◌, ◌⊎◌, ◌<◌, ℕ, List, [], Bool, true, false, IfSome, Result, Ok, Err, length, nat_lt}
-use Rattle.np_io.specs.Counts.{Rose}
-use Rattle.np_io.specs.Facts.{SourceFacts, SinkFacts, IsWritten}
-use Rattle.np_io.specs.Disk.{DiskFacts, LeavesOnly}
-use Rattle.np_log.specs.Log.{content_of}
-use Rattle.np_report.specs.declared.script.Script.{Script}
-use Rattle.np_report.specs.declared.script.ScriptFault.{ScriptFault}
-use Rattle.np_report.specs.Script.{script_of}
 use Rattle.np_replay.specs.declared.ending.Ending.{Ending}
-use Rattle.np_replay.specs.declared.ending.Ending.TheVariants as ending
 use Rattle.np_replay.specs.Input.{IsInput, Stops, most}
 use Rattle.np_replay.specs.Lines.{script_status}
 use Rattle.np_replay.specs.Failures.{ShowsFailures}
 use Rattle.np_replay.specs.Told.{IsTold, EndsSo}
 use Rattle.np_replay.specs.Replay.{IsFaulty, IsReplayed}
 use Rattle.np_replay.specs.Logged.{HoldsLog, IsPartOfLog, disk_line, not_empty_line}
+use Rattle.np_replay.specs.Lower.{DiskFacts, IsWritten, LeavesOnly, Rose, Script, ScriptFault, SinkFacts, SourceFacts, content_of, script_of}
 
 -- ## the file
 
@@ -59,15 +52,15 @@ IsNotKept disk disk_now line status =
 
 -- how a keep may end, by what came from the source and what the disk had
 abbrev pub EndsKeep : {D : Type 0} → (D → DiskFacts) → SourceFacts → SourceFacts → D → D → Ending → Type 0
-EndsKeep d source source_now disk disk_now (ending.Prints text status) = (status ≡ 0) × IsKept d source source_now disk disk_now text.items
-EndsKeep d source source_now disk disk_now (ending.Full text) = ⊥
-EndsKeep d source source_now disk disk_now (ending.Says line status) =
+EndsKeep d source source_now disk disk_now (Ending.Prints text status) = (status ≡ 0) × IsKept d source source_now disk disk_now text.items
+EndsKeep d source source_now disk disk_now (Ending.Full text) = ⊥
+EndsKeep d source source_now disk disk_now (Ending.Says line status) =
     (IsFaulty source source_now line.items status × (disk_now ≡ disk))
     ⊎ (HasScript source source_now × IsNotKept (d disk) (d disk_now) line.items status)
-EndsKeep d source source_now disk disk_now ending.NoCommand = ⊥
-EndsKeep d source source_now disk disk_now ending.ReadFault = Stops source source_now ending.ReadFault × (disk_now ≡ disk)
-EndsKeep d source source_now disk disk_now ending.TooLong = Stops source source_now ending.TooLong × (disk_now ≡ disk)
-EndsKeep d source source_now disk disk_now ending.NoMemory = Unit {0}
+EndsKeep d source source_now disk disk_now Ending.NoCommand = ⊥
+EndsKeep d source source_now disk disk_now Ending.ReadFault = Stops source source_now Ending.ReadFault × (disk_now ≡ disk)
+EndsKeep d source source_now disk disk_now Ending.TooLong = Stops source source_now Ending.TooLong × (disk_now ≡ disk)
+EndsKeep d source source_now disk disk_now Ending.NoMemory = Unit {0}
 
 -- ## what a crash leaves
 

@@ -1,21 +1,11 @@
 -- keeping a script that was read: what `Keep` says of it, before it is known where the script came from
 use Rattle.std.specs.Prelude.{◌≡◌, ◌⊎◌, ℕ, List, [], Result, Err}
-use Rattle.np_io.specs.Counts.{Rose}
-use Rattle.np_io.specs.Facts.{SourceFacts}
-use Rattle.np_io.specs.Disk.{DiskFacts}
-use Rattle.np_log.specs.Log.{content_of}
-use Rattle.np_report.specs.declared.script.Script.{Script}
-use Rattle.np_report.specs.declared.script.ScriptFault.{ScriptFault}
-use Rattle.np_report.specs.Script.{script_of}
-use Rattle.np_report.specs.Played.{played}
-use Rattle.np_report.specs.Printed.{IsPrinted}
 use Rattle.np_replay.specs.declared.ending.Ending.{Ending}
-use Rattle.np_replay.specs.declared.ending.Ending.TheVariants as ending
 use Rattle.np_replay.specs.Input.{IsInput}
 use Rattle.np_replay.specs.declared.fault.LogFault.{LogFault}
-use Rattle.np_replay.specs.declared.fault.LogFault.TheVariants as log
 use Rattle.np_replay.specs.Keep.{IsNotKept, WasEmpty, WasNotEmpty}
 use Rattle.np_replay.specs.Logged.{HoldsLog, IsPartOfLog}
+use Rattle.np_replay.specs.Lower.{DiskFacts, IsPrinted, Rose, Script, ScriptFault, SourceFacts, content_of, played, script_of}
 
 -- the source was read to its end, and its bytes are this script, or have this fault
 pub record HasCome (source source_now : SourceFacts) (read : Result Script ScriptFault) : Type 0 where
@@ -29,10 +19,10 @@ IsBegunBy images script image = images image ⊎ ((content_of image ≡ Err 0) �
 
 -- why the log of a script was not written
 abbrev pub WhyNotWritten : DiskFacts → DiskFacts → LogFault → Type 0
-WhyNotWritten disk disk_now log.Disk = Rose disk.faults disk_now.faults
-WhyNotWritten disk disk_now log.NotEmpty = WasNotEmpty disk × (disk_now.now ≡ disk.now)
-WhyNotWritten disk disk_now (log.Damaged number) = ⊥
-WhyNotWritten disk disk_now log.NoMemory = Unit {0}
+WhyNotWritten disk disk_now LogFault.Disk = Rose disk.faults disk_now.faults
+WhyNotWritten disk disk_now LogFault.NotEmpty = WasNotEmpty disk × (disk_now.now ≡ disk.now)
+WhyNotWritten disk disk_now (LogFault.Damaged number) = ⊥
+WhyNotWritten disk disk_now LogFault.NoMemory = Unit {0}
 
 -- the script was played, and the log is the script
 pub record IsKeptAs (disk disk_now : DiskFacts) (script : Script) (text : List ℕ) : Type 0 where
@@ -42,10 +32,10 @@ pub record IsKeptAs (disk disk_now : DiskFacts) (script : Script) (text : List �
 
 -- how keeping a script may end
 abbrev pub EndsKeeping : DiskFacts → DiskFacts → Script → Ending → Type 0
-EndsKeeping disk disk_now script (ending.Prints text status) = (status ≡ 0) × IsKeptAs disk disk_now script text.items
-EndsKeeping disk disk_now script (ending.Full text) = ⊥
-EndsKeeping disk disk_now script (ending.Says line status) = IsNotKept disk disk_now line.items status
-EndsKeeping disk disk_now script ending.NoCommand = ⊥
-EndsKeeping disk disk_now script ending.ReadFault = ⊥
-EndsKeeping disk disk_now script ending.TooLong = ⊥
-EndsKeeping disk disk_now script ending.NoMemory = Unit {0}
+EndsKeeping disk disk_now script (Ending.Prints text status) = (status ≡ 0) × IsKeptAs disk disk_now script text.items
+EndsKeeping disk disk_now script (Ending.Full text) = ⊥
+EndsKeeping disk disk_now script (Ending.Says line status) = IsNotKept disk disk_now line.items status
+EndsKeeping disk disk_now script Ending.NoCommand = ⊥
+EndsKeeping disk disk_now script Ending.ReadFault = ⊥
+EndsKeeping disk disk_now script Ending.TooLong = ⊥
+EndsKeeping disk disk_now script Ending.NoMemory = Unit {0}

@@ -1,3 +1,4 @@
+pub mod Lower
 pub mod Told
 pub mod Input
 pub mod Failures

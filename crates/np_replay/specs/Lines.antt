@@ -1,30 +1,17 @@
 -- the lines that report the fault of a script or of a site with hosts, and its status
 use Rattle.std.specs.Prelude.{ℕ, List, ◌++◌, codes, decimal}
-use Rattle.np_changes.specs.Prelude.{PoolId, line}
-use Rattle.np_json.specs.declared.fault.ConfigKind.{ConfigKind}
-use Rattle.np_json.specs.declared.fault.ConfigKind.TheVariants as kind
-use Rattle.np_json.specs.declared.fault.ConfigFault.{ConfigFault}
-use Rattle.np_event.specs.declared.fault.LineFault.{LineFault}
-use Rattle.np_event.specs.declared.fault.LineFault.TheVariants as fault
-use Rattle.np_report.specs.declared.lines.LinesFault.{LinesFault}
-use Rattle.np_report.specs.declared.lines.LinesFault.TheVariants as lines
-use Rattle.np_report.specs.declared.script.ScriptFault.{ScriptFault}
-use Rattle.np_report.specs.declared.script.ScriptFault.TheVariants as script
-use Rattle.np_static.specs.declared.fault.HostsFault.{HostsFault}
-use Rattle.np_static.specs.declared.fault.HostsFault.TheVariants as hosts
-use Rattle.np_static.specs.declared.fault.HostedFault.{HostedFault}
-use Rattle.np_static.specs.declared.fault.HostedFault.TheVariants as hosted
+use Rattle.np_replay.specs.Lower.{ConfigFault, ConfigKind, HostedFault, HostsFault, LineFault, LinesFault, PoolId, ScriptFault, line}
 
 abbrev pub kind_text : ConfigKind → List ℕ
-kind_text kind.NotJson = codes "not-json"
-kind_text kind.Missing = codes "missing"
-kind_text kind.UnknownKey = codes "unknown-key"
-kind_text kind.WrongType = codes "wrong-type"
-kind_text kind.OutOfRange = codes "out-of-range"
-kind_text kind.BadName = codes "bad-name"
-kind_text kind.Repeated = codes "repeated"
-kind_text kind.UnknownName = codes "unknown-name"
-kind_text kind.TooMany = codes "too-many"
+kind_text ConfigKind.NotJson = codes "not-json"
+kind_text ConfigKind.Missing = codes "missing"
+kind_text ConfigKind.UnknownKey = codes "unknown-key"
+kind_text ConfigKind.WrongType = codes "wrong-type"
+kind_text ConfigKind.OutOfRange = codes "out-of-range"
+kind_text ConfigKind.BadName = codes "bad-name"
+kind_text ConfigKind.Repeated = codes "repeated"
+kind_text ConfigKind.UnknownName = codes "unknown-name"
+kind_text ConfigKind.TooMany = codes "too-many"
 
 -- a configuration's fault: its kind, and its place after a number sign
 unfoldable pub config_line : ConfigFault → List ℕ
@@ -35,9 +22,9 @@ separator_line = line (codes "poolsim: script: no separator")
 
 -- an event line's fault; a word's place counts from 1
 abbrev pub fault_text : LineFault → List ℕ
-fault_text fault.UnknownEvent = codes "unknown-event"
-fault_text fault.WrongCount = codes "wrong-count"
-fault_text (fault.BadArgument word) = codes "bad-argument " ++ decimal word
+fault_text LineFault.UnknownEvent = codes "unknown-event"
+fault_text LineFault.WrongCount = codes "wrong-count"
+fault_text (LineFault.BadArgument word) = codes "bad-argument " ++ decimal word
 
 -- what is wrong with the line of a number, after what it is a line of
 unfoldable pub numbered_line : List ℕ → ℕ → List ℕ → List ℕ
@@ -49,20 +36,20 @@ event_line n what = numbered_line (codes "poolsim: script: line ") n what
 
 -- the line that reports the first event line that is at fault, or one too many
 abbrev pub lines_line : LinesFault LineFault → List ℕ
-lines_line (lines.Line n f) = event_line n (fault_text f)
-lines_line (lines.TooMany n) = event_line n (codes "too-many")
+lines_line (LinesFault.Line n f) = event_line n (fault_text f)
+lines_line (LinesFault.TooMany n) = event_line n (codes "too-many")
 
 -- the line that reports a script's fault
 abbrev pub script_line : ScriptFault → List ℕ
-script_line (script.Config f) = config_line f
-script_line script.NoSeparator = separator_line
-script_line (script.Lines f) = lines_line f
+script_line (ScriptFault.Config f) = config_line f
+script_line ScriptFault.NoSeparator = separator_line
+script_line (ScriptFault.Lines f) = lines_line f
 
 -- its status
 abbrev pub script_status : ScriptFault → ℕ
-script_status (script.Config f) = 3
-script_status script.NoSeparator = 4
-script_status (script.Lines f) = 4
+script_status (ScriptFault.Config f) = 3
+script_status ScriptFault.NoSeparator = 4
+script_status (ScriptFault.Lines f) = 4
 
 -- ## hosts
 
@@ -76,18 +63,18 @@ room_line p room = line (codes "poolsim: hosts: pool p" ++ decimal p.0 ++ codes 
 
 -- the line that reports the fault of host lines
 abbrev pub hosts_line : HostsFault → List ℕ
-hosts_line (hosts.Line n f) = host_line n (fault_text f)
-hosts_line (hosts.TooMany n) = host_line n (codes "too-many")
-hosts_line (hosts.Room p room) = room_line p room
+hosts_line (HostsFault.Line n f) = host_line n (fault_text f)
+hosts_line (HostsFault.TooMany n) = host_line n (codes "too-many")
+hosts_line (HostsFault.Room p room) = room_line p room
 
 -- the line that reports the fault of a site with hosts
 abbrev pub hosted_line : HostedFault → List ℕ
-hosted_line (hosted.Config f) = config_line f
-hosted_line hosted.NoSeparator = line (codes "poolsim: hosts: no separator")
-hosted_line (hosted.Hosts f) = hosts_line f
+hosted_line (HostedFault.Config f) = config_line f
+hosted_line HostedFault.NoSeparator = line (codes "poolsim: hosts: no separator")
+hosted_line (HostedFault.Hosts f) = hosts_line f
 
 -- its status
 abbrev pub hosted_status : HostedFault → ℕ
-hosted_status (hosted.Config f) = 3
-hosted_status hosted.NoSeparator = 4
-hosted_status (hosted.Hosts f) = 4
+hosted_status (HostedFault.Config f) = 3
+hosted_status HostedFault.NoSeparator = 4
+hosted_status (HostedFault.Hosts f) = 4

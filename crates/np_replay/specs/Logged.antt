@@ -1,14 +1,6 @@
 -- what a transaction log says of a site and its events, and what a crash leaves of it
 use Rattle.std.specs.Prelude.{◌≡◌, ◌⊎◌, ◌≤◌, ◌-◌, ◌++◌, ℕ, List, length, take, IfSome, Result, Ok, Err, codes, decimal}
-use Rattle.np_changes.specs.Prelude.{Configuration, Event, line, lines_of}
-use Rattle.np_event.specs.declared.fault.LineFault.{LineFault}
-use Rattle.np_config_read.specs.Walk.{reads}
-use Rattle.np_config_text.specs.Canonical.{canonical}
-use Rattle.np_io.specs.Disk.{DiskFacts, Only}
-use Rattle.np_log.specs.Log.{Content, content_of}
-use Rattle.np_report.specs.declared.lines.LinesFault.{LinesFault}
-use Rattle.np_report.specs.Lines.{lines_read}
-use Rattle.np_report.specs.Script.{event_said, most_lines}
+use Rattle.np_replay.specs.Lower.{Configuration, Content, DiskFacts, Event, LineFault, LinesFault, Only, canonical, content_of, event_said, line, lines_of, lines_read, most_lines, reads}
 
 -- ## what a log says
 

@@ -1,18 +1,11 @@
 -- what the command `replay` does
 use Rattle.std.specs.Prelude.{◌≡◌, ◌⊎◌, ℕ, List, IfSome, Result, Ok, Err, length, nat_lt, if◌then◌else◌}
-use Rattle.np_io.specs.Counts.{Rose}
-use Rattle.np_io.specs.Facts.{SourceFacts, SinkFacts, IsWritten}
-use Rattle.np_report.specs.declared.script.Script.{Script}
-use Rattle.np_report.specs.declared.script.ScriptFault.{ScriptFault}
-use Rattle.np_report.specs.Script.{script_of}
-use Rattle.np_report.specs.Played.{played}
-use Rattle.np_report.specs.Printed.{IsPrinted}
 use Rattle.np_replay.specs.declared.ending.Ending.{Ending}
-use Rattle.np_replay.specs.declared.ending.Ending.TheVariants as ending
 use Rattle.np_replay.specs.Input.{IsInput, Stops, most}
 use Rattle.np_replay.specs.Lines.{script_line, script_status}
 use Rattle.np_replay.specs.Failures.{ShowsFailures}
 use Rattle.np_replay.specs.Told.{IsTold, EndsAs}
+use Rattle.np_replay.specs.Lower.{IsPrinted, IsWritten, Rose, Script, ScriptFault, SinkFacts, SourceFacts, played, script_of}
 
 -- ## how a replay may end
 
@@ -35,13 +28,13 @@ pub record IsFaulty (source source_now : SourceFacts) (line : List ℕ) (status 
 
 -- how a replay may end, by what came from the source
 abbrev pub EndsReplay : SourceFacts → SourceFacts → Ending → Type 0
-EndsReplay source source_now (ending.Prints text status) = (status ≡ 0) × IsReplayed source source_now text.items
-EndsReplay source source_now (ending.Full text) = ⊥
-EndsReplay source source_now (ending.Says line status) = IsFaulty source source_now line.items status
-EndsReplay source source_now ending.NoCommand = ⊥
-EndsReplay source source_now ending.ReadFault = Stops source source_now ending.ReadFault
-EndsReplay source source_now ending.TooLong = Stops source source_now ending.TooLong
-EndsReplay source source_now ending.NoMemory = Unit {0}
+EndsReplay source source_now (Ending.Prints text status) = (status ≡ 0) × IsReplayed source source_now text.items
+EndsReplay source source_now (Ending.Full text) = ⊥
+EndsReplay source source_now (Ending.Says line status) = IsFaulty source source_now line.items status
+EndsReplay source source_now Ending.NoCommand = ⊥
+EndsReplay source source_now Ending.ReadFault = Stops source source_now Ending.ReadFault
+EndsReplay source source_now Ending.TooLong = Stops source source_now Ending.TooLong
+EndsReplay source source_now Ending.NoMemory = Unit {0}
 
 -- ## the status that belongs to an input
 

@@ -1,23 +1,13 @@
 -- what the command `resume` does: the events of a log, and then those of its input
 use Rattle.std.specs.Prelude.{◌≡◌, ◌⊎◌, ℕ, List, ◌++◌, Bool, true, false, IfSome, Ok, Err, length, nat_lt}
-use Rattle.np_io.specs.Counts.{Rose}
-use Rattle.np_io.specs.Facts.{SourceFacts, SinkFacts, IsWritten}
-use Rattle.np_io.specs.Disk.{DiskFacts, LeavesOnly}
-use Rattle.np_changes.specs.Prelude.{Configuration, Event}
-use Rattle.np_event.specs.declared.fault.LineFault.{LineFault}
-use Rattle.np_config_read.specs.Walk.{reads}
-use Rattle.np_config_text.specs.Canonical.{canonical}
-use Rattle.np_report.specs.declared.lines.LinesFault.{LinesFault}
-use Rattle.np_report.specs.Played.{played}
-use Rattle.np_report.specs.Printed.{IsPrinted}
 use Rattle.np_replay.specs.declared.ending.Ending.{Ending}
-use Rattle.np_replay.specs.declared.ending.Ending.TheVariants as ending
 use Rattle.np_replay.specs.Input.{IsInput, Stops, most}
 use Rattle.np_replay.specs.Lines.{lines_line}
 use Rattle.np_replay.specs.Failures.{ShowsFailures}
 use Rattle.np_replay.specs.Told.{IsTold, EndsSo}
 use Rattle.np_replay.specs.Keep.{IsBroken}
 use Rattle.np_replay.specs.Logged.{HoldsLog, IsDamagedAt, IsLogOf, IsPartOfLog, damaged_line, disk_line, more_of}
+use Rattle.np_replay.specs.Lower.{Configuration, DiskFacts, Event, IsPrinted, IsWritten, LeavesOnly, LineFault, LinesFault, Rose, SinkFacts, SourceFacts, canonical, played, reads}
 
 -- the bytes are a log of this configuration and these events, and what record 0 is read as is this configuration
 abbrev pub IsReadLogOf : Configuration → List Event → List ℕ → Type 0
@@ -73,13 +63,13 @@ IsNotResumed source source_now disk disk_now line status =
 
 -- how a resume may end, by what came from the source and what the disk had
 abbrev pub EndsResume : {D : Type 0} → (D → DiskFacts) → SourceFacts → SourceFacts → D → D → Ending → Type 0
-EndsResume d source source_now disk disk_now (ending.Prints text status) = (status ≡ 0) × IsResumed d source source_now disk disk_now text.items
-EndsResume d source source_now disk disk_now (ending.Full text) = ⊥
-EndsResume d source source_now disk disk_now (ending.Says line status) = IsNotResumed source source_now (d disk) (d disk_now) line.items status
-EndsResume d source source_now disk disk_now ending.NoCommand = ⊥
-EndsResume d source source_now disk disk_now ending.ReadFault = Stops source source_now ending.ReadFault × (disk_now ≡ disk)
-EndsResume d source source_now disk disk_now ending.TooLong = Stops source source_now ending.TooLong × (disk_now ≡ disk)
-EndsResume d source source_now disk disk_now ending.NoMemory = Unit {0}
+EndsResume d source source_now disk disk_now (Ending.Prints text status) = (status ≡ 0) × IsResumed d source source_now disk disk_now text.items
+EndsResume d source source_now disk disk_now (Ending.Full text) = ⊥
+EndsResume d source source_now disk disk_now (Ending.Says line status) = IsNotResumed source source_now (d disk) (d disk_now) line.items status
+EndsResume d source source_now disk disk_now Ending.NoCommand = ⊥
+EndsResume d source source_now disk disk_now Ending.ReadFault = Stops source source_now Ending.ReadFault × (disk_now ≡ disk)
+EndsResume d source source_now disk disk_now Ending.TooLong = Stops source source_now Ending.TooLong × (disk_now ≡ disk)
+EndsResume d source source_now disk disk_now Ending.NoMemory = Unit {0}
 
 -- ## what a crash leaves
 

@@ -1,27 +1,13 @@
 -- going on with a log: what `Resume` says of it, before it is known where the lines came from
 use Rattle.std.specs.Prelude.{◌≡◌, ℕ, List, ◌++◌, length, IfSome, Option, Some, None, Ok, Err}
-use Rattle.np_io.specs.Counts.{Rose}
-use Rattle.np_io.specs.Disk.{DiskFacts}
-use Rattle.np_changes.specs.Prelude.{Configuration, Event}
-use Rattle.np_event.specs.declared.fault.LineFault.{LineFault}
-use Rattle.np_config_read.specs.Walk.{reads}
-use Rattle.np_config_text.specs.Canonical.{canonical}
-use Rattle.np_log.specs.Place.{IsSettled, Place}
-use Rattle.np_report.specs.declared.lines.LinesFault.{LinesFault}
-use Rattle.np_report.specs.declared.script.Script.{Script}
-use Rattle.np_report.specs.Script.{IsPlayable}
-use Rattle.np_report.specs.Played.{played}
-use Rattle.np_report.specs.Printed.{IsPrinted}
 use Rattle.np_replay.specs.declared.ending.Ending.{Ending}
-use Rattle.np_replay.specs.declared.ending.Ending.TheVariants as ending
 use Rattle.np_replay.specs.Lines.{lines_line}
 use Rattle.np_replay.specs.declared.fault.LogFault.{LogFault}
-use Rattle.np_replay.specs.declared.fault.LogFault.TheVariants as log
 use Rattle.np_replay.specs.declared.resuming.ResumeFault.{ResumeFault}
-use Rattle.np_replay.specs.declared.resuming.ResumeFault.TheVariants as resume
 use Rattle.np_replay.specs.Faults.{TellsFault}
 use Rattle.np_replay.specs.Logged.{HoldsLog, IsDamagedAt, more_of}
 use Rattle.np_replay.specs.Resume.{IsReadLogOf}
+use Rattle.np_replay.specs.Lower.{Configuration, DiskFacts, Event, IsPlayable, IsPrinted, IsSettled, LineFault, LinesFault, Place, Rose, Script, canonical, played, reads}
 
 -- the configuration whose one text these bytes are, or none if they are none's
 abbrev pub IsCanonical : List ℕ → Option Configuration → Type 0
@@ -39,22 +25,22 @@ pub record IsReady (disk : DiskFacts) (place : Place) (script : Script) : Type 0
 
 -- the disk failed; or the log is damaged at this record; or memory ran out
 abbrev pub WhyNotLoaded : DiskFacts → DiskFacts → LogFault → Type 0
-WhyNotLoaded disk disk_now log.Disk = Rose disk.faults disk_now.faults
-WhyNotLoaded disk disk_now log.NotEmpty = ⊥
-WhyNotLoaded disk disk_now (log.Damaged number) = IfSome disk.now (IsDamagedAt number)
-WhyNotLoaded disk disk_now log.NoMemory = Unit {0}
+WhyNotLoaded disk disk_now LogFault.Disk = Rose disk.faults disk_now.faults
+WhyNotLoaded disk disk_now LogFault.NotEmpty = ⊥
+WhyNotLoaded disk disk_now (LogFault.Damaged number) = IfSome disk.now (IsDamagedAt number)
+WhyNotLoaded disk disk_now LogFault.NoMemory = Unit {0}
 
 -- memory ran out; or this is the fault of the lines
 abbrev pub WhyNotRead : List Event → List ℕ → ResumeFault → Type 0
-WhyNotRead before came (resume.Log fault) = fault ≡ log.NoMemory
-WhyNotRead before came (resume.Lines fault) = more_of before came ≡ Err fault
+WhyNotRead before came (ResumeFault.Log fault) = fault ≡ LogFault.NoMemory
+WhyNotRead before came (ResumeFault.Lines fault) = more_of before came ≡ Err fault
 
 -- the disk failed; or memory ran out
 abbrev pub WhyNotAppended : DiskFacts → DiskFacts → LogFault → Type 0
-WhyNotAppended disk disk_now log.Disk = Rose disk.faults disk_now.faults
-WhyNotAppended disk disk_now log.NotEmpty = ⊥
-WhyNotAppended disk disk_now (log.Damaged number) = ⊥
-WhyNotAppended disk disk_now log.NoMemory = Unit {0}
+WhyNotAppended disk disk_now LogFault.Disk = Rose disk.faults disk_now.faults
+WhyNotAppended disk disk_now LogFault.NotEmpty = ⊥
+WhyNotAppended disk disk_now (LogFault.Damaged number) = ⊥
+WhyNotAppended disk disk_now LogFault.NoMemory = Unit {0}
 
 -- ## all steps
 
@@ -78,19 +64,19 @@ pub record IsLinesFault (disk disk_now : DiskFacts) (came : List ℕ) (fault : L
 
 -- why a log did not go on with these lines; if it is damaged, no byte of it changed
 abbrev pub WhyNotResumed : DiskFacts → DiskFacts → List ℕ → ResumeFault → Type 0
-WhyNotResumed disk disk_now came (resume.Log log.Disk) = Rose disk.faults disk_now.faults
-WhyNotResumed disk disk_now came (resume.Log log.NotEmpty) = ⊥
-WhyNotResumed disk disk_now came (resume.Log (log.Damaged number)) = IfSome disk.now (IsDamagedAt number) × (disk_now.now ≡ disk.now)
-WhyNotResumed disk disk_now came (resume.Log log.NoMemory) = Unit {0}
-WhyNotResumed disk disk_now came (resume.Lines fault) = IsLinesFault disk disk_now came fault
+WhyNotResumed disk disk_now came (ResumeFault.Log LogFault.Disk) = Rose disk.faults disk_now.faults
+WhyNotResumed disk disk_now came (ResumeFault.Log LogFault.NotEmpty) = ⊥
+WhyNotResumed disk disk_now came (ResumeFault.Log (LogFault.Damaged number)) = IfSome disk.now (IsDamagedAt number) × (disk_now.now ≡ disk.now)
+WhyNotResumed disk disk_now came (ResumeFault.Log LogFault.NoMemory) = Unit {0}
+WhyNotResumed disk disk_now came (ResumeFault.Lines fault) = IsLinesFault disk disk_now came fault
 
 -- the ending says so, unless memory ran out
 abbrev pub TellsResumeFault : ResumeFault → Ending → Type 0
-TellsResumeFault (resume.Log fault) said = TellsFault fault said
-TellsResumeFault (resume.Lines fault) (ending.Prints text status) = ⊥
-TellsResumeFault (resume.Lines fault) (ending.Full text) = ⊥
-TellsResumeFault (resume.Lines fault) (ending.Says line status) = (line.items ≡ lines_line fault) × (status ≡ 4)
-TellsResumeFault (resume.Lines fault) ending.NoCommand = ⊥
-TellsResumeFault (resume.Lines fault) ending.ReadFault = ⊥
-TellsResumeFault (resume.Lines fault) ending.TooLong = ⊥
-TellsResumeFault (resume.Lines fault) ending.NoMemory = Unit {0}
+TellsResumeFault (ResumeFault.Log fault) said = TellsFault fault said
+TellsResumeFault (ResumeFault.Lines fault) (Ending.Prints text status) = ⊥
+TellsResumeFault (ResumeFault.Lines fault) (Ending.Full text) = ⊥
+TellsResumeFault (ResumeFault.Lines fault) (Ending.Says line status) = (line.items ≡ lines_line fault) × (status ≡ 4)
+TellsResumeFault (ResumeFault.Lines fault) Ending.NoCommand = ⊥
+TellsResumeFault (ResumeFault.Lines fault) Ending.ReadFault = ⊥
+TellsResumeFault (ResumeFault.Lines fault) Ending.TooLong = ⊥
+TellsResumeFault (ResumeFault.Lines fault) Ending.NoMemory = Unit {0}

@@ -1,11 +1,7 @@
 -- what the streams show of how a command ended
 use Rattle.std.specs.Prelude.{◌≡◌, ℕ, List, codes, ◌⊎◌}
-use Rattle.np_io.specs.Facts.{SinkFacts, IsWritten, IsCutShort}
-use Rattle.np_io.specs.declared.whole.ReadAll.{ReadAll}
-use Rattle.np_io.specs.declared.whole.ReadAll.TheVariants as read
-use Rattle.np_text.specs.Lines.{line}
 use Rattle.np_replay.specs.declared.ending.Ending.{Ending}
-use Rattle.np_replay.specs.declared.ending.Ending.TheVariants as ending
+use Rattle.np_replay.specs.Lower.{IsCutShort, IsWritten, ReadAll, SinkFacts, line}
 
 -- ## the lines that every command shares
 
@@ -54,19 +50,19 @@ IsRefused k e out out_now err err_now line wanted status = (out_now ≡ out) × 
 
 -- how a command ended, as out, err and the status show it
 abbrev pub IsTold : {K E : Type 0} → (K → SinkFacts) → (E → SinkFacts) → K → K → E → E → Ending → ℕ → Type 0
-IsTold k e out out_now err err_now (ending.Prints text wanted) status = IsShown k e out out_now err err_now text.items wanted status
-IsTold k e out out_now err err_now (ending.Full text) status = IsShownFull k e out out_now err err_now text.items status
-IsTold k e out out_now err err_now (ending.Says said wanted) status = IsRefused k e out out_now err err_now said.items wanted status
-IsTold k e out out_now err err_now ending.NoCommand status = IsRefused k e out out_now err err_now usage_line 2 status
-IsTold k e out out_now err err_now ending.ReadFault status = IsRefused k e out out_now err err_now read_line 5 status
-IsTold k e out out_now err err_now ending.TooLong status = IsRefused k e out out_now err err_now long_line 5 status
-IsTold k e out out_now err err_now ending.NoMemory status = IsRefused k e out out_now err err_now memory_line 7 status
+IsTold k e out out_now err err_now (Ending.Prints text wanted) status = IsShown k e out out_now err err_now text.items wanted status
+IsTold k e out out_now err err_now (Ending.Full text) status = IsShownFull k e out out_now err err_now text.items status
+IsTold k e out out_now err err_now (Ending.Says said wanted) status = IsRefused k e out out_now err err_now said.items wanted status
+IsTold k e out out_now err err_now Ending.NoCommand status = IsRefused k e out out_now err err_now usage_line 2 status
+IsTold k e out out_now err err_now Ending.ReadFault status = IsRefused k e out out_now err err_now read_line 5 status
+IsTold k e out out_now err err_now Ending.TooLong status = IsRefused k e out out_now err err_now long_line 5 status
+IsTold k e out out_now err err_now Ending.NoMemory status = IsRefused k e out out_now err err_now memory_line 7 status
 
 -- how a command ends whose input was not read
 abbrev pub ending_of : ReadAll → Ending
-ending_of read.ReadFault = ending.ReadFault
-ending_of read.TooLong = ending.TooLong
-ending_of read.NoMemory = ending.NoMemory
+ending_of ReadAll.ReadFault = Ending.ReadFault
+ending_of ReadAll.TooLong = Ending.TooLong
+ending_of ReadAll.NoMemory = Ending.NoMemory
 
 -- ## the status
 

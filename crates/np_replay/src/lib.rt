@@ -5,7 +5,7 @@
 //! that reads takes its whole `input` first (`specs/Input`), so that a failed source is found
 //! before anything else. The statuses 5, 6 and 7 mean the same for each of them
 //! (`specs/Failures`). The lines that report what is wrong with a script, or with a site with
-//! hosts, are in `specs/Lines`. `proofs/Told` goes from an ending and what was written of it to
+//! hosts, are in `specs/Lines`. `proofs/Statuses` goes from an ending and what was written of it to
 //! what each status means, for any command.
 //!
 //! Each command is a public function with a record of clauses in a file of its own, as

@@ -1,29 +1,467 @@
--- what the comparison finds is so
-use Rattle.std.proofs.Common.{◌≡◌, ℕ, ◌+◌, Bool, true, false, List, [], ◌∷◌, ◌++◌, Ok, Err, refl, sym, ap, subst, ◌∙◌, append_assoc, arith}
-use Rattle.std.specs.Prelude.{if◌then◌else◌}
-use Rattle.np_changes.specs.Prelude.{Configuration, IsSound, bar, flat_map, is_line, line, list_all}
-use Rattle.std.specs.Str.{bytes_eq}
-use Rattle.std.proofs.lemmas.List.{append_cancel_left}
-use Rattle.np_json.specs.declared.fault.ConfigFault.{ConfigFault}
-use Rattle.np_config_text.specs.Canonical.{canonical}
-use Rattle.np_config_read.specs.Walk.{reads}
-use Rattle.np_event.proofs.KindLemmas.{bytes_eq-refl, same_bytes}
-use Rattle.np_report.specs.declared.script.Script.{Script}
-use Rattle.np_report.specs.Played.{played}
-use Rattle.np_report.specs.Printed.{IsPrinted}
-use Rattle.np_report.specs.Script.{IsPlayable}
-use Rattle.np_report.specs.Text.{text_of}
-use Rattle.np_report.proofs.OwnText.{reads-canonical}
-use Rattle.np_report.proofs.SafePlay.{printed-script}
-use Rattle.np_report.specs.declared.finding.Finding.{Finding}
-use Rattle.np_report.specs.declared.finding.Finding.TheVariants.{Yes, No}
-use Rattle.np_report.specs.Agreement.{common_lines, finding_of}
-use Rattle.np_report.specs.Audit.{IsAText, BeginsAText, IsNoText, IsSo}
-use Rattle.np_report.specs.Entries.{first_line, later_lines, leading_events}
-use Rattle.np_report.proofs.LineParts.{are_lines-push, first_line-line, flat_map-push, line-injective}
-use Rattle.np_report.proofs.CommonLines.{Common, common}
-use Rattle.np_report.proofs.PrintedParts.{entries_of_a_run, entries_played, is_line-canonical, run_part, text_of-parts, text_played, text_played-begins, text_played-whole}
-use Rattle.std.proofs.lemmas.Bool.{and_parts}
+-- the parts of a printed text, and what the comparison of two texts finds is so
+use Rattle.np_report.proofs.Prelude.{AllByRecursion, Configuration, Entry, Event, HasEntryLine, IsPrinted, List, [], after, and_parts, ap, append-nil, append_assoc, bar, canonical, configuration_data, entry_line, entry_lines, events_told, fate_lines, fates, flat_map, inl, inr, is_line, is_line-entry, later_lines, leading_events, length, line, lines_of, lines_of-line, lines_of-lines, list_all, map, played, refl, replayed, start, sym, take, text_of, true, ℕ, ◌++◌, ◌∙◌, ◌∷◌, ◌≡◌, ◌≤◌, Bool, Declined, EachAfter, Fate, IsJob, IsRequester, IsSound, Job, NodeId, None, Option, Phase, PoolId, Reason, Requester, Some, StandsByOwner, arith, at_place, codes, decimal, decline_text, eqb-true, false, fate_text, is_name_byte, is_name_text, job_text, nat_le, nat_tests, newline_count, newlines, node_text, not, option_map_or, phase_word, pool_text, reason_text_of, requester_name, slice_get, sum_by-append, sum_by-cons, ◌&&◌, ◌+◌, ◌<◌, ◌==◌, common_lines, drop, drop_all, drop_more, eq-eqb, get_or, if◌then◌else◌, subst, BeginsAText, Finding, IsAText, IsNoText, IsSo, No, Yes, suc, ConfigFault, Err, IsPlayable, Ok, Script, append_cancel_left, bytes_eq, bytes_eq-refl, finding_of, first_line, reads, same_bytes}
+use Rattle.np_report.proofs.Rows.{lines-Runs}
+use Rattle.np_report.proofs.OwnText.{is_line-append, is_line-compact_text, is_line-decimal, reads-canonical}
+use Rattle.np_report.proofs.PlayedLemmas.{Shows, are_lines-push, first_line-line, flat_map-push, later_lines-line, line-injective, line-some, played_lines-whole, printed-script, shows-lines}
+use Rattle.np_machine.specs.Fates as fate
+
+-- # the parts of a Text, and what is played from them
+
+-- ## parts
+
+pub is_line-canonical : (c : Configuration) → is_line (canonical c) ≡ true
+unfolding canonical
+is_line-canonical c = is_line-compact_text (configuration_data c)
+
+-- the second bar and the fates
+abbrev pub fates_part : Configuration → List Entry → List ℕ
+fates_part c journal = line bar ++ fate_lines c 0 c.jobs (fates (after c journal))
+
+-- what comes after the first bar
+abbrev pub run_part : Configuration → List Entry → List ℕ
+run_part c journal = entry_lines journal ++ fates_part c journal
+
+pub text_of-parts : (c : Configuration) (journal : List Entry) → text_of c journal ≡ line (canonical c) ++ (line bar ++ run_part c journal)
+unfolding text_of
+text_of-parts c journal =
+    let last = fate_lines c 0 c.jobs (fates (after c journal)) in
+    append_assoc (line (canonical c) ++ line bar ++ entry_lines journal) (line bar) last
+    ∙ append_assoc (line (canonical c) ++ line bar) (entry_lines journal) (line bar ++ last)
+    ∙ append_assoc (line (canonical c)) (line bar) (entry_lines journal ++ (line bar ++ last))
+
+-- each entry of a printed run has a line
+pub entries_of_a_run : (c : Configuration) (journal : List Entry) (text : List ℕ) → IsPrinted c journal text → AllByRecursion HasEntryLine journal
+entries_of_a_run c journal text printed = lines-Runs c journal printed.state printed.sound printed.runs printed.lines
+
+lines_of-entries : (journal : List Entry) (rest : List ℕ) → AllByRecursion HasEntryLine journal → lines_of (entry_lines journal ++ rest) ≡ map entry_line journal ++ lines_of rest
+lines_of-entries [] rest has = refl
+lines_of-entries (e ∷ journal) rest has =
+    ap lines_of (append_assoc (line (entry_line e)) (entry_lines journal) rest ∙ append_assoc (entry_line e) (10 ∷ []) (entry_lines journal ++ rest))
+    ∙ lines_of-line (entry_line e) (entry_lines journal ++ rest) (is_line-entry e has.0)
+    ∙ ap (λ (ls : List (List ℕ)). entry_line e ∷ ls) (lines_of-entries journal rest has.1)
+
+-- ## what is played from a text
+
+-- the entries that the machine makes of the events in the text, from its third line on
+abbrev pub entries_played : Configuration → List ℕ → List Entry
+entries_played c bytes = played c (leading_events (later_lines (later_lines bytes)))
+
+-- the Text that the bytes are compared with
+abbrev pub text_played : Configuration → List ℕ → List ℕ
+text_played c bytes = text_of c (entries_played c bytes)
+
+begins-along : (text same : List ℕ) (lines : List (List ℕ)) → text ≡ same → (r : List ℕ) × (same ≡ flat_map line lines ++ r) → (r : List ℕ) × (text ≡ flat_map line lines ++ r)
+begins-along text same lines is begins = (begins.0, is ∙ begins.1)
+
+module _ (d : Configuration) (journal : List Entry) (runs : replayed d (start d) journal ≡ journal) (short : length journal ≤ 262144) (has : AllByRecursion HasEntryLine journal) where
+  lines_of-run_part : lines_of (run_part d journal) ≡ map entry_line journal ++ bar ∷ lines_of (fate_lines d 0 d.jobs (fates (after d journal)))
+  lines_of-run_part =
+      lines_of-entries journal (fates_part d journal) has
+      ∙ ap (λ (ls : List (List ℕ)). map entry_line journal ++ ls) (lines_of-line bar (fate_lines d 0 d.jobs (fates (after d journal))) refl)
+
+  played-run_part : played d (leading_events (run_part d journal)) ≡ journal
+  played-run_part =
+      ap (λ (ls : List (List ℕ)). played d (take 262144 (events_told ls))) lines_of-run_part
+      ∙ played_lines-whole d (start d) 262144 journal (lines_of (fate_lines d 0 d.jobs (fates (after d journal)))) short runs has
+
+  -- a Text is what is played from it
+  pub text_played-whole : (bytes : List ℕ) → bytes ≡ text_of d journal → text_played d bytes ≡ bytes
+  text_played-whole bytes is =
+      let later : later_lines (later_lines bytes) ≡ run_part d journal
+      = ap (λ (t : List ℕ). later_lines (later_lines t)) (is ∙ text_of-parts d journal)
+      ∙ ap later_lines (later_lines-line (canonical d) (line bar ++ run_part d journal) (is_line-canonical d))
+      ∙ later_lines-line bar (run_part d journal) refl in
+      ap (λ (t : List ℕ). text_of d (played d (leading_events t))) later ∙ ap (text_of d) played-run_part ∙ sym is
+
+  -- the first two lines, and what follows them
+  begins_with_three : (a b : List ℕ) (ls : List (List ℕ)) (r : List ℕ) (entries : List Entry) → a ≡ canonical d → b ≡ bar → flat_map line (a ∷ b ∷ ls) ++ r ≡ text_of d journal → Shows entries ls journal →
+      (r' : List ℕ) × (text_of d entries ≡ flat_map line (a ∷ b ∷ ls) ++ r')
+  begins_with_three a b ls r entries first second same (inr all) = (r, ap (text_of d) all ∙ sym same)
+  begins_with_three a b ls r entries first second same (inl begins) =
+      let rest = begins.0 ++ fates_part d entries in (
+        rest,
+        text_of-parts d entries
+            ∙ ap (λ (t : List ℕ). line (canonical d) ++ (line bar ++ (t ++ fates_part d entries))) begins.1
+            ∙ ap (λ (t : List ℕ). line (canonical d) ++ (line bar ++ t)) (append_assoc (flat_map line ls) begins.0 (fates_part d entries))
+            ∙ ap (λ (t : List ℕ). line (canonical d) ++ t) (sym (append_assoc (line bar) (flat_map line ls) rest))
+            ∙ sym (append_assoc (line (canonical d)) (line bar ++ flat_map line ls) rest)
+            ∙ ap (λ (x : List ℕ). (line x ++ (line bar ++ flat_map line ls)) ++ rest) (sym first)
+            ∙ ap (λ (x : List ℕ). (line a ++ (line x ++ flat_map line ls)) ++ rest) (sym second),
+      )
+
+  -- lines that begin both the bytes and a Text begin what is played from the bytes
+  pub text_played-begins : (lines : List (List ℕ)) (bytes rest r : List ℕ) → list_all is_line lines ≡ true → bytes ≡ flat_map line lines ++ rest → flat_map line lines ++ r ≡ text_of d journal →
+      (r' : List ℕ) × (text_played d bytes ≡ flat_map line lines ++ r')
+  text_played-begins [] bytes rest r plain split same = (text_played d bytes, refl)
+  text_played-begins (a ∷ []) bytes rest r plain split same =
+      let parts = and_parts (is_line a) true plain in
+      let cut = line-injective a (canonical d) ([] ++ r) (line bar ++ run_part d journal) parts.0 (is_line-canonical d) (sym (append_assoc (line a) [] r) ∙ same ∙ text_of-parts d journal) in
+      let behind = line bar ++ run_part d (entries_played d bytes) in (
+        behind,
+        text_of-parts d (entries_played d bytes)
+            ∙ ap (λ (x : List ℕ). line x ++ behind) (sym cut.0)
+            ∙ ap (λ (t : List ℕ). t ++ behind) (sym (append-nil (line a))),
+      )
+  text_played-begins (a ∷ b ∷ ls) bytes rest r plain split same =
+      let parts = and_parts (is_line a) (list_all is_line (b ∷ ls)) plain in
+      let more = and_parts (is_line b) (list_all is_line ls) parts.1 in
+      let cut = line-injective a (canonical d) (flat_map line (b ∷ ls) ++ r) (line bar ++ run_part d journal) parts.0 (is_line-canonical d)
+      (sym (append_assoc (line a) (flat_map line (b ∷ ls)) r) ∙ same ∙ text_of-parts d journal) in
+      let cut_more = line-injective b bar (flat_map line ls ++ r) (run_part d journal) more.0 refl (sym (append_assoc (line b) (flat_map line ls) r) ∙ cut.1) in
+      let later : later_lines (later_lines bytes) ≡ flat_map line ls ++ rest
+      = ap (λ (t : List ℕ). later_lines (later_lines t)) (split ∙ append_assoc (line a) (flat_map line (b ∷ ls)) rest)
+      ∙ ap later_lines (later_lines-line a (flat_map line (b ∷ ls) ++ rest) parts.0)
+      ∙ ap later_lines (append_assoc (line b) (flat_map line ls) rest)
+      ∙ later_lines-line b (flat_map line ls ++ rest) more.0 in
+      let events : leading_events (later_lines (later_lines bytes)) ≡ take 262144 (events_told (ls ++ lines_of rest))
+      = ap leading_events later ∙ ap (λ (lines : List (List ℕ)). take 262144 (events_told lines)) (lines_of-lines ls rest more.1) in
+      let shown = shows-lines d (start d) 262144 journal ls (lines_of rest) r (fate_lines d 0 d.jobs (fates (after d journal))) short runs has more.1 cut_more.1 in
+      let begins = begins_with_three a b ls r (played d (take 262144 (events_told (ls ++ lines_of rest)))) cut.0 cut_more.0 same shown in
+      begins-along (text_played d bytes) (text_of d (played d (take 262144 (events_told (ls ++ lines_of rest))))) (a ∷ b ∷ ls) (ap (λ (es : List Event). text_of d (played d es)) events) begins
+
+-- # a Text has fewer newlines than a number of 32 bits counts
+
+-- ## counting
+
+newlines-append : (xs ys : List ℕ) → newlines (xs ++ ys) ≡ newlines xs + newlines ys
+newlines-append xs ys = sum_by-append newline_count xs ys
+
+newlines-none : (bytes : List ℕ) → is_line bytes ≡ true → newlines bytes ≡ 0
+newlines-none [] plain = refl
+newlines-none (b ∷ bs) plain =
+    let parts = and_parts (not (b == 10)) (is_line bs) plain in
+    let other : (b == 10) ≡ false = grind (arith, nat_tests) in
+    let first : newline_count b ≡ 0 = rw other refl in
+    let all : newlines (b ∷ bs) ≡ newline_count b + newlines bs = sum_by-cons newline_count b bs in
+    omega (arith, all, first, newlines-none bs parts.1)
+
+newlines-line : (bytes : List ℕ) → is_line bytes ≡ true → newlines (line bytes) ≡ 1
+newlines-line bytes plain = newlines-append bytes (10 ∷ []) ∙ ap (λ (n : ℕ). n + 1) (newlines-none bytes plain)
+
+newlines-lines : (bytes rest : List ℕ) (n : ℕ) → is_line bytes ≡ true → newlines rest ≤ n → newlines (line bytes ++ rest) ≤ n + 1
+newlines-lines bytes rest n plain few = omega (arith, newlines-append (line bytes) rest, newlines-line bytes plain, few)
+
+-- ## entries
+
+newlines-entries : (journal : List Entry) → AllByRecursion HasEntryLine journal → newlines (entry_lines journal) ≤ length journal
+newlines-entries [] has = omega arith
+newlines-entries (e ∷ journal) has =
+    omega (arith, newlines-lines (entry_line e) (entry_lines journal) (length journal) (is_line-entry e has.0) (newlines-entries journal has.1))
+
+-- ## names
+
+name_byte-plain : (b : ℕ) → is_name_byte b ≡ true → not (b == 10) ≡ true
+name_byte-plain b named = cases (b == 10) refl
+  where
+    cases : (t : Bool) → (b == 10) ≡ t → not t ≡ true
+    cases true here =
+        let other : true ≡ false = sym named ∙ ap is_name_byte (eqb-true b 10 here) in
+        absurd cc
+    cases false here = refl
+
+name_bytes-plain : (bytes : List ℕ) → list_all is_name_byte bytes ≡ true → is_line bytes ≡ true
+name_bytes-plain [] named = refl
+name_bytes-plain (b ∷ bs) named =
+    let parts = and_parts (is_name_byte b) (list_all is_name_byte bs) named in
+    rw (name_byte-plain b parts.0) (name_bytes-plain bs parts.1)
+
+is_line-name : (text : List ℕ) → is_name_text text ≡ true → is_line text ≡ true
+unfolding is_name_text
+is_line-name text named =
+    name_bytes-plain text (and_parts (nat_le 1 (length text) && nat_le (length text) 64) (list_all is_name_byte text) named).1
+
+is_line-found : (o : Option Requester) → ((q : Requester) → o ≡ Some q → is_line q.name ≡ true) → is_line (option_map_or (λ q. q.name) o []) ≡ true
+is_line-found None plain = refl
+is_line-found (Some q) plain = plain q refl
+
+is_line-requester_name : (c : Configuration) (job : Job) → IsSound c → is_line (requester_name c job) ≡ true
+is_line-requester_name c job sound =
+    is_line-found (slice_get c.requesters job.requester.0) (λ q there.
+    at_place IsRequester (λ (r : Requester). is_line r.name ≡ true) (λ e r is. is_line-name r.name is.name.named) [] c.requesters job.requester.0 q sound.demand.each_requester there)
+
+-- the name of each of these jobs
+abbrev HasPlainName : Job → Type 0
+HasPlainName job = is_line job.name ≡ true
+
+plain_names : (P : List Job → Job → Type 0) → ((e : List Job) (job : Job) → P e job → HasPlainName job) → (e jobs : List Job) → EachAfter P e jobs → AllByRecursion HasPlainName jobs
+plain_names P says e [] each = tt
+plain_names P says e (job ∷ jobs) each = (says e job each.0, plain_names P says (e ++ job ∷ []) jobs each.1)
+
+job_names : (c : Configuration) → IsSound c → AllByRecursion HasPlainName c.jobs
+job_names c sound =
+    plain_names (StandsByOwner (λ (j : Job). j.requester.0) (IsJob (length c.labels) (length c.semaphores) (length c.tenants)))
+    (λ e job is. is_line-name job.name is.own.name.named) [] c.jobs sound.demand.each_job
+
+-- ## fates
+
+is_line-job_text : (c : Configuration) (n : ℕ) (job : Job) → IsSound c → HasPlainName job → is_line (job_text c n job) ≡ true
+unfolding job_text
+is_line-job_text c n job sound plain =
+    let number : is_line (codes "j" ++ decimal n) ≡ true = is_line-append (codes "j") (decimal n) refl (is_line-decimal n) in
+    let space : is_line (codes "j" ++ decimal n ++ codes " ") ≡ true = is_line-append (codes "j" ++ decimal n) (codes " ") number refl in
+    let owner : is_line (codes "j" ++ decimal n ++ codes " " ++ requester_name c job) ≡ true
+    = is_line-append (codes "j" ++ decimal n ++ codes " ") (requester_name c job) space (is_line-requester_name c job sound) in
+    let slash : is_line (codes "j" ++ decimal n ++ codes " " ++ requester_name c job ++ codes "/") ≡ true
+    = is_line-append (codes "j" ++ decimal n ++ codes " " ++ requester_name c job) (codes "/") owner refl in
+    let name : is_line (codes "j" ++ decimal n ++ codes " " ++ requester_name c job ++ codes "/" ++ job.name) ≡ true
+    = is_line-append (codes "j" ++ decimal n ++ codes " " ++ requester_name c job ++ codes "/") job.name slash plain in
+    is_line-append (codes "j" ++ decimal n ++ codes " " ++ requester_name c job ++ codes "/" ++ job.name) (codes " ") name refl
+
+is_line-flat_map : {X : Type 0} (f : X → List ℕ) → ((x : X) → is_line (f x) ≡ true) → (xs : List X) → is_line (flat_map f xs) ≡ true
+is_line-flat_map f plain [] = refl
+is_line-flat_map f plain (x ∷ xs) = is_line-append (f x) (flat_map f xs) (plain x) (is_line-flat_map f plain xs)
+
+is_line-reason : (r : Reason) → is_line (reason_text_of r) ≡ true
+is_line-reason (Reason.NoLabel l) = is_line-append (codes "no-label-l") (decimal l.0) refl (is_line-decimal l.0)
+is_line-reason Reason.NeverFits = refl
+is_line-reason Reason.TenantNeverFits = refl
+is_line-reason (Reason.Spent n) = is_line-append (codes "spent-n") (decimal n.0) refl (is_line-decimal n.0)
+
+is_line-decline : (d : Declined) → is_line (decline_text d) ≡ true
+is_line-decline d =
+    let number : is_line (codes " p" ++ decimal d.pool.0) ≡ true = is_line-append (codes " p") (decimal d.pool.0) refl (is_line-decimal d.pool.0) in
+    let colon : is_line (codes " p" ++ decimal d.pool.0 ++ codes ":") ≡ true = is_line-append (codes " p" ++ decimal d.pool.0) (codes ":") number refl in
+    is_line-append (codes " p" ++ decimal d.pool.0 ++ codes ":") (reason_text_of d.reason) colon (is_line-reason d.reason)
+
+is_line-node : (n : NodeId) → is_line (node_text n) ≡ true
+is_line-node n = is_line-append (codes " n") (decimal n.0) refl (is_line-decimal n.0)
+
+is_line-pool : (p : Option PoolId) → is_line (pool_text p) ≡ true
+is_line-pool None = refl
+is_line-pool (Some p) = is_line-append (codes " p") (decimal p.0) refl (is_line-decimal p.0)
+
+is_line-phase : (p : Phase) → is_line (phase_word p) ≡ true
+is_line-phase Phase.New = refl
+is_line-phase Phase.Asked = refl
+is_line-phase Phase.Using = refl
+is_line-phase Phase.Over = refl
+
+is_line-fate : (f : Fate) → is_line (fate_text f) ≡ true
+is_line-fate (fate.served p nodes) =
+    let pool : is_line (codes "served" ++ pool_text p) ≡ true = is_line-append (codes "served") (pool_text p) refl (is_line-pool p) in
+    is_line-append (codes "served" ++ pool_text p) (flat_map node_text nodes) pool (is_line-flat_map node_text is_line-node nodes)
+is_line-fate (fate.failed declined) =
+    is_line-append (codes "failed") (flat_map decline_text declined) refl (is_line-flat_map decline_text is_line-decline declined)
+is_line-fate fate.lost = refl
+is_line-fate fate.withdrawn = refl
+is_line-fate (fate.waiting p) = is_line-append (codes "waiting ") (phase_word p) refl (is_line-phase p)
+
+newlines-fates : (c : Configuration) (n : ℕ) (jobs : List Job) (ends : List Fate) → IsSound c → AllByRecursion HasPlainName jobs → newlines (fate_lines c n jobs ends) ≤ length jobs
+newlines-fates c n [] ends sound plain = omega arith
+newlines-fates c n (job ∷ jobs) [] sound plain = omega arith
+newlines-fates c n (job ∷ jobs) (end ∷ ends) sound plain =
+    let one = is_line-append (job_text c n job) (fate_text end) (is_line-job_text c n job sound plain.0) (is_line-fate end) in
+    omega (arith, newlines-lines (job_text c n job ++ fate_text end) (fate_lines c (n + 1) jobs ends) (length jobs) one (newlines-fates c (n + 1) jobs ends sound plain.1))
+
+-- ## the whole Text
+
+newlines-parts : (first second entries fates : List ℕ) (j k : ℕ) → is_line first ≡ true → is_line second ≡ true → newlines entries ≤ j → newlines fates ≤ k →
+    newlines (line first ++ (line second ++ (entries ++ (line second ++ fates)))) ≤ k + 1 + j + 1 + 1
+newlines-parts first second entries fates j k plain bar few_entries few_fates =
+    let last = newlines-lines second fates k bar few_fates in
+    let more : newlines (entries ++ (line second ++ fates)) ≤ k + 1 + j = omega (arith, newlines-append entries (line second ++ fates), last, few_entries) in
+    newlines-lines first (line second ++ (entries ++ (line second ++ fates))) (k + 1 + j + 1) plain
+    (newlines-lines second (entries ++ (line second ++ fates)) (k + 1 + j) bar more)
+
+newlines-printed : (c : Configuration) (journal : List Entry) (text : List ℕ) → IsPrinted c journal text → newlines text ≤ 270000
+newlines-printed c journal text printed =
+    let has = entries_of_a_run c journal text printed in
+    let parts = newlines-parts (canonical c) bar (entry_lines journal) (fate_lines c 0 c.jobs (fates (after c journal))) (length journal) (length c.jobs)
+    (is_line-canonical c) refl (newlines-entries journal has) (newlines-fates c 0 c.jobs (fates (after c journal)) printed.sound (job_names c printed.sound)) in
+    let same : newlines text ≡ newlines (line (canonical c) ++ (line bar ++ (entry_lines journal ++ (line bar ++ fate_lines c 0 c.jobs (fates (after c journal)))))) = ap newlines (printed.is ∙ text_of-parts c journal) in
+    omega (arith, same, parts, printed.runs.short, printed.sound.demand.few_jobs)
+
+-- as it is compared
+pub few_newlines : (c : Configuration) (journal : List Entry) (text shown : List ℕ) → IsPrinted c journal text → shown ≡ text → newlines shown < 4294967295
+few_newlines c journal text shown printed is = omega (arith, ap newlines is, newlines-printed c journal text printed)
+
+-- # the lines that two texts begin with
+
+-- the lines that both texts begin with, and what each has after them
+pub record Common (x y : List ℕ) (count : ℕ) : Type 0 where
+  pub lines : List (List ℕ)
+  pub left : List ℕ
+  pub right : List ℕ
+  pub plain : list_all is_line lines ≡ true
+  pub left_is : x ≡ flat_map line lines ++ left
+  pub right_is : y ≡ flat_map line lines ++ right
+  pub number : length lines ≡ count
+  pub whole : (l p q : List ℕ) → is_line l ≡ true → left ≡ line l ++ p → right ≡ line l ++ q → ⊥
+
+none_common : (x y : List ℕ) → ((l p q : List ℕ) → is_line l ≡ true → x ≡ line l ++ p → y ≡ line l ++ q → ⊥) → Common x y 0
+none_common x y whole = record { lines = []; left = x; right = y; plain = refl; left_is = refl; right_is = refl; number = refl; whole = whole }
+
+-- a newline more
+common-newline : (x y : List ℕ) (n : ℕ) → Common x y n → Common (10 ∷ x) (10 ∷ y) (1 + n)
+common-newline x y n both = record {
+  lines = [] ∷ both.lines;
+  left = both.left;
+  right = both.right;
+  plain = both.plain;
+  left_is = ap (λ (t : List ℕ). 10 ∷ t) both.left_is;
+  right_is = ap (λ (t : List ℕ). 10 ∷ t) both.right_is;
+  number = omega (arith, both.number);
+  whole = both.whole;
+}
+
+head_same : (a b : ℕ) (x y : List ℕ) → a ∷ x ≡ b ∷ y → a ≡ b
+head_same a b x y same = cc
+
+tail_same : (a b : ℕ) (x y : List ℕ) → a ∷ x ≡ b ∷ y → x ≡ y
+tail_same a b x y same = cc
+
+-- another byte more: it belongs to the first line, whose newline may be missing
+common-byte : (b : ℕ) (x y : List ℕ) (n : ℕ) → (b == 10) ≡ false → Common x y n → Common (b ∷ x) (b ∷ y) n
+common-byte b x y n other both = cases both.lines both.plain both.left_is both.right_is both.number
+  where
+    longer : (l p q : List ℕ) → is_line l ≡ true → b ∷ both.left ≡ line l ++ p → b ∷ both.right ≡ line l ++ q → ⊥
+    longer [] p q plain one two = grind (arith, nat_tests, head_same b 10 both.left p one)
+    longer (c ∷ l) p q plain one two =
+        both.whole l p q (and_parts (not (c == 10)) (is_line l) plain).1 (tail_same b c both.left (line l ++ p) one) (tail_same b c both.right (line l ++ q) two)
+
+    cases : (ls : List (List ℕ)) → list_all is_line ls ≡ true → x ≡ flat_map line ls ++ both.left → y ≡ flat_map line ls ++ both.right → length ls ≡ n → Common (b ∷ x) (b ∷ y) n
+    cases [] plain left right number = record {
+      lines = [];
+      left = b ∷ both.left;
+      right = b ∷ both.right;
+      plain = refl;
+      left_is = ap (λ (t : List ℕ). b ∷ t) left;
+      right_is = ap (λ (t : List ℕ). b ∷ t) right;
+      number = number;
+      whole = longer;
+    }
+    cases (l ∷ ls) plain left right number = record {
+      lines = (b ∷ l) ∷ ls;
+      left = both.left;
+      right = both.right;
+      plain = rw other plain;
+      left_is = ap (λ (t : List ℕ). b ∷ t) left;
+      right_is = ap (λ (t : List ℕ). b ∷ t) right;
+      number = number;
+      whole = both.whole;
+    }
+
+differ : (a b : ℕ) (x y l p q : List ℕ) → (a == b) ≡ false → a ∷ x ≡ line l ++ p → b ∷ y ≡ line l ++ q → ⊥
+differ a b x y [] p q other one two = grind (arith, nat_tests, head_same a 10 x p one, head_same b 10 y q two)
+differ a b x y (c ∷ l) p q other one two = grind (arith, nat_tests, head_same a c x (line l ++ p) one, head_same b c y (line l ++ q) two)
+
+-- a byte that both have
+common-same : (a : ℕ) (x y : List ℕ) → Common x y (common_lines x y) → Common (a ∷ x) (a ∷ y) (newline_count a + common_lines x y)
+common-same a x y both = cases (a == 10) refl
+  where
+    cases : (t : Bool) → (a == 10) ≡ t → Common (a ∷ x) (a ∷ y) ((if t then 1 else 0) + common_lines x y)
+    cases true here =
+        let is : 10 ≡ a = sym (eqb-true a 10 here) in
+        let P : ℕ → Type 0 = λ c. Common (c ∷ x) (c ∷ y) (1 + common_lines x y) in
+        subst P is (common-newline x y (common_lines x y) both)
+    cases false here =
+        let same : common_lines x y ≡ 0 + common_lines x y = omega arith in
+        let P : ℕ → Type 0 = λ n. Common (a ∷ x) (a ∷ y) n in
+        subst P same (common-byte a x y (common_lines x y) here both)
+
+pub common : (x y : List ℕ) → Common x y (common_lines x y)
+common [] y = none_common [] y (λ l p q plain one two. line-some l p one)
+common (a ∷ x) [] = none_common (a ∷ x) [] (λ l p q plain one two. line-some l q two)
+common (a ∷ x) (b ∷ y) = cases (common x y) (a == b) refl
+  where
+    cases : Common x y (common_lines x y) → (t : Bool) → (a == b) ≡ t → Common (a ∷ x) (b ∷ y) (if t then newline_count a + common_lines x y else 0)
+    cases both true here =
+        let P : ℕ → Type 0 = λ c. Common (a ∷ x) (c ∷ y) (newline_count a + common_lines x y) in
+        subst P (eqb-true a b here) (common-same a x y both)
+    cases both false here = none_common (a ∷ x) (b ∷ y) (λ l p q plain one two. differ a b x y l p q here one two)
+
+-- ## one byte after another
+
+common_lines-nil : (xs : List ℕ) → common_lines xs [] ≡ 0
+common_lines-nil [] = refl
+common_lines-nil (x ∷ xs) = refl
+
+pub common_lines-more : (xs ys : List ℕ) (i : ℕ) → i < length xs → i < length ys → get_or xs i 0 ≡ get_or ys i 0 →
+    common_lines (drop i xs) (drop i ys) ≡ newline_count (get_or xs i 0) + common_lines (drop (i + 1) xs) (drop (i + 1) ys)
+common_lines-more xs ys i one two same =
+    let test : (get_or xs i 0 == get_or ys i 0) ≡ true = eq-eqb (get_or xs i 0) (get_or ys i 0) same in
+    rw (drop_more xs i 0 one, drop_more ys i 0 two, test) refl
+
+pub common_lines-differ : (xs ys : List ℕ) (i : ℕ) → i < length xs → i < length ys → (get_or xs i 0 ≡ get_or ys i 0 → ⊥) → common_lines (drop i xs) (drop i ys) ≡ 0
+common_lines-differ xs ys i one two other =
+    let test : (get_or xs i 0 == get_or ys i 0) ≡ false = grind (arith, nat_tests) in
+    rw (drop_more xs i 0 one, drop_more ys i 0 two, test) refl
+
+pub common_lines-left_end : (xs ys : List ℕ) (i : ℕ) → length xs ≤ i → common_lines (drop i xs) ys ≡ 0
+common_lines-left_end xs ys i past = rw (drop_all i xs past) refl
+
+pub common_lines-right_end : (xs ys : List ℕ) (i : ℕ) → length ys ≤ i → common_lines xs (drop i ys) ≡ 0
+common_lines-right_end xs ys i past = rw (drop_all i ys past) (common_lines-nil xs)
+
+either_le : (t : Bool) (m n : ℕ) → m ≤ n → (if t then m else 0) ≤ n
+either_le true m n few = few
+either_le false m n few = omega arith
+
+pub common_lines-le-newlines : (xs ys : List ℕ) → common_lines xs ys ≤ newlines xs
+common_lines-le-newlines [] ys = omega arith
+common_lines-le-newlines (x ∷ xs) [] = omega arith
+common_lines-le-newlines (x ∷ xs) (y ∷ ys) =
+    let later = common_lines-le-newlines xs ys in
+    let all : newline_count x + common_lines xs ys ≤ newlines (x ∷ xs) = omega (arith, sum_by-cons newline_count x xs, later) in
+    either_le (x == y) (newline_count x + common_lines xs ys) (newlines (x ∷ xs)) all
+
+pub ruleset agreeing = (common_lines-more, common_lines-differ, common_lines-left_end, common_lines-right_end, common_lines-le-newlines)
+
+-- # there is one finding for the same bytes
+
+BeginsAText-shorter : (front behind : List ℕ) → BeginsAText (front ++ behind) → BeginsAText front
+BeginsAText-shorter front behind begins = record {
+  rest = behind ++ begins.rest;
+  whole = subst IsAText (append_assoc front behind begins.rest) begins.whole;
+}
+
+-- none begins with the bytes in front and the next whole line of the rest
+abbrev Ends : List ℕ → List ℕ → Type 0
+Ends front rest = (next later : List ℕ) → is_line next ≡ true → rest ≡ line next ++ later → BeginsAText (front ++ line next) → ⊥
+
+Ends-line : (front l lines rest : List ℕ) → Ends (front ++ (line l ++ lines)) rest → Ends ((front ++ line l) ++ lines) rest
+Ends-line front l lines rest ends = subst (λ (t : List ℕ). Ends t rest) (sym (append_assoc front (line l) lines)) ends
+
+-- one more line would begin a Text
+begins-more : (front l lines rest r : List ℕ) → is_line l ≡ true → r ≡ (line l ++ lines) ++ rest → Ends (front ++ []) r → BeginsAText (front ++ (line l ++ lines)) → ⊥
+begins-more front l lines rest r plain is ends begins =
+    let shorter = BeginsAText-shorter (front ++ line l) lines (subst BeginsAText (sym (append_assoc front (line l) lines)) begins) in
+    ends l (lines ++ rest) plain (is ∙ append_assoc (line l) lines rest) (subst (λ (t : List ℕ). BeginsAText (t ++ line l)) (sym (append-nil front)) shorter)
+
+one_count : (front : List ℕ) (ls ms : List (List ℕ)) (r s : List ℕ) → list_all is_line ls ≡ true → list_all is_line ms ≡ true → flat_map line ls ++ r ≡ flat_map line ms ++ s →
+    BeginsAText (front ++ flat_map line ls) → BeginsAText (front ++ flat_map line ms) → Ends (front ++ flat_map line ls) r → Ends (front ++ flat_map line ms) s → length ls ≡ length ms
+one_count front [] [] r s plain_l plain_m same begin_l begin_m ends_l ends_m = refl
+one_count front [] (m ∷ ms) r s plain_l plain_m same begin_l begin_m ends_l ends_m =
+    let parts = and_parts (is_line m) (list_all is_line ms) plain_m in
+    absurd (begins-more front m (flat_map line ms) s r parts.0 same ends_l begin_m)
+one_count front (l ∷ ls) [] r s plain_l plain_m same begin_l begin_m ends_l ends_m =
+    let parts = and_parts (is_line l) (list_all is_line ls) plain_l in
+    absurd (begins-more front l (flat_map line ls) r s parts.0 (sym same) ends_m begin_l)
+one_count front (l ∷ ls) (m ∷ ms) r s plain_l plain_m same begin_l begin_m ends_l ends_m =
+    let one = and_parts (is_line l) (list_all is_line ls) plain_l in
+    let two = and_parts (is_line m) (list_all is_line ms) plain_m in
+    let cut = line-injective l m (flat_map line ls ++ r) (flat_map line ms ++ s) one.0 two.0
+    (sym (append_assoc (line l) (flat_map line ls) r) ∙ same ∙ append_assoc (line m) (flat_map line ms) s) in
+    let first : line m ≡ line l = ap line (sym cut.0) in
+    let moved_l : BeginsAText ((front ++ line l) ++ flat_map line ls) = subst BeginsAText (sym (append_assoc front (line l) (flat_map line ls))) begin_l in
+    let moved_m : BeginsAText ((front ++ line m) ++ flat_map line ms) = subst BeginsAText (sym (append_assoc front (line m) (flat_map line ms))) begin_m in
+    ap suc (one_count (front ++ line l) ls ms r s one.1 two.1 cut.1 moved_l
+    (subst (λ (t : List ℕ). BeginsAText ((front ++ t) ++ flat_map line ms)) first moved_m)
+    (Ends-line front l (flat_map line ls) r ends_l)
+    (subst (λ (t : List ℕ). Ends ((front ++ t) ++ flat_map line ms) s) first (Ends-line front m (flat_map line ms) s ends_m)))
+
+one_number : (bytes : List ℕ) (m n : ℕ) → IsNoText bytes m → IsNoText bytes n → m ≡ n
+one_number bytes m n a b =
+    let same = one_count [] a.lines b.lines a.rest b.rest a.whole b.whole (sym a.parts ∙ b.parts) a.begin b.begin a.ends b.ends in
+    a.count ∙ ap (λ (k : ℕ). k + 1) same ∙ sym b.count
+
+pub one_finding : (bytes : List ℕ) (a b : Finding) → IsSo a bytes → IsSo b bytes → a ≡ b
+one_finding bytes Yes Yes a b = refl
+one_finding bytes Yes (No n) a b = absurd (b.none a)
+one_finding bytes (No m) Yes a b = absurd (a.none b)
+one_finding bytes (No m) (No n) a b = ap No (one_number bytes m n a b)
+
+-- # what the comparison finds is so
 
 true_false : true ≡ false → ⊥
 true_false same = cc

@@ -11,7 +11,7 @@ fn newline_count(byte: u8) -> u32
 
 /// How many lines, each with its newline, both texts begin with. The time grows with the length of
 /// what they have in common.
-#[tactic(auto, using(crate::proofs::CommonLines::agreeing))]
+#[tactic(auto, using(crate::proofs::Findings::agreeing))]
 pub(crate) fn common_lines(text: &[u8], other: &[u8]) -> u32
     requires { newlines text.now < 2 ^ 32 - 1 }
     ensures value { result ≡ common_lines text.now other.now }

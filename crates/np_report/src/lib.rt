@@ -11,8 +11,8 @@
 //!
 //! What a run answers can be printed, and each entry has a line. `specs/Told` says which replies have
 //! a line, if their numbers are within their types. np_changes bounds the numbers of every state of a
-//! run, and np_changes says what they name. `proofs/Labels` bounds the labels of requests.
-//! `proofs/PlainRows` and `proofs/Rows` go through the tests of each event by `proofs/Chains`: the
+//! run, and np_changes says what they name. `proofs/Named` says that a line can say the ids and labels.
+//! `proofs/Rows` goes through the tests of each event by `proofs/Named`: the
 //! numbers of each answer are within the ranges that a line has.
 //!
 //! `audit` reads the configuration and the entries' events from bytes, plays them, and compares the

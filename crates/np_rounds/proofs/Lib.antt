@@ -1,15 +1,4 @@
-mod Lists
+pub mod Prelude
 mod Players
-mod Joined
-mod Fulls
-mod Starts
-mod Backs
-mod Taken
 mod OneRound
-mod Ticks
-mod Driven
-mod Hosted
-mod Seats
 mod PlainLemmas
-mod Laps
-mod Endings

@@ -1,31 +1,371 @@
--- A round of all crews is a round of their players.
-use Rattle.std.proofs.Common.{◌≡◌, ◌⊎◌, inl, inr, ⊎_elim, ℕ, suc, ◌+◌, ◌<◌, List, [], ◌∷◌, ◌++◌, length, refl, sym, ap, ◌∙◌, subst, arith, append-nil, Bool, true, false}
-use Rattle.std.specs.Prelude.{All, map, Option, IfOk, IfSome, MatchBool, Ok, Result}
-use Rattle.std.proofs.lemmas.List.Elements.{All-nil, All-cons, All-head, All-tail}
-use Rattle.np_changes.specs.Prelude.{Configuration, Entry, NoMemory}
-use Rattle.np_worker.specs.Prelude.{DeskView, DriverFacts, Driving, IsOf, Move, OwesRemoval, PassView, Phase, Sight, Walk, Work, acts, ended, looks, of_pool, of_reaper, of_requester, owes_due, owes_launch, owes_report, owes_swept, rests, sight_of, sweeps}
-use Rattle.np_desk.specs.History.{StartsWith, added, AreRising}
-use Rattle.np_desk.specs.Share.{times}
-use Rattle.np_desk.specs.declared.view.Origin.{Origin}
-use Rattle.np_desk.proofs.HistoryLemmas.{starts_on}
-use Rattle.np_worker.specs.Planned.{answers_of}
-use Rattle.np_worker.specs.Players.{Player}
-use Rattle.np_worker.specs.Played.{PlayerEnd, PlaysFrom, EachPlaysFrom, IsMade, IsCutOff, IsRound}
-use Rattle.np_worker.specs.declared.worker.RoundEnd.{RoundEnd}
-use Rattle.np_worker.specs.declared.worker.Worker.{Worker}
-use Rattle.np_worker.specs.Board.{IsRoundAtBoard}
-use Rattle.np_worker.specs.Round.{EndsAs, Rests, work_of, driving_of}
-use Rattle.np_worker.proofs.Board.{at_board}
-use Rattle.np_rounds.specs.declared.crew.Crew.{Crew}
-use Rattle.np_rounds.specs.declared.crew.CrewEnd.{CrewEnd}
-use Rattle.np_rounds.specs.declared.round.Together.{Together}
-use Rattle.np_rounds.specs.Crews.{Seat, Plan, split_pass, given_pass, AreGiven, player_of, players_of, crew_players}
-use Rattle.np_rounds.specs.Plays.{CrewPlays, Pairwise}
-use Rattle.np_rounds.specs.Backs.{DidEnd, IsUncut, TookBack, end_players, is_full_end, merged_ends, some_full}
-use Rattle.np_rounds.specs.Laps.{HaveRounds, IsPlayedRound}
-use Rattle.np_rounds.proofs.Backs.{with_no_places}
-use Rattle.np_rounds.proofs.Taken.{nor_parts, or_parts}
-use Rattle.np_rounds.proofs.Joined.{contains_here, contains_there, times_contains, of_either, below_end, added_there, length_added, no_shorter, same_length, same_history}
+-- a round of all crews is a round of their players
+use Rattle.np_rounds.proofs.Prelude.{All, All-cons, All-head, All-nil, All-tail, All-weaker, Answered, AreBack, AreGiven, AreRising, Ask, Bool, Configuration, Contains, Crew, CrewEnd, CrewPlays, DeskView, DidEnd, DriverFacts, Driving, EachPlaysFrom, EndsAs, Entry, Err, Event, HaveRounds, IfOk, IfSome, IsBack, IsCutOff, IsFull, IsMade, IsOf, IsPlayedRound, IsRound, IsRoundAtBoard, IsTick, IsUncut, Leads, List, MatchBool, Move, NoMemory, None, Ok, Option, Origin, Outcome, OwesRemoval, Pairwise, Part, PassView, Phase, Plan, Player, PlayerEnd, PlaysFrom, PoolId, Rests, Result, Role, RoundEnd, Seat, Sight, Some, Start, StartsWith, Stops, Together, TookBack, Turn, Walk, Work, Worker, acting, acts, added, after_entry, after_launch, after_removal, after_role, after_start, after_turn, allowed-walk, answers, answers_of, ap, append-nil, arith, asked, at_board, cond, crew_players, dec_le, dite, driving_of, drop, end_players, ended, eq-eqb, eqb, false, first_phase, given_pass, inl, inr, is_full, is_full_end, is_unwanted, launched, length, length-append, length-none, length-rest, looks, map, merged, merged_ends, nat_lt, nat_tests, ne_eqb, of_pool, of_reaper, of_requester, owes_due, owes_launch, owes_report, owes_swept, places, player_of, players_of, recorded, refl, removed, rests, sight_of, some_full, split_pass, start_of, starts_more, starts_on, starts_same, subst, suc, sweeps, sym, times, times_merged, true, with_end, with_place, work_of, zero, ℕ, ℕ_discrete, [], ⊎_elim, ◌++◌, ◌+◌, ◌<◌, ◌||◌, ◌∙◌, ◌∷◌, ◌≡◌, ◌≤◌, ◌⊎◌}
+use Rattle.np_rounds.proofs.Players.{players-push}
+
+-- # Places of several passes together, and how long histories are.
+
+-- ## lists
+
+pub contains_here : {X : Type 0} (x : X) (xs : List X) → Contains (x ∷ xs) x
+contains_here x xs = (0, omega arith, refl)
+
+pub contains_there : {X : Type 0} (x y : X) (xs : List X) → Contains xs x → Contains (y ∷ xs) x
+contains_there x y xs h = (suc h.0, omega (arith, h.1), h.2)
+
+-- ## places
+
+abbrev one_if : Bool → ℕ
+one_if b = cond b 1 0
+
+one_here : (k : ℕ) → one_if (eqb k k) ≡ 1
+one_here k = ap one_if (eq-eqb k k refl)
+
+pub times_contains : (x : ℕ) (xs : List ℕ) → 0 < times x xs → Contains xs x
+times_contains x [] h = absurd (omega (arith, h))
+times_contains x (y ∷ ys) h = dite (ℕ_discrete x y)
+    (λ e. (0, omega arith, sym e))
+    (λ ne. contains_there x y ys (times_contains x ys (omega (arith, h, ap one_if (ne_eqb x y ne)))))
+
+-- of the places of two passes each is one's or the other's
+pub of_either : (x : ℕ) (xs ys : List ℕ) → 0 < times x (merged xs ys) → (0 < times x xs) ⊎ (0 < times x ys)
+of_either x xs ys h = dite (dec_le 1 (times x ys))
+    (λ some. inr (omega (arith, some)))
+    (λ none. inl (omega (arith, h, none, times_merged x xs ys)))
+
+by_test : {X : Type 0} (n : ℕ) (xs ys : List X) (b : Bool) → length xs ≡ n → length ys ≡ n → length (cond b xs ys) ≡ n
+by_test n xs ys true one other = one
+by_test n xs ys false one other = other
+
+length_with : (x : ℕ) (ys : List ℕ) → length (with_place x ys) ≡ suc (length ys)
+length_with x [] = refl
+length_with x (y ∷ ys) = by_test (suc (suc (length ys))) (x ∷ y ∷ ys) (y ∷ with_place x ys) (nat_lt x y) refl (ap suc (length_with x ys))
+
+pub length_merged : (xs ys : List ℕ) → length (merged xs ys) ≡ length xs + length ys
+length_merged xs [] = omega arith
+length_merged xs (y ∷ ys) = omega (arith, length_merged (with_place y xs) ys, length_with y xs)
+
+-- rising places are below their end
+pub below_end : (x from end : ℕ) (xs : List ℕ) → AreRising from xs end → 0 < times x xs → x < end
+below_end x from end [] h some = absurd (omega (arith, some))
+below_end x from end (y ∷ ys) h some = dite (ℕ_discrete x y)
+    (λ e. omega (arith, e, h.1))
+    (λ ne. below_end x (suc y) end ys h.2 (omega (arith, some, ap one_if (ne_eqb x y ne))))
+
+-- ## histories
+
+length_places : {E : Type 0} (n : ℕ) (l : List E) → length (places n l) ≡ length l
+length_places n [] = refl
+length_places n (e ∷ es) = ap suc (length_places (suc n) es)
+
+-- each place of what was added is among the added ones
+place_there : {E : Type 0} (x n : ℕ) (l : List E) → n ≤ x → x < n + length l → 0 < times x (places n l)
+place_there x n [] from to = absurd (omega (arith, from, to))
+place_there x n (e ∷ es) from to = dite (ℕ_discrete x n)
+    (λ same. omega (arith, one_here x, ap (λ (k : ℕ). one_if (eqb x k)) same))
+    (λ other. omega (arith, place_there x (suc n) es (omega (arith, from, other)) (omega (arith, to))))
+
+pub no_shorter : {E : Type 0} (first later : List E) → StartsWith later first → length first ≤ length later
+no_shorter first later h = omega (arith, ap length h.1, length-append first h.0)
+
+pub length_added : {E : Type 0} (first later : List E) → StartsWith later first → length first + length (added first later) ≡ length later
+length_added first later h =
+    omega (arith, length_places (length first) (drop (length first) later), length-rest (length first) later (no_shorter first later h))
+
+pub added_there : {E : Type 0} (x : ℕ) (first later : List E) → StartsWith later first → length first ≤ x → x < length later → 0 < times x (added first later)
+added_there x first later h from to =
+    place_there x (length first) (drop (length first) later) from (omega (arith, to, length-rest (length first) later (no_shorter first later h)))
+
+pub same_length : {E : Type 0} (seen later : List E) → StartsWith later seen → length later ≡ length seen → later ≡ seen
+same_length seen later h same =
+    h.1 ∙ (ap (λ (l : List _). seen ++ l) (length-none h.0 (omega (arith, same, ap length h.1, length-append seen h.0))) ∙ append-nil seen)
+
+-- if as many places were added, the history is the same
+pub same_history : {E : Type 0} (first seen later : List E) → StartsWith seen first → StartsWith later seen → StartsWith later first → length (added first later) ≡ length (added first seen) → later ≡ seen
+same_history first seen later h k j same =
+    same_length seen later k (omega (arith, same, length_added first seen h, length_added first later j))
+
+-- # A round that led to its end had a turn that found the journal full.
+
+-- the round goes on
+abbrev pub GoesOn : Phase → Type 0
+GoesOn ended = ⊥
+GoesOn _ = Unit {0}
+
+role_goes : (r : Role) → GoesOn (after_role r)
+role_goes (Role.Launcher p) = tt
+role_goes (Role.Janitor p) = tt
+role_goes (Role.Requester q) = tt
+role_goes Role.Reaper = tt
+
+acting_goes : (r : Role) (n : ℕ) → GoesOn (acting r n)
+acting_goes r zero = role_goes r
+acting_goes (Role.Launcher p) (suc n) = tt
+acting_goes (Role.Janitor p) (suc n) = tt
+acting_goes (Role.Requester q) (suc n) = tt
+acting_goes Role.Reaper (suc n) = tt
+
+start_goes : (p : PoolId) (n : ℕ) (o : Option Start) → GoesOn (after_start p n o)
+start_goes p n None = acting_goes (Role.Launcher p) n
+start_goes p n (Some s) = tt
+
+entry_goes : (r : Role) (n : ℕ) (e : Entry) → GoesOn (after_entry r n e)
+entry_goes (Role.Launcher p) n e = start_goes p n (start_of p e)
+entry_goes (Role.Janitor p) n e = acting_goes (Role.Janitor p) n
+entry_goes (Role.Requester q) n e = acting_goes (Role.Requester q) n
+entry_goes Role.Reaper n e = acting_goes Role.Reaper n
+
+sweep_goes : (p : PoolId) (x : ℕ) (b : Bool) → GoesOn (cond b (owes_swept p x) (sweeps p))
+sweep_goes p x true = tt
+sweep_goes p x false = tt
+
+first_goes : (w : Work) → GoesOn (first_phase w)
+first_goes (of_pool p) = acting_goes (Role.Launcher p) 16
+first_goes (of_requester q) = acting_goes (Role.Requester q) 16
+first_goes of_reaper = acting_goes Role.Reaper 16
+
+-- a turn lets the round go on, or finds the journal full
+abbrev GoesOrFull : Phase → Turn → Type 0
+GoesOrFull p t = GoesOn p ⊎ (t ≡ Turn.Full)
+
+turn_goes : (p : Phase) (a : Ask) (t : Turn) → GoesOn p → GoesOrFull (after_turn p a t) t
+turn_goes (acts r n) a (Turn.Did e) g = inl (entry_goes r n e)
+turn_goes (acts r n) a (Turn.DueNode node x) g = inl (role_goes r)
+turn_goes (acts r n) a Turn.Swept g = inl (role_goes r)
+turn_goes (acts r n) a Turn.Idle g = inl (role_goes r)
+turn_goes (acts r n) a Turn.Full g = inr refl
+turn_goes (owes_launch p n s) a t g = inl tt
+turn_goes (owes_report p n s o) a (Turn.Did e) g = inl (acting_goes (Role.Launcher p) n)
+turn_goes (owes_report p n s o) a (Turn.DueNode node x) g = inl (acting_goes (Role.Launcher p) n)
+turn_goes (owes_report p n s o) a Turn.Swept g = inl (acting_goes (Role.Launcher p) n)
+turn_goes (owes_report p n s o) a Turn.Idle g = inl (acting_goes (Role.Launcher p) n)
+turn_goes (owes_report p n s o) a Turn.Full g = inr refl
+turn_goes (looks p n) a (Turn.Did e) g = inl tt
+turn_goes (looks p n) a (Turn.DueNode node None) g = inl tt
+turn_goes (looks p n) a (Turn.DueNode node (Some x)) g = inl tt
+turn_goes (looks p n) a Turn.Swept g = inl tt
+turn_goes (looks p n) a Turn.Idle g = inl tt
+turn_goes (looks p n) a Turn.Full g = inr refl
+turn_goes (owes_due p n x) a t g = inl tt
+turn_goes (sweeps p) a (Turn.Did e) g = inl (sweep_goes p _ (is_unwanted (Turn.Did e)))
+turn_goes (sweeps p) a (Turn.DueNode node x) g = inl tt
+turn_goes (sweeps p) a Turn.Swept g = inl tt
+turn_goes (sweeps p) a Turn.Idle g = inl tt
+turn_goes (sweeps p) a Turn.Full g = inr refl
+turn_goes (owes_swept p x) a t g = inl tt
+turn_goes rests a t g = inl tt
+turn_goes ended a t g = absurd g
+
+launch_goes : (p : Phase) (o : Outcome) → GoesOn p → GoesOn (after_launch p o)
+launch_goes (acts r n) o g = tt
+launch_goes (owes_launch p n s) o g = tt
+launch_goes (owes_report p n s x) o g = tt
+launch_goes (looks p n) o g = tt
+launch_goes (owes_due p n x) o g = tt
+launch_goes (sweeps p) o g = tt
+launch_goes (owes_swept p x) o g = tt
+launch_goes rests o g = tt
+launch_goes ended o g = g
+
+removal_goes : (p : Phase) → GoesOn p → GoesOn (after_removal p)
+removal_goes (acts r n) g = tt
+removal_goes (owes_launch p n s) g = tt
+removal_goes (owes_report p n s x) g = tt
+removal_goes (looks p n) g = tt
+removal_goes (owes_due p n x) g = tt
+removal_goes (sweeps p) g = tt
+removal_goes (owes_swept p x) g = tt
+removal_goes rests g = tt
+removal_goes ended g = g
+
+-- a history without room has none after it has grown
+pub full_later : (later seen : List Entry) → StartsWith later seen → IsFull seen → IsFull later
+full_later later seen h full = omega (arith, full, ap length h.1, length-append seen h.0)
+
+module _ (plans : Bool) (c : Configuration) where
+  -- if the answer is that there is no room, there was none
+  full_answer : (before : List Entry) (a : Ask) → answers_of plans c before a Turn.Full → IsFull before
+  full_answer before (Ask.Act r) h = h.1
+  full_answer before (Ask.Do e) h = h
+  full_answer before (Ask.Due p) h = absurd h
+  full_answer before (Ask.Sweep p n x) h = h.2
+
+  pub full_turn : (v w : Sight Entry) (a : Ask) → Answered (answers_of plans) recorded c v a Turn.Full w → IsFull w.seen
+  full_turn v w a h = subst IsFull (sym h.3.0) (full_answer h.0 a h.2)
+
+  -- what is seen of the history only grows
+  pub grows_turn : (v w : Sight Entry) (a : Ask) (t : Turn) → Answered (answers_of plans) recorded c v a t w → StartsWith w.seen v.seen
+  grows_turn v w a (Turn.Did e) h = subst (λ (l : List Entry). StartsWith l v.seen) (sym h.3.0) (starts_more h.0 v.seen (e ∷ []) h.1)
+  grows_turn v w a (Turn.DueNode n x) h = subst (λ (l : List Entry). StartsWith l v.seen) (sym h.3.0) h.1
+  grows_turn v w a Turn.Swept h = subst (λ (l : List Entry). StartsWith l v.seen) (sym h.3.0) h.1
+  grows_turn v w a Turn.Idle h = subst (λ (l : List Entry). StartsWith l v.seen) (sym h.3.0) h.1
+  grows_turn v w a Turn.Full h = subst (λ (l : List Entry). StartsWith l v.seen) (sym h.3.0) h.1
+
+  pub grows : (trace : List Move) (v w : Sight Entry) → Walk (answers_of plans) c trace v w → StartsWith w.seen v.seen
+  grows [] v w h = h.0
+  grows (asked a t ∷ ms) v w h = starts_on w.seen h.0.seen v.seen (grows ms h.0 w h.2) (grows_turn v h.0 a t h.1)
+  grows (launched tag o ∷ ms) v w h = grows ms v w h
+  grows (removed x ∷ ms) v w h = grows ms v w h
+
+  -- only such an answer leads to the phase in which a round ends
+  pub full_end : (p : Phase) (trace : List Move) (v w : Sight Entry) → GoesOn p → Leads p trace ended → Walk (answers_of plans) c trace v w → IsFull w.seen
+  full_end p [] v w g l h = absurd (subst GoesOn l g)
+  full_end p (asked a t ∷ ms) v w g l h = ⊎_elim
+      (λ (on : GoesOn (after_turn p a t)). full_end (after_turn p a t) ms h.0 w on l.1 h.2)
+      (λ (is : t ≡ Turn.Full). full_later w.seen h.0.seen (grows ms h.0 w h.2) (full_turn v h.0 a (subst (λ (x : Turn). Answered (answers_of plans) recorded c v a x h.0) is h.1)))
+      (turn_goes p a t g)
+  full_end p (launched tag o ∷ ms) v w g l h = full_end (after_launch p o) ms v w (launch_goes p o g) l.1 h
+  full_end p (removed x ∷ ms) v w g l h = full_end (after_removal p) ms v w (removal_goes p g) l.1 h
+
+  pub full_round : (work : Work) (trace : List Move) (v w : Sight Entry) → Leads (first_phase work) trace ended → Walk (answers_of plans) c trace v w → IsFull w.seen
+  full_round work trace v w l h = full_end (first_phase work) trace v w (first_goes work) l h
+
+-- # What a crew's round leaves of its pass.
+
+module _ (plans : Bool) {D : Type 0} (facts : D → DriverFacts) (plan : D → Plan) (sound : D → List ℕ → Bool) (room : D → ℕ) where
+  -- a round that ended full saw a journal without room
+  full_of : (full : Bool) (to : Phase) (P : Type 0) → MatchBool full (to ≡ ended) P → full ≡ true → to ≡ ended
+  full_of true to P h is = h
+  full_of false to P h is = absurd cc
+
+  ends_full : (desk : DeskView Configuration Entry) (crew : Crew D Seat) (e : CrewEnd D Seat) → CrewPlays plans facts plan sound room desk crew e → (r : Result RoundEnd NoMemory) → e.end ≡ r → IfOk r (λ end. end.full ≡ true → IsFull e.crew.pass.seen)
+  ends_full desk crew e h (Err fault) is = tt
+  ends_full desk crew e h (Ok end) is = λ full.
+      let before = driving_of facts plan sound room crew.worker in let now = driving_of facts plan sound room e.crew.worker in
+      let ends = subst (λ (r : Result RoundEnd NoMemory). EndsAs (work_of crew.worker) before now r h.round.trace h.round.to) is h.round.holds in
+      let to = full_of end.full h.round.to (Rests (work_of crew.worker) before now h.round.trace h.round.to) ends full in
+      full_round plans desk.origin.fixed (work_of crew.worker) h.round.trace (sight_of crew.pass) (sight_of e.crew.pass)
+      (subst (λ (p : Phase). Leads (first_phase (work_of crew.worker)) h.round.trace p) to h.round.led) h.round.walked
+
+  pub with_no_places : (r : Result RoundEnd NoMemory) (mine later : List ℕ) → mine ≡ [] → IfOk r (λ end. length later ≡ length mine + end.entries) → IfOk r (λ end. length later ≡ end.entries)
+  with_no_places (Err fault) mine later none h = tt
+  with_no_places (Ok end) mine later none h = omega (arith, h, ap length none)
+
+  back_of : (desk : DeskView Configuration Entry) (p : PassView Configuration Entry) (n : ℕ) (crew : Crew D Seat) (e : CrewEnd D Seat) → crew.pass ≡ given_pass n p → CrewPlays plans facts plan sound room desk crew e → IsBack desk n e
+  back_of desk p n crew e given h = record {
+    own = h.own;
+    part = h.part ∙ ap (λ (q : PassView Configuration Entry). q.part) given;
+    entries = with_no_places e.end crew.pass.mine e.crew.pass.mine (ap (λ (q : PassView Configuration Entry). q.mine) given) h.entries;
+    full = ends_full desk crew e h e.end refl;
+  }
+
+  pub are_back : (desk : DeskView Configuration Entry) (p : PassView Configuration Entry) (n : ℕ) (crews : List (Crew D Seat)) (ends : List (CrewEnd D Seat)) → AreGiven p n crews → Pairwise (CrewPlays plans facts plan sound room desk) crews ends → AreBack desk n ends
+  are_back desk p n [] [] given h = tt
+  are_back desk p n [] (e ∷ ends) given h = absurd h
+  are_back desk p n (c ∷ crews) [] given h = absurd h
+  are_back desk p n (c ∷ crews) (e ∷ ends) given h = (back_of desk p n c e given.0 h.0, are_back desk p (suc n) crews ends given.1 h.1)
+
+-- # Crews that come back one after another.
+
+-- ## the sum of a round
+
+pub or_parts : (a b : Bool) → (a || b) ≡ true → (a ≡ true) ⊎ (b ≡ true)
+or_parts true b h = inl refl
+or_parts false b h = inr h
+
+pub nor_parts : (a b : Bool) → (a || b) ≡ false → (a ≡ false) × (b ≡ false)
+nor_parts true b h = absurd cc
+nor_parts false b h = (refl, h)
+
+none_there : (n : ℕ) → nat_lt 0 n ≡ false → n ≡ 0
+none_there n h = grind (arith, nat_tests)
+
+some_there : (n : ℕ) → nat_lt 0 n ≡ true → 0 < n
+some_there n h = grind (arith, nat_tests)
+
+-- one round more in the sum
+record OneMore (s t : Together) (r : Result RoundEnd NoMemory) : Type 0 where
+  pub end : RoundEnd
+  pub is : r ≡ Ok end
+  pub moved : t.moved ≡ (s.moved || nat_lt 0 end.entries)
+  pub full : t.full ≡ (s.full || end.full)
+
+abbrev full_in : Result Together NoMemory → Bool
+full_in (Ok t) = t.full
+full_in (Err fault) = false
+
+abbrev moved_in : Result Together NoMemory → Bool
+moved_in (Ok t) = t.moved
+moved_in (Err fault) = true
+
+abbrev is_there : Result Together NoMemory → Bool
+is_there (Ok t) = true
+is_there (Err fault) = false
+
+not_there : (t : Together) (fault : NoMemory) → Ok t ≡ Err fault → ⊥
+not_there t fault is = let e : true ≡ false = ap is_there is in absurd cc
+
+one_more : (s t : Together) (r : Result RoundEnd NoMemory) → Ok t ≡ with_end s r → OneMore s t r
+one_more s t (Err fault) is = absurd (not_there t fault is)
+one_more s t (Ok end) is = record { end = end; is = refl; moved = ap moved_in is; full = ap full_in is }
+
+-- ## crews
+
+module _ {D : Type 0} (facts : D → DriverFacts) (plan : D → Plan) (sound : D → List ℕ → Bool) (room : D → ℕ) where
+  pub took_none : (p : PassView Configuration Entry) (ws : List (Worker D)) → TookBack facts plan sound room p p ws ws (record { moved = false; full = false }) []
+  took_none p ws = record {
+    seen = starts_same p.seen;
+    told = All-nil (λ (e : CrewEnd D Seat). StartsWith p.seen e.crew.pass.seen);
+    mine = refl;
+    still = λ _. refl;
+    moved = λ h. absurd cc;
+    full = λ h. absurd cc;
+    uncut = λ _. All-nil IsUncut;
+    ended = All-nil DidEnd;
+    whether = refl;
+    players = refl;
+  }
+
+  module _ (desk : DeskView Configuration Entry) (n : ℕ) (old mid new : PassView Configuration Entry) (e : CrewEnd D Seat) (s t : Together) (back : IsBack desk n e) (mine : new.mine ≡ merged mid.mine e.crew.pass.mine) (one : OneMore s t e.end) where
+    entries : length e.crew.pass.mine ≡ one.end.entries
+    entries = subst (λ (r : Result RoundEnd NoMemory). IfOk r (λ end. length e.crew.pass.mine ≡ end.entries)) one.is back.entries
+
+    more_mine : length new.mine ≡ length mid.mine + length e.crew.pass.mine
+    more_mine = ap length mine ∙ length_merged mid.mine e.crew.pass.mine
+
+    more_still : (s.moved ≡ false → mid.mine ≡ old.mine) → t.moved ≡ false → new.mine ≡ old.mine
+    more_still had still =
+        let parts = nor_parts s.moved (nat_lt 0 one.end.entries) (sym one.moved ∙ still) in
+        mine ∙ (ap (merged mid.mine) (length-none e.crew.pass.mine (entries ∙ none_there one.end.entries parts.1)) ∙ had parts.0)
+
+    more_moved : (s.moved ≡ false → mid.mine ≡ old.mine) → (s.moved ≡ true → length old.mine < length mid.mine) → t.moved ≡ true → length old.mine < length new.mine
+    more_moved same had moved = by_sum s.moved refl
+      where
+        by_sum : (b : Bool) → s.moved ≡ b → length old.mine < length new.mine
+        by_sum true is = omega (arith, had is, more_mine)
+        by_sum false is = ⊎_elim
+            (λ (before : s.moved ≡ true). omega (arith, had before, more_mine))
+            (λ (now : nat_lt 0 one.end.entries ≡ true). omega (arith, some_there one.end.entries now, entries, more_mine, ap length (same is)))
+            (or_parts s.moved (nat_lt 0 one.end.entries) (sym one.moved ∙ moved))
+
+    more_full : StartsWith new.seen mid.seen → StartsWith new.seen e.crew.pass.seen → (s.full ≡ true → IsFull mid.seen) → t.full ≡ true → IsFull new.seen
+    more_full seen told had full = ⊎_elim
+        (λ (before : s.full ≡ true). full_later new.seen mid.seen seen (had before))
+        (λ (now : one.end.full ≡ true). full_later new.seen e.crew.pass.seen told
+        (subst (λ (r : Result RoundEnd NoMemory). IfOk r (λ end. end.full ≡ true → IsFull e.crew.pass.seen)) one.is back.full now))
+        (or_parts s.full one.end.full (sym one.full ∙ full))
+
+  -- one crew more came back
+  pub took_more : (desk : DeskView Configuration Entry) (n : ℕ) (old mid new : PassView Configuration Entry) (ws ws' ws'' : List (Worker D)) (s t : Together) (ends : List (CrewEnd D Seat)) (e : CrewEnd D Seat)
+      → TookBack facts plan sound room old mid ws ws' s ends → IsBack desk n e → StartsWith new.seen mid.seen → StartsWith new.seen e.crew.pass.seen → new.mine ≡ merged mid.mine e.crew.pass.mine → Ok t ≡ with_end s e.end → ws'' ≡ ws' ++ e.crew.worker ∷ []
+      → TookBack facts plan sound room old new ws ws'' t (e ∷ ends)
+  took_more desk n old mid new ws ws' ws'' s t ends e had back seen told mine sum more =
+      let one = one_more s t e.end sum in record {
+        seen = starts_on new.seen mid.seen old.seen seen had.seen;
+        told = All-cons (λ (x : CrewEnd D Seat). StartsWith new.seen x.crew.pass.seen) e ends told
+            (All-weaker (λ (x : CrewEnd D Seat). StartsWith mid.seen x.crew.pass.seen) (λ (x : CrewEnd D Seat). StartsWith new.seen x.crew.pass.seen)
+            (λ x h. starts_on new.seen mid.seen x.crew.pass.seen seen h) ends had.told);
+        mine = mine ∙ ap (λ (l : List ℕ). merged l e.crew.pass.mine) had.mine;
+        still = more_still desk n old mid new e s t back mine one had.still;
+        moved = more_moved desk n old mid new e s t back mine one had.still had.moved;
+        full = more_full desk n old mid new e s t back mine one seen told had.full;
+        uncut = λ room. let parts = nor_parts s.full one.end.full (sym one.full ∙ room) in
+            All-cons IsUncut e ends (one.end, one.is, parts.1) (had.uncut parts.0);
+        ended = All-cons DidEnd e ends (one.end, one.is) had.ended;
+        whether = one.full ∙ (ap (λ (b : Bool). b || one.end.full) had.whether ∙ ap (λ (b : Bool). some_full ends || b) (sym (ap is_full_end one.is)));
+        players = ap (players_of facts plan sound room) more ∙ (players-push facts plan sound room ws' e.crew.worker ∙ ap (λ (l : List Player). player_of facts plan sound room e.crew.worker ∷ l) had.players);
+      }
+
+-- # A round of all crews is a round of their players.
 
 -- ## reports
 
@@ -240,3 +580,46 @@ is_round plans facts plan sound room desk n p q r crews ends ws ws' ws'' t k is 
           (subst (λ (b : Bool). HaveRounds plans desk.origin.fixed p.seen (crew_players facts plan sound room crews) whole.ends b) (sym ours.whether)
           (have_rounds plans facts plan sound room desk p 0 crews ends given h ours.ended));
     }
+
+-- # A tick after a round.
+
+pub tick_stops : (c : Configuration) (v w : Sight Entry) (t : Turn) → Answered answers recorded c v (Ask.Do Event.Tick) t w → Stops (is_full t) w.seen
+tick_stops c v w (Turn.Did e) h = inr (record { earlier = h.0; last = e; ends = h.3.0; tick = h.2.0 })
+tick_stops c v w (Turn.DueNode n x) h = absurd h.2
+tick_stops c v w Turn.Swept h = absurd h.2
+tick_stops c v w Turn.Idle h = absurd h.2
+tick_stops c v w Turn.Full h = full_turn false c v w (Ask.Do Event.Tick) h
+
+-- beside a whole pass nothing else was added
+pub whole_tick : (desk : DeskView Configuration Entry) (p r : PassView Configuration Entry) (t : Turn) → Knows desk p r → Answered answers recorded desk.origin.fixed (sight_of p) (Ask.Do Event.Tick) t (sight_of r) → IsTick desk.origin.fixed p.seen r.seen (is_full t)
+whole_tick desk p r (Turn.Did e) k h =
+    let long : length h.0 ≡ length p.seen = omega (arith, grew desk p r k, ap length h.3.0, ap length h.3.1, length-append h.0 (e ∷ []), length-append p.mine (length h.0 ∷ [])) in
+    let same : h.0 ≡ p.seen = same_length p.seen h.0 h.1 long in record {
+      answer = Turn.Did e;
+      answered = subst (λ (l : List Entry). answers desk.origin.fixed l (Ask.Do Event.Tick) (Turn.Did e)) same h.2;
+      left = h.3.0 ∙ ap (λ (l : List Entry). l ++ e ∷ []) same;
+      whether = refl;
+    }
+whole_tick desk p r (Turn.DueNode n x) k h = absurd h.2
+whole_tick desk p r Turn.Swept k h = absurd h.2
+whole_tick desk p r Turn.Idle k h = absurd h.2
+whole_tick desk p r Turn.Full k h =
+    let still : r.seen ≡ p.seen = still_seen desk p r k h.3.1 in record {
+      answer = Turn.Full;
+      answered = subst (λ (l : List Entry). answers desk.origin.fixed l (Ask.Do Event.Tick) Turn.Full) (sym h.3.0 ∙ still) h.2;
+      left = still;
+      whether = refl;
+    }
+
+-- # A worker's round, where launchers may also commit what they chose before.
+
+-- the board's answers are allowed in any case
+pub allowed_part : (plans : Bool) (c : Configuration) (from : Phase) (v w : Sight Entry) (before now : Option Driving) (Holds : List Move → Phase → Type 0) → Part answers c from v w before now Holds → Part (answers_of plans) c from v w before now Holds
+allowed_part plans c from v w before now Holds h = record {
+  trace = h.trace;
+  to = h.to;
+  walked = allowed-walk plans c h.trace v w h.walked;
+  drove = h.drove;
+  led = h.led;
+  holds = h.holds;
+}

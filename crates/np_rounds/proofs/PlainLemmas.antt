@@ -1,51 +1,37 @@
 -- turns without a plan
-use Rattle.std.specs.Prelude.{IfOk}
-use Rattle.std.proofs.Common.{◌≡◌, ◌∙◌, ⊎_elim, inl, inr, ℕ, suc, List, [], ◌∷◌, length, Option, Some, None, Result, Ok, Err, refl, ap, subst, arith}
-use Rattle.np_changes.specs.Prelude.{Configuration, Entry, NoMemory}
-use Rattle.np_worker.specs.Prelude.{Answered, Sight, answers, recorded}
-use Rattle.np_worker.specs.declared.ask.Ask.{Ask}
-use Rattle.np_worker.specs.declared.ask.Turn.{Turn}
-use Rattle.np_desk.specs.Series.{Asked, Heard, IsOver, Took, TookAtOnce, Walk}
-use Rattle.np_desk.specs.Turned.{AnsweredAtOnce}
-use Rattle.np_desk.proofs.SeriesLemmas.{Went, took-loosely}
-use Rattle.np_board.specs.PlanAnswers.{plan_answers, plan_recorded}
-use Rattle.np_board.specs.declared.board.plan.PlanAsk.{PlanAsk}
-use Rattle.np_board.specs.declared.board.plan.PlanAsk.TheVariants as plan_ask
-use Rattle.np_board.specs.declared.board.plan.PlanTurn.{PlanTurn}
-use Rattle.np_board.specs.declared.board.plan.PlanTurn.TheVariants as plan_turn
-use Rattle.np_rounds.specs.declared.plain.PlainSeries.{PlainSeries}
-use Rattle.np_rounds.specs.Plain.{HearsPlain, asks_plain, plain_ask}
+use Rattle.np_rounds.proofs.Prelude.{Answered, AnsweredAtOnce, Ask, Asked, Configuration, Entry, Err, Heard, HearsPlain, IfOk, IsOver, List, NoMemory, None, Ok, Option, PlainSeries, PlanAsk, PlanTurn, Result, Sight, Some, Took, TookAtOnce, Turn, Went, answers, ap, arith, asks_plain, inl, inr, length, plain_ask, plan_answers, plan_recorded, recorded, refl, subst, suc, took-loosely, ℕ, [], ⊎_elim, ◌∙◌, ◌∷◌, ◌≡◌}
+use Rattle.np_desk.specs.Series.{Walk}
 
 -- ## one turn
 
 module _ (c : Configuration) where
-  only_plain : (journal : List Entry) (a : Ask) (t : PlanTurn) → plan_answers c journal (plan_ask.Plain a) t → (u : Turn) × (t ≡ plan_turn.Plain u)
-  only_plain journal a (plan_turn.Plain u) h = (u, refl)
-  only_plain journal a (plan_turn.Planned plan) h = absurd h
-  only_plain journal a (plan_turn.Fired spot) h = absurd h
-  only_plain journal a (plan_turn.Did e) h = absurd h
-  only_plain journal a (plan_turn.Stale spot change) h = absurd h
-  only_plain journal a plan_turn.Idle h = absurd h
-  only_plain journal a plan_turn.Full h = absurd h
+  only_plain : (journal : List Entry) (a : Ask) (t : PlanTurn) → plan_answers c journal (PlanAsk.Plain a) t → (u : Turn) × (t ≡ PlanTurn.Plain u)
+  only_plain journal a (PlanTurn.Plain u) h = (u, refl)
+  only_plain journal a (PlanTurn.Planned plan) h = absurd h
+  only_plain journal a (PlanTurn.Fired spot) h = absurd h
+  only_plain journal a (PlanTurn.Did e) h = absurd h
+  only_plain journal a (PlanTurn.Stale spot change) h = absurd h
+  only_plain journal a PlanTurn.Idle h = absurd h
+  only_plain journal a PlanTurn.Full h = absurd h
 
   -- the answer is one without a plan
-  pub plain_turn : (v w : Sight Entry) (a : Ask) (t : PlanTurn) → Answered plan_answers plan_recorded c v (plan_ask.Plain a) t w → (u : Turn) × (t ≡ plan_turn.Plain u) × Answered answers recorded c v a u w
+  pub plain_turn : (v w : Sight Entry) (a : Ask) (t : PlanTurn) → Answered plan_answers plan_recorded c v (PlanAsk.Plain a) t w → (u : Turn) × (t ≡ PlanTurn.Plain u) × Answered answers recorded c v a u w
   plain_turn v w a t h =
       let plain = only_plain h.0 a t h.2 in
-      (plain.0, plain.1, subst (λ (x : PlanTurn). Answered plan_answers plan_recorded c v (plan_ask.Plain a) x w) plain.1 h)
+      (plain.0, plain.1, subst (λ (x : PlanTurn). Answered plan_answers plan_recorded c v (PlanAsk.Plain a) x w) plain.1 h)
 
   -- so there is no other
-  pub no_other : (v w : Sight Entry) (a : Ask) (t : PlanTurn) → Answered plan_answers plan_recorded c v (plan_ask.Plain a) t w → ((u : Turn) → t ≡ plan_turn.Plain u → ⊥) → ⊥
+  pub no_other : (v w : Sight Entry) (a : Ask) (t : PlanTurn) → Answered plan_answers plan_recorded c v (PlanAsk.Plain a) t w → ((u : Turn) → t ≡ PlanTurn.Plain u → ⊥) → ⊥
   no_other v w a t h other = let plain = only_plain h.0 a t h.2 in other plain.0 plain.1
 
-  plain_at_once : (v w : Sight Entry) (a : Ask) (t : PlanTurn) → AnsweredAtOnce plan_answers plan_recorded c v (plan_ask.Plain a) t w → (u : Turn) × (t ≡ plan_turn.Plain u) × AnsweredAtOnce answers recorded c v a u w
+  plain_at_once : (v w : Sight Entry) (a : Ask) (t : PlanTurn) → AnsweredAtOnce plan_answers plan_recorded c v (PlanAsk.Plain a) t w → (u : Turn) × (t ≡ PlanTurn.Plain u) × AnsweredAtOnce answers recorded c v a u w
   plain_at_once v w a t h =
       let plain = only_plain v.seen a t h.0 in
-      (plain.0, plain.1, subst (λ (x : PlanTurn). AnsweredAtOnce plan_answers plan_recorded c v (plan_ask.Plain a) x w) plain.1 h)
+      (plain.0, plain.1, subst (λ (x : PlanTurn). AnsweredAtOnce plan_answers plan_recorded c v (PlanAsk.Plain a) x w) plain.1 h)
 
 -- ## a series
 
-asked_plainly : (o : Option Ask) (a : PlanAsk) → plain_ask o ≡ Some a → (x : Ask) × (o ≡ Some x) × (a ≡ plan_ask.Plain x)
+asked_plainly : (o : Option Ask) (a : PlanAsk) → plain_ask o ≡ Some a → (x : Ask) × (o ≡ Some x) × (a ≡ PlanAsk.Plain x)
 asked_plainly None a h = absurd cc
 asked_plainly (Some x) a h = (x, refl, cc)
 

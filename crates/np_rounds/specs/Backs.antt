@@ -1,14 +1,9 @@
 -- crews that come back after a round
 use Rattle.std.specs.Prelude.{◌≡◌, ◌<◌, ◌||◌, ℕ, suc, length, List, [], ◌∷◌, ◌++◌, All, Bool, true, false, Result, Ok, Err, IfOk}
-use Rattle.np_changes.specs.Prelude.{Configuration, Entry, NoMemory}
-use Rattle.np_worker.specs.Prelude.{DeskView, DriverFacts, IsFull, IsOf, PassView, second_half}
-use Rattle.np_desk.specs.History.{StartsWith, merged}
-use Rattle.np_worker.specs.Players.{Player}
-use Rattle.np_worker.specs.declared.worker.RoundEnd.{RoundEnd}
-use Rattle.np_worker.specs.declared.worker.Worker.{Worker}
 use Rattle.np_rounds.specs.declared.crew.CrewEnd.{CrewEnd}
 use Rattle.np_rounds.specs.declared.round.Together.{Together}
 use Rattle.np_rounds.specs.Crews.{Seat, Plan, zeros, player_of, players_of}
+use Rattle.np_rounds.specs.Lower.{Configuration, DeskView, DriverFacts, Entry, IsFull, IsOf, NoMemory, PassView, Player, RoundEnd, StartsWith, Worker, merged, second_half}
 
 -- a crew of this desk after a round, whose pass was split off after this many others: the round
 -- made all the places that the pass has, and ended full only if the journal had no room (own)

@@ -1,11 +1,7 @@
 -- crews: workers with their passes, which are split off one after another and joined in the reverse order
 use Rattle.std.specs.Prelude.{◌≡◌, ℕ, zero, suc, List, [], ◌∷◌, ◌++◌, Bool, false, Option}
-use Rattle.np_changes.specs.Prelude.{Configuration, Entry, Outcome}
-use Rattle.np_worker.specs.Prelude.{DriverFacts, Driving, PassView, Tag, second_half}
-use Rattle.np_worker.specs.Players.{Player}
-use Rattle.np_worker.specs.declared.worker.Worker.{Worker}
-use Rattle.np_worker.specs.Round.{work_of, driving_of}
 use Rattle.np_rounds.specs.declared.crew.Crew.{Crew}
+use Rattle.np_rounds.specs.Lower.{Configuration, DriverFacts, Driving, Entry, Outcome, PassView, Player, Tag, Worker, driving_of, second_half, work_of}
 
 -- ## passes
 

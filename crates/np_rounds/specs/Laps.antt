@@ -1,19 +1,7 @@
 -- a site played in laps: a round of all workers, each at the board, and then a tick if the round made an entry
 use Rattle.std.specs.Prelude.{◌≡◌, ◌⊎◌, ◌<◌, ◌||◌, length, List, [], ◌∷◌, ◌++◌, Bool, true, false, Option, Some, None, Ok}
-use Rattle.np_changes.specs.Prelude.{Configuration, Entry, list_any}
-use Rattle.np_event.specs.declared.event.Event.TheVariants as ev
-use Rattle.np_worker.specs.Prelude.{Driving, answers}
-use Rattle.np_worker.specs.declared.ask.Ask.TheVariants as ask
-use Rattle.np_worker.specs.declared.ask.Turn.{Turn}
-use Rattle.np_worker.specs.declared.ask.Turn.TheVariants as turn
-use Rattle.np_worker.specs.Hosting.{HaveSoundness}
-use Rattle.np_worker.specs.Move.{entries_of}
-use Rattle.np_worker.specs.Players.{AreNumbered, Player, drivings_of}
-use Rattle.np_worker.specs.Played.{IsRound, PlayerEnd}
-use Rattle.np_worker.specs.Trace.{StandAt, WasFull}
-use Rattle.np_worker.specs.declared.worker.RoundEnd.{RoundEnd}
-use Rattle.np_worker.specs.Board.{IsRoundAtBoard}
 use Rattle.np_rounds.specs.Played.{is_full}
+use Rattle.np_rounds.specs.Lower.{AreNumbered, Ask, Configuration, Driving, Entry, Event, HaveSoundness, IsRound, IsRoundAtBoard, Player, PlayerEnd, RoundEnd, StandAt, Turn, WasFull, answers, drivings_of, entries_of, list_any}
 
 -- ## a round of all workers
 
@@ -55,7 +43,7 @@ pub record Lap : Type 0 where
 
 -- the journal after the tick (own)
 abbrev pub with_turn : List Entry → Turn → List Entry
-with_turn later (turn.Did e) = later ++ e ∷ []
+with_turn later (Turn.Did e) = later ++ e ∷ []
 with_turn later _ = later
 
 abbrev pub with_tick : List Entry → Option Turn → List Entry
@@ -65,7 +53,7 @@ with_tick later (Some t) = with_turn later t
 -- a tick at a board with this journal, which leaves that one, and whether it found the journal full (own)
 pub record IsTick (c : Configuration) (old new : List Entry) (full : Bool) : Type 0 where
   pub answer : Turn
-  pub answered : answers c old (ask.Do ev.Tick) answer
+  pub answered : answers c old (Ask.Do Event.Tick) answer
   pub left : new ≡ with_turn old answer
   pub whether : full ≡ is_full answer
 
@@ -81,7 +69,7 @@ is_full_lap lap = lap.full || is_full_tick lap.tick
 abbrev pub TicksAfter : Configuration → List Entry → List Entry → Bool → Option Turn → Type 0
 TicksAfter c history later full None = (full ≡ true) ⊎ (later ≡ history)
 TicksAfter c history later full (Some t) =
-    (full ≡ false) × (length history < length later) × answers c later (ask.Do ev.Tick) t
+    (full ≡ false) × (length history < length later) × answers c later (Ask.Do Event.Tick) t
 
 module _ (plans : Bool) (c : Configuration) where
   pub record IsLap (history : List Entry) (players : List Player) (lap : Lap) : Type 0 where

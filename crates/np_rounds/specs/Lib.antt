@@ -1,3 +1,4 @@
+pub mod Lower
 pub mod Crews
 pub mod Plays
 pub mod Backs

@@ -1,15 +1,8 @@
 -- what rounds of all workers leave
 use Rattle.std.specs.Prelude.{◌≡◌, ◌⊎◌, ◌||◌, nat_lt, List, [], ◌∷◌, ◌++◌, map, Bool, true, false, Result, Ok, Err}
-use Rattle.np_changes.specs.Prelude.{Configuration, Entry, NoMemory}
-use Rattle.np_event.specs.declared.event.Event.TheVariants as ev
-use Rattle.np_worker.specs.Planned.{DrivenAs}
-use Rattle.np_worker.specs.Players.{Player, drivings_of, AreNumbered, WasAnswered, HaveDrivenAs}
-use Rattle.np_worker.specs.declared.worker.RoundEnd.{RoundEnd}
-use Rattle.np_worker.specs.declared.ask.Turn.{Turn}
-use Rattle.np_worker.specs.declared.ask.Turn.TheVariants as turn
-use Rattle.np_worker.specs.Answers.{IsFull}
 use Rattle.np_rounds.specs.declared.round.Together.{Together}
 use Rattle.np_rounds.specs.Crews.{Terms, terms_of}
+use Rattle.np_rounds.specs.Lower.{AreNumbered, Configuration, DrivenAs, Entry, Event, HaveDrivenAs, IsFull, NoMemory, Player, RoundEnd, Turn, WasAnswered, drivings_of}
 
 -- with what one more worker's round came to; if one ran out of memory, all did (own)
 abbrev pub with_end : Together → Result RoundEnd NoMemory → Result Together NoMemory
@@ -18,7 +11,7 @@ with_end sum (Err fault) = Err fault
 
 -- the turn found no room in the journal (own)
 abbrev pub is_full : Turn → Bool
-is_full turn.Full = true
+is_full Turn.Full = true
 is_full _ = false
 
 -- the last entry is a tick (own)
@@ -26,7 +19,7 @@ pub record EndsWithTick (journal : List Entry) : Type 0 where
   pub earlier : List Entry
   pub last : Entry
   pub ends : journal ≡ earlier ++ last ∷ []
-  pub tick : last.event ≡ ev.Tick
+  pub tick : last.event ≡ Event.Tick
 
 -- a journal between two rounds: it is empty, or its last entry is a tick (own)
 abbrev pub IsRested : List Entry → Type 0
@@ -40,7 +33,7 @@ Stops false journal = IsRested journal
 -- a tick was added, or the journal had no room for it (own)
 abbrev pub Ticks : Bool → List Entry → List Entry → Type 0
 Ticks true old new = new ≡ old
-Ticks false old new = (e : Entry) × (e.event ≡ ev.Tick) × (new ≡ old ++ e ∷ [])
+Ticks false old new = (e : Entry) × (e.event ≡ Event.Tick) × (new ≡ old ++ e ∷ [])
 
 -- ## players
 

@@ -1,15 +1,9 @@
 -- what a crew did in a round
 use Rattle.std.specs.Prelude.{◌≡◌, ◌+◌, length, ℕ, Bool, List, [], ◌∷◌, IfOk, Result}
-use Rattle.np_changes.specs.Prelude.{Configuration, Entry, NoMemory}
-use Rattle.np_worker.specs.Prelude.{DeskView, DriverFacts, IsOf, first_phase, sight_of}
-use Rattle.np_worker.specs.Planned.{answers_of}
-use Rattle.np_worker.specs.declared.worker.RoundEnd.{RoundEnd}
-use Rattle.np_worker.specs.declared.worker.Worker.{Worker}
-use Rattle.np_worker.specs.Part.{Part}
-use Rattle.np_worker.specs.Round.{EndsAs, work_of, driving_of}
 use Rattle.np_rounds.specs.declared.crew.Crew.{Crew}
 use Rattle.np_rounds.specs.declared.crew.CrewEnd.{CrewEnd}
 use Rattle.np_rounds.specs.Crews.{Seat, Plan}
+use Rattle.np_rounds.specs.Lower.{Configuration, DeskView, DriverFacts, EndsAs, Entry, IsOf, NoMemory, Part, RoundEnd, Worker, answers_of, driving_of, first_phase, sight_of, work_of}
 
 -- two lists are equally long, and so related place by place (own)
 abbrev pub Pairwise : {A B : Type 0} → (A → B → Type 0) → List A → List B → Type 0

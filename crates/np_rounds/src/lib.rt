@@ -17,7 +17,7 @@
 //!
 //! A site is played in laps (`specs/Laps`): a round of all workers, in which each does what
 //! np_worker's `specs/Board` says, and then a tick if the round made an entry. What the laps leave
-//! of the journal and of the drivers follows from this by np_worker's laws (`proofs/Laps`).
+//! of the journal and of the drivers follows from this by np_worker's laws (`proofs/Players`).
 #![tactic(auto)]
 
 mod crew;

@@ -1,8 +1,5 @@
 -- a machine that began before the first event
-use Rattle.std.proofs.Common.{◌≡◌, ◌∙◌, ℕ, ◌+◌, List, [], ◌∷◌, length, refl, arith}
-use Rattle.np_changes.specs.Prelude.{Configuration, Entry, Event, Runs, State}
-use Rattle.np_rules.specs.Ran.{Ran, answer_of, applied}
-use Rattle.np_rules.specs.RunsOn.{RunsOn, answer_after, applied_after}
+use Rattle.np_rules.proofs.Prelude.{Configuration, Entry, Event, List, Ran, Runs, RunsOn, State, answer_after, answer_of, applied, applied_after, arith, length, refl, ℕ, [], ◌+◌, ◌∙◌, ◌∷◌, ◌≡◌}
 
 none-before : (before : List Entry) → length before ≡ 0 → before ≡ []
 none-before [] is = refl

@@ -1,3 +1,4 @@
+pub mod Prelude
 mod Few
 pub mod RunLemmas
 pub mod First

@@ -1,8 +1,7 @@
 -- the machine with its journal
 use Rattle.std.specs.Prelude.{List, ◌++◌, ◌∷◌, [], Bool, if◌then◌else◌, nat_lt, length}
 use Rattle.np_changes.specs.Prelude.{Configuration, Entry, Event, Reply, State, judge, next, reply_of}
-use Rattle.np_event.specs.declared.reply.Reply.TheVariants as reply
-use Rattle.np_event.specs.declared.reply.Refusal.TheVariants as no
+use Rattle.np_event.specs.declared.reply.Refusal.{Refusal}
 
 -- a configuration, the journal that was recorded, and the state that it led to (own)
 pub record Ran : Type 0 where
@@ -16,7 +15,7 @@ has_room m = nat_lt (length m.journal) 262144
 
 -- the machine's reply; full if the journal has no room
 abbrev pub answer_of : Ran → Event → Reply
-answer_of m e = if has_room m then reply_of (judge m.configuration m.state e) else reply.Refused no.Full
+answer_of m e = if has_room m then reply_of (judge m.configuration m.state e) else Reply.Refused Refusal.Full
 
 -- the entry is recorded and the state advances; a full machine stays as it is
 abbrev pub applied : Ran → Event → Ran

@@ -1,17 +1,16 @@
 -- the groups of all events
 use Rattle.std.specs.Prelude.{ℕ, ◌+◌, Bool, true, false, cond}
 use Rattle.np_event.specs.declared.event.Event.{Event}
-use Rattle.np_event.specs.declared.event.Event.TheVariants as ev
 use Rattle.np_reqstep.specs.Requests.{is_request_event}
 use Rattle.np_nodestep.specs.Nodes.{is_node_event}
 use Rattle.np_semstep.specs.Semaphores.{is_semaphore_event}
 
 -- a tick, and the events that begin, stop or end a session
 abbrev pub is_session_event : Event → Bool
-is_session_event ev.Tick = true
-is_session_event (ev.OpenSession role) = true
-is_session_event (ev.Crash session) = true
-is_session_event (ev.Expire session) = true
+is_session_event Event.Tick = true
+is_session_event (Event.OpenSession role) = true
+is_session_event (Event.Crash session) = true
+is_session_event (Event.Expire session) = true
 is_session_event other = false
 
 -- in how many of the four groups the event is

@@ -1,14 +1,5 @@
 -- the numbers of the sessions that pass a test, as the table is read and changed
-use Rattle.std.proofs.Common.{◌≡◌, ◌≢◌, ℕ, zero, suc, ◌+◌, ◌-◌, ◌<◌, ◌≤◌, Bool, true, false, not, ◌&&◌, ◌||◌, cond, eqb, List, [], ◌∷◌, ◌++◌, length, get_or, set, refl, sym, ap, ◌∙◌, ◌⊎◌, inl, inr, arith}
-use Rattle.std.proofs.lemmas.Bool.{cases_lt}
-use Rattle.std.proofs.lemmas.Bool.Decides.{nat_tests, eqb_tells}
-use Rattle.std.proofs.lemmas.List.{get_or-set_same, get_or-set_other, append-nil, length-set, length_push, get_or_past}
-use Rattle.std.specs.Prelude.{filter}
-use Rattle.std.specs.List.Sorted.{IsStrictlyIncreasing}
-use Rattle.np_session.specs.declared.sessions.Life.{Life}
-use Rattle.np_session.specs.declared.sessions.Life.TheVariants.{Live, Mute, Over}
-use Rattle.np_session.specs.Known.{IsKnown, Known, after_begin, after_end, is_in, after_mute, mute_with, with_spare, without}
-use Rattle.np_session.specs.Numbers.{is_live, is_mute, known_of, life_of, numbers}
+use Rattle.np_session.proofs.Prelude.{Bool, IsKnown, IsStrictlyIncreasing, Known, Life, List, Live, Mute, Over, after_begin, after_end, after_mute, ap, append-nil, arith, cases_lt, cond, eqb, eqb_tells, false, filter, get_or, get_or-set_other, get_or-set_same, get_or_past, inl, inr, is_in, is_live, is_mute, known_of, length, length-set, length_push, life_of, mute_with, nat_tests, not, numbers, refl, set, suc, sym, true, with_spare, without, zero, ℕ, [], ◌&&◌, ◌++◌, ◌+◌, ◌-◌, ◌<◌, ◌||◌, ◌∙◌, ◌∷◌, ◌≡◌, ◌≢◌, ◌≤◌, ◌⊎◌}
 
 -- a number below the first one is not among them
 is_in-below : (p : Life → Bool) (n : ℕ) (xs : List Life) (id : ℕ) → id < n → is_in (numbers p n xs) id ≡ false

@@ -1,14 +1,5 @@
+pub mod Prelude
 pub mod Readers
-pub mod Exact
-pub mod Numbers
-pub mod Words
-pub mod Ids
-pub mod Lists
-pub mod RoleForm
-pub mod SessionForm
-pub mod NodeForm
-pub mod Items
-pub mod JobForm
+pub mod Values
+pub mod Records
 pub mod RequestForm
-pub mod CursorLemmas
-pub mod RestLemmas

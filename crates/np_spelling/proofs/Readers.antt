@@ -1,9 +1,7 @@
--- Readers with their laws, put together from parts.
-use Rattle.std.proofs.Common.{◌≡◌, ℕ, Bool, true, false, List, [], ◌∷◌, ◌++◌, Option, Some, None, refl, sym, ap, subst, ◌∙◌, append_assoc, ◌⊎◌, inl, inr}
-use Rattle.std.specs.Char.{is_ascii_digit}
-use Rattle.np_spelling.specs.Reading.{Reader, after, ◌>>=◌, begins, fork, gives, lead}
-use Rattle.std.specs.Prelude.{◌==◌, if◌then◌else◌}
-use Rattle.std.proofs.lemmas.Bool.{eq-eqb, eqb-true}
+-- readers of a text: how they are chained, choose between words, read lists, and read just what is spelled
+use Rattle.np_spelling.proofs.Prelude.{AllByRecursion, BadRecord, Begins, Bool, Err, IsTrue, List, None, Ok, OnTrue, Option, Reader, Some, StopsAt, after, and_parts, answer, ap, append-nil, append_assoc, arith, begins, chosen, close, codes, digits, drop, drop_all, drop_more, eq-eqb, eqb-true, false, first_byte, fixed, flag_by, flag_text, fork, get_or, gives, if◌then◌else◌, inl, inr, is_ascii_digit, lead, length, length-append, list_in, list_text, nat_le, nat_tests, option_map, priority_limits, refl, rest_in, rest_text, sequence_limits, subst, suc, sym, take, take_at, true, with_front, zero, ℕ, [], ◌&&◌, ◌*◌, ◌++◌, ◌+◌, ◌-◌, ◌<◌, ◌==◌, ◌>>=◌, ◌>>◌, ◌↔◌, ◌∙◌, ◌∷◌, ◌≡◌, ◌≤◌, ◌⊎◌}
+
+-- # Readers with their laws, put together from parts.
 
 -- ## What may follow
 
@@ -279,3 +277,551 @@ giving_open b = loosely (giving b)
 pub after_same : {A B : Type 0} (o : Option A) (left : List ℕ) (f g : A → Reader B) → ((a : A) (s : List ℕ) → f a s ≡ g a s) → after o left f ≡ after o left g
 after_same (Some a) left f g same = same a left
 after_same None left f g same = refl
+
+-- # Readers of words, with their laws.
+
+-- ## Values as trees
+
+-- a reader whose values have one text each
+pub record Valued {F : List ℕ → Type 0} {B : Type 0} (R : Read F B) (Good : B → Type 0) (text : B → List ℕ) : Type 0 where
+  pub to : (t : R.Tree) → Good (R.value t) × (text (R.value t) ≡ R.text t)
+  pub back : (b : B) → Good b → (t : R.Tree) × (R.value t ≡ b) × (R.text t ≡ text b)
+
+abbrev Value : {B : Type 0} → (B → Type 0) → Type 0
+Value {B} Good = (b : B) × Good b
+
+abbrev value_text : {B : Type 0} (Good : B → Type 0) (text : B → List ℕ) → Value Good → List ℕ
+value_text Good text t = text t.0
+
+abbrev value_of : {B : Type 0} (Good : B → Type 0) → Value Good → B
+value_of Good t = t.0
+
+says_value : {F : List ℕ → Type 0} {B : Type 0} (R : Read F B) (Good : B → Type 0) (text : B → List ℕ) → Valued R Good text → (o : Option B) (f : List ℕ)
+    → Says R.text R.value o f → Says (value_text Good text) (value_of Good) o f
+says_value R Good text V (Some b) f says = let to = V.to says.0 in ((R.value says.0, to.0), says.1, to.1 ∙ says.2)
+says_value R Good text V None f says = let to = V.to says.0 in ((R.value says.0, to.0), says.1, to.1 ∙ says.2)
+
+pub value_told : {F : List ℕ → Type 0} {B : Type 0} (R : Read F B) (Good : B → Type 0) (text : B → List ℕ) → Valued R Good text → (s : List ℕ)
+    → Told R.run (value_text Good text) (value_of Good) s (R.run s).0 (R.run s).1
+value_told R Good text V s = let told = R.told s in (told.0, told.1, says_value R Good text V (R.run s).0 told.0 told.2, told.3)
+
+pub value_complete : {F : List ℕ → Type 0} {B : Type 0} (R : Read F B) (Good : B → Type 0) (text : B → List ℕ) → Valued R Good text → (t : Value Good) (x : List ℕ) → F x
+    → R.run (text t.0 ++ x) ≡ (Some t.0, x)
+value_complete R Good text V t x follows =
+    let back = V.back t.0 t.1 in
+    ap (λ b. R.run (b ++ x)) (sym back.2) ∙ R.complete back.0 x follows ∙ ap (λ v. (Some v, x)) back.1
+
+abbrev pub valued : {F : List ℕ → Type 0} {B : Type 0} (R : Read F B) (Good : B → Type 0) (text : B → List ℕ) → Valued R Good text → Read F B
+valued R Good text V = record {
+  run = R.run;
+  Tree = Value Good;
+  text = value_text Good text;
+  value = value_of Good;
+  some = (R.value R.some, (V.to R.some).0);
+  told = value_told R Good text V;
+  complete = value_complete R Good text V;
+}
+
+-- ## Words that their first bytes determine
+
+-- each value's word begins with a byte that determines it
+abbrev pub Tells : {A T : Type 0} → (ℕ → T) → (T → A) → (A → List ℕ) → Type 0
+Tells {A} {T} by value word = (t : T) → (c : ℕ) × (cs : List ℕ) × (word (value t) ≡ c ∷ cs) × (by c ≡ t)
+
+same_first : (s x : List ℕ) → Agree s x → first_byte x ≡ first_byte s
+same_first [] x agree = absurd agree
+same_first (b ∷ bs) x agree = ap first_byte agree.1
+
+abbrev chosen_by : {A T : Type 0} → (ℕ → T) → (T → A) → ℕ → A
+chosen_by by value b = value (by b)
+
+choice_at : {A T : Type 0} (by : ℕ → T) (value : T → A) (word : A → List ℕ) (s : List ℕ) (o : Option (Unit {0})) (left : List ℕ)
+    → Told (lead (word (value (by (first_byte s))))) (λ (t : Unit {0}). word (value (by (first_byte s)))) (λ (t : Unit {0}). tt) s o left
+    → Told (chosen (chosen_by by value) word) (λ (t : T). word (value t)) value s
+    (after o left (λ u. gives (value (by (first_byte s))))).0 (after o left (λ u. gives (value (by (first_byte s))))).1
+unfolding chosen
+choice_at {A} {T} by value word s (Some u) left told = (
+  told.0,
+  told.1,
+  (by (first_byte s), refl, told.2.2),
+  λ x agree.
+      let first = same_first s (told.0 ++ x) (agree_front told.0 s left x told.1 agree) in
+      rw first (ap (λ (p : Option (Unit {0}) × List ℕ). after p.0 p.1 (λ v. gives (value (by (first_byte s))))) (told.3 x agree)),
+)
+choice_at {A} {T} by value word s None left told = (
+  told.0,
+  told.1,
+  (by (first_byte s), told.2.1, told.2.2),
+  λ x agree.
+      let first = same_first s (told.0 ++ x) (agree_front told.0 s left x told.1 agree) in
+      rw first (ap (λ (p : Option (Unit {0}) × List ℕ). after p.0 p.1 (λ v. gives (value (by (first_byte s))))) (told.3 x agree)),
+)
+
+pub choice_told : {A T : Type 0} (by : ℕ → T) (value : T → A) (word : A → List ℕ) (s : List ℕ)
+    → Told (chosen (chosen_by by value) word) (λ (t : T). word (value t)) value s (chosen (chosen_by by value) word s).0 (chosen (chosen_by by value) word s).1
+unfolding chosen
+choice_told by value word s =
+    let l = word (value (by (first_byte s))) in
+    choice_at by value word s (lead l s).0 (lead l s).1 (lead_told l s)
+
+pub choice_complete : {A T : Type 0} (by : ℕ → T) (value : T → A) (word : A → List ℕ) → Tells by value word → (t : T) (x : List ℕ)
+    → chosen (chosen_by by value) word (word (value t) ++ x) ≡ (Some (value t), x)
+unfolding chosen
+choice_complete by value word tells t x =
+    let told = tells t in
+    let first = ap (λ w. first_byte (w ++ x)) told.2 in
+    let same = ap by first ∙ told.3 in
+    rw same (ap (λ (p : Option (Unit {0}) × List ℕ). after p.0 p.1 (λ v. gives (value t))) (lead_complete (word (value t)) x))
+
+abbrev pub choosing : {A T : Type 0} (by : ℕ → T) (value : T → A) (word : A → List ℕ) → Tells by value word → T → Read Any A
+choosing {A} {T} by value word tells t = record {
+  run = chosen (chosen_by by value) word;
+  Tree = T;
+  text = λ (u : T). word (value u);
+  value = value;
+  some = t;
+  told = choice_told by value word;
+  complete = λ u x follows. choice_complete by value word tells u x;
+}
+
+abbrev pub same : {A : Type 0} → A → A
+same a = a
+
+pub flag_tells : Tells flag_by same flag_text
+flag_tells true = (116, codes "rue", refl, refl)
+flag_tells false = (102, codes "alse", refl, refl)
+
+abbrev pub flag : Read Any Bool
+flag = choosing flag_by same flag_text flag_tells true
+
+-- # Readers of lists, with their laws.
+
+-- at most `room` items, and each has this
+abbrev pub Few : {A : Type 0} → (A → Type 0) → ℕ → List A → Type 0
+Few P room xs = (length xs ≤ room) × AllByRecursion P xs
+
+-- an item's text does not begin with the closing bracket
+abbrev pub Opens : {A : Type 0} → Read NoDigit A → Type 0
+Opens R = (t : R.Tree) (x : List ℕ) → begins 93 (R.text t ++ x) ≡ false
+
+abbrev pub closing : (A : Type 0) → Read Any (List A)
+closing A = behind (leading (codes "]")) (λ _. giving (let none : List A = [] in none))
+
+-- a list's rest
+pub record Rest {A : Type 0} (R : Read NoDigit A) (P : A → Type 0) (text : A → List ℕ) (room : ℕ) : Type 1 where
+  pub read : Read Any (List A)
+  pub run : read.run ≡ rest_in R.run room
+  pub fits : (t : read.Tree) (x : List ℕ) → NoDigit (read.text t ++ x)
+  pub means : Valued read (Few P room) (rest_text text)
+
+none_back : {A : Type 0} (P : A → Type 0) (text : A → List ℕ) (xs : List A) → Few P 0 xs → (t : (closing A).Tree) × ((closing A).value t ≡ xs) × ((closing A).text t ≡ rest_text text xs)
+none_back P text [] few = ((tt, tt), refl, refl)
+none_back P text (x ∷ xs) few = absurd (omega (arith, few.0))
+
+rest_end : {A : Type 0} (R : Read NoDigit A) (P : A → Type 0) (text : A → List ℕ) → Rest R P text 0
+unfolding rest_in
+rest_end {A} R P text = record {
+  read = closing A;
+  run = refl;
+  fits = λ t x. refl;
+  means = record { to = λ t. ((omega arith, tt), refl); back = none_back P text };
+}
+
+-- an item, and the rest of the list
+abbrev pub item_and : {A : Type 0} (R : Read NoDigit A) (P : A → Type 0) (text : A → List ℕ) (room : ℕ) → Rest R P text room → Read Any (List A)
+item_and R P text room rest =
+    chain R (λ x. behind rest.read (λ xs. giving (x ∷ xs)))
+    (λ t u x follows. subst NoDigit (sym (append_assoc (rest.read.text u.0) [] x)) (rest.fits u.0 x))
+
+item_to : {A : Type 0} (R : Read NoDigit A) (P : A → Type 0) (text : A → List ℕ) (room : ℕ) (V : Valued R P text) (rest : Rest R P text room) (t : (item_and R P text room rest).Tree)
+    → Few P (suc room) ((item_and R P text room rest).value t) × (text (R.value t.0) ++ (rest_text text (rest.read.value t.1.0) ++ []) ≡ (item_and R P text room rest).text t)
+item_to R P text room V rest t =
+    let one = V.to t.0 in
+    let others = rest.means.to t.1.0 in (
+      (omega (arith, others.0.0), (one.0, others.0.1)),
+      ap (λ x. x ++ (rest_text text (rest.read.value t.1.0) ++ [])) one.1 ∙ ap (λ x. R.text t.0 ++ (x ++ [])) others.1,
+    )
+
+item_back : {A : Type 0} (R : Read NoDigit A) (P : A → Type 0) (text : A → List ℕ) (room : ℕ) (V : Valued R P text) (rest : Rest R P text room) (x : A) (xs : List A)
+    → Few P (suc room) (x ∷ xs)
+    → (t : (item_and R P text room rest).Tree) × ((item_and R P text room rest).value t ≡ x ∷ xs) × ((item_and R P text room rest).text t ≡ text x ++ (rest_text text xs ++ []))
+item_back R P text room V rest x xs few =
+    let one = V.back x few.1.0 in
+    let others = rest.means.back xs (omega (arith, few.0), few.1.1) in (
+      (one.0, (others.0, tt)),
+      ap (λ y. y ∷ rest.read.value others.0) one.1 ∙ ap (λ ys. x ∷ ys) others.1,
+      ap (λ y. y ++ (rest.read.text others.0 ++ [])) one.2 ∙ ap (λ y. text x ++ (y ++ [])) others.2,
+    )
+
+rest_more : {A : Type 0} (R : Read NoDigit A) (P : A → Type 0) (text : A → List ℕ) (room : ℕ) → Valued R P text → Rest R P text room → Rest R P text (suc room)
+unfolding rest_in
+rest_more {A} R P text room V rest = record {
+  read = forking 93 (closing A) (behind (leading (codes ",")) (λ _. item_and R P text room rest)) (λ t x. refl) (λ t x f. refl);
+  run = ap (λ (run : Reader (List A)). fork 93 close (lead (codes ",") >> (R.run >>= (λ x. run >>= (λ xs. gives (x ∷ xs)))))) rest.run;
+  fits = more_fits;
+  means = record { to = more_to; back = more_back };
+}
+  where
+    more : Read Any (List A)
+    more = forking 93 (closing A) (behind (leading (codes ",")) (λ _. item_and R P text room rest)) (λ t x. refl) (λ t x f. refl)
+
+    more_fits : (t : more.Tree) (x : List ℕ) → NoDigit (more.text t ++ x)
+    more_fits (inl t) x = refl
+    more_fits (inr t) x = refl
+
+    more_to : (t : more.Tree) → Few P (suc room) (more.value t) × (rest_text text (more.value t) ≡ more.text t)
+    more_to (inl t) = ((omega arith, tt), refl)
+    more_to (inr t) = let to = item_to R P text room V rest t.1 in (to.0, ap (λ x. 44 ∷ x) to.1)
+
+    more_back : (xs : List A) → Few P (suc room) xs → (t : more.Tree) × (more.value t ≡ xs) × (more.text t ≡ rest_text text xs)
+    more_back [] few = (inl (tt, tt), refl, refl)
+    more_back (x ∷ xs) few = let back = item_back R P text room V rest x xs few in (inr (tt, back.0), back.1, ap (λ y. 44 ∷ y) back.2)
+
+pub resting : {A : Type 0} (R : Read NoDigit A) (P : A → Type 0) (text : A → List ℕ) → Valued R P text → (room : ℕ) → Rest R P text room
+resting R P text V zero = rest_end R P text
+resting R P text V (suc room) = rest_more R P text room V (resting R P text V room)
+
+-- ## Whole lists
+
+module _ {A : Type 0} (R : Read NoDigit A) (P : A → Type 0) (text : A → List ℕ) (V : Valued R P text) (opens : Opens R) (room : ℕ) where
+  abbrev pub list_parts : Read Any (List A)
+  list_parts =
+      behind (leading (codes "[")) (λ _.
+      forking 93 (closing A) (item_and R P text room (resting R P text V room)) (λ t x. refl)
+      (λ t x f. ap (begins 93) (append_assoc (R.text t.0) ((resting R P text V room).read.text t.1.0 ++ []) x) ∙ opens t.0 (((resting R P text V room).read.text t.1.0 ++ []) ++ x)))
+
+  pub list_run : list_parts.run ≡ list_in R.run room
+  unfolding list_in
+  list_run = ap (λ (run : Reader (List A)). lead (codes "[") >> fork 93 close (R.run >>= (λ x. run >>= (λ xs. gives (x ∷ xs))))) (resting R P text V room).run
+
+  list_to : (t : list_parts.Tree) → Few P (suc room) (list_parts.value t) × (list_text text (list_parts.value t) ≡ list_parts.text t)
+  list_to t = cases t.1
+    where
+      cases : (u : (closing A).Tree ⊎ (item_and R P text room (resting R P text V room)).Tree)
+          → Few P (suc room) (list_parts.value (tt, u)) × (list_text text (list_parts.value (tt, u)) ≡ list_parts.text (tt, u))
+      cases (inl u) = ((omega arith, tt), refl)
+      cases (inr u) = let to = item_to R P text room V (resting R P text V room) u in (to.0, ap (λ x. 91 ∷ x) to.1)
+
+  list_back : (xs : List A) → Few P (suc room) xs → (t : list_parts.Tree) × (list_parts.value t ≡ xs) × (list_parts.text t ≡ list_text text xs)
+  list_back [] few = ((tt, inl (tt, tt)), refl, refl)
+  list_back (x ∷ xs) few =
+      let back = item_back R P text room V (resting R P text V room) x xs few in
+      ((tt, inr back.0), back.1, ap (λ y. 91 ∷ y) back.2)
+
+  pub list_valued : Valued list_parts (Few P (suc room)) (list_text text)
+  list_valued = record { to = list_to; back = list_back }
+
+  -- a list of at most one more item than room
+  abbrev pub listing : Read Any (List A)
+  listing =
+      let values = valued list_parts (Few P (suc room)) (list_text text) list_valued in record {
+        run = list_in R.run room;
+        Tree = values.Tree;
+        text = values.text;
+        value = values.value;
+        some = values.some;
+        told = rerun values (list_in R.run room) list_run;
+        complete = λ t x follows. ap (λ (run : Reader (List A)). run (values.text t ++ x)) (sym list_run) ∙ values.complete t x follows;
+      }
+
+-- # What a reader that has to pass all bytes returns, by its laws.
+
+-- a relation between values and bytes is what a reader's trees say
+pub record Means {V : Type 0} (R : Read Any V) (Spells : V → List ℕ → Type 0) : Type 0 where
+  pub to : (t : R.Tree) → Spells (R.value t) (R.text t)
+  pub back : (v : V) (bytes : List ℕ) → Spells v bytes → (t : R.Tree) × (R.value t ≡ v) × (R.text t ≡ bytes)
+
+spells_tree : {V : Type 0} (R : Read Any V) (Spells : V → List ℕ → Type 0) → Means R Spells → (t : R.Tree) (v : V) (bytes : List ℕ) → R.value t ≡ v → R.text t ≡ bytes → Spells v bytes
+spells_tree R Spells means t v bytes is_value is_text = subst (λ w. Spells w bytes) is_value (subst (λ b. Spells (R.value t) b) is_text (means.to t))
+
+run_of : {V : Type 0} (R : Read Any V) (Spells : V → List ℕ → Type 0) → Means R Spells → (v : V) (bytes : List ℕ) → Spells v bytes → R.run bytes ≡ (Some v, [])
+run_of R Spells means v bytes spelled =
+    let back = means.back v bytes spelled in
+    ap R.run (sym (append-nil bytes)) ∙ ap (λ b. R.run (b ++ [])) (sym back.2) ∙ R.complete back.0 [] tt ∙ ap (λ w. (Some w, [])) back.1
+
+ok_told : {V : Type 0} (R : Read Any V) (Spells : V → List ℕ → Type 0) → Means R Spells → (n : ℕ) (s : List ℕ) (o : Option V) (left : List ℕ) (v : V)
+    → Told R.run R.text R.value s o left → answer n o left ≡ Ok v → Spells v s
+ok_told R Spells means n s (Some a) [] v told is =
+    let same : a ≡ v = cc in
+    spells_tree R Spells means told.2.0 v s (told.2.1 ∙ same) (told.2.2 ∙ sym (append-nil told.0) ∙ sym told.1)
+ok_told R Spells means n s (Some a) (c ∷ cs) v told is = absurd (cc)
+ok_told R Spells means n s None left v told is = absurd (cc)
+
+-- what is read is spelled
+pub read_spells : {V : Type 0} (R : Read Any V) (Spells : V → List ℕ → Type 0) → Means R Spells → (n : ℕ) (s : List ℕ) (v : V)
+    → answer n (R.run s).0 (R.run s).1 ≡ Ok v → Spells v s
+read_spells R Spells means n s v is = ok_told R Spells means n s (R.run s).0 (R.run s).1 v (R.told s) is
+
+-- what is spelled is read
+pub spelled_reads : {V : Type 0} (R : Read Any V) (Spells : V → List ℕ → Type 0) → Means R Spells → (n : ℕ) (s : List ℕ) (v : V)
+    → Spells v s → answer n (R.run s).0 (R.run s).1 ≡ Ok v
+spelled_reads {V} R Spells means n s v spelled = ap (λ (p : Option V × List ℕ). answer n p.0 p.1) (run_of R Spells means v s spelled)
+
+-- ## Where reading stops
+
+further : (front : List ℕ) (c : ℕ) (cs : List ℕ) (longer : ℕ) → length front < longer → (more : List ℕ) × (take longer (front ++ c ∷ cs) ≡ front ++ c ∷ more)
+further [] c cs zero long = absurd (omega arith)
+further [] c cs (suc k) long = (take k cs, refl)
+further (d ∷ front) c cs zero long = absurd (omega arith)
+further (d ∷ front) c cs (suc k) long = let more = further front c cs k (omega arith) in (more.0, ap (λ x. d ∷ x) more.1)
+
+ends : {A : Type 0} (p q : A × List ℕ) → p ≡ q → q.1 ≡ [] → p.1 ≡ []
+ends p q same empty = ap (λ r. r.1) same ∙ empty
+
+not_further : {V : Type 0} (R : Read Any V) (Spells : V → List ℕ → Type 0) → Means R Spells → (s : List ℕ) (o : Option V) (front left : List ℕ)
+    → s ≡ front ++ left → ((x : List ℕ) → Agree left x → R.run (front ++ x) ≡ (o, x))
+    → (longer : ℕ) → length front < longer → longer ≤ length s → Begins Spells (take longer s) → ⊥
+not_further R Spells means s o front [] split same longer above within begins =
+    let short = ap length split ∙ length-append front [] in absurd (omega arith)
+not_further R Spells means s o front (c ∷ cs) split same longer above within begins =
+    let more = further front c cs longer above in
+    let cut = ap (take longer) split ∙ more.1 in
+    let bytes = ap (λ b. b ++ begins.1) cut ∙ append_assoc front (c ∷ more.0) begins.1 in
+    let is_read = run_of R Spells means begins.0 (take longer s ++ begins.1) begins.2 in
+    let stops = same (c ∷ (more.0 ++ begins.1)) (more.0 ++ begins.1, refl) in
+    let none : c ∷ (more.0 ++ begins.1) ≡ [] = ends (o, c ∷ (more.0 ++ begins.1)) (Some begins.0, []) (sym stops ∙ sym (ap R.run bytes) ∙ is_read) refl in
+    absurd (cc)
+
+begun : {V : Type 0} (R : Read Any V) (Spells : V → List ℕ → Type 0) → Means R Spells → (o : Option V) (front : List ℕ) → Says R.text R.value o front → Begins Spells front
+begun R Spells means (Some v) front says =
+    (v, [], spells_tree R Spells means says.0 v (front ++ []) says.1 (says.2 ∙ sym (append-nil front)))
+begun R Spells means None front says =
+    (R.value says.0, says.1, spells_tree R Spells means says.0 (R.value says.0) (front ++ says.1) refl says.2)
+
+stops_told : {V : Type 0} (R : Read Any V) (Spells : V → List ℕ → Type 0) → Means R Spells → (s : List ℕ) (o : Option V) (left : List ℕ)
+    → Told R.run R.text R.value s o left → StopsAt Spells s (length s - length left)
+stops_told R Spells means s o left told =
+    let long = ap length told.1 ∙ length-append told.0 left in
+    let place : length told.0 ≡ length s - length left = omega arith in
+    let cut = ap (take (length told.0)) told.1 ∙ take_at told.0 left (length told.0) refl in
+    subst (λ n. StopsAt Spells s n) place (record {
+      within = omega arith;
+      begins = subst (λ b. Begins Spells b) (sym cut) (begun R Spells means o told.0 told.2);
+      no_further = not_further R Spells means s o told.0 left told.1 told.3;
+    })
+
+err_told : {V : Type 0} (R : Read Any V) (Spells : V → List ℕ → Type 0) → Means R Spells → (s : List ℕ) (o : Option V) (left : List ℕ) (bad : BadRecord)
+    → Told R.run R.text R.value s o left → answer (length s) o left ≡ Err bad → StopsAt Spells s bad.place
+err_told R Spells means s (Some a) [] bad told is = absurd (cc)
+err_told R Spells means s (Some a) (c ∷ cs) bad told is =
+    let same : record { place = length s - length (c ∷ cs) } ≡ bad = cc in
+    subst (λ (b : BadRecord). StopsAt Spells s b.place) same (stops_told R Spells means s (Some a) (c ∷ cs) told)
+err_told R Spells means s None left bad told is =
+    let same : record { place = length s - length left } ≡ bad = cc in
+    subst (λ (b : BadRecord). StopsAt Spells s b.place) same (stops_told R Spells means s None left told)
+
+-- a refusal has its place
+pub refused_stops : {V : Type 0} (R : Read Any V) (Spells : V → List ℕ → Type 0) → Means R Spells → (s : List ℕ) (bad : BadRecord)
+    → answer (length s) (R.run s).0 (R.run s).1 ≡ Err bad → StopsAt Spells s bad.place
+refused_stops R Spells means s bad is = err_told R Spells means s (R.run s).0 (R.run s).1 bad (R.told s) is
+
+-- a reader leaves an end of what it was given
+pub left_within : {F : List ℕ → Type 0} {V : Type 0} (R : Read F V) (s : List ℕ) → length (R.run s).1 ≤ length s
+left_within R s =
+    let told = R.told s in
+    let long = ap length told.1 ∙ length-append told.0 (R.run s).1 in
+    omega arith
+
+some_of : {V : Type 0} (a b : V) → ◌≡◌ {A = Option V × List ℕ} (Some a, []) (Some b, []) → a ≡ b
+some_of {V} a b same = let one : Some a ≡ Some b = ap (λ (p : Option V × List ℕ). p.0) same in cc
+
+-- bytes spell at most one value
+pub one_value : {V : Type 0} (R : Read Any V) (Spells : V → List ℕ → Type 0) → Means R Spells → (a b : V) (bytes : List ℕ) → Spells a bytes → Spells b bytes → a ≡ b
+one_value R Spells means a b bytes first second = some_of a b (sym (run_of R Spells means a bytes first) ∙ run_of R Spells means b bytes second)
+
+-- # Steps of the cursor.
+
+pub lead_passed : (text s t : List ℕ) (i : ℕ) → i < length text → s ≡ get_or text i 0 ∷ t → lead (drop i text) s ≡ lead (drop (i + 1) text) t
+unfolding lead
+lead_passed text s t i within is =
+    let same = eq-eqb (get_or text i 0) (get_or text i 0) refl in
+    rw (drop_more text i 0 within, is) (rw same refl)
+
+pub lead_other : (text s : List ℕ) (i : ℕ) → i < length text → begins (get_or text i 0) s ≡ false → lead (drop i text) s ≡ (None, s)
+unfolding lead
+lead_other text [] i within other = rw (drop_more text i 0 within) refl
+lead_other text (b ∷ bs) i within other = rw (drop_more text i 0 within, other) refl
+
+pub lead_end : (text s : List ℕ) (i : ℕ) → length text ≤ i → lead (drop i text) s ≡ (Some tt, s)
+unfolding lead
+lead_end text s i ends = rw (drop_all i text ends) refl
+
+pub ruleset leads = (lead_passed, lead_other, lead_end)
+
+pub digits_step : (max n i : ℕ) (text : List ℕ) → i < length text → (is_ascii_digit (get_or text i 0) && nat_le (n * 10 + (get_or text i 0 - 48)) max) ≡ true
+    → digits max n (drop i text) ≡ digits max (n * 10 + (get_or text i 0 - 48)) (drop (i + 1) text)
+unfolding digits
+digits_step max n i text within fits = rw (drop_more text i 0 within, fits) refl
+
+pub digits_other : (max n i : ℕ) (text : List ℕ) → i < length text → (is_ascii_digit (get_or text i 0) && nat_le (n * 10 + (get_or text i 0 - 48)) max) ≡ false
+    → digits max n (drop i text) ≡ (Some n, drop i text)
+unfolding digits
+digits_other max n i text within other = rw (drop_more text i 0 within, other) refl
+
+pub digits_over : (max n i : ℕ) (text : List ℕ) → length text ≤ i → digits max n (drop i text) ≡ (Some n, drop i text)
+unfolding digits
+digits_over max n i text ends = rw (drop_all i text ends) refl
+
+pub ruleset counting = (digits_step, digits_other, digits_over)
+
+never : (s t : List ℕ) (m : ℕ) → ◌≡◌ {A = Option ℕ × List ℕ} (None, s) (Some m, t) → ⊥
+never s t m is = let one : None ≡ Some m = ap (λ (p : Option ℕ × List ℕ). p.0) is in absurd (cc)
+
+nor : (s t : List ℕ) (m : ℕ) → ◌≡◌ {A = Option ℕ × List ℕ} (Some m, s) (None, t) → ⊥
+nor s t m is = let one : Some m ≡ None = ap (λ (p : Option ℕ × List ℕ). p.0) is in absurd (cc)
+
+abbrev get_or_zero : Option ℕ → ℕ
+get_or_zero (Some n) = n
+get_or_zero None = 0
+
+fixed_after : (limit : ℕ) (limits s t : List ℕ) (n m : ℕ) → fixed (limit ∷ []) n s ≡ (Some m, t) → fixed (limit ∷ limits) n s ≡ fixed limits m t
+unfolding fixed
+fixed_after limit limits [] t n m is = absurd (never [] t m is)
+fixed_after limit limits (c ∷ cs) t n m is = cases (is_ascii_digit c && nat_le (n * 10 + (c - 48)) limit) is
+  where
+    cases : (v : Bool) → (if v then fixed [] (n * 10 + (c - 48)) cs else (None, c ∷ cs)) ≡ (Some m, t)
+        → (if v then fixed limits (n * 10 + (c - 48)) cs else (None, c ∷ cs)) ≡ fixed limits m t
+    cases true is' = ap (λ (p : Option ℕ × List ℕ). fixed limits (get_or_zero p.0) p.1) is'
+    cases false is' = absurd (never (c ∷ cs) t m is')
+
+fixed_stopped : (limit : ℕ) (limits s t : List ℕ) (n : ℕ) → fixed (limit ∷ []) n s ≡ (None, t) → fixed (limit ∷ limits) n s ≡ (None, t)
+unfolding fixed
+fixed_stopped limit limits [] t n is = is
+fixed_stopped limit limits (c ∷ cs) t n is = cases (is_ascii_digit c && nat_le (n * 10 + (c - 48)) limit) is
+  where
+    cases : (v : Bool) → (if v then fixed [] (n * 10 + (c - 48)) cs else (None, c ∷ cs)) ≡ (None, t)
+        → (if v then fixed limits (n * 10 + (c - 48)) cs else (None, c ∷ cs)) ≡ (None, t)
+    cases true is' = absurd (nor cs t (n * 10 + (c - 48)) is')
+    cases false is' = is'
+
+pub fixed_step : (limits s t : List ℕ) (n i m : ℕ) → i < length limits → fixed (get_or limits i 0 ∷ []) n s ≡ (Some m, t) → fixed (drop i limits) n s ≡ fixed (drop (i + 1) limits) m t
+fixed_step limits s t n i m within is =
+    ap (λ ls. fixed ls n s) (drop_more limits i 0 within) ∙ fixed_after (get_or limits i 0) (drop (i + 1) limits) s t n m is
+
+pub fixed_other : (limits s t : List ℕ) (n i : ℕ) → i < length limits → fixed (get_or limits i 0 ∷ []) n s ≡ (None, t) → fixed (drop i limits) n s ≡ (None, t)
+fixed_other limits s t n i within is =
+    ap (λ ls. fixed ls n s) (drop_more limits i 0 within) ∙ fixed_stopped (get_or limits i 0) (drop (i + 1) limits) s t n is
+
+pub fixed_end : (limits s : List ℕ) (n i : ℕ) → length limits ≤ i → fixed (drop i limits) n s ≡ (Some n, s)
+unfolding fixed
+fixed_end limits s n i ends = rw (drop_all i limits ends) refl
+
+pub ruleset fixing = (fixed_step, fixed_other, fixed_end)
+
+last_limit : ℕ → List ℕ → ℕ
+last_limit limit [] = limit
+last_limit limit (next ∷ limits) = last_limit next limits
+
+fixed_most_at : (limit : ℕ) (limits : List ℕ) (n c : ℕ) (cs : List ℕ) (m : ℕ) (left : List ℕ) (v : Bool) → (is_ascii_digit c && nat_le (n * 10 + (c - 48)) limit) ≡ v
+    → (if v then fixed limits (n * 10 + (c - 48)) cs else (None, c ∷ cs)) ≡ (Some m, left)
+    → (n * 10 + (c - 48) ≤ limit → fixed limits (n * 10 + (c - 48)) cs ≡ (Some m, left) → m ≤ last_limit limit limits) → m ≤ last_limit limit limits
+fixed_most_at limit limits n c cs m left true test is rest =
+    let tests = and_parts (is_ascii_digit c) (nat_le (n * 10 + (c - 48)) limit) test in
+    let fits : n * 10 + (c - 48) ≤ limit = grind (arith, nat_tests) in
+    rest fits is
+fixed_most_at limit limits n c cs m left false test is rest = absurd (never (c ∷ cs) left m is)
+
+fixed_most : (limits : List ℕ) (l n : ℕ) (s : List ℕ) (m : ℕ) (left : List ℕ) → n ≤ l → fixed limits n s ≡ (Some m, left) → m ≤ last_limit l limits
+unfolding fixed last_limit
+fixed_most [] l n s m left within is = let same : n ≡ m = ap (λ (p : Option ℕ × List ℕ). get_or_zero p.0) is in omega arith
+fixed_most (limit ∷ limits) l n [] m left within is = absurd (never [] left m is)
+fixed_most (limit ∷ limits) l n (c ∷ cs) m left within is =
+    fixed_most_at limit limits n c cs m left (is_ascii_digit c && nat_le (n * 10 + (c - 48)) limit) refl is
+    (λ fits is'. fixed_most limits limit (n * 10 + (c - 48)) cs m left fits is')
+
+pub priority_most : (s left : List ℕ) (n : ℕ) → fixed priority_limits 0 s ≡ (Some n, left) → n ≤ 999
+unfolding last_limit
+priority_most s left n is = fixed_most priority_limits 0 0 s n left (omega arith) is
+
+pub sequence_most : (s left : List ℕ) (n : ℕ) → fixed sequence_limits 0 s ≡ (Some n, left) → n ≤ 4294967295
+unfolding last_limit
+sequence_most s left n is = fixed_most sequence_limits 0 0 s n left (omega arith) is
+
+-- # Steps of a list that is read.
+
+abbrev pub nothing : (A : Type 0) → List A
+nothing A = []
+
+shut : {A : Type 0} (xs : List A) (o : Option (Unit {0})) (left : List ℕ)
+    → with_front xs (after o left (λ u. gives [])) ≡ (option_map (λ u. xs) o, left)
+shut xs (Some u) left = ap (λ ys. (Some ys, left)) (append-nil xs)
+shut xs None left = refl
+
+close_shut : {A : Type 0} (xs : List A) (s left : List ℕ) (o : Option (Unit {0})) → lead (93 ∷ []) s ≡ (o, left) → with_front xs (close s) ≡ (option_map (λ u. xs) o, left)
+close_shut xs s left o is = ap (λ (p : Option (Unit {0}) × List ℕ). with_front xs (after p.0 p.1 (λ u. gives []))) is ∙ shut xs o left
+
+pub rest_last : {A : Type 0} (r : Reader A) (xs : List A) (j : ℕ) (s left : List ℕ) (o : Option (Unit {0})) → j ≡ 0 → lead (93 ∷ []) s ≡ (o, left)
+    → with_front xs (rest_in r j s) ≡ (option_map (λ u. xs) o, left)
+unfolding rest_in
+rest_last r xs j s left o end is = ap (λ k. with_front xs (rest_in r k s)) end ∙ close_shut xs s left o is
+
+pub rest_shut : {A : Type 0} (r : Reader A) (xs : List A) (j k : ℕ) (s left : List ℕ) (o : Option (Unit {0})) → j ≡ suc k → begins 93 s ≡ true → lead (93 ∷ []) s ≡ (o, left)
+    → with_front xs (rest_in r j s) ≡ (option_map (λ u. xs) o, left)
+unfolding rest_in
+rest_shut r xs j k s left o more first is = ap (λ k. with_front xs (rest_in r k s)) more ∙ rw first (close_shut xs s left o is)
+
+pub rest_no_comma : {A : Type 0} (r : Reader A) (xs : List A) (j k : ℕ) (s left : List ℕ) → j ≡ suc k → begins 93 s ≡ false → lead (44 ∷ []) s ≡ (None, left)
+    → with_front xs (rest_in r j s) ≡ (None, left)
+unfolding rest_in
+rest_no_comma r xs j k s left more first is = ap (λ k. with_front xs (rest_in r k s)) more ∙ rw (first, is) refl
+
+pub rest_no_item : {A : Type 0} (r : Reader A) (xs : List A) (j k : ℕ) (s t left : List ℕ) → j ≡ suc k → begins 93 s ≡ false → lead (44 ∷ []) s ≡ (Some tt, t) → r t ≡ (None, left)
+    → with_front xs (rest_in r j s) ≡ (None, left)
+unfolding rest_in
+rest_no_item r xs j k s t left more first comma is = ap (λ k. with_front xs (rest_in r k s)) more ∙ rw (first, comma, is) refl
+
+longer : {A : Type 0} (xs : List A) (x : A) (o : Option (List A)) (left : List ℕ)
+    → with_front xs (after o left (λ ys. gives (x ∷ ys))) ≡ with_front (xs ++ x ∷ []) (o, left)
+longer xs x (Some ys) left = ap (λ zs. (Some zs, left)) (sym (append_assoc xs (x ∷ []) ys))
+longer xs x None left = refl
+
+pub rest_item : {A : Type 0} (r : Reader A) (xs : List A) (j k : ℕ) (s t u : List ℕ) (x : A) → j ≡ suc k → begins 93 s ≡ false → lead (44 ∷ []) s ≡ (Some tt, t) → r t ≡ (Some x, u)
+    → with_front xs (rest_in r j s) ≡ with_front (xs ++ x ∷ []) (rest_in r k u)
+unfolding rest_in
+rest_item r xs j k s t u x more first comma is =
+    ap (λ k. with_front xs (rest_in r k s)) more ∙ rw (first, comma, is) (longer xs x (rest_in r k u).0 (rest_in r k u).1)
+
+-- what a push leaves if there is room
+pub pushed_row : {A : Type 0} (b : Bool) (n : ℕ) (old new : List A) (x : A) → (IsTrue b ↔ (length old < n)) → OnTrue b (new ≡ old ++ x ∷ []) → length old < n → new ≡ old ++ x ∷ []
+pushed_row true n old new x room pushed below = pushed
+pushed_row false n old new x room pushed below = absurd (let held : false ≡ true = room.1 below in cc)
+
+-- ## Whole lists
+
+pub list_not_open : {A : Type 0} (r : Reader A) (k : ℕ) (s left : List ℕ) → lead (91 ∷ []) s ≡ (None, left) → list_in r k s ≡ (None, left)
+unfolding list_in
+list_not_open r k s left is = rw is refl
+
+shut_none : {A : Type 0} (o : Option (Unit {0})) (left : List ℕ) → after o left (λ u. gives (nothing A)) ≡ (option_map (λ u. nothing A) o, left)
+shut_none (Some u) left = refl
+shut_none None left = refl
+
+pub list_shut : {A : Type 0} (r : Reader A) (k : ℕ) (s t left : List ℕ) (o : Option (Unit {0})) (row : List A) → row ≡ [] → lead (91 ∷ []) s ≡ (Some tt, t) → begins 93 t ≡ true → lead (93 ∷ []) t ≡ (o, left)
+    → list_in r k s ≡ (option_map (λ u. row) o, left)
+unfolding list_in
+list_shut {A} r k s t left o row empty opened first is =
+    rw (opened, first, is) (shut_none o left) ∙ ap (λ (xs : List A). (option_map (λ u. xs) o, left)) (sym empty)
+
+pub list_no_item : {A : Type 0} (r : Reader A) (k : ℕ) (s t left : List ℕ) → lead (91 ∷ []) s ≡ (Some tt, t) → begins 93 t ≡ false → r t ≡ (None, left) → list_in r k s ≡ (None, left)
+unfolding list_in
+list_no_item r k s t left opened first is = rw (opened, first, is) refl
+
+fronted : {A : Type 0} (x : A) (o : Option (List A)) (left : List ℕ) → after o left (λ ys. gives (x ∷ ys)) ≡ with_front (x ∷ []) (o, left)
+fronted x (Some ys) left = refl
+fronted x None left = refl
+
+pub list_items : {A : Type 0} (r : Reader A) (k : ℕ) (s t u : List ℕ) (x : A) → lead (91 ∷ []) s ≡ (Some tt, t) → begins 93 t ≡ false → r t ≡ (Some x, u)
+    → list_in r k s ≡ with_front (x ∷ []) (rest_in r k u)
+unfolding list_in
+list_items r k s t u x opened first is = rw (opened, first, is) (fronted x (rest_in r k u).0 (rest_in r k u).1)
+
+-- ## Writing
+
+pub rest_text-more : {A : Type 0} (text : A → List ℕ) (xs : List A) (i : ℕ) (d : A) → i < length xs
+    → rest_text text (drop i xs) ≡ 44 ∷ (text (get_or xs i d) ++ (rest_text text (drop (i + 1) xs) ++ []))
+rest_text-more text xs i d within = ap (rest_text text) (drop_more xs i d within)
+
+pub rest_text-end : {A : Type 0} (text : A → List ℕ) (xs : List A) (i : ℕ) → length xs ≤ i → rest_text text (drop i xs) ≡ 93 ∷ []
+rest_text-end text xs i ends = ap (rest_text text) (drop_all i xs ends)
+
+pub ruleset writing = (rest_text-more, rest_text-end)

@@ -1,27 +1,8 @@
 -- Requests, by their parts.
-use Rattle.std.proofs.Common.{◌≡◌, ℕ, ◌^◌, ◌<◌, ◌≤◌, inl, inr, List, [], ◌∷◌, ◌++◌, length, Option, Some, None, subst, Ok, Err, refl, sym, ap, ◌∙◌, arith}
-use Rattle.std.specs.Prelude.{codes, IfSome}
-use Rattle.std.specs.Fmt.{decimal}
-use Rattle.std.proofs.lemmas.List.{append-nil}
-use Rattle.np_record.specs.declared.record.Declined.{Declined}
-use Rattle.np_record.specs.declared.record.RequestRecord.{RequestRecord}
-use Rattle.np_text.specs.Word.{request_state_word}
-use Rattle.np_text.specs.declared.id.JobId.{JobId}
-use Rattle.np_text.specs.declared.id.LabelId.{LabelId}
-use Rattle.np_text.specs.declared.id.NodeId.{NodeId}
-use Rattle.np_text.specs.declared.id.PoolId.{PoolId}
-use Rattle.np_text.specs.declared.word.RequestState.{RequestState}
-use Rattle.np_text.specs.declared.word.RequestState.TheVariants as state
-use Rattle.np_spelling.specs.declared.fault.BadRecord.{BadRecord}
-use Rattle.np_spelling.specs.Reading.{after, ◌>>=◌, gives, lead, number, answer, declined_in, label_in, node_id_in, numbered, reason_in, request_job_in, request_pinned_in, request_pool_in, other_state_in, request_record_in, request_state_in, served_state_in}
-use Rattle.np_spelling.specs.Spelling.{IsAsked, IsDeclined, IsLabel, IsNodeId, IsRequest, IsServed, SpellsRequest, StopsAt, declined_text, joined, label_text, list_text, node_id_text, request_job, request_pinned, request_pool, request_record_text}
-use Rattle.np_spelling.proofs.Readers.{Any, NoDigit, Read, after_same, behind, chain, forking, giving, giving_open, leading}
-use Rattle.np_spelling.proofs.Numbers.{u32_behind}
-use Rattle.np_spelling.proofs.Words.{Valued, valued}
-use Rattle.np_spelling.proofs.Items.{declined, declined_opens, declined_valued, label, label_opens, label_valued, node_id, node_id_opens, node_id_valued}
-use Rattle.np_spelling.proofs.Lists.{listing}
-use Rattle.np_spelling.proofs.NodeForm.{u16_behind, u32_number}
-use Rattle.np_spelling.proofs.Exact.{Means, left_within, read_spells, refused_stops, spelled_reads}
+use Rattle.np_spelling.proofs.Prelude.{BadRecord, Declined, Err, IfSome, IsAsked, IsDeclined, IsLabel, IsNodeId, IsRequest, IsServed, JobId, LabelId, List, NodeId, None, Ok, Option, PoolId, RequestRecord, RequestState, Some, SpellsRequest, StopsAt, after, answer, ap, append-nil, arith, codes, decimal, declined_in, declined_text, gives, inl, inr, joined, label_in, label_text, lead, length, list_text, node_id_in, node_id_text, number, numbered, other_state_in, reason_in, refl, request_job, request_job_in, request_pinned, request_pinned_in, request_pool, request_pool_in, request_record_in, request_record_text, request_state_in, request_state_word, served_state_in, subst, sym, ℕ, [], ◌++◌, ◌<◌, ◌>>=◌, ◌^◌, ◌∙◌, ◌∷◌, ◌≡◌, ◌≤◌}
+use Rattle.np_spelling.proofs.Readers.{Any, Means, NoDigit, Read, Valued, after_same, behind, chain, forking, giving, giving_open, leading, left_within, listing, read_spells, refused_stops, spelled_reads, valued}
+use Rattle.np_spelling.proofs.Values.{u32_behind}
+use Rattle.np_spelling.proofs.Records.{declined, declined_opens, declined_valued, label, label_opens, label_valued, node_id, node_id_opens, node_id_valued, u16_behind, u32_number}
 
 abbrev pub declines : Read Any (List Declined)
 declines = listing declined IsDeclined declined_text declined_valued declined_opens 63
@@ -127,15 +108,15 @@ pool_fits None y x = refl
 -- ## The state
 
 abbrev pub state_parts : Option PoolId → Read Any RequestState
-state_parts (Some p) = forking 112 (behind (leading (codes "pending\"}")) (λ _. giving state.Pending)) (behind (leading (codes "fulfilled\"}")) (λ _. giving state.Fulfilled)) (λ t x. refl) (λ t x f. refl)
-state_parts None = forking 114 (behind (leading (codes "requested\"}")) (λ _. giving state.Requested)) (behind (leading (codes "failed\"}")) (λ _. giving state.Failed)) (λ t x. refl) (λ t x f. refl)
+state_parts (Some p) = forking 112 (behind (leading (codes "pending\"}")) (λ _. giving RequestState.Pending)) (behind (leading (codes "fulfilled\"}")) (λ _. giving RequestState.Fulfilled)) (λ t x. refl) (λ t x f. refl)
+state_parts None = forking 114 (behind (leading (codes "requested\"}")) (λ _. giving RequestState.Requested)) (behind (leading (codes "failed\"}")) (λ _. giving RequestState.Failed)) (λ t x. refl) (λ t x f. refl)
 
 abbrev pub StateOk : Option PoolId → RequestState → Type 0
-StateOk (Some p) state.Pending = Unit {0}
-StateOk (Some p) state.Fulfilled = Unit {0}
+StateOk (Some p) RequestState.Pending = Unit {0}
+StateOk (Some p) RequestState.Fulfilled = Unit {0}
 StateOk (Some p) s = ⊥
-StateOk None state.Requested = Unit {0}
-StateOk None state.Failed = Unit {0}
+StateOk None RequestState.Requested = Unit {0}
+StateOk None RequestState.Failed = Unit {0}
 StateOk None s = ⊥
 
 abbrev pub state_text : RequestState → List ℕ
@@ -148,14 +129,14 @@ state_to None (inl t) = (tt, refl)
 state_to None (inr t) = (tt, refl)
 
 state_back : (o : Option PoolId) (s : RequestState) → StateOk o s → (t : (state_parts o).Tree) × ((state_parts o).value t ≡ s) × ((state_parts o).text t ≡ state_text s)
-state_back (Some p) state.Pending is = (inl (tt, tt), refl, refl)
-state_back (Some p) state.Fulfilled is = (inr (tt, tt), refl, refl)
-state_back (Some p) state.Requested is = absurd is
-state_back (Some p) state.Failed is = absurd is
-state_back None state.Requested is = (inl (tt, tt), refl, refl)
-state_back None state.Failed is = (inr (tt, tt), refl, refl)
-state_back None state.Pending is = absurd is
-state_back None state.Fulfilled is = absurd is
+state_back (Some p) RequestState.Pending is = (inl (tt, tt), refl, refl)
+state_back (Some p) RequestState.Fulfilled is = (inr (tt, tt), refl, refl)
+state_back (Some p) RequestState.Requested is = absurd is
+state_back (Some p) RequestState.Failed is = absurd is
+state_back None RequestState.Requested is = (inl (tt, tt), refl, refl)
+state_back None RequestState.Failed is = (inr (tt, tt), refl, refl)
+state_back None RequestState.Pending is = absurd is
+state_back None RequestState.Fulfilled is = absurd is
 
 pub state_valued : (o : Option PoolId) → Valued (state_parts o) (StateOk o) state_text
 state_valued o = record { to = state_to o; back = state_back o }
@@ -200,24 +181,24 @@ job_of None (Some p) is = (tt, is)
 job_of None None is = absurd is
 
 served_of : (s : RequestState) (o : Option PoolId) → PoolOk o → StateOk o s → IsServed s o
-served_of state.Requested None small is = tt
-served_of state.Failed None small is = tt
-served_of state.Pending (Some p) small is = small
-served_of state.Fulfilled (Some p) small is = small
-served_of state.Requested (Some p) small is = is
-served_of state.Failed (Some p) small is = is
-served_of state.Pending None small is = is
-served_of state.Fulfilled None small is = is
+served_of RequestState.Requested None small is = tt
+served_of RequestState.Failed None small is = tt
+served_of RequestState.Pending (Some p) small is = small
+served_of RequestState.Fulfilled (Some p) small is = small
+served_of RequestState.Requested (Some p) small is = is
+served_of RequestState.Failed (Some p) small is = is
+served_of RequestState.Pending None small is = is
+served_of RequestState.Fulfilled None small is = is
 
 state_of : (s : RequestState) (o : Option PoolId) → IsServed s o → PoolOk o × StateOk o s
-state_of state.Requested None is = (tt, tt)
-state_of state.Failed None is = (tt, tt)
-state_of state.Pending (Some p) is = (is, tt)
-state_of state.Fulfilled (Some p) is = (is, tt)
-state_of state.Requested (Some p) is = absurd is
-state_of state.Failed (Some p) is = absurd is
-state_of state.Pending None is = absurd is
-state_of state.Fulfilled None is = absurd is
+state_of RequestState.Requested None is = (tt, tt)
+state_of RequestState.Failed None is = (tt, tt)
+state_of RequestState.Pending (Some p) is = (is, tt)
+state_of RequestState.Fulfilled (Some p) is = (is, tt)
+state_of RequestState.Requested (Some p) is = absurd is
+state_of RequestState.Failed (Some p) is = absurd is
+state_of RequestState.Pending None is = absurd is
+state_of RequestState.Fulfilled None is = absurd is
 
 request_to : (t : request_read.Tree) → IsRequest (request_read.value t)
 request_to t =

@@ -4,34 +4,7 @@ use Rattle.std.specs.Option.{option_map}
 use Rattle.std.specs.Char.{is_ascii_digit}
 use Rattle.np_spelling.specs.Spelling.{default_tenant, flag_text}
 use Rattle.np_spelling.specs.declared.fault.BadRecord.{BadRecord}
-use Rattle.np_record.specs.declared.record.RoleRecord.{RoleRecord}
-use Rattle.np_record.specs.declared.record.SessionRecord.{SessionRecord}
-use Rattle.np_record.specs.declared.record.NodeRecord.{NodeRecord}
-use Rattle.np_text.specs.declared.id.LabelId.{LabelId}
-use Rattle.np_record.specs.declared.record.Declined.{Declined}
-use Rattle.np_record.specs.declared.record.JobRecord.{JobRecord}
-use Rattle.np_text.specs.declared.word.Ending.{Ending}
-use Rattle.np_text.specs.declared.word.Ending.TheVariants as ending
-use Rattle.np_text.specs.declared.word.Phase.{Phase}
-use Rattle.np_text.specs.declared.word.Phase.TheVariants as phase
-use Rattle.np_record.specs.declared.record.RequestRecord.{RequestRecord}
-use Rattle.np_text.specs.declared.id.JobId.{JobId}
-use Rattle.np_text.specs.declared.word.RequestState.{RequestState}
-use Rattle.np_text.specs.declared.word.RequestState.TheVariants as state
-use Rattle.np_record.specs.declared.record.Marked.{Marked}
-use Rattle.np_text.specs.declared.word.Reason.{Reason}
-use Rattle.np_text.specs.declared.word.Reason.TheVariants as reason
-use Rattle.np_text.specs.declared.id.NodeId.{NodeId}
-use Rattle.np_text.specs.declared.id.PoolId.{PoolId}
-use Rattle.np_text.specs.declared.id.TenantId.{TenantId}
-use Rattle.np_text.specs.declared.word.NodeState.{NodeState}
-use Rattle.np_text.specs.declared.word.NodeState.TheVariants as node
-use Rattle.np_text.specs.declared.id.RequestId.{RequestId}
-use Rattle.np_text.specs.declared.id.Role.{Role}
-use Rattle.np_text.specs.declared.id.Role.TheVariants as role
-use Rattle.np_text.specs.declared.word.RoleKind.{RoleKind}
-use Rattle.np_text.specs.declared.word.RoleKind.TheVariants as kind
-use Rattle.np_text.specs.Word.{ending_word, node_state_word, role_kind_word}
+use Rattle.np_spelling.specs.Lower.{Declined, Ending, JobId, JobRecord, LabelId, Marked, NodeId, NodeRecord, NodeState, Phase, PoolId, Reason, RequestId, RequestRecord, RequestState, Role, RoleKind, RoleRecord, SessionRecord, TenantId, ending_word, node_state_word, role_kind_word}
 
 -- from the bytes that are left: the value, if there is one, and the bytes that are left after it
 abbrev pub Reader : Type 0 → Type 0
@@ -163,7 +136,7 @@ abbrev pub flag_by : ℕ → Bool
 flag_by b = b == 116
 
 abbrev pub role_kind_by : ℕ → RoleKind
-role_kind_by b = if b == 108 then kind.Launcher else (if b == 106 then kind.Janitor else kind.Requester)
+role_kind_by b = if b == 108 then RoleKind.Launcher else (if b == 106 then RoleKind.Janitor else RoleKind.Requester)
 
 -- ## Items of lists
 
@@ -188,15 +161,15 @@ marked_in = do
 unfoldable pub reason_in : Reader Reason
 reason_in = fork 115 (do
   n ← numbered (codes "spent-n") max_u32
-  gives (reason.Spent (record { 0 = n }))) (fork 116 (do
+  gives (Reason.Spent (record { 0 = n }))) (fork 116 (do
     lead (codes "tenant-never-fits")
-    gives reason.TenantNeverFits) (do
+    gives Reason.TenantNeverFits) (do
       lead (codes "n")
       fork 111 (do
         l ← numbered (codes "o-label-l") max_u16
-        gives (reason.NoLabel (record { 0 = l }))) (do
+        gives (Reason.NoLabel (record { 0 = l }))) (do
           lead (codes "ever-fits")
-          gives reason.NeverFits)))
+          gives Reason.NeverFits)))
 
 unfoldable pub declined_in : Reader Declined
 declined_in = do
@@ -220,9 +193,9 @@ role_in = do
 
 -- the role of a kind and a number
 abbrev pub role_of : RoleKind → ℕ → Role
-role_of kind.Launcher n = role.Launcher (record { 0 = n })
-role_of kind.Janitor n = role.Janitor (record { 0 = n })
-role_of kind.Requester n = role.Requester (record { 0 = n })
+role_of RoleKind.Launcher n = Role.Launcher (record { 0 = n })
+role_of RoleKind.Janitor n = Role.Janitor (record { 0 = n })
+role_of RoleKind.Requester n = Role.Requester (record { 0 = n })
 
 unfoldable pub role_name_in : Reader Role
 role_name_in = do
@@ -279,12 +252,12 @@ node_place_in = do
 
 abbrev pub node_state_by : ℕ → NodeState
 node_state_by b =
-    if b == 98 then node.Building else (
-    if b == 114 then node.Ready else (
-    if b == 105 then node.InUse else (
-    if b == 117 then node.Used else (
-    if b == 104 then node.Hold else (
-    if b == 100 then node.Deleting else node.Failed)))))
+    if b == 98 then NodeState.Building else (
+    if b == 114 then NodeState.Ready else (
+    if b == 105 then NodeState.InUse else (
+    if b == 117 then NodeState.Used else (
+    if b == 104 then NodeState.Hold else (
+    if b == 100 then NodeState.Deleting else NodeState.Failed)))))
 
 unfoldable pub node_state_in : Reader NodeState
 node_state_in = do
@@ -334,7 +307,7 @@ node_in = do
 -- ## Jobs
 
 abbrev pub ending_by : ℕ → Ending
-ending_by b = if b == 115 then ending.Served else (if b == 108 then ending.Lost else (if b == 102 then ending.Failed else ending.Withdrawn))
+ending_by b = if b == 115 then Ending.Served else (if b == 108 then Ending.Lost else (if b == 102 then Ending.Failed else Ending.Withdrawn))
 
 unfoldable pub job_front_in : Reader (Option Ending)
 job_front_in = do
@@ -348,10 +321,10 @@ job_front_in = do
       gives None)
 
 unfoldable pub open_phase_in : Reader Phase
-open_phase_in = fork 110 (lead (codes "new\"") >> gives phase.New) (fork 97 (lead (codes "asked\"") >> gives phase.Asked) (lead (codes "using\"") >> gives phase.Using))
+open_phase_in = fork 110 (lead (codes "new\"") >> gives Phase.New) (fork 97 (lead (codes "asked\"") >> gives Phase.Asked) (lead (codes "using\"") >> gives Phase.Using))
 
 unfoldable pub phase_in : Option Ending → Reader Phase
-phase_in (Some e) = lead (codes ",\"phase\":\"over\"") >> gives phase.Over
+phase_in (Some e) = lead (codes ",\"phase\":\"over\"") >> gives Phase.Over
 phase_in None = lead (codes ",\"phase\":\"") >> open_phase_in
 
 unfoldable pub no_end_in : Reader (Option PoolId × Option RequestId)
@@ -374,10 +347,10 @@ unfoldable pub over_end_in : Reader (Option PoolId × Option RequestId)
 over_end_in = fork 125 no_end_in (lead (codes ",\"") >> fork 112 (using_end_in (codes "pool\":")) (asked_end_in (codes "request\":\"") None))
 
 abbrev pub job_end_in : Phase → Reader (Option PoolId × Option RequestId)
-job_end_in phase.New = no_end_in
-job_end_in phase.Asked = asked_end_in (codes ",\"request\":\"") None
-job_end_in phase.Using = using_end_in (codes ",\"pool\":")
-job_end_in phase.Over = over_end_in
+job_end_in Phase.New = no_end_in
+job_end_in Phase.Asked = asked_end_in (codes ",\"request\":\"") None
+job_end_in Phase.Using = using_end_in (codes ",\"pool\":")
+job_end_in Phase.Over = over_end_in
 
 unfoldable pub job_in : Reader JobRecord
 job_in = do
@@ -414,10 +387,10 @@ request_pool_in = do
       gives None)
 
 unfoldable pub served_state_in : Reader RequestState
-served_state_in = fork 112 (lead (codes "pending\"}") >> gives state.Pending) (lead (codes "fulfilled\"}") >> gives state.Fulfilled)
+served_state_in = fork 112 (lead (codes "pending\"}") >> gives RequestState.Pending) (lead (codes "fulfilled\"}") >> gives RequestState.Fulfilled)
 
 unfoldable pub other_state_in : Reader RequestState
-other_state_in = fork 114 (lead (codes "requested\"}") >> gives state.Requested) (lead (codes "failed\"}") >> gives state.Failed)
+other_state_in = fork 114 (lead (codes "requested\"}") >> gives RequestState.Requested) (lead (codes "failed\"}") >> gives RequestState.Failed)
 
 abbrev pub request_state_in : Option PoolId → Reader RequestState
 request_state_in (Some p) = served_state_in

@@ -1,33 +1,8 @@
 -- The one spelling of each record: compact JSON, keys in byte order, absent keys left out (own).
 use Rattle.std.specs.Prelude.{Bool, true, false, ◌≤◌, ◌<◌, ◌^◌, ℕ, ◌≡◌, ◌⊎◌, List, [], ◌∷◌, ◌++◌, length, take, codes, Option, Some, None, IfSome}
 use Rattle.std.specs.Fmt.{decimal}
-use Rattle.np_record.specs.declared.record.Declined.{Declined}
 use Rattle.std.specs.List.{AllByRecursion}
-use Rattle.np_record.specs.declared.record.JobRecord.{JobRecord}
-use Rattle.np_text.specs.declared.id.PoolId.{PoolId}
-use Rattle.np_text.specs.declared.limit.TheConstants.{JOB_LABELS, POOLS}
-use Rattle.np_text.specs.declared.word.Ending.{Ending}
-use Rattle.np_text.specs.declared.word.Phase.{Phase}
-use Rattle.np_text.specs.declared.word.Phase.TheVariants as phase
-use Rattle.np_record.specs.declared.record.Marked.{Marked}
-use Rattle.np_text.specs.declared.id.LabelId.{LabelId}
-use Rattle.np_text.specs.declared.id.NodeId.{NodeId}
-use Rattle.np_text.specs.declared.word.Reason.{Reason}
-use Rattle.np_text.specs.declared.word.Reason.TheVariants as reason
-use Rattle.np_record.specs.declared.record.NodeRecord.{NodeRecord}
-use Rattle.np_record.specs.declared.record.RequestRecord.{RequestRecord}
-use Rattle.np_text.specs.declared.id.JobId.{JobId}
-use Rattle.np_text.specs.declared.word.RequestState.{RequestState}
-use Rattle.np_text.specs.declared.word.RequestState.TheVariants as state
-use Rattle.np_record.specs.declared.record.RoleRecord.{RoleRecord}
-use Rattle.np_text.specs.Request.{HasText, request_text_of}
-use Rattle.np_text.specs.declared.id.RequestId.{RequestId}
-use Rattle.np_text.specs.declared.id.TenantId.{TenantId}
-use Rattle.np_record.specs.declared.record.SessionRecord.{SessionRecord}
-use Rattle.np_text.specs.declared.id.Role.{Role}
-use Rattle.np_text.specs.declared.id.Role.TheVariants as role
-use Rattle.np_text.specs.declared.word.RoleKind.TheVariants as kind
-use Rattle.np_text.specs.Word.{ending_word, node_state_word, phase_word, reason_text_of, request_state_word, role_kind_word}
+use Rattle.np_spelling.specs.Lower.{Declined, Ending, HasText, JOB_LABELS, JobId, JobRecord, LabelId, Marked, NodeId, NodeRecord, POOLS, Phase, PoolId, Reason, RequestId, RequestRecord, RequestState, Role, RoleKind, RoleRecord, SessionRecord, TenantId, ending_word, node_state_word, phase_word, reason_text_of, request_state_word, request_text_of, role_kind_word}
 
 -- these texts, one after the other
 abbrev pub joined : List (List ℕ) → List ℕ
@@ -72,10 +47,10 @@ flag_text false = codes "false"
 
 -- the role's kind, a dash and the number of its pool or requester; the reaper has no session
 abbrev pub role_name : Role → List ℕ
-role_name (role.Launcher p) = joined (role_kind_word kind.Launcher ∷ codes "-" ∷ decimal p.0 ∷ [])
-role_name (role.Janitor p) = joined (role_kind_word kind.Janitor ∷ codes "-" ∷ decimal p.0 ∷ [])
-role_name (role.Requester q) = joined (role_kind_word kind.Requester ∷ codes "-" ∷ decimal q.0 ∷ [])
-role_name role.Reaper = []
+role_name (Role.Launcher p) = joined (role_kind_word RoleKind.Launcher ∷ codes "-" ∷ decimal p.0 ∷ [])
+role_name (Role.Janitor p) = joined (role_kind_word RoleKind.Janitor ∷ codes "-" ∷ decimal p.0 ∷ [])
+role_name (Role.Requester q) = joined (role_kind_word RoleKind.Requester ∷ codes "-" ∷ decimal q.0 ∷ [])
+role_name Role.Reaper = []
 
 abbrev pub session_text : SessionRecord → List ℕ
 session_text s = joined (
@@ -85,10 +60,10 @@ session_text s = joined (
 
 -- the role may have a session
 abbrev pub IsSessionRole : Role → Type 0
-IsSessionRole (role.Launcher p) = p.0 < 2 ^ 16
-IsSessionRole (role.Janitor p) = p.0 < 2 ^ 16
-IsSessionRole (role.Requester q) = q.0 < 2 ^ 16
-IsSessionRole role.Reaper = ⊥
+IsSessionRole (Role.Launcher p) = p.0 < 2 ^ 16
+IsSessionRole (Role.Janitor p) = p.0 < 2 ^ 16
+IsSessionRole (Role.Requester q) = q.0 < 2 ^ 16
+IsSessionRole Role.Reaper = ⊥
 
 abbrev pub IsSession : SessionRecord → Type 0
 IsSession s = IsSessionRole s.role
@@ -170,10 +145,10 @@ abbrev pub IsMarked : Marked → Type 0
 IsMarked m = m.node.0 < 2 ^ 32
 
 abbrev pub IsReason : Reason → Type 0
-IsReason (reason.NoLabel l) = l.0 < 2 ^ 16
-IsReason reason.NeverFits = Unit {0}
-IsReason reason.TenantNeverFits = Unit {0}
-IsReason (reason.Spent n) = n.0 < 2 ^ 32
+IsReason (Reason.NoLabel l) = l.0 < 2 ^ 16
+IsReason Reason.NeverFits = Unit {0}
+IsReason Reason.TenantNeverFits = Unit {0}
+IsReason (Reason.Spent n) = n.0 < 2 ^ 32
 
 -- a pool, and why it declined
 abbrev pub declined_text : Declined → List ℕ
@@ -205,21 +180,21 @@ job_text j = joined (
 
 -- there is an ending if and only if the job is over
 abbrev pub EndsIn : Phase → Option Ending → Type 0
-EndsIn phase.Over (Some e) = Unit {0}
-EndsIn phase.Over None = ⊥
+EndsIn Phase.Over (Some e) = Unit {0}
+EndsIn Phase.Over None = ⊥
 EndsIn p (Some e) = ⊥
 EndsIn p None = Unit {0}
 
 -- an asked job has a request, and one that was ever using nodes has a pool too
 abbrev pub HasParts : Phase → Option PoolId → Option RequestId → Type 0
-HasParts phase.New None None = Unit {0}
-HasParts phase.New pool request = ⊥
-HasParts phase.Asked None (Some id) = Unit {0}
-HasParts phase.Asked pool request = ⊥
-HasParts phase.Using (Some p) (Some id) = Unit {0}
-HasParts phase.Using pool request = ⊥
-HasParts phase.Over (Some p) None = ⊥
-HasParts phase.Over pool request = Unit {0}
+HasParts Phase.New None None = Unit {0}
+HasParts Phase.New pool request = ⊥
+HasParts Phase.Asked None (Some id) = Unit {0}
+HasParts Phase.Asked pool request = ⊥
+HasParts Phase.Using (Some p) (Some id) = Unit {0}
+HasParts Phase.Using pool request = ⊥
+HasParts Phase.Over (Some p) None = ⊥
+HasParts Phase.Over pool request = Unit {0}
 
 pub record IsJob (j : JobRecord) : Type 0 where
   pub ending : EndsIn j.phase j.ending
@@ -267,14 +242,14 @@ IsAsked None None = ⊥
 
 -- a pool serves the request if and only if it is pending or fulfilled
 abbrev pub IsServed : RequestState → Option PoolId → Type 0
-IsServed state.Requested None = Unit {0}
-IsServed state.Failed None = Unit {0}
-IsServed state.Pending (Some p) = p.0 < 2 ^ 16
-IsServed state.Fulfilled (Some p) = p.0 < 2 ^ 16
-IsServed state.Requested (Some p) = ⊥
-IsServed state.Failed (Some p) = ⊥
-IsServed state.Pending None = ⊥
-IsServed state.Fulfilled None = ⊥
+IsServed RequestState.Requested None = Unit {0}
+IsServed RequestState.Failed None = Unit {0}
+IsServed RequestState.Pending (Some p) = p.0 < 2 ^ 16
+IsServed RequestState.Fulfilled (Some p) = p.0 < 2 ^ 16
+IsServed RequestState.Requested (Some p) = ⊥
+IsServed RequestState.Failed (Some p) = ⊥
+IsServed RequestState.Pending None = ⊥
+IsServed RequestState.Fulfilled None = ⊥
 
 pub record IsRequest (r : RequestRecord) : Type 0 where
   pub few_declined : length r.declined ≤ POOLS

@@ -88,7 +88,7 @@ impl<'a> Cursor<'a> {
 
     /// Passes these bytes, as far as they come next.
     #[inline(always)]
-    #[tactic(auto, using(crate::proofs::CursorLemmas::leads))]
+    #[tactic(auto, using(crate::proofs::Readers::leads))]
     pub(crate) fn lead(&mut self, text: &[u8]) -> Option<()>
         ensures { lead text.now self.old ≡ (result, self.new) }
     {
@@ -211,7 +211,7 @@ impl<'a> Cursor<'a> {
 
     /// Passes one digit for each limit. What the digits make so far is at most that limit.
     #[inline(always)]
-    #[tactic(auto, using(crate::proofs::CursorLemmas::fixing))]
+    #[tactic(auto, using(crate::proofs::Readers::fixing))]
     pub(crate) fn fixed(&mut self, limits: &[u64]) -> Option<u64>
         ensures { fixed limits.now 0 self.old ≡ (result, self.new) }
     {
@@ -238,7 +238,7 @@ fn with_digit(value: u64, byte: u8, max: u64) -> Option<u64>
 /// The number that `start` makes with the digits at the front of the text, as many as keep it at
 /// most `max`, and how many these are.
 #[inline(always)]
-#[tactic(auto, using(crate::proofs::CursorLemmas::counting))]
+#[tactic(auto, using(crate::proofs::Readers::counting))]
 fn count_digits(text: &[u8], max: u64, start: u64) -> (u64, usize)
     requires { start ≤ max }
     ensures answer { digits max start text.now ≡ (Some result.0, drop result.1 text.now) }

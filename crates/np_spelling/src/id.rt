@@ -20,7 +20,7 @@ const SEQUENCE_LIMITS: [u64; 10] = [
     4_294_967_295,
 ];
 
-#[tactic(auto, using(crate::proofs::CursorLemmas::priority_most), unfolding(crate::specs::Reading::priority_in))]
+#[tactic(auto, using(crate::proofs::Readers::priority_most), unfolding(crate::specs::Reading::priority_in))]
 fn priority(cursor: &mut Cursor) -> Option<u16>
     ensures { priority_in cursor.old ≡ (result, cursor.new) }
 {
@@ -31,7 +31,7 @@ fn priority(cursor: &mut Cursor) -> Option<u16>
     Some(digits as u16)
 }
 
-#[tactic(auto, using(crate::proofs::CursorLemmas::sequence_most))]
+#[tactic(auto, using(crate::proofs::Readers::sequence_most))]
 fn sequence(cursor: &mut Cursor) -> Option<u32>
     ensures { fixed sequence_limits 0 cursor.old ≡ (result, cursor.new) }
 {

@@ -223,7 +223,7 @@ impl Record for JobRecord {
 
     ghost written = { job_text };
 
-    #[tactic(auto, using(crate::proofs::JobForm::job_law))]
+    #[tactic(auto, using(crate::proofs::Records::job_law))]
     fn read(bytes: &[u8]) -> Result<JobRecord, BadRecord> {
         read_job(bytes)
     }

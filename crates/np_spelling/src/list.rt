@@ -71,7 +71,7 @@ pub(crate) fn row<T: Part, const N: usize>(cursor: &mut Cursor) -> Option<Row<T,
 }
 
 /// Appends further items, each after a comma, and the bracket.
-#[tactic(auto, using(crate::proofs::RestLemmas::writing))]
+#[tactic(auto, using(crate::proofs::Readers::writing))]
 fn put_rest<T: Part>(out: &mut Vec<u8>, items: &[T]) -> Result<(), NoMemory>
     ensures { OnOk result (out.new.items ≡ out.old.items ++ rest_text T.word items.now) }
 {

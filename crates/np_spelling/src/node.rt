@@ -232,7 +232,7 @@ impl Record for NodeRecord {
 
     ghost written = { node_text };
 
-    #[tactic(auto, using(crate::proofs::NodeForm::node_law))]
+    #[tactic(auto, using(crate::proofs::Records::node_law))]
     fn read(bytes: &[u8]) -> Result<NodeRecord, BadRecord> {
         read_node(bytes)
     }

@@ -26,7 +26,7 @@ fn role(cursor: &mut Cursor) -> Option<RoleRecord>
     })
 }
 
-#[tactic(auto, using(crate::proofs::RoleForm::role_left))]
+#[tactic(auto, using(crate::proofs::Records::role_left))]
 fn read_role(bytes: &[u8]) -> Result<RoleRecord, BadRecord>
     ensures { result ≡ answer (length bytes.now) (role_in bytes.now).0 (role_in bytes.now).1 }
 {
@@ -51,7 +51,7 @@ impl Record for RoleRecord {
 
     ghost written = { role_text };
 
-    #[tactic(auto, using(crate::proofs::RoleForm::role_law))]
+    #[tactic(auto, using(crate::proofs::Records::role_law))]
     fn read(bytes: &[u8]) -> Result<RoleRecord, BadRecord> {
         read_role(bytes)
     }

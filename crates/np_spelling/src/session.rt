@@ -51,7 +51,7 @@ impl Record for SessionRecord {
 
     ghost written = { session_text };
 
-    #[tactic(auto, using(crate::proofs::SessionForm::session_law))]
+    #[tactic(auto, using(crate::proofs::Records::session_law))]
     fn read(bytes: &[u8]) -> Result<SessionRecord, BadRecord> {
         read_session(bytes)
     }

@@ -1,10 +1,3 @@
-pub mod LoadLemmas
-pub mod Numbers
-pub mod Kept
-pub mod Launched
-pub mod Words
+pub mod Prelude
+pub mod Loads
 pub mod Sites
-pub mod Sound
-pub mod Drivers
-pub mod HostedSites
-pub mod First

@@ -6,7 +6,6 @@ use Rattle.np_config.specs.Configuration.{Configuration}
 use Rattle.np_config_read.specs.Walk.{reads}
 use Rattle.np_static.specs.declared.fault.HostsFault.{HostsFault}
 use Rattle.np_static.specs.declared.fault.HostedFault.{HostedFault}
-use Rattle.np_static.specs.declared.fault.HostedFault.TheVariants as fault
 use Rattle.np_static.specs.declared.hosted.HostedSite.{HostedSite}
 use Rattle.np_static.specs.Read.{hosts_of}
 use Rattle.np_static.specs.Site.{Site, site_of}
@@ -22,18 +21,18 @@ hosted_view s = record { configuration = s.config; sites = map site_of s.drivers
 
 -- a configuration with the drivers that its host lines give
 abbrev pub with_sites : Configuration → Result (List Site) HostsFault → Result Hosted HostedFault
-with_sites c (Err why) = Err (fault.Hosts why)
+with_sites c (Err why) = Err (HostedFault.Hosts why)
 with_sites c (Ok sites) = Ok (record { configuration = c; sites = sites })
 
 -- the configuration's fault first, and then what is wrong with the host lines
 abbrev pub with_hosts : List ℕ → Result Configuration ConfigFault → Result Hosted HostedFault
-with_hosts lines (Err why) = Err (fault.Config why)
+with_hosts lines (Err why) = Err (HostedFault.Config why)
 with_hosts lines (Ok c) = with_sites c (hosts_of c lines)
 
 -- the configuration's fault first, and then that no line is the bar
 abbrev pub without_bar : Result Configuration ConfigFault → Result Hosted HostedFault
-without_bar (Err why) = Err (fault.Config why)
-without_bar (Ok c) = Err fault.NoSeparator
+without_bar (Err why) = Err (HostedFault.Config why)
+without_bar (Ok c) = Err HostedFault.NoSeparator
 
 -- if no line is the bar, the whole text is read as the configuration
 abbrev pub hosted_in : List ℕ → Option (List ℕ × List ℕ) → Result Hosted HostedFault

@@ -1,7 +1,6 @@
 -- the hosts of a pool, as contracts see their driver
 use Rattle.std.specs.Prelude.{ℕ, suc, nat_lt, Bool, if◌then◌else◌, List, length, sum, Option, Some, None}
 use Rattle.np_machine.specs.Prelude.{Outcome, PoolId}
-use Rattle.np_event.specs.declared.event.Outcome.TheVariants as outcome
 use Rattle.np_cloud.specs.declared.driver.TheConstants.{MOST_LAUNCHES}
 use Rattle.np_cloud.specs.Facts.{DriverFacts}
 use Rattle.np_cloud.specs.Inventory.{Told, told_nothing, facts_of}
@@ -28,15 +27,15 @@ hosting_of p hosts = record { pool = p; hosts = hosts; told = told_nothing }
 
 -- a launch of this number takes the host, if there is one (own)
 abbrev pub launch_on : ℕ → Option ℕ → Outcome
-launch_on k (Some h) = outcome.Launched (server_number k h)
-launch_on k None = outcome.Failed
+launch_on k (Some h) = Outcome.Launched (server_number k h)
+launch_on k None = Outcome.Failed
 
 -- the next launch takes the first host that has fewer servers than it carries; after so many launches each fails (own)
 abbrev pub hosted_outcome : Hosting → Outcome
 hosted_outcome d =
     if nat_lt (length d.told.answered) MOST_LAUNCHES
     then launch_on (suc (length d.told.answered)) (first_free 0 d.hosts (numbers_of d.told.servers))
-    else outcome.Failed
+    else Outcome.Failed
 
 -- it reports everything, and none of its removals fails (own)
 abbrev pub host_facts : HostDriver → DriverFacts

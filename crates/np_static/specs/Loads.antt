@@ -1,7 +1,6 @@
 -- the servers of each host, told by their numbers
 use Rattle.std.specs.Prelude.{◌≡◌, ◌<◌, ◌≤◌, ◌==◌, ◌&&◌, ◌%◌, ◌/◌, ◌*◌, ◌+◌, ◌^◌, ℕ, suc, nat_lt, nat_le, Bool, true, if◌then◌else◌, List, [], ◌∷◌, length, filter, slice_get, slice_index, Option, Some, None}
 use Rattle.np_machine.specs.Prelude.{Outcome, list_all}
-use Rattle.np_event.specs.declared.event.Outcome.TheVariants as outcome
 use Rattle.np_cloud.specs.declared.driver.Launch.{Launch}
 use Rattle.np_static.specs.declared.limit.TheConstants.{HOSTS}
 
@@ -48,8 +47,8 @@ is_sound hosts numbers = none_above 0 hosts numbers && have_hosts (length hosts)
 
 -- the server of a launch of this number tells the number (own)
 abbrev pub is_numbered : ℕ → Outcome → Bool
-is_numbered k (outcome.Launched x) = x / HOSTS == k
-is_numbered k outcome.Failed = true
+is_numbered k (Outcome.Launched x) = x / HOSTS == k
+is_numbered k Outcome.Failed = true
 
 -- so does each server of these launches, where the first has this number (own)
 abbrev pub are_numbered : ℕ → List Launch → Bool
@@ -58,8 +57,8 @@ are_numbered k (launch ∷ launches) = is_numbered k launch.outcome && are_numbe
 
 -- the number of the server that a launch made, if any, before these (own)
 abbrev pub numbers_with : Outcome → List ℕ → List ℕ
-numbers_with (outcome.Launched x) numbers = x ∷ numbers
-numbers_with outcome.Failed numbers = numbers
+numbers_with (Outcome.Launched x) numbers = x ∷ numbers
+numbers_with Outcome.Failed numbers = numbers
 
 -- the numbers of the servers that these launches made, in order (own)
 abbrev pub launched_numbers : List Launch → List ℕ

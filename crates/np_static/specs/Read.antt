@@ -5,12 +5,9 @@ use Rattle.np_event.specs.Words.{words_of}
 use Rattle.np_event.specs.declared.fault.LineFault.{LineFault}
 use Rattle.np_report.specs.Lines.{lines_read}
 use Rattle.np_report.specs.declared.lines.LinesFault.{LinesFault}
-use Rattle.np_report.specs.declared.lines.LinesFault.TheVariants as lines
 use Rattle.np_cloud.specs.Sim.{simulation_of}
 use Rattle.np_static.specs.declared.fault.HostsFault.{HostsFault}
-use Rattle.np_static.specs.declared.fault.HostsFault.TheVariants as fault
 use Rattle.np_static.specs.declared.fault.HostsRead.{HostsRead}
-use Rattle.np_static.specs.declared.fault.HostsRead.TheVariants as read
 use Rattle.np_static.specs.declared.limit.TheConstants.{HOSTS}
 use Rattle.np_static.specs.declared.line.HostLine.{HostLine}
 use Rattle.np_static.specs.Line.{host_in}
@@ -46,7 +43,7 @@ is_room_for (Some most) room = nat_le most room
 abbrev pub site_with : Configuration → PoolId → Option ℕ → List ℕ → Result Site HostsFault
 site_with c p limit [] = Ok (simulated (simulation_of c p))
 site_with c p limit (most ∷ hosts) =
-    if is_room_for limit (sum (most ∷ hosts)) then Ok (hosted (hosting_of p (most ∷ hosts))) else Err (fault.Room p (sum (most ∷ hosts)))
+    if is_room_for limit (sum (most ∷ hosts)) then Ok (hosted (hosting_of p (most ∷ hosts))) else Err (HostsFault.Room p (sum (most ∷ hosts)))
 
 -- the first fault, or the first driver before the later ones
 abbrev pub with_site : Result Site HostsFault → Result (List Site) HostsFault → Result (List Site) HostsFault
@@ -65,8 +62,8 @@ sites_from c lines n (pool ∷ pools) =
 
 -- what is wrong with the lines, as a fault of hosts
 abbrev pub hosts_fault : LinesFault LineFault → HostsFault
-hosts_fault (lines.Line n why) = fault.Line n why
-hosts_fault (lines.TooMany n) = fault.TooMany n
+hosts_fault (LinesFault.Line n why) = HostsFault.Line n why
+hosts_fault (LinesFault.TooMany n) = HostsFault.TooMany n
 
 -- lines come before room
 abbrev pub sites_with : Configuration → Result (List HostLine) (LinesFault LineFault) → Result (List Site) HostsFault
@@ -79,5 +76,5 @@ hosts_of c bytes = sites_with c (hosts_read (length c.pools) bytes)
 
 -- the fault is the one that is said, unless memory ran out (own)
 abbrev pub Tells : {A : Type 0} → Result A HostsFault → HostsRead → Type 0
-Tells said (read.Fault why) = said ≡ Err why
-Tells said read.NoMemory = Unit {0}
+Tells said (HostsRead.Fault why) = said ≡ Err why
+Tells said HostsRead.NoMemory = Unit {0}

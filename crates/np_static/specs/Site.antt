@@ -7,7 +7,6 @@ use Rattle.np_cloud.specs.Inventory.{Told, facts_of}
 use Rattle.np_cloud.specs.Sim.{Simulation, simulated_outcome, simulation_facts, simulation_plan}
 use Rattle.np_cloud.specs.Sound.{Soundness, every_list, soundness_of_every_list}
 use Rattle.np_static.specs.declared.site.SiteDriver.{SiteDriver}
-use Rattle.np_static.specs.declared.site.SiteDriver.TheVariants as driver
 use Rattle.np_static.specs.Loads.{is_sound}
 use Rattle.np_static.specs.Hosting.{Hosting, hosting, hosted_outcome, host_soundness}
 
@@ -19,8 +18,8 @@ pub data Site : Type 0 where
 
 -- a driver as contracts see it (own)
 abbrev pub site_of : SiteDriver → Site
-site_of (driver.Sim cloud) = simulated cloud
-site_of (driver.Hosts hosts) = hosted (hosting hosts)
+site_of (SiteDriver.Sim cloud) = simulated cloud
+site_of (SiteDriver.Hosts hosts) = hosted (hosting hosts)
 
 -- what it reports (own)
 abbrev pub told_of : Site → Told
@@ -66,8 +65,8 @@ site_sound d = sound_at (site_of d)
 
 -- its servers are sound
 pub site_soundness : (d : SiteDriver) → Soundness (site_facts d) (site_sound d)
-site_soundness (driver.Sim cloud) = soundness_of_every_list (simulation_facts cloud)
-site_soundness (driver.Hosts hosts) = host_soundness hosts
+site_soundness (SiteDriver.Sim cloud) = soundness_of_every_list (simulation_facts cloud)
+site_soundness (SiteDriver.Hosts hosts) = host_soundness hosts
 
 abbrev pub site_room : SiteDriver → ℕ
 site_room d = room_at (site_of d)

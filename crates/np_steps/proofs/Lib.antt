@@ -1,7 +1,3 @@
-pub mod ChildRows
-pub mod Growing
-pub mod Found
-pub mod NodeEdits
+pub mod Prelude
 pub mod RecordRows
 pub mod ReadyTables
-pub mod NumberedParts

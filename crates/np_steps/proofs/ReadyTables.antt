@@ -1,32 +1,135 @@
--- what the parts for each table need follows from what the changes of an event need
-use Rattle.std.proofs.Common.{◌≡◌, List, refl, ap, subst}
-use Rattle.np_changes.specs.Prelude.{AllByRecursion, Configuration, JobRecord, NodeEntry, NodesPremise, RequestEntry, RequestsPremise, RoleRecord, State, change_janitor, change_launcher, change_requester, grown, jobs_changed, nodes_changed, nodes_left, requests_changed, requests_left, with_deed}
-use Rattle.np_layout.specs.Prelude.{HasSpellings, IsJob, IsNode, IsRequest, IsRole}
-use Rattle.np_changes.specs.declared.changes.Changes.{Changes}
-use Rattle.np_changes.specs.declared.changes.Growth.{Growth}
-use Rattle.np_changes.specs.declared.changes.Growth.TheVariants as grow
-use Rattle.np_changes.specs.declared.changes.NodesChange.{NodesChange}
-use Rattle.np_changes.specs.declared.changes.NodesChange.TheVariants as nodes
-use Rattle.np_changes.specs.declared.changes.RequestsChange.{RequestsChange}
-use Rattle.np_changes.specs.declared.changes.RequestsChange.TheVariants as requests
-use Rattle.np_changes.specs.declared.changes.SessionsChange.{SessionsChange}
-use Rattle.np_changes.specs.declared.changes.SessionsChange.TheVariants as sessions
-use Rattle.np_layout.specs.Events.{IsReady, in_call}
-use Rattle.np_layout.specs.Ways.{with_deeds}
-use Rattle.np_layout.proofs.Settled.{edit-leaves, freeing-grows, same-requests, same-roles}
-use Rattle.np_changes.proofs.Facts.{remove-alone}
-use Rattle.np_changes.proofs.JobsLater.{jobs-grown}
+-- what the parts for each table need follows from what the changes of an event need, and a call takes each part
+use Rattle.np_steps.proofs.Prelude.{AllByRecursion, Any, Bool, Changes, Configuration, Deed, Growth, Handle, HandlesChange, HasSpellings, IsJob, IsNode, IsReady, IsRequest, IsRole, JobId, JobRecord, JobsChange, LauncherOf, List, Maker, NodeEntry, NodeId, NodeLock, NodesChange, NodesPremise, None, Op, Option, Place, RequestEntry, RequestLock, RequestsChange, RequestsPremise, Role, RoleRecord, Row, SemId, SessionId, SessionsChange, Some, State, TreeState, acquire_parts, ap, below, by_session, change_at, change_first, change_janitor, change_launcher, change_parts, change_requester, cond, deed_parts, delete, delete_parts, each_changed, edit-leaves, false, find, freed_from, freeing-grows, grown, grown_parts, handles_parts, has_handle, in_call, in_use, is_numbered, is_owner, is_queued, is_swept, jobs-grown, jobs_changed, jobs_parts, join_parts, leave_parts, list_all, list_all-append, make, node_entry, node_queue, nodes_changed, nodes_left, nodes_of, nodes_parts, one_more_act, one_more_start, parts_of, path_of, place_of_role, refl, release_parts, remove-alone, request_in, request_queue, requests_changed, requests_left, requests_parts, role_in, role_parts, same-requests, same-roles, semaphores_of, session_of, session_parts, settled_parts, slice_get, struck_unless, subst, tick_parts, tree_session, true, under, wait_at, where_there, with_deed, with_deeds, with_handle, without_handle, ℕ, [], ◌&&◌, ◌++◌, ◌==◌, ◌∙◌, ◌∷◌, ◌≡◌}
+
+-- # each part for an event is one that a call takes: what is made without a name is numbered
+
+-- all of them are
+abbrev AreNumbered : List Op → Type 0
+AreNumbered parts = list_all is_numbered parts ≡ true
+
+both : (a b : List Op) → AreNumbered a → AreNumbered b → AreNumbered (a ++ b)
+both a b first rest = list_all-append is_numbered a b ∙ ap (λ (x : Bool). x && list_all is_numbered b) first ∙ rest
+
+there-numbered : {A : Type 0} (o : Option A) (f : A → List Op) → ((a : A) → AreNumbered (f a)) → AreNumbered (where_there o f)
+there-numbered None f each = refl
+there-numbered (Some a) f each = each a
+
+maker-numbered : (maker : Option Maker) (f : SessionId → List Op) → ((session : SessionId) → AreNumbered (f session)) → AreNumbered (by_session maker f)
+maker-numbered None f each = refl
+maker-numbered (Some m) f each = each m.session
+
+if-numbered : (b : Bool) (x y : List Op) → AreNumbered x → AreNumbered y → AreNumbered (cond b x y)
+if-numbered true x y first second = first
+if-numbered false x y first second = second
+
+deletes-numbered : (dir : List ℕ) (rows : List Row) → AreNumbered (delete_parts dir rows)
+deletes-numbered dir [] = refl
+deletes-numbered dir (row ∷ rows) = deletes-numbered dir rows
+
+-- ## what grows
+
+acquire-numbered : (j : JobId) (semaphores : List SemId) (rows : List (List JobId)) → AreNumbered (acquire_parts j semaphores rows)
+acquire-numbered j [] rows = refl
+acquire-numbered j (x ∷ semaphores) rows =
+    both (cond (has_handle j rows x) [] (make [] (Handle x j) ∷ [])) (acquire_parts j semaphores (change_at x.0 (with_handle j) rows)) (if-numbered (has_handle j rows x) [] (make [] (Handle x j) ∷ []) refl refl) (acquire-numbered j semaphores (change_at x.0 (with_handle j) rows))
+
+join-numbered : (lock : Place) (queue : List SessionId) (session : SessionId) → AreNumbered (join_parts lock queue session)
+join-numbered lock queue session = if-numbered (is_queued session queue) [] (wait_at lock ∷ []) refl refl
+
+grown-numbered : (c : Configuration) (maker : Option Maker) (growth : Growth) (s : State) → AreNumbered (grown_parts c maker growth s)
+grown-numbered c maker Growth.Nothing s = refl
+grown-numbered c maker (Growth.Session role) s = refl
+grown-numbered c maker (Growth.Registration p) s = maker-numbered maker _ (λ session. refl)
+grown-numbered c maker (Growth.Request priority asked) s = refl
+grown-numbered c maker (Growth.Node kept) s = refl
+grown-numbered c maker (Growth.JoinRequest r) s = maker-numbered maker _ (λ session. join-numbered (RequestLock r) (request_queue r s.requests) session)
+grown-numbered c maker (Growth.JoinNode n) s = maker-numbered maker _ (λ session. join-numbered (NodeLock n) (node_queue n s.nodes) session)
+grown-numbered c maker (Growth.Allocate n r tenant) s = maker-numbered maker _ (λ session. there-numbered (node_entry n s.nodes) _ (λ e. join-numbered (NodeLock e.id) e.queue session))
+grown-numbered c maker (Growth.Handles j) s = acquire-numbered j (semaphores_of c j) s.handles
+grown-numbered c maker (Growth.Swept n x) s = if-numbered (is_swept n x s.swept) [] _ refl refl
+
+-- ## what may not fail
+
+leave-numbered : (lock : Place) (t : TreeState) (session : SessionId) → AreNumbered (leave_parts lock t session)
+leave-numbered lock t session = there-numbered (find (λ (row : Row). is_owner (tree_session session) row.owner) (under lock t)) (λ (row : Row). Op.Delete (below (path_of lock) row.name) Any ∷ []) (λ row. refl)
+
+requests-numbered : (maker : Option Maker) (change : RequestsChange) (rows : List RequestEntry) (t : TreeState) → AreNumbered (requests_parts maker change rows t)
+requests-numbered maker RequestsChange.Same rows t = refl
+requests-numbered maker (RequestsChange.Edit r change) rows t = there-numbered (request_in r rows) _ (λ kept. refl)
+requests-numbered maker (RequestsChange.Remove r) rows t = there-numbered (request_in r rows) _ (λ kept. both (delete_parts (path_of (RequestLock r)) (under (RequestLock r) t)) _ (deletes-numbered (path_of (RequestLock r)) (under (RequestLock r) t)) refl)
+requests-numbered maker (RequestsChange.Leave r) rows t = maker-numbered maker _ (λ session. there-numbered (request_in r rows) _ (λ kept. leave-numbered (RequestLock r) t session))
+
+each-numbered : (change : NodeEntry → NodeEntry) (numbers : List NodeId) (rows : List NodeEntry) → AreNumbered (each_changed change numbers rows)
+each-numbered change [] rows = refl
+each-numbered change (n ∷ numbers) rows =
+    both (where_there (node_entry n rows) (change_parts change)) (each_changed change numbers (change_first (λ e. e.id.0 == n.0) change rows)) (there-numbered (node_entry n rows) (change_parts change) (λ e. refl)) (each-numbered change numbers (change_first (λ e. e.id.0 == n.0) change rows))
+
+nodes-numbered : (maker : Option Maker) (tick : ℕ) (old : List RequestEntry) (change : NodesChange) (rows : List NodeEntry) (t : TreeState) → AreNumbered (nodes_parts maker tick old change rows t)
+nodes-numbered maker tick old NodesChange.Same rows t = refl
+nodes-numbered maker tick old (NodesChange.Put n kept) rows t = there-numbered (node_entry n rows) _ (λ e. refl)
+nodes-numbered maker tick old (NodesChange.Remove n) rows t = there-numbered (node_entry n rows) _ (λ e. both (delete_parts (path_of (NodeLock n)) (under (NodeLock n) t)) _ (deletes-numbered (path_of (NodeLock n)) (under (NodeLock n) t)) refl)
+nodes-numbered maker tick old (NodesChange.Leave n) rows t = maker-numbered maker _ (λ session. there-numbered (node_entry n rows) _ (λ e. leave-numbered (NodeLock n) t session))
+nodes-numbered maker tick old (NodesChange.FreeAll r) rows t = each-numbered (freed_from r) (nodes_of r old) rows
+nodes-numbered maker tick old (NodesChange.TakeOver numbers) rows t = each-numbered (in_use tick) numbers rows
+
+jobs-numbered : (change : JobsChange) (rows : List JobRecord) → AreNumbered (jobs_parts change rows)
+jobs-numbered JobsChange.Same rows = refl
+jobs-numbered (JobsChange.Put j kept) rows = there-numbered (slice_get rows j.0) _ (λ old. refl)
+jobs-numbered (JobsChange.EndNode j n) rows = there-numbered (slice_get rows j.0) _ (λ old. refl)
+
+release-numbered : (j : JobId) (semaphores : List SemId) (rows : List (List JobId)) → AreNumbered (release_parts j semaphores rows)
+release-numbered j [] rows = refl
+release-numbered j (x ∷ semaphores) rows =
+    both (cond (has_handle j rows x) (delete (Handle x j) ∷ []) []) (release_parts j semaphores (change_at x.0 (without_handle j) rows)) (if-numbered (has_handle j rows x) (delete (Handle x j) ∷ []) [] refl refl) (release-numbered j semaphores (change_at x.0 (without_handle j) rows))
+
+handles-numbered : (c : Configuration) (change : HandlesChange) (rows : List (List JobId)) → AreNumbered (handles_parts c change rows)
+handles-numbered c HandlesChange.Same rows = refl
+handles-numbered c (HandlesChange.Release j) rows = release-numbered j (semaphores_of c j) rows
+
+role-numbered : (change : RoleRecord → RoleRecord) (role : Role) (s : State) → AreNumbered (role_parts change role s)
+role-numbered change role s = there-numbered (place_of_role role) _ (λ p. there-numbered (role_in role s) _ (λ old. refl))
+
+deed-numbered : (maker : Option Maker) (what : Option Deed) (s : State) → AreNumbered (deed_parts maker what s)
+deed-numbered maker None s = refl
+deed-numbered maker (Some Deed.Acts) s = there-numbered maker _ (λ m. role-numbered one_more_act m.role s)
+deed-numbered maker (Some (Deed.StartsAndActs p)) s = role-numbered (λ role. one_more_act (one_more_start role)) (LauncherOf p) s
+deed-numbered maker (Some (Deed.Strikes role counted)) s = role-numbered (struck_unless counted) role s
+
+session-numbered : (change : SessionsChange) (s : State) → AreNumbered (session_parts change s)
+session-numbered SessionsChange.Same s = refl
+session-numbered (SessionsChange.Mute session) s = there-numbered (session_of session s) _ (λ facts. refl)
+session-numbered (SessionsChange.End session) s = refl
+
+tick-numbered : (ticks : Bool) (tick : ℕ) → AreNumbered (tick_parts ticks tick)
+tick-numbered ticks tick = if-numbered ticks _ [] refl refl
+
+-- all parts are
+pub parts-numbered : (c : Configuration) (ch : Changes) (s : State) (t : TreeState) → list_all is_numbered (parts_of c ch s t) ≡ true
+parts-numbered c ch s t =
+    let p2 : List Op = requests_parts ch.maker ch.requests s.requests t ++ nodes_parts ch.maker s.tick s.requests ch.nodes s.nodes t in
+    let p3 : List Op = p2 ++ jobs_parts ch.jobs s.jobs in
+    let p4 : List Op = p3 ++ handles_parts c ch.handles s.handles in
+    let p5 : List Op = p4 ++ deed_parts ch.maker ch.deed s in
+    let p6 : List Op = p5 ++ session_parts ch.sessions s in
+    let n2 = both (requests_parts ch.maker ch.requests s.requests t) (nodes_parts ch.maker s.tick s.requests ch.nodes s.nodes t) (requests-numbered ch.maker ch.requests s.requests t) (nodes-numbered ch.maker s.tick s.requests ch.nodes s.nodes t) in
+    let n3 = both p2 (jobs_parts ch.jobs s.jobs) n2 (jobs-numbered ch.jobs s.jobs) in
+    let n4 = both p3 (handles_parts c ch.handles s.handles) n3 (handles-numbered c ch.handles s.handles) in
+    let n5 = both p4 (deed_parts ch.maker ch.deed s) n4 (deed-numbered ch.maker ch.deed s) in
+    let n6 = both p5 (session_parts ch.sessions s) n5 (session-numbered ch.sessions s) in
+    both (grown_parts c ch.maker ch.grows s) (settled_parts c ch s t) (grown-numbered c ch.maker ch.grows s) (both p6 (tick_parts ch.ticks s.tick) n6 (tick-numbered ch.ticks s.tick))
+
+-- # what the parts for each table need follows from what the changes of an event need
 
 -- no session ends in the call, so no queue is left
 requests-stay : (change : SessionsChange) (rows : List RequestEntry) → requests_left (in_call change) rows ≡ rows
-requests-stay sessions.Same rows = refl
-requests-stay (sessions.Mute session) rows = refl
-requests-stay (sessions.End session) rows = refl
+requests-stay SessionsChange.Same rows = refl
+requests-stay (SessionsChange.Mute session) rows = refl
+requests-stay (SessionsChange.End session) rows = refl
 
 nodes-stay : (change : SessionsChange) (rows : List NodeEntry) → nodes_left (in_call change) rows ≡ rows
-nodes-stay sessions.Same rows = refl
-nodes-stay (sessions.Mute session) rows = refl
-nodes-stay (sessions.End session) rows = refl
+nodes-stay SessionsChange.Same rows = refl
+nodes-stay (SessionsChange.Mute session) rows = refl
+nodes-stay (SessionsChange.End session) rows = refl
 
 -- ## what is written has a spelling
 
@@ -34,17 +137,17 @@ module _ (c : Configuration) (ch : Changes) (s : State) (ready : IsReady c ch s)
   abbrev after_growth : State
   after_growth = grown c ch.maker ch.grows s
 
-  nothing-grown : ch.grows ≡ grow.Nothing → after_growth ≡ s
+  nothing-grown : ch.grows ≡ Growth.Nothing → after_growth ≡ s
   nothing-grown is = ap (λ (growth : Growth). grown c ch.maker growth s) is
 
   abbrev AreRequests : List RequestEntry → Type 0
   AreRequests rows = AllByRecursion (λ e. IsRequest e.kept) rows
 
   requests-by : (change : RequestsChange) → RequestsPremise c s ch change → AreRequests (requests_changed ch.maker change after_growth.requests) → AreRequests (requests_changed ch.maker change s.requests)
-  requests-by requests.Same premise later = ready.spelled.requests
-  requests-by (requests.Edit r change) premise later = subst (λ (rows : List RequestEntry). AreRequests (requests_changed ch.maker (requests.Edit r change) rows)) (same-requests c ch.maker ch.grows s (edit-leaves c s ch r change premise)) later
-  requests-by (requests.Remove r) premise later = subst (λ (g : State). AreRequests (requests_changed ch.maker (requests.Remove r) g.requests)) (nothing-grown (remove-alone c s ch r premise)) later
-  requests-by (requests.Leave r) premise later = subst (λ (g : State). AreRequests (requests_changed ch.maker (requests.Leave r) g.requests)) (nothing-grown premise.same_size) later
+  requests-by RequestsChange.Same premise later = ready.spelled.requests
+  requests-by (RequestsChange.Edit r change) premise later = subst (λ (rows : List RequestEntry). AreRequests (requests_changed ch.maker (RequestsChange.Edit r change) rows)) (same-requests c ch.maker ch.grows s (edit-leaves c s ch r change premise)) later
+  requests-by (RequestsChange.Remove r) premise later = subst (λ (g : State). AreRequests (requests_changed ch.maker (RequestsChange.Remove r) g.requests)) (nothing-grown (remove-alone c s ch r premise)) later
+  requests-by (RequestsChange.Leave r) premise later = subst (λ (g : State). AreRequests (requests_changed ch.maker (RequestsChange.Leave r) g.requests)) (nothing-grown premise.same_size) later
 
   -- the requests after the change
   pub requests-spelled : AllByRecursion (λ e. IsRequest e.kept) (requests_changed ch.maker ch.requests s.requests)
@@ -54,12 +157,12 @@ module _ (c : Configuration) (ch : Changes) (s : State) (ready : IsReady c ch s)
   AreNodes change g = AllByRecursion (λ e. IsNode e.kept) (nodes_changed ch.maker g.tick change g.nodes)
 
   nodes-by : (change : NodesChange) → NodesPremise c s ch change → AreNodes change after_growth → AreNodes change s
-  nodes-by nodes.Same premise later = ready.spelled.nodes
-  nodes-by (nodes.Put n kept) premise later = subst (AreNodes (nodes.Put n kept)) (nothing-grown premise.same_size) later
-  nodes-by (nodes.Remove n) premise later = subst (AreNodes (nodes.Remove n)) (nothing-grown premise.same_size) later
-  nodes-by (nodes.Leave n) premise later = subst (AreNodes (nodes.Leave n)) (nothing-grown premise.same_size) later
-  nodes-by (nodes.FreeAll r) premise later = subst (AreNodes (nodes.FreeAll r)) (nothing-grown (freeing-grows c s ch r ch.requests ready.premises.requests premise)) later
-  nodes-by (nodes.TakeOver numbers) premise later = subst (AreNodes (nodes.TakeOver numbers)) (nothing-grown premise.1.same_size) later
+  nodes-by NodesChange.Same premise later = ready.spelled.nodes
+  nodes-by (NodesChange.Put n kept) premise later = subst (AreNodes (NodesChange.Put n kept)) (nothing-grown premise.same_size) later
+  nodes-by (NodesChange.Remove n) premise later = subst (AreNodes (NodesChange.Remove n)) (nothing-grown premise.same_size) later
+  nodes-by (NodesChange.Leave n) premise later = subst (AreNodes (NodesChange.Leave n)) (nothing-grown premise.same_size) later
+  nodes-by (NodesChange.FreeAll r) premise later = subst (AreNodes (NodesChange.FreeAll r)) (nothing-grown (freeing-grows c s ch r ch.requests ready.premises.requests premise)) later
+  nodes-by (NodesChange.TakeOver numbers) premise later = subst (AreNodes (NodesChange.TakeOver numbers)) (nothing-grown premise.1.same_size) later
 
   -- the nodes after the change
   pub nodes-spelled : AllByRecursion (λ e. IsNode e.kept) (nodes_changed ch.maker s.tick ch.nodes s.nodes)

@@ -4,17 +4,16 @@ use Rattle.np_text.specs.declared.word.NodeState.TheVariants.{InUse}
 use Rattle.np_changes.specs.Prelude.{NodeEntry, NodeRecord, freed, freed_from, in_use, is_request}
 use Rattle.np_spelling.specs.Spelling.{IsNode}
 use Rattle.np_steps.specs.declared.nodes.NodeEdit.{NodeEdit}
-use Rattle.np_steps.specs.declared.nodes.NodeEdit.TheVariants as edit
 
 -- the node, edited
 abbrev pub edited_entry : NodeEdit → NodeEntry → NodeEntry
-edited_entry (edit.Free r) = freed_from r
-edited_entry (edit.TakeOver tick) = in_use tick
+edited_entry (NodeEdit.Free r) = freed_from r
+edited_entry (NodeEdit.TakeOver tick) = in_use tick
 
 -- the record, edited
 abbrev pub edited_record : NodeEdit → NodeRecord → NodeRecord
-edited_record (edit.Free r) k = if is_request r k.allocated_to then freed k else k
-edited_record (edit.TakeOver tick) k = record k { since = tick; state = InUse }
+edited_record (NodeEdit.Free r) k = if is_request r k.allocated_to then freed k else k
+edited_record (NodeEdit.TakeOver tick) k = record k { since = tick; state = InUse }
 
 -- a record that can be spelled can be spelled when it is edited
 abbrev pub KeepsNodes : NodeEdit → Type 0

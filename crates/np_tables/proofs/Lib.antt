@@ -1,10 +1,2 @@
-pub mod Counts
-pub mod Finds
-pub mod Planned
-pub mod Inserting
-pub mod Fresh
-pub mod Changing
-pub mod LeaveLemmas
-pub mod EndLemmas
-pub mod HandleLemmas
-pub mod StartLemmas
+pub mod Prelude
+pub mod TableLemmas

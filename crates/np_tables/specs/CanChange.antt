@@ -5,9 +5,6 @@ use Rattle.np_changes.specs.declared.changes.Changes.{Changes}
 use Rattle.np_changes.specs.declared.changes.Growth.{Growth}
 use Rattle.np_changes.specs.declared.changes.RequestEdit.{RequestEdit}
 use Rattle.np_changes.specs.declared.changes.RequestsChange.{RequestsChange}
-use Rattle.np_changes.specs.declared.changes.Growth.TheVariants as grow
-use Rattle.np_changes.specs.declared.changes.RequestEdit.TheVariants as edit
-use Rattle.np_changes.specs.declared.changes.RequestsChange.TheVariants as requests
 
 -- ## growing
 
@@ -22,38 +19,38 @@ pub record TakesNode (s : State) : Type 0 where
   pub fresh : AllByRecursion (λ e. e.id.0 < s.next_node) s.nodes
 
 abbrev pub CanGrow : Growth → State → Type 0
-CanGrow grow.Nothing s = Unit {0}
-CanGrow (grow.Session role) s = Unit {0}
-CanGrow (grow.Registration p) s = Unit {0}
-CanGrow (grow.Request priority asked) s = TakesRequest s
-CanGrow (grow.Node kept) s = TakesNode s
-CanGrow (grow.JoinRequest r) s = Unit {0}
-CanGrow (grow.JoinNode n) s = Unit {0}
-CanGrow (grow.Allocate n r tenant) s = Unit {0}
-CanGrow (grow.Handles j) s = Unit {0}
-CanGrow (grow.Swept n x) s = Unit {0}
+CanGrow Growth.Nothing s = Unit {0}
+CanGrow (Growth.Session role) s = Unit {0}
+CanGrow (Growth.Registration p) s = Unit {0}
+CanGrow (Growth.Request priority asked) s = TakesRequest s
+CanGrow (Growth.Node kept) s = TakesNode s
+CanGrow (Growth.JoinRequest r) s = Unit {0}
+CanGrow (Growth.JoinNode n) s = Unit {0}
+CanGrow (Growth.Allocate n r tenant) s = Unit {0}
+CanGrow (Growth.Handles j) s = Unit {0}
+CanGrow (Growth.Swept n x) s = Unit {0}
 
 -- ## settling
 
 -- the record's rows have room for the edit: for 32 nodes, and for 64 declines
 abbrev pub has_room : RequestEdit → RequestRecord → Bool
-has_room (edit.Serve p) k = true
-has_room (edit.AddNode n) k = nat_lt (length k.nodes) 32
-has_room (edit.Decline p why failed) k = nat_lt (length k.declined) 64
-has_room edit.Fulfil k = true
-has_room edit.GiveBack k = true
-has_room edit.Fail k = true
-has_room (edit.Revise relative) k = true
+has_room (RequestEdit.Serve p) k = true
+has_room (RequestEdit.AddNode n) k = nat_lt (length k.nodes) 32
+has_room (RequestEdit.Decline p why failed) k = nat_lt (length k.declined) 64
+has_room RequestEdit.Fulfil k = true
+has_room RequestEdit.GiveBack k = true
+has_room RequestEdit.Fail k = true
+has_room (RequestEdit.Revise relative) k = true
 
 -- edited if there is room
 abbrev pub edited_in_room : RequestEdit → RequestRecord → RequestRecord
 edited_in_room change k = if has_room change k then edited change k else k
 
 abbrev pub TakesEdit : RequestsChange → List RequestEntry → Type 0
-TakesEdit requests.Same rows = Unit {0}
-TakesEdit (requests.Edit r change) rows = (e : RequestEntry) → request_entry r rows ≡ Some e → has_room change e.kept ≡ true
-TakesEdit (requests.Remove r) rows = Unit {0}
-TakesEdit (requests.Leave r) rows = Unit {0}
+TakesEdit RequestsChange.Same rows = Unit {0}
+TakesEdit (RequestsChange.Edit r change) rows = (e : RequestEntry) → request_entry r rows ≡ Some e → has_room change e.kept ≡ true
+TakesEdit (RequestsChange.Remove r) rows = Unit {0}
+TakesEdit (RequestsChange.Leave r) rows = Unit {0}
 
 -- no count of a role is at its end
 pub record RolesFit (s : State) : Type 0 where

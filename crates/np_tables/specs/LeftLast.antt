@@ -5,7 +5,6 @@ use Rattle.np_changes.specs.Prelude.{Configuration, NodeId, RequestId, Rises, Se
 use Rattle.np_changes.specs.declared.changes.SessionsChange.{SessionsChange}
 use Rattle.np_look.specs.Readers.{queued_nodes, queued_requests}
 use Rattle.np_changes.specs.Changes.{grown, nodes_changed, nodes_left, requests_changed, requests_left, settled}
-use Rattle.np_changes.specs.declared.changes.SessionsChange.TheVariants as sessions
 use Rattle.np_look.specs.Keys.{is_node_before}
 
 -- settled, but a session that ends is still in its queues
@@ -31,6 +30,6 @@ pub record CanLeave (session : SessionId) (s : State) (requests : List RequestId
   pub nodes_rise : Rises (λ a b. is_node_before a.id b.id) s.nodes
 
 abbrev pub CanEnd : SessionsChange → State → List RequestId → List NodeId → Type 0
-CanEnd sessions.Same s requests nodes = Unit {0}
-CanEnd (sessions.Mute session) s requests nodes = Unit {0}
-CanEnd (sessions.End session) s requests nodes = CanLeave session s requests nodes
+CanEnd SessionsChange.Same s requests nodes = Unit {0}
+CanEnd (SessionsChange.Mute session) s requests nodes = Unit {0}
+CanEnd (SessionsChange.End session) s requests nodes = CanLeave session s requests nodes

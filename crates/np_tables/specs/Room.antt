@@ -5,34 +5,33 @@ use Rattle.np_changes.specs.declared.changes.Changes.{Changes}
 use Rattle.np_changes.specs.declared.changes.Growth.{Growth}
 use Rattle.np_changes.specs.declared.changes.Maker.{Maker}
 use Rattle.np_lists.specs.Roomy.{Roomy}
-use Rattle.np_changes.specs.declared.changes.Growth.TheVariants as grow
 use Rattle.np_tables.specs.Kept.{Kept, Room}
 
 -- the table that grows takes one more row; if handles are taken, that of each semaphore
 abbrev pub IsRoomFor : Growth → Room → Type 0
-IsRoomFor grow.Nothing room = Unit {0}
-IsRoomFor (grow.Session role) room = 0 < room.sessions
-IsRoomFor (grow.Registration p) room = 0 < room.registrations
-IsRoomFor (grow.Request priority asked) room = 0 < room.requests
-IsRoomFor (grow.Node kept) room = 0 < room.nodes
-IsRoomFor (grow.JoinRequest r) room = Unit {0}
-IsRoomFor (grow.JoinNode n) room = Unit {0}
-IsRoomFor (grow.Allocate n r tenant) room = Unit {0}
-IsRoomFor (grow.Handles j) room = AllByRecursion (λ more. 0 < more) room.handles
-IsRoomFor (grow.Swept n x) room = 0 < room.swept
+IsRoomFor Growth.Nothing room = Unit {0}
+IsRoomFor (Growth.Session role) room = 0 < room.sessions
+IsRoomFor (Growth.Registration p) room = 0 < room.registrations
+IsRoomFor (Growth.Request priority asked) room = 0 < room.requests
+IsRoomFor (Growth.Node kept) room = 0 < room.nodes
+IsRoomFor (Growth.JoinRequest r) room = Unit {0}
+IsRoomFor (Growth.JoinNode n) room = Unit {0}
+IsRoomFor (Growth.Allocate n r tenant) room = Unit {0}
+IsRoomFor (Growth.Handles j) room = AllByRecursion (λ more. 0 < more) room.handles
+IsRoomFor (Growth.Swept n x) room = 0 < room.swept
 
 -- the queue that the maker joins, with the maker at its end; none if no queue grows
 abbrev pub queue_after : Option Maker → Growth → State → List SessionId
-queue_after maker grow.Nothing s = []
-queue_after maker (grow.Session role) s = []
-queue_after maker (grow.Registration p) s = []
-queue_after maker (grow.Request priority asked) s = []
-queue_after maker (grow.Node kept) s = by_maker maker joined []
-queue_after maker (grow.JoinRequest r) s = by_maker maker joined (request_queue r s.requests)
-queue_after maker (grow.JoinNode n) s = by_maker maker joined (node_queue n s.nodes)
-queue_after maker (grow.Allocate n r tenant) s = by_maker maker joined (node_queue n s.nodes)
-queue_after maker (grow.Handles j) s = []
-queue_after maker (grow.Swept n x) s = []
+queue_after maker Growth.Nothing s = []
+queue_after maker (Growth.Session role) s = []
+queue_after maker (Growth.Registration p) s = []
+queue_after maker (Growth.Request priority asked) s = []
+queue_after maker (Growth.Node kept) s = by_maker maker joined []
+queue_after maker (Growth.JoinRequest r) s = by_maker maker joined (request_queue r s.requests)
+queue_after maker (Growth.JoinNode n) s = by_maker maker joined (node_queue n s.nodes)
+queue_after maker (Growth.Allocate n r tenant) s = by_maker maker joined (node_queue n s.nodes)
+queue_after maker (Growth.Handles j) s = []
+queue_after maker (Growth.Swept n x) s = []
 
 -- there is room for what grows, and the queue that was made beforehand is the one that it needs
 pub record HasRoomFor (ch : Changes) (ready : List SessionId) (kept : Kept) : Type 0 where

@@ -1,3 +1,4 @@
+pub mod Prelude
 pub mod NumberLemmas
 pub mod SpellingLemmas
 pub mod RequestLemmas

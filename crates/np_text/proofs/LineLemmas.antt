@@ -1,13 +1,5 @@
 -- Lemmas on lines.
-use Rattle.std.proofs.Common.{◌≡◌, ℕ, suc, ◌-◌, append_assoc, take, drop, ◌+◌, ◌<◌, ◌≤◌, Bool, true, false, cond, not, ◌==◌, List, [], ◌∷◌, ◌++◌, length, Option, Some, None, refl, sym, ap, ◌∙◌, arith, ltb}
-use Rattle.std.specs.Prelude.{unwrap_or}
-use Rattle.std.specs.List.{flat_map, list_all, onto_first, position, position_or_len}
-use Rattle.std.proofs.Math.Numerals.{one-add}
-use Rattle.std.proofs.lemmas.Bool.{eqb-true, and_parts}
-use Rattle.std.proofs.lemmas.Bool.Decides.{nat_tests}
-use Rattle.std.proofs.lemmas.List.{drop_all, drop-drop, length-drop}
-use Rattle.std.proofs.lemmas.List.Sums.{prefix_len-le-length}
-use Rattle.np_text.specs.Lines.{is_line, line, line_in, line_length, lines_of}
+use Rattle.np_text.proofs.Prelude.{Bool, List, None, Option, Some, and_parts, ap, append_assoc, arith, cond, drop, drop-drop, drop_all, eqb-true, false, flat_map, is_line, length, length-drop, line, line_in, line_length, lines_of, list_all, ltb, nat_tests, not, one-add, onto_first, position, position_or_len, prefix_len-le-length, refl, suc, sym, take, true, unwrap_or, ℕ, [], ◌++◌, ◌+◌, ◌-◌, ◌<◌, ◌==◌, ◌∙◌, ◌∷◌, ◌≡◌, ◌≤◌}
 use Rattle.np_text.proofs.SpellingLemmas.{some_injective}
 
 -- where the first line ends

@@ -1,12 +1,5 @@
 -- Lemmas on names.
-use Rattle.std.proofs.Common.{◌≡◌, ℕ, ◌<◌, true, ◌&&◌, List, [], ◌∷◌, length, arith}
-use Rattle.std.specs.Prelude.{nat_le}
-use Rattle.std.specs.List.{list_all}
-use Rattle.std.specs.Str.{IsAscii}
-use Rattle.std.proofs.lemmas.Bool.Decides.{nat_tests}
-use Rattle.std.proofs.lemmas.Str.Ascii.{IsAscii-nil, IsAscii-cons}
-use Rattle.np_text.specs.Name.{is_name_byte, is_name_text}
-use Rattle.std.proofs.lemmas.Bool.{and_parts}
+use Rattle.np_text.proofs.Prelude.{IsAscii, IsAscii-cons, IsAscii-nil, List, and_parts, arith, is_name_byte, is_name_text, length, list_all, nat_le, nat_tests, true, ℕ, [], ◌&&◌, ◌<◌, ◌∷◌, ◌≡◌}
 
 name_byte_ascii : (b : ℕ) → is_name_byte b ≡ true → b < 128
 name_byte_ascii b named = grind (arith, nat_tests)

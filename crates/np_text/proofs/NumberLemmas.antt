@@ -1,15 +1,5 @@
 -- Lemmas on numbers and their decimal spelling.
-use Rattle.std.proofs.Common.{◌⊎◌, inl, inr, append_assoc, add-one, ◌≡◌, ℕ, ◌+◌, ◌-◌, ◌*◌, ◌/◌, ◌%◌, ◌^◌, ◌<◌, ◌≤◌, true, false, ◌&&◌, List, [], ◌∷◌, ◌++◌, length, get_or, drop, set, replicate, Option, Some, None, refl, sym, ap, ◌∙◌, arith, zero, suc}
-use Rattle.std.specs.Prelude.{nat_le, if◌then◌else◌}
-use Rattle.std.specs.Char.{digit_value, is_ascii_digit}
-use Rattle.std.specs.Fmt.{decimal}
-use Rattle.std.specs.Str.{all_ascii_digits}
-use Rattle.std.specs.Str.Parse.{digits_value_after}
-use Rattle.std.proofs.lemmas.Bool.Decides.{nat_tests}
-use Rattle.std.proofs.lemmas.Bool.{cases_lt, and_right}
-use Rattle.std.proofs.lemmas.Fmt.{decimal_digit, decimal_step}
-use Rattle.std.proofs.lemmas.List.{drop_more, drop_all, drop-set, append-nil, length_push, replicate_more}
-use Rattle.np_text.specs.Number.{digits_within, padded}
+use Rattle.np_text.proofs.Prelude.{List, None, Option, Some, add-one, all_ascii_digits, and_right, ap, append-nil, append_assoc, arith, cases_lt, decimal, decimal_digit, decimal_step, digit_value, digits_value_after, digits_within, drop, drop-set, drop_all, drop_more, false, get_or, if◌then◌else◌, inl, inr, is_ascii_digit, length, length_push, nat_le, nat_tests, padded, refl, replicate, replicate_more, set, suc, sym, true, zero, ℕ, [], ◌%◌, ◌&&◌, ◌*◌, ◌++◌, ◌+◌, ◌-◌, ◌/◌, ◌<◌, ◌^◌, ◌∙◌, ◌∷◌, ◌≡◌, ◌≤◌, ◌⊎◌}
 
 -- ## Reading from the left
 

@@ -1,19 +1,5 @@
 -- Digits of one length are in byte order as their numbers are.
-use Rattle.std.proofs.Common.{◌≡◌, ℕ, suc, zero, ◌+◌, ◌-◌, ◌*◌, ◌/◌, ◌%◌, ◌^◌, ◌<◌, ◌≤◌, ◌⊎◌, inl, inr, Bool, true, false, cond, ◌==◌, List, [], ◌∷◌, ◌++◌, length, Ordering, Less, Equal, Greater, refl, sym, ap, ◌∙◌, arith, length-append}
-use Rattle.std.specs.Char.{digit_value, is_ascii_digit}
-use Rattle.std.specs.Cmp.{nat_cmp_is}
-use Rattle.std.specs.Cmp.Lexicographic.{slice_cmp}
-use Rattle.std.specs.Fmt.{decimal, digit_glyph, digits, digits_onto}
-use Rattle.std.specs.Ordering.{nat_cmp, ordering_then}
-use Rattle.std.specs.Str.{all_ascii_digits}
-use Rattle.std.specs.Str.Parse.{digits_value, digits_value_after}
-use Rattle.std.proofs.lemmas.Bool.{cases_lt, and_parts}
-use Rattle.std.proofs.lemmas.Bool.Decides.{nat_tests}
-use Rattle.std.proofs.lemmas.List.{length-replicate}
-use Rattle.std.proofs.lemmas.Fmt.{digits_decimal, digits_value-decimal}
-use Rattle.np_text.specs.Number.{ten_digits_of}
-use Rattle.np_text.specs.Request.{HasText, request_cmp, request_text_of}
-use Rattle.np_text.specs.declared.id.RequestId.{RequestId}
+use Rattle.np_text.proofs.Prelude.{Bool, Equal, Greater, HasText, Less, List, Ordering, RequestId, all_ascii_digits, and_parts, ap, arith, cases_lt, cond, decimal, digit_glyph, digit_value, digits, digits_decimal, digits_onto, digits_value, digits_value-decimal, digits_value_after, false, inl, inr, is_ascii_digit, length, length-append, length-replicate, nat_cmp, nat_cmp_is, nat_tests, ordering_then, refl, request_cmp, request_text_of, slice_cmp, suc, sym, ten_digits_of, true, zero, ℕ, [], ◌%◌, ◌*◌, ◌++◌, ◌+◌, ◌-◌, ◌/◌, ◌<◌, ◌==◌, ◌^◌, ◌∙◌, ◌∷◌, ◌≡◌, ◌≤◌, ◌⊎◌}
 use Rattle.np_text.proofs.NumberLemmas.{digit_value_digit}
 use Rattle.np_text.proofs.SpellingLemmas.{model, length-padded, all_ascii_digits-zeros, digits_value-zeros}
 use Rattle.np_text.proofs.RequestLemmas.{decimal_three}

@@ -1,15 +1,6 @@
 -- Lemmas on the texts of requests.
-use Rattle.std.proofs.Common.{◌^◌, ◌<◌, ◌⊎◌, inl, inr, ◌≡◌, ℕ, ◌+◌, ◌/◌, ◌%◌, ◌≤◌, List, [], ◌∷◌, ◌++◌, length, replicate, take, drop, Option, Some, None, refl, sym, ap, ◌∙◌, arith}
-use Rattle.std.specs.Prelude.{◌==◌}
-use Rattle.std.specs.Fmt.{decimal}
-use Rattle.std.proofs.lemmas.Fmt.{decimal_digit, decimal_step, length-decimal-le}
-use Rattle.std.proofs.lemmas.List.{append-nil}
-use borrow.Rule.Slice.PartMut.{put_mid}
-use Rattle.std.proofs.lemmas.Bool.{cases_lt, eqb-true}
-use Rattle.np_text.specs.Number.{number_of, padded, ten_digits_of}
-use Rattle.np_text.specs.Request.{HasText, request_from, request_of, request_text_of, sequence_of}
+use Rattle.np_text.proofs.Prelude.{HasText, List, None, Option, RequestId, Some, ap, append-nil, arith, cases_lt, decimal, decimal_digit, decimal_step, drop, eqb-true, inl, inr, length, length-decimal-le, number_of, padded, put_mid, refl, replicate, request_from, request_of, request_text_of, sequence_of, sym, take, ten_digits_of, ℕ, [], ◌%◌, ◌++◌, ◌+◌, ◌/◌, ◌<◌, ◌==◌, ◌^◌, ◌∙◌, ◌∷◌, ◌≡◌, ◌≤◌, ◌⊎◌}
 use Rattle.np_text.proofs.SpellingLemmas.{when_found, some_injective, number_of-decimal, number_of-spelled, sequence_of-ten_digits_of, sequence_of-spelled}
-use Rattle.np_text.specs.declared.id.RequestId.{RequestId}
 
 -- three digits
 pub decimal_three : (n : ℕ) → 100 ≤ n → n ≤ 999 → decimal n ≡ (48 + n / 10 / 10) ∷ (48 + n / 10 % 10) ∷ (48 + n % 10) ∷ []

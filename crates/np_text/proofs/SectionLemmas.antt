@@ -1,12 +1,5 @@
 -- Lemmas on a text's sections.
-use Rattle.std.proofs.Common.{◌≡◌, ℕ, ◌+◌, ◌<◌, ◌≤◌, Bool, true, false, not, ◌&&◌, ◌==◌, List, [], ◌∷◌, ◌++◌, length, take, drop, get_or, Option, Some, None, refl, sym, ap, ◌∙◌, append_assoc, arith}
-use Rattle.std.specs.List.{flat_map, list_all}
-use Rattle.std.specs.Str.{bytes_eq}
-use Rattle.std.proofs.lemmas.Bool.Decides.{nat_tests}
-use Rattle.std.proofs.lemmas.List.{drop_more, drop_all, take_more, append-nil}
-use Rattle.np_text.specs.Lines.{is_line, line}
-use Rattle.np_text.specs.Sections.{bar, begins_with_bar, behind, has_bar, sections_from, sections_of}
-use Rattle.std.proofs.lemmas.Bool.{or_parts, and_parts}
+use Rattle.np_text.proofs.Prelude.{Bool, List, None, Option, Some, and_parts, ap, append-nil, append_assoc, arith, bar, begins_with_bar, behind, bytes_eq, drop, drop_all, drop_more, false, flat_map, get_or, has_bar, is_line, length, line, list_all, nat_tests, not, or_parts, refl, sections_from, sections_of, sym, take, take_more, true, ℕ, [], ◌&&◌, ◌++◌, ◌+◌, ◌<◌, ◌==◌, ◌∙◌, ◌∷◌, ◌≡◌, ◌≤◌}
 
 pub behind_behind : (front next : List ℕ) (o : Option (List ℕ × List ℕ)) → behind front (behind next o) ≡ behind (front ++ next) o
 behind_behind front next None = refl

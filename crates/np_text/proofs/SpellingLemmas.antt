@@ -1,20 +1,5 @@
 -- One spelling for each number.
-use Rattle.std.proofs.Common.{◌≡◌, ℕ, ◌+◌, ◌-◌, ◌^◌, ◌<◌, ◌≤◌, ◌≢◌, ◌⊎◌, inl, inr, Bool, true, false, cond, not, ◌&&◌, ◌==◌, List, [], ◌∷◌, ◌++◌, length, get_or, replicate, Option, Some, None, refl, sym, ap, ◌∙◌, arith, zero, suc, length-append}
-use Rattle.std.specs.Prelude.{nat_le, nat_lt, drop, unwrap_or, if◌then◌else◌}
-use Rattle.std.specs.List.{position, position_or_len}
-use Rattle.std.specs.Char.{is_ascii_digit}
-use Rattle.std.specs.Fmt.{decimal}
-use Rattle.std.specs.Str.{all_ascii_digits}
-use Rattle.std.specs.Str.Parse.{digits_value}
-use Rattle.std.proofs.Math.Numerals.{one-add}
-use Rattle.std.proofs.lemmas.Bool.{cases_eq, eq-eqb, eqb-true, and_parts}
-use Rattle.std.proofs.lemmas.Bool.Decides.{nat_tests}
-use Rattle.std.proofs.lemmas.List.{length-replicate, drop_at}
-use Rattle.std.proofs.lemmas.Str.Parse.{IsNumeralModel, numerals_by_value, tells_all_ascii_digits, digits_value_short}
-use Rattle.std.proofs.lemmas.Fmt.{decimal_digit, first_decimal, length-decimal-le, decimal_nonempty, digits_decimal, digits_value-decimal, decimal-digits_value}
-use Rattle.np_text.specs.Number.{begins_as_number, digits_within, number_of, padded, ten_digits_of, without_zeros}
-use Rattle.np_text.specs.declared.limit.TheConstants.{SEQUENCE}
-use Rattle.np_text.specs.Request.{sequence_of}
+use Rattle.np_text.proofs.Prelude.{Bool, IsNumeralModel, List, None, Option, SEQUENCE, Some, all_ascii_digits, and_parts, ap, arith, begins_as_number, cases_eq, cond, decimal, decimal-digits_value, decimal_digit, decimal_nonempty, digits_decimal, digits_value, digits_value-decimal, digits_value_short, digits_within, drop, drop_at, eq-eqb, eqb-true, false, first_decimal, get_or, if◌then◌else◌, inl, inr, is_ascii_digit, length, length-append, length-decimal-le, length-replicate, nat_le, nat_lt, nat_tests, not, number_of, numerals_by_value, one-add, padded, position, position_or_len, refl, replicate, sequence_of, suc, sym, tells_all_ascii_digits, ten_digits_of, true, unwrap_or, without_zeros, zero, ℕ, [], ◌&&◌, ◌++◌, ◌+◌, ◌-◌, ◌<◌, ◌==◌, ◌^◌, ◌∙◌, ◌∷◌, ◌≡◌, ◌≢◌, ◌≤◌, ◌⊎◌}
 use Rattle.np_text.proofs.NumberLemmas.{padded_digit, digit_value_digit}
 
 -- std's words for decimal texts

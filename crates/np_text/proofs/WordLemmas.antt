@@ -1,27 +1,5 @@
 -- Words read back.
-use Rattle.std.proofs.Common.{◌≡◌, ℕ, Bool, true, false, cond, List, [], ◌∷◌, Option, Some, refl, sym, ap, ◌∙◌}
-use Rattle.std.specs.List.{find}
-use Rattle.std.specs.Str.{bytes_eq}
-use Rattle.std.proofs.lemmas.Slice.Eq.{bytes_eq-Decides}
-use Rattle.np_text.specs.declared.word.RequestState.{RequestState}
-use Rattle.np_text.specs.declared.word.RequestState.TheVariants as request
-use Rattle.np_text.specs.declared.word.NodeState.{NodeState}
-use Rattle.np_text.specs.declared.word.NodeState.TheVariants as node
-use Rattle.np_text.specs.declared.word.EndAs.{EndAs}
-use Rattle.np_text.specs.declared.word.EndAs.TheVariants as end
-use Rattle.np_text.specs.declared.word.Phase.{Phase}
-use Rattle.np_text.specs.declared.word.Phase.TheVariants as phase
-use Rattle.np_text.specs.declared.word.Ending.{Ending}
-use Rattle.np_text.specs.declared.word.Ending.TheVariants as ending
-use Rattle.np_text.specs.declared.word.RoleKind.{RoleKind}
-use Rattle.np_text.specs.declared.word.RoleKind.TheVariants as role
-use Rattle.np_text.specs.declared.word.TheConstants.RequestState.{ALL as request_states}
-use Rattle.np_text.specs.declared.word.TheConstants.NodeState.{ALL as node_states}
-use Rattle.np_text.specs.declared.word.TheConstants.EndAs.{ALL as ends}
-use Rattle.np_text.specs.declared.word.TheConstants.Phase.{ALL as phases}
-use Rattle.np_text.specs.declared.word.TheConstants.Ending.{ALL as endings}
-use Rattle.np_text.specs.declared.word.TheConstants.RoleKind.{ALL as role_kinds}
-use Rattle.np_text.specs.Word.{AreWords, end_as_of, end_as_word, ending_of, ending_word, node_state_of, node_state_word, phase_of, phase_word, request_state_of, request_state_word, role_kind_of, role_kind_word}
+use Rattle.np_text.proofs.Prelude.{AreWords, Bool, EndAs, Ending, List, NodeState, Option, Phase, RequestState, RoleKind, Some, ap, bytes_eq, bytes_eq-Decides, cond, end_as_of, end_as_word, ending_of, ending_word, endings, ends, false, find, node_state_of, node_state_word, node_states, phase_of, phase_word, phases, refl, request_state_of, request_state_word, request_states, role_kind_of, role_kind_word, role_kinds, sym, true, ℕ, [], ◌∙◌, ◌∷◌, ◌≡◌}
 use Rattle.np_text.proofs.SpellingLemmas.{some_injective}
 
 -- if a value is found for a text, the text is its word
@@ -43,40 +21,40 @@ pub request_state_words : AreWords request_state_word request_state_of
 request_state_words = AreWords-found request_state_word request_states again
   where
     again : (x : RequestState) → request_state_of (request_state_word x) ≡ Some x
-    again request.Requested = refl
+    again RequestState.Requested = refl
     again x = refl
 
 pub node_state_words : AreWords node_state_word node_state_of
 node_state_words = AreWords-found node_state_word node_states again
   where
     again : (x : NodeState) → node_state_of (node_state_word x) ≡ Some x
-    again node.Building = refl
+    again NodeState.Building = refl
     again x = refl
 
 pub end_as_words : AreWords end_as_word end_as_of
 end_as_words = AreWords-found end_as_word ends again
   where
     again : (x : EndAs) → end_as_of (end_as_word x) ≡ Some x
-    again end.Used = refl
+    again EndAs.Used = refl
     again x = refl
 
 pub phase_words : AreWords phase_word phase_of
 phase_words = AreWords-found phase_word phases again
   where
     again : (x : Phase) → phase_of (phase_word x) ≡ Some x
-    again phase.New = refl
+    again Phase.New = refl
     again x = refl
 
 pub ending_words : AreWords ending_word ending_of
 ending_words = AreWords-found ending_word endings again
   where
     again : (x : Ending) → ending_of (ending_word x) ≡ Some x
-    again ending.Served = refl
+    again Ending.Served = refl
     again x = refl
 
 pub role_kind_words : AreWords role_kind_word role_kind_of
 role_kind_words = AreWords-found role_kind_word role_kinds again
   where
     again : (x : RoleKind) → role_kind_of (role_kind_word x) ≡ Some x
-    again role.Launcher = refl
+    again RoleKind.Launcher = refl
     again x = refl

@@ -4,21 +4,13 @@ use Rattle.std.specs.Fmt.{decimal}
 use Rattle.std.specs.List.{find}
 use Rattle.std.specs.Str.{bytes_eq}
 use Rattle.np_text.specs.declared.word.EndAs.{EndAs}
-use Rattle.np_text.specs.declared.word.EndAs.TheVariants as end
 use Rattle.np_text.specs.declared.word.Ending.{Ending}
-use Rattle.np_text.specs.declared.word.Ending.TheVariants as ending
 use Rattle.np_text.specs.declared.word.NodeState.{NodeState}
-use Rattle.np_text.specs.declared.word.NodeState.TheVariants as node
 use Rattle.np_text.specs.declared.word.Phase.{Phase}
-use Rattle.np_text.specs.declared.word.Phase.TheVariants as phase
 use Rattle.np_text.specs.declared.word.Reason.{Reason}
-use Rattle.np_text.specs.declared.word.Reason.TheVariants as reason
 use Rattle.np_text.specs.declared.word.ReasonKind.{ReasonKind}
-use Rattle.np_text.specs.declared.word.ReasonKind.TheVariants as kind
 use Rattle.np_text.specs.declared.word.RequestState.{RequestState}
-use Rattle.np_text.specs.declared.word.RequestState.TheVariants as request
 use Rattle.np_text.specs.declared.word.RoleKind.{RoleKind}
-use Rattle.np_text.specs.declared.word.RoleKind.TheVariants as role
 use Rattle.np_text.specs.declared.word.TheConstants.EndAs.{ALL as ends}
 use Rattle.np_text.specs.declared.word.TheConstants.Ending.{ALL as endings}
 use Rattle.np_text.specs.declared.word.TheConstants.NodeState.{ALL as node_states}
@@ -28,59 +20,59 @@ use Rattle.np_text.specs.declared.word.TheConstants.RoleKind.{ALL as role_kinds}
 
 -- the state of a node request (Nodepool developer guide)
 abbrev pub request_state_word : RequestState → List ℕ
-request_state_word request.Requested = codes "requested"
-request_state_word request.Pending = codes "pending"
-request_state_word request.Fulfilled = codes "fulfilled"
-request_state_word request.Failed = codes "failed"
+request_state_word RequestState.Requested = codes "requested"
+request_state_word RequestState.Pending = codes "pending"
+request_state_word RequestState.Fulfilled = codes "fulfilled"
+request_state_word RequestState.Failed = codes "failed"
 
 -- the state of a node (Nodepool developer guide)
 abbrev pub node_state_word : NodeState → List ℕ
-node_state_word node.Building = codes "building"
-node_state_word node.Ready = codes "ready"
-node_state_word node.InUse = codes "in-use"
-node_state_word node.Used = codes "used"
-node_state_word node.Hold = codes "hold"
-node_state_word node.Deleting = codes "deleting"
-node_state_word node.Failed = codes "failed"
+node_state_word NodeState.Building = codes "building"
+node_state_word NodeState.Ready = codes "ready"
+node_state_word NodeState.InUse = codes "in-use"
+node_state_word NodeState.Used = codes "used"
+node_state_word NodeState.Hold = codes "hold"
+node_state_word NodeState.Deleting = codes "deleting"
+node_state_word NodeState.Failed = codes "failed"
 
 -- what a requester leaves a node as (Nodepool's states)
 abbrev pub end_as_word : EndAs → List ℕ
-end_as_word end.Used = codes "used"
-end_as_word end.Hold = codes "hold"
+end_as_word EndAs.Used = codes "used"
+end_as_word EndAs.Hold = codes "hold"
 
 -- how far a job has come (own)
 abbrev pub phase_word : Phase → List ℕ
-phase_word phase.New = codes "new"
-phase_word phase.Asked = codes "asked"
-phase_word phase.Using = codes "using"
-phase_word phase.Over = codes "over"
+phase_word Phase.New = codes "new"
+phase_word Phase.Asked = codes "asked"
+phase_word Phase.Using = codes "using"
+phase_word Phase.Over = codes "over"
 
 -- how a job ended (own)
 abbrev pub ending_word : Ending → List ℕ
-ending_word ending.Served = codes "served"
-ending_word ending.Lost = codes "lost"
-ending_word ending.Failed = codes "failed"
-ending_word ending.Withdrawn = codes "withdrawn"
+ending_word Ending.Served = codes "served"
+ending_word Ending.Lost = codes "lost"
+ending_word Ending.Failed = codes "failed"
+ending_word Ending.Withdrawn = codes "withdrawn"
 
 -- the kind of reason for which a pool declines (own)
 abbrev pub reason_kind_word : ReasonKind → List ℕ
-reason_kind_word kind.NoLabel = codes "no-label"
-reason_kind_word kind.NeverFits = codes "never-fits"
-reason_kind_word kind.TenantNeverFits = codes "tenant-never-fits"
-reason_kind_word kind.Spent = codes "spent"
+reason_kind_word ReasonKind.NoLabel = codes "no-label"
+reason_kind_word ReasonKind.NeverFits = codes "never-fits"
+reason_kind_word ReasonKind.TenantNeverFits = codes "tenant-never-fits"
+reason_kind_word ReasonKind.Spent = codes "spent"
 
 -- the kind of role (own)
 abbrev pub role_kind_word : RoleKind → List ℕ
-role_kind_word role.Launcher = codes "launcher"
-role_kind_word role.Janitor = codes "janitor"
-role_kind_word role.Requester = codes "requester"
+role_kind_word RoleKind.Launcher = codes "launcher"
+role_kind_word RoleKind.Janitor = codes "janitor"
+role_kind_word RoleKind.Requester = codes "requester"
 
 -- a reason in one word: the kind, and behind it the label or the node (own)
 abbrev pub reason_text_of : Reason → List ℕ
-reason_text_of (reason.NoLabel l) = reason_kind_word kind.NoLabel ++ codes "-l" ++ decimal l.0
-reason_text_of reason.NeverFits = reason_kind_word kind.NeverFits
-reason_text_of reason.TenantNeverFits = reason_kind_word kind.TenantNeverFits
-reason_text_of (reason.Spent n) = reason_kind_word kind.Spent ++ codes "-n" ++ decimal n.0
+reason_text_of (Reason.NoLabel l) = reason_kind_word ReasonKind.NoLabel ++ codes "-l" ++ decimal l.0
+reason_text_of Reason.NeverFits = reason_kind_word ReasonKind.NeverFits
+reason_text_of Reason.TenantNeverFits = reason_kind_word ReasonKind.TenantNeverFits
+reason_text_of (Reason.Spent n) = reason_kind_word ReasonKind.Spent ++ codes "-n" ++ decimal n.0
 
 -- ## The value of a word, if it is the word of one
 

@@ -1,14 +1,6 @@
 -- what the command `audit` does
 use Rattle.std.specs.Prelude.{◌≡◌, ◌⊎◌, ℕ, Bool, true, false, List, ◌++◌, codes, decimal, IfSome, length, nat_lt}
-use Rattle.np_io.specs.Counts.{Rose}
-use Rattle.np_io.specs.Facts.{SourceFacts, SinkFacts, IsWritten}
-use Rattle.np_text.specs.Lines.{line}
-use Rattle.np_report.specs.Audit.{IsAText, IsNoText}
-use Rattle.np_replay.specs.declared.ending.Ending.{Ending}
-use Rattle.np_replay.specs.declared.ending.Ending.TheVariants as ending
-use Rattle.np_replay.specs.Input.{IsInput, Stops, most}
-use Rattle.np_replay.specs.Failures.{ShowsFailures}
-use Rattle.np_replay.specs.Told.{IsTold, EndsSo}
+use Rattle.np_top.specs.Lower.{Ending, EndsSo, IsAText, IsInput, IsNoText, IsTold, IsWritten, Rose, ShowsFailures, SinkFacts, SourceFacts, Stops, line, most}
 
 -- ## the lines
 
@@ -38,13 +30,13 @@ pub record InputIsNoText (source source_now : SourceFacts) (line : List ℕ) : T
 
 -- how an audit may end, by what came from the source
 abbrev pub EndsAudit : SourceFacts → SourceFacts → Ending → Type 0
-EndsAudit source source_now (ending.Prints text status) = (status ≡ 0) × (text.items ≡ yes_line) × InputIsText source source_now
-EndsAudit source source_now (ending.Full text) = ⊥
-EndsAudit source source_now (ending.Says line status) = (status ≡ 8) × InputIsNoText source source_now line.items
-EndsAudit source source_now ending.NoCommand = ⊥
-EndsAudit source source_now ending.ReadFault = Stops source source_now ending.ReadFault
-EndsAudit source source_now ending.TooLong = Stops source source_now ending.TooLong
-EndsAudit source source_now ending.NoMemory = Unit {0}
+EndsAudit source source_now (Ending.Prints text status) = (status ≡ 0) × (text.items ≡ yes_line) × InputIsText source source_now
+EndsAudit source source_now (Ending.Full text) = ⊥
+EndsAudit source source_now (Ending.Says line status) = (status ≡ 8) × InputIsNoText source source_now line.items
+EndsAudit source source_now Ending.NoCommand = ⊥
+EndsAudit source source_now Ending.ReadFault = Stops source source_now Ending.ReadFault
+EndsAudit source source_now Ending.TooLong = Stops source source_now Ending.TooLong
+EndsAudit source source_now Ending.NoMemory = Unit {0}
 
 -- ## the status that belongs to an input
 

@@ -1,16 +1,7 @@
 -- what the command `drill` does
 use Rattle.std.specs.Prelude.{◌≡◌, ◌⊎◌, ℕ, Bool, true, false, List}
-use Rattle.np_io.specs.Counts.{Rose}
-use Rattle.np_io.specs.Facts.{SinkFacts, IsWritten}
-use Rattle.np_changes.specs.Prelude.{Configuration, Entry, Runs, after, fates}
-use Rattle.np_useful.specs.Driven.{Driven}
-use Rattle.np_gen.specs.Site.{drill_site}
-use Rattle.np_report.specs.Printed.{HoldsThroughout}
-use Rattle.np_report.specs.Summary.{summary_of}
-use Rattle.np_replay.specs.declared.ending.Ending.{Ending}
-use Rattle.np_replay.specs.declared.ending.Ending.TheVariants as ending
 use Rattle.np_top.specs.Play.{HasEnded}
-use Rattle.np_replay.specs.Told.{IsTold, memory_line, full_line}
+use Rattle.np_top.specs.Lower.{Configuration, Driven, Ending, Entry, HoldsThroughout, IsTold, IsWritten, Rose, Runs, SinkFacts, after, drill_site, fates, full_line, memory_line, summary_of}
 
 -- ## how a drill may end
 
@@ -27,13 +18,13 @@ pub record IsDrill (c : Configuration) (text : List ℕ) (full : Bool) : Type 0 
 
 -- how a drill over this configuration may end (own)
 abbrev pub EndsDrill : Configuration → Ending → Type 0
-EndsDrill c (ending.Prints text status) = (status ≡ 0) × IsDrill c text.items false
-EndsDrill c (ending.Full text) = IsDrill c text.items true
-EndsDrill c (ending.Says line status) = ⊥
-EndsDrill c ending.NoCommand = ⊥
-EndsDrill c ending.ReadFault = ⊥
-EndsDrill c ending.TooLong = ⊥
-EndsDrill c ending.NoMemory = Unit {0}
+EndsDrill c (Ending.Prints text status) = (status ≡ 0) × IsDrill c text.items false
+EndsDrill c (Ending.Full text) = IsDrill c text.items true
+EndsDrill c (Ending.Says line status) = ⊥
+EndsDrill c Ending.NoCommand = ⊥
+EndsDrill c Ending.ReadFault = ⊥
+EndsDrill c Ending.TooLong = ⊥
+EndsDrill c Ending.NoMemory = Unit {0}
 
 -- ## what the streams and the status show
 

@@ -1,14 +1,7 @@
 -- how a site was played, by whichever drivers
 use Rattle.std.specs.Prelude.{◌≡◌, ℕ, Bool, true, false, All, List, [], length, Some, if◌then◌else◌}
-use Rattle.np_changes.specs.Prelude.{Configuration, Entry, Fate, after, fates, list_any}
+use Rattle.np_top.specs.Lower.{Configuration, Driving, Ending, EndsWithTick, Entry, Fate, IsPrinted, IsSettled, WasPlayed, after, fates, list_any}
 use Rattle.np_machine.specs.Fates as fate
-use Rattle.np_useful.specs.Settled.{IsSettled}
-use Rattle.np_worker.specs.Drive.{Driving}
-use Rattle.np_report.specs.Printed.{IsPrinted}
-use Rattle.np_rounds.specs.Laps.{WasPlayed}
-use Rattle.np_rounds.specs.Played.{EndsWithTick}
-use Rattle.np_replay.specs.declared.ending.Ending.{Ending}
-use Rattle.np_replay.specs.declared.ending.Ending.TheVariants as ending
 
 -- if the run came to its end, no role has a useful event, and the last entry is a tick; otherwise
 -- the journal is as long as it may be (own)
@@ -54,10 +47,10 @@ status_of_fates ends = if some_waits ends then 1 else 0
 
 -- how playing a site may end, with this journal
 abbrev pub EndsPlay : Bool → Configuration → List Entry → Ending → Type 0
-EndsPlay plans c journal (ending.Prints text status) = IsPlayedTo plans c journal text.items false × (status ≡ status_of_fates (fates (after c journal)))
-EndsPlay plans c journal (ending.Full text) = IsPlayedTo plans c journal text.items true
-EndsPlay plans c journal (ending.Says line status) = ⊥
-EndsPlay plans c journal ending.NoCommand = ⊥
-EndsPlay plans c journal ending.ReadFault = ⊥
-EndsPlay plans c journal ending.TooLong = ⊥
-EndsPlay plans c journal ending.NoMemory = ⊥
+EndsPlay plans c journal (Ending.Prints text status) = IsPlayedTo plans c journal text.items false × (status ≡ status_of_fates (fates (after c journal)))
+EndsPlay plans c journal (Ending.Full text) = IsPlayedTo plans c journal text.items true
+EndsPlay plans c journal (Ending.Says line status) = ⊥
+EndsPlay plans c journal Ending.NoCommand = ⊥
+EndsPlay plans c journal Ending.ReadFault = ⊥
+EndsPlay plans c journal Ending.TooLong = ⊥
+EndsPlay plans c journal Ending.NoMemory = ⊥

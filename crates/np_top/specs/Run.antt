@@ -1,19 +1,7 @@
 -- what the commands do that play a site, with `run` and `run planned` among them
 use Rattle.std.specs.Prelude.{◌≡◌, ◌⊎◌, ℕ, Bool, true, false, List, IfSome, Result, Ok, Err, length, nat_lt}
-use Rattle.np_io.specs.Counts.{Rose}
-use Rattle.np_io.specs.Facts.{SourceFacts, SinkFacts, IsWritten}
-use Rattle.np_json.specs.declared.fault.ConfigFault.{ConfigFault}
-use Rattle.np_changes.specs.Prelude.{Configuration, Entry, Fate, after, fates}
-use Rattle.np_config_read.specs.Walk.{reads}
-use Rattle.np_useful.specs.Driven.{Driven}
-use Rattle.np_worker.specs.Planned.{PlannedDriven}
-use Rattle.np_replay.specs.declared.ending.Ending.{Ending}
-use Rattle.np_replay.specs.declared.ending.Ending.TheVariants as ending
-use Rattle.np_replay.specs.Input.{IsInput, Stops, most}
-use Rattle.np_replay.specs.Lines.{config_line}
-use Rattle.np_replay.specs.Failures.{ShowsFailures}
-use Rattle.np_replay.specs.Told.{IsTold, EndsSo, full_line}
 use Rattle.np_top.specs.Play.{IsPlayedTo, EndsPlay, some_waits, status_of_fates}
+use Rattle.np_top.specs.Lower.{ConfigFault, Configuration, Driven, Ending, EndsSo, Entry, Fate, IsInput, IsTold, IsWritten, PlannedDriven, Rose, ShowsFailures, SinkFacts, SourceFacts, Stops, after, config_line, fates, full_line, most, reads}
 
 -- ## the commands
 
@@ -86,14 +74,14 @@ module _ (r : SiteCommand) where
 
   -- how a run may end, by what came from the source
   abbrev pub EndsRun : SourceFacts → SourceFacts → Ending → Type 0
-  EndsRun source source_now (ending.Prints text status) =
+  EndsRun source source_now (Ending.Prints text status) =
       (run : IsRun source source_now text.items false) × (status ≡ status_of_fates (fates_of_run run))
-  EndsRun source source_now (ending.Full text) = IsRun source source_now text.items true
-  EndsRun source source_now (ending.Says line status) = IsNoSite source source_now line.items status
-  EndsRun source source_now ending.NoCommand = ⊥
-  EndsRun source source_now ending.ReadFault = Stops source source_now ending.ReadFault
-  EndsRun source source_now ending.TooLong = Stops source source_now ending.TooLong
-  EndsRun source source_now ending.NoMemory = Unit {0}
+  EndsRun source source_now (Ending.Full text) = IsRun source source_now text.items true
+  EndsRun source source_now (Ending.Says line status) = IsNoSite source source_now line.items status
+  EndsRun source source_now Ending.NoCommand = ⊥
+  EndsRun source source_now Ending.ReadFault = Stops source source_now Ending.ReadFault
+  EndsRun source source_now Ending.TooLong = Stops source source_now Ending.TooLong
+  EndsRun source source_now Ending.NoMemory = Unit {0}
 
   -- the source was read to its end, and its bytes are this site, or have this fault
   pub record HasCome (source source_now : SourceFacts) (read : Result r.Site r.Fault) : Type 0 where

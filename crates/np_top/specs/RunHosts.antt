@@ -1,17 +1,7 @@
 -- what the command `run hosts` does: it plays a site of which some pools are served by hosts
 use Rattle.std.specs.Prelude.{◌≡◌, ℕ, false, List, [], ◌∷◌, ◌++◌, slice_get, sum, IsTrue, Option, Some, None}
-use Rattle.np_changes.specs.Prelude.{Configuration, Entry, Outcome, PoolId, after, outcome_of}
-use Rattle.np_event.specs.declared.event.Event.TheVariants as ev
-use Rattle.np_useful.specs.Driven.{Says, DrivenBy}
-use Rattle.np_worker.specs.Nodes.{servers_up}
-use Rattle.np_worker.specs.Reports.{AreAloneSound, FailAfter, reports_of}
-use Rattle.np_static.specs.Hosting.{Hosting}
-use Rattle.np_static.specs.Loads.{is_sound}
-use Rattle.np_static.specs.Site.{Site, simulated, hosted}
-use Rattle.np_static.specs.declared.fault.HostedFault.{HostedFault}
-use Rattle.np_static.specs.Hosted.{Hosted, hosted_of}
-use Rattle.np_replay.specs.Lines.{hosted_line, hosted_status}
 use Rattle.np_top.specs.Run.{SiteCommand}
+use Rattle.np_top.specs.Lower.{AreAloneSound, Configuration, DrivenBy, Entry, Event, FailAfter, Hosted, HostedFault, Hosting, Outcome, PoolId, Says, Site, after, hosted, hosted_line, hosted_of, hosted_status, is_sound, outcome_of, reports_of, servers_up, simulated}
 
 -- the outcome of a start is the planned one where the pool has a simulated cloud; of hosts nothing is said
 abbrev pub IsPlannedAt : Configuration → Option Site → PoolId → ℕ → Outcome → Type 0
@@ -26,7 +16,7 @@ planned_without_hosts h pool n attempt start o = IsPlannedAt h.configuration (sl
 -- what these hosts of a pool carried, each at once no more than its number (own)
 pub record AreHosted (c : Configuration) (journal : List Entry) (p : PoolId) (hosts : List ℕ) : Type 0 where
   -- after each tick no host has more servers of the pool's nodes that are up than it carries, and each of these servers has a host
-  pub carried : (before rest : List Entry) (e : Entry) → journal ≡ before ++ e ∷ rest → e.event ≡ ev.Tick
+  pub carried : (before rest : List Entry) (e : Entry) → journal ≡ before ++ e ∷ rest → e.event ≡ Event.Tick
       → IsTrue (is_sound hosts (servers_up p (after c (before ++ e ∷ [])).nodes))
   -- each server that is reported has a host of this pool
   pub reported : AreAloneSound (is_sound hosts) (reports_of c p journal)

@@ -1,15 +1,123 @@
--- the rows of a directory after a change of the nodes
-use Rattle.std.proofs.Common.{◌≡◌, ℕ, Bool, true, false, not, cond, List, [], ◌∷◌, map, Some, refl, sym, ap, ◌∙◌}
-use Rattle.std.specs.Prelude.{filter}
-use Rattle.np_tree_nodes.specs.Prelude.{AllByRecursion, change_first, change_node, insert_node, is_at, is_child, is_owned, is_parent, is_path, name_of, parent_of, path_before, without_node}
-use Rattle.np_lists.proofs.Each.{all-weaker}
-use Rattle.np_tree_nodes.specs.Order.{AllPaths, IsSorted, node_before}
-use Rattle.np_tree_nodes.specs.declared.node.Node.{Node}
-use Rattle.np_tree_nodes.proofs.OrderLemmas.{path_before-trans}
-use Rattle.np_tree_nodes.proofs.PathsLemmas.{KeepsPath}
-use Rattle.np_tree.specs.Views.{Row, is_named, row_before, row_of, with_row}
-use Rattle.np_tree.specs.Relations.{is_kept}
-use Rattle.np_tree.proofs.SiblingLemmas.{at-child, at-other, named-at, siblings-order}
+-- the rows of a directory, in the order of their names, and what is found at a path after a change of the nodes
+use Rattle.np_tree.proofs.Prelude.{AllByRecursion, AllPaths, Bool, ChildrenByName, IsChild-of, IsKey, IsSorted, KeepsPath, List, Node, None, NonePass, Option, ParentsComeFirst, Rises, Rises-filter, Row, Some, all-weaker, ap, at_path, before_of, below, bytes_eq, bytes_eq-apart, bytes_eq-from, bytes_eq-is, change_first, change_node, child-half, children_of, cond, false, filter, find, half-not_root, insert_before, insert_node, is_at, is_child, is_kept, is_lt, is_named, is_owned, is_parent, is_path, later-others, map, name_before, name_of, named_before, nat_cmp, nat_list_cmp_total, node_before, not, ordering_then, parent-first, parent-half, parent_of, path_before, path_before-trans, refl, row_before, row_of, slice_cmp, sym, tied_itself, true, with_row, without_node, ℕ, [], ◌∙◌, ◌∷◌, ◌≡◌}
+
+-- # children are in byte order of their names
+
+pub parents-first : ParentsComeFirst
+parents-first path above is top = parent-first above path is top
+
+-- a child's path, with the half that its siblings have
+key-by : (p : List ℕ) (n : Node) (o : Option (List ℕ)) → is_path n.path ≡ true → parent_of n.path ≡ o → is_parent p o ≡ true → IsKey (before_of n.path) p
+key-by p n None is top child = absurd cc
+key-by p n (Some above) is top child =
+    record { above = sym (parent-half above n.path top) ∙ bytes_eq-is above p child; other = half-not_root n.path above is top }
+
+-- siblings have one half
+ordered-siblings-half : (p : List ℕ) (m n : Node) → is_path m.path ≡ true → is_path n.path ≡ true → is_child p m ≡ true → is_child p n ≡ true → before_of m.path ≡ before_of n.path
+ordered-siblings-half p m n is_m is_n child_m child_n = child-half (before_of n.path) p m (parent_of m.path) (key-by p n (parent_of n.path) is_n refl child_n) is_m refl child_m
+
+-- so their names determine the order
+by-name : (m n : Node) → before_of m.path ≡ before_of n.path → node_before m n ≡ true → named_before m n ≡ true
+by-name m n half order =
+    let tied = ap (λ (b : List ℕ). slice_cmp nat_cmp b (before_of n.path)) half ∙ tied_itself nat_list_cmp_total (before_of n.path) in
+    sym (ap (λ (o : _). is_lt (ordering_then o (slice_cmp nat_cmp (name_of m.path) (name_of n.path)))) tied) ∙ order
+
+-- a path in the grammar, and a child of this one
+record IsOne (p : List ℕ) (n : Node) : Type 0 where
+  is : is_path n.path ≡ true
+  child : is_child p n ≡ true
+
+ones-by : (p : List ℕ) (n : Node) (nodes : List Node) (b : Bool) → is_child p n ≡ b → is_path n.path ≡ true → AllByRecursion (IsOne p) nodes → AllByRecursion (IsOne p) (cond b (n ∷ nodes) nodes)
+ones-by p n nodes true child is later = (record { is = is; child = child }, later)
+ones-by p n nodes false child is later = later
+
+ones : (p : List ℕ) (nodes : List Node) → AllPaths nodes → AllByRecursion (IsOne p) (filter (is_child p) nodes)
+ones p [] paths = tt
+ones p (n ∷ nodes) paths = ones-by p n (filter (is_child p) nodes) (is_child p n) refl paths.0 (ones p nodes paths.1)
+
+all-by-name : (p : List ℕ) (m : Node) (nodes : List Node) → IsOne p m → AllByRecursion (IsOne p) nodes → AllByRecursion (λ n. node_before m n ≡ true) nodes → AllByRecursion (λ n. named_before m n ≡ true) nodes
+all-by-name p m [] one all order = tt
+all-by-name p m (n ∷ nodes) one all order =
+    (by-name m n (ordered-siblings-half p m n one.is all.0.is one.child all.0.child) order.0, all-by-name p m nodes one all.1 order.1)
+
+rises-by-name : (p : List ℕ) (nodes : List Node) → AllByRecursion (IsOne p) nodes → Rises node_before nodes → Rises named_before nodes
+rises-by-name p [] all rises = tt
+rises-by-name p (n ∷ nodes) all rises = (all-by-name p n nodes all.0 all.1 rises.0, rises-by-name p nodes all.1 rises.1)
+
+pub children-by-name : ChildrenByName
+children-by-name nodes path sorted paths =
+    rises-by-name path (children_of nodes path) (ones path nodes paths) (Rises-filter node_before (is_child path) nodes sorted)
+
+-- # the children of one directory: their names distinguish them, and order them
+
+-- a child's directory
+above-by : (dir : List ℕ) (o : Option (List ℕ)) → is_parent dir o ≡ true → o ≡ Some dir
+above-by dir None child = absurd cc
+above-by dir (Some above) child = ap Some (bytes_eq-is above dir child)
+
+pub child-above : (dir : List ℕ) (n : Node) → is_child dir n ≡ true → parent_of n.path ≡ Some dir
+child-above dir n child = above-by dir (parent_of n.path) child
+
+pub above-child : (dir : List ℕ) (n : Node) → parent_of n.path ≡ Some dir → is_child dir n ≡ true
+above-child dir n above = ap (is_parent dir) above ∙ bytes_eq-from dir dir refl
+
+-- a node is in one directory only
+other-by : (other dir : List ℕ) (o : Option (List ℕ)) → (other ≡ dir → ⊥) → o ≡ Some dir → is_parent other o ≡ false
+other-by other dir None apart above = absurd cc
+other-by other dir (Some p) apart above = bytes_eq-apart p other (λ same. let e : p ≡ dir = cc in apart (sym same ∙ e))
+
+pub other-child : (other dir : List ℕ) (n : Node) → (other ≡ dir → ⊥) → parent_of n.path ≡ Some dir → is_child other n ≡ false
+other-child other dir n apart above = other-by other dir (parent_of n.path) apart above
+
+-- what is before the last slash of a child
+key-of : (dir path : List ℕ) → is_path path ≡ true → parent_of path ≡ Some dir → IsKey (before_of path) dir
+key-of dir path is above = record { above = sym (parent-half dir path above); other = half-not_root path dir is above }
+
+pub siblings-half : (dir path : List ℕ) (n : Node) → is_path path ≡ true → parent_of path ≡ Some dir → is_path n.path ≡ true → is_child dir n ≡ true → before_of n.path ≡ before_of path
+siblings-half dir path n is above is_n child = child-half (before_of path) dir n (parent_of n.path) (key-of dir path is above) is_n refl child
+
+-- siblings are in the order of their names
+pub siblings-order : (dir path : List ℕ) (n : Node) → is_path path ≡ true → parent_of path ≡ Some dir → is_path n.path ≡ true → is_child dir n ≡ true → path_before path n.path ≡ name_before (name_of path) (name_of n.path)
+siblings-order dir path n is above is_n child =
+    let half = siblings-half dir path n is above is_n child in
+    let tied = ap (λ (b : List ℕ). slice_cmp nat_cmp (before_of path) b) half ∙ tied_itself nat_list_cmp_total (before_of path) in
+    ap (λ (o : _). is_lt (ordering_then o (slice_cmp nat_cmp (name_of path) (name_of n.path)))) tied
+
+-- siblings with one name are equal
+same-path : (dir p q : List ℕ) → is_path p ≡ true → is_path q ≡ true → parent_of p ≡ Some dir → parent_of q ≡ Some dir → name_of p ≡ name_of q → p ≡ q
+same-path dir p q is_p is_q above_p above_q name =
+    let this = IsChild-of p dir is_p above_p in
+    let that = IsChild-of q dir is_q above_q in
+    sym this.whole ∙ ap (below dir) name ∙ that.whole
+
+named-by : (dir path : List ℕ) (n : Node) (b : Bool) → is_at path n ≡ b → is_path path ≡ true → parent_of path ≡ Some dir → is_path n.path ≡ true → is_child dir n ≡ true → is_named (name_of path) (row_of n) ≡ b
+named-by dir path n true at is above is_n child = bytes_eq-from (name_of n.path) (name_of path) (ap name_of (bytes_eq-is n.path path at))
+named-by dir path n false at is above is_n child =
+    bytes_eq-apart (name_of n.path) (name_of path) (λ same.
+    let here = bytes_eq-from n.path path (same-path dir n.path path is_n is (child-above dir n child) above same) in
+    absurd cc)
+
+pub named-at : (dir path : List ℕ) (n : Node) → is_path path ≡ true → parent_of path ≡ Some dir → is_path n.path ≡ true → is_child dir n ≡ true → is_named (name_of path) (row_of n) ≡ is_at path n
+named-at dir path n is above is_n child = named-by dir path n (is_at path n) refl is above is_n child
+
+-- a node at a path is a child of the directory above it
+pub at-child : (dir path : List ℕ) (n : Node) → parent_of path ≡ Some dir → is_at path n ≡ true → is_child dir n ≡ true
+at-child dir path n above at = above-child dir n (ap parent_of (bytes_eq-is n.path path at) ∙ above)
+
+pub at-other : (other dir path : List ℕ) (n : Node) → (other ≡ dir → ⊥) → parent_of path ≡ Some dir → is_at path n ≡ true → is_child other n ≡ false
+at-other other dir path n apart above at = other-child other dir n apart (ap parent_of (bytes_eq-is n.path path at) ∙ above)
+
+-- ## rows in order have other names
+
+pub other-name : (this that : Row) → row_before this that ≡ true → bytes_eq this.name that.name ≡ false
+other-name this that before = bytes_eq-apart this.name that.name (λ same.
+    let tied = ap (λ (n : List ℕ). is_lt (slice_cmp nat_cmp this.name n)) (sym same) ∙ ap is_lt (tied_itself nat_list_cmp_total this.name) in
+    absurd (let e : true ≡ false = sym before ∙ tied in cc))
+
+pub other-name_back : (this that : Row) → row_before this that ≡ true → bytes_eq that.name this.name ≡ false
+other-name_back this that before = bytes_eq-apart that.name this.name (λ same. let here = bytes_eq-from this.name that.name (sym same) in let not_here = other-name this that before in cc)
+
+-- # the rows of a directory after a change of the nodes
 
 -- the rows of a directory among nodes
 abbrev pub rows_in : List ℕ → List Node → List Row
@@ -180,3 +288,65 @@ module _ (dir : List ℕ) (session : ℕ) (f : Node → Node) (keeps : KeepsPath
   pub rows-ended : (nodes : List Node) → rows_in dir (left_of nodes) ≡ filter (is_kept session) (rows_in dir nodes)
   rows-ended [] = refl
   rows-ended (n ∷ nodes) = ended-by n nodes (is_owned session n) (is_child dir n) refl refl (rows-ended nodes)
+
+-- # what is found at a path after a change of the nodes
+
+-- what was found, if it is kept
+abbrev pub kept_by : {A : Type 0} → (A → Bool) → Option A → Option A
+kept_by keep None = None
+kept_by keep (Some a) = cond (keep a) (Some a) None
+
+module _ {X : Type 0} (p : X → Bool) where
+  -- ## one member more
+
+  here-by : (new x : X) (xs more : List X) (b : Bool) → p new ≡ true → p x ≡ false → find p more ≡ Some new → find p (cond b (new ∷ x ∷ xs) (x ∷ more)) ≡ Some new
+  here-by new x xs more true passes other later = rw passes refl
+  here-by new x xs more false passes other later = rw other later
+
+  pub find-insert_here : (before : X → Bool) (new : X) (xs : List X) → p new ≡ true → NonePass p xs → find p (insert_before before new xs) ≡ Some new
+  find-insert_here before new [] passes none = rw passes refl
+  find-insert_here before new (x ∷ xs) passes none = here-by new x xs (insert_before before new xs) (before x) passes none.0 (find-insert_here before new xs passes none.1)
+
+  -- ## members fewer
+
+  filtered-by : (keep : X → Bool) (x : X) (xs left : List X) (b : Bool) → keep x ≡ b → (p x ≡ true → keep x ≡ true) → find p left ≡ find p xs → find p (cond b (x ∷ left) left) ≡ find p (x ∷ xs)
+  filtered-by keep x xs left true kept stays later = ap (λ (o : Option X). cond (p x) (Some x) o) later
+  filtered-by keep x xs left false kept stays later = gone (p x) refl where
+    gone : (c : Bool) → p x ≡ c → find p left ≡ cond c (Some x) (find p xs)
+    gone true passes = absurd (let still = stays passes in cc)
+    gone false passes = later
+
+  -- another test does not change what is found
+  pub find-filter_other : (keep : X → Bool) (xs : List X) → ((x : X) → p x ≡ true → keep x ≡ true) → find p (filter keep xs) ≡ find p xs
+  find-filter_other keep [] stays = refl
+  find-filter_other keep (x ∷ xs) stays = filtered-by keep x xs (filter keep xs) (keep x) refl (stays x) (find-filter_other keep xs stays)
+
+  without-by : (x : X) (left : List X) (b : Bool) → p x ≡ b → find p left ≡ None → find p (cond (not b) (x ∷ left) left) ≡ None
+  without-by x left true passes later = later
+  without-by x left false passes later = rw passes later
+
+  -- what passes is gone
+  pub find-filter_gone : (xs : List X) → find p (filter (λ x. not (p x)) xs) ≡ None
+  find-filter_gone [] = refl
+  find-filter_gone (x ∷ xs) = without-by x (filter (λ y. not (p y)) xs) (p x) refl (find-filter_gone xs)
+
+  nothing-kept-by : (keep : X → Bool) (x : X) (left : List X) (b : Bool) → p x ≡ false → find p left ≡ None → find p (cond b (x ∷ left) left) ≡ None
+  nothing-kept-by keep x left true fails later = rw fails later
+  nothing-kept-by keep x left false fails later = later
+
+  find-filter_none : (keep : X → Bool) (xs : List X) → NonePass p xs → find p (filter keep xs) ≡ None
+  find-filter_none keep [] none = refl
+  find-filter_none keep (x ∷ xs) none = nothing-kept-by keep x (filter keep xs) (keep x) none.0 (find-filter_none keep xs none.1)
+
+-- there is one node at a path, so another test keeps what is found or leaves nothing
+once-by : (path : List ℕ) (keep : Node → Bool) (n : Node) (nodes : List Node) (b c : Bool) → is_at path n ≡ b → keep n ≡ c → (is_at path n ≡ true → NonePass (is_at path) nodes) → at_path (filter keep nodes) path ≡ kept_by keep (at_path nodes path) →
+    find (is_at path) (cond c (n ∷ filter keep nodes) (filter keep nodes)) ≡ kept_by keep (cond b (Some n) (at_path nodes path))
+once-by path keep n nodes true true at kept once later = rw at (rw kept refl)
+once-by path keep n nodes true false at kept once later = rw kept (find-filter_none (is_at path) keep nodes (once at))
+once-by path keep n nodes false true at kept once later = rw at later
+once-by path keep n nodes false false at kept once later = later
+
+pub at_path-filter : (path : List ℕ) (keep : Node → Bool) (nodes : List Node) → IsSorted nodes → at_path (filter keep nodes) path ≡ kept_by keep (at_path nodes path)
+at_path-filter path keep [] sorted = refl
+at_path-filter path keep (n ∷ nodes) sorted =
+    once-by path keep n nodes (is_at path n) (keep n) refl refl (λ at. later-others path n nodes at sorted.0) (at_path-filter path keep nodes sorted.1)

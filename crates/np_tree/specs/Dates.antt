@@ -1,11 +1,9 @@
 -- which of two trees came later, by the change numbers of their nodes
 use Rattle.std.specs.Prelude.{◌≡◌, ◌≤◌, ◌<◌, ℕ, true, List, [], ◌∷◌, codes, map, Option, Some}
-use Rattle.np_tree_nodes.specs.Prelude.{AllByRecursion, TreeState, after_begin, after_end, after_multi, after_raise, at_path, is_path, new_tree, parent_of, root_node, with_spare}
-use Rattle.np_tree_nodes.specs.declared.node.Node.{Node}
-use Rattle.np_tree_nodes.specs.declared.op.Op.{Op}
 use Rattle.np_tree.specs.Whole.{IsPart, IsWhole}
 use Rattle.np_tree.specs.Several.{Goes}
 use Rattle.np_tree.specs.Views.{Row, rows_at, seen_at, seen_of}
+use Rattle.np_tree.specs.Lower.{AllByRecursion, Node, Op, TreeState, after_begin, after_end, after_multi, after_raise, at_path, is_path, new_tree, parent_of, root_node, with_spare}
 
 -- what is listed of a child: its name and its owner
 pub record Tag : Type 0 where

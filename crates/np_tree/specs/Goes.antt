@@ -1,11 +1,8 @@
 -- the facts from which a part of a call is accepted
 use Rattle.std.specs.Prelude.{◌≡◌, ◌<◌, ◌≤◌, ℕ, ◌+◌, true, not, ◌||◌, nat_le, List, [], length, Option, Some, None, Ok}
-use Rattle.np_tree_nodes.specs.Prelude.{TreeState, at_path, below, is_in, is_sequential, name_of, option_map, parent_of}
-use Rattle.np_tree_nodes.specs.Answer.{check_answer, create_answer, create_under_answer, delete_answer, set_answer}
-use Rattle.np_tree_nodes.specs.declared.kind.Expect.TheVariants.{Any}
-use Rattle.np_tree_nodes.specs.declared.kind.Mode.{Mode}
 use Rattle.np_tree.specs.Read.{counter_at}
 use Rattle.np_tree.specs.Views.{Seen, name_given, rows_at, seen_at}
+use Rattle.np_tree.specs.Lower.{Any, Mode, TreeState, at_path, below, check_answer, create_answer, create_under_answer, delete_answer, is_in, is_sequential, name_of, option_map, parent_of, set_answer}
 
 -- ## parts
 

@@ -1,11 +1,8 @@
 -- the fields of the tree, for the code only; and how calls answer
 use Rattle.std.specs.Prelude.{◌≡◌, [], Result, Ok, Err, IsOk}
-use Rattle.np_tree_nodes.specs.Prelude.{IsKept, TreeState}
-use Rattle.np_tree_nodes.specs.declared.refusal.TreeFault.{TreeFault}
-use Rattle.np_tree_nodes.specs.declared.refusal.TreeFault.TheVariants.{Refused, NoMemory}
-use Rattle.np_tree_nodes.specs.declared.refusal.TreeRefusal.{TreeRefusal}
 use Rattle.np_tree.specs.Whole.{IsTree}
 use Rattle.np_tree.specs.declared.inner.Inner.{Inner}
+use Rattle.np_tree.specs.Lower.{IsKept, NoMemory, Refused, TreeFault, TreeRefusal, TreeState}
 
 -- the tree of the fields
 abbrev pub state_of : Inner → TreeState

@@ -1,3 +1,4 @@
+pub mod Lower
 pub use Rattle.np_tree_nodes.specs.TreeState
 pub use Rattle.np_tree_nodes.specs.Nodes
 pub use Rattle.np_tree_nodes.specs.Order

@@ -1,8 +1,6 @@
 -- what the readers return
 use Rattle.std.specs.Prelude.{ℕ, List, Option, slice_get}
-use Rattle.np_tree_nodes.specs.Prelude.{TreeState, at_path, children_of, name_of, option_map, stat_of}
-use Rattle.np_tree_nodes.specs.declared.node.Node.{Node}
-use Rattle.np_tree_nodes.specs.declared.kind.Stat.{Stat}
+use Rattle.np_tree.specs.Lower.{Node, Stat, TreeState, at_path, children_of, name_of, option_map, stat_of}
 
 -- the bytes of the node at a path
 abbrev pub bytes_at : TreeState → List ℕ → Option (List ℕ)

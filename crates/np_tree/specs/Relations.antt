@@ -1,12 +1,9 @@
 -- what an accepted part of a call changes of what a tree shows; everywhere else it changes nothing
 use Rattle.std.specs.Prelude.{◌≡◌, ℕ, ◌+◌, Bool, true, false, not, List, [], filter, Option, Some, None, Ok, if◌then◌else◌}
-use Rattle.np_tree_nodes.specs.Prelude.{Rises, TreeState, after_create, after_create_under, after_delete, after_end, after_part, after_raise, after_set, below, change_first, create_answer, create_under_answer, delete_answer, is_owner, is_path, is_sequential, may_raise, name_of, option_map, parent_of, set_answer}
-use Rattle.np_tree_nodes.specs.declared.kind.Expect.{Expect}
-use Rattle.np_tree_nodes.specs.declared.kind.Mode.{Mode}
-use Rattle.np_tree_nodes.specs.declared.op.Op.{Op}
 use Rattle.np_tree.specs.Read.{counter_at}
 use Rattle.np_tree.specs.Whole.{IsWhole}
 use Rattle.np_tree.specs.Views.{Row, Seen, find_named, is_named, name_given, row_before, row_given, row_with, rows_at, seen_at, seen_in, seen_with, with_row}
+use Rattle.np_tree.specs.Lower.{Expect, Mode, Op, Rises, TreeState, after_create, after_create_under, after_delete, after_end, after_part, after_raise, after_set, below, change_first, create_answer, create_under_answer, delete_answer, is_owner, is_path, is_sequential, may_raise, name_of, option_map, parent_of, set_answer}
 
 -- ## rows and what is seen
 

@@ -1,16 +1,11 @@
 -- several parts in one call
 use Rattle.std.specs.Prelude.{◌≡◌, ◌<◌, ◌≤◌, ℕ, ◌+◌, true, false, not, List, [], ◌∷◌, ◌++◌, length, map, Some, Ok, IsOk, Option, None}
-use Rattle.np_tree_nodes.specs.Prelude.{AllByRecursion, Stops, TreeState, after_multi, after_part, after_parts, answers_from, below, is_check, is_element, is_in, is_path, list_any, parent_of, part_answer, with_next_number}
-use Rattle.np_tree_nodes.specs.declared.kind.Expect.TheVariants.{Any}
-use Rattle.np_tree_nodes.specs.declared.op.Op.{Op}
-use Rattle.np_tree_nodes.specs.declared.op.Op.TheVariants as op
-use Rattle.np_tree_nodes.specs.declared.op.OpDone.{OpDone}
-use Rattle.np_tree_nodes.specs.declared.refusal.MultiFault.{MultiFault}
 use Rattle.np_tree_nodes.specs.declared.refusal.MultiFault.TheVariants.{NoMemory}
 use Rattle.np_tree.specs.Read.{counter_at}
 use Rattle.np_tree.specs.Whole.{IsPart, IsWhole}
 use Rattle.np_tree.specs.Goes.{version_at}
 use Rattle.np_tree.specs.Views.{Row, rows_at}
+use Rattle.np_tree.specs.Lower.{AllByRecursion, Any, MultiFault, Op, OpDone, Stops, TreeState, after_multi, after_part, after_parts, answers_from, below, is_check, is_element, is_in, is_path, list_any, parent_of, part_answer, with_next_number}
 
 -- ## parts that go
 
@@ -80,7 +75,7 @@ RoomFalls = (t : TreeState) (s : ℕ) (part : Op) (more : ℕ) → HasRoomFor (m
 -- ## a directory cleared
 
 abbrev pub delete_parts : List ℕ → List Row → List Op
-delete_parts dir rows = map (λ row. op.Delete (below dir row.name) Any) rows
+delete_parts dir rows = map (λ row. Op.Delete (below dir row.name) Any) rows
 
 -- every child of a directory can be deleted if there is nothing below them, and then the directory
 -- is empty
@@ -96,11 +91,11 @@ ClearsEmpty = (t : TreeState) (s : ℕ) (dir : List ℕ) (u : TreeState) → IsW
 
 -- the directory whose rows a part changes, if it changes any
 abbrev pub dir_of : Op → Option (List ℕ)
-dir_of (op.Create path bytes mode) = parent_of path
-dir_of (op.CreateUnder parent bytes mode) = Some parent
-dir_of (op.Set path bytes expect) = parent_of path
-dir_of (op.Delete path expect) = parent_of path
-dir_of (op.Check path expect) = None
+dir_of (Op.Create path bytes mode) = parent_of path
+dir_of (Op.CreateUnder parent bytes mode) = Some parent
+dir_of (Op.Set path bytes expect) = parent_of path
+dir_of (Op.Delete path expect) = parent_of path
+dir_of (Op.Check path expect) = None
 
 -- parts that change only the rows of other directories do not change a directory's rows
 abbrev pub Elsewhere : Type 0

@@ -2,8 +2,7 @@
 use Rattle.std.specs.Prelude.{◌≡◌, ℕ, Bool, true, List, Some}
 use Rattle.std.specs.Ordering.{nat_cmp, is_lt}
 use Rattle.std.specs.Cmp.Lexicographic.{slice_cmp}
-use Rattle.np_tree_nodes.specs.Prelude.{AllPaths, IsSorted, Rises, children_of, is_path, name_of, parent_of, path_before}
-use Rattle.np_tree_nodes.specs.declared.node.Node.{Node}
+use Rattle.np_tree.specs.Lower.{AllPaths, IsSorted, Node, Rises, children_of, is_path, name_of, parent_of, path_before}
 
 -- each path comes after its parent's
 abbrev pub ParentsComeFirst : Type 0

@@ -1,13 +1,10 @@
 -- what a tree shows: the children of a directory, and the node at a path. No node record appears in
 -- what is shown
 use Rattle.std.specs.Prelude.{ℕ, Bool, List, find, map, ◌++◌, Option, Some, None, if◌then◌else◌}
-use Rattle.np_tree_nodes.specs.Prelude.{TreeState, at_path, children_of, insert_before, name_of, option_map, ten_digits_of}
 use Rattle.std.specs.Ordering.{nat_cmp, is_lt}
 use Rattle.std.specs.Cmp.Lexicographic.{slice_cmp}
 use Rattle.std.specs.Str.{bytes_eq}
-use Rattle.np_tree_nodes.specs.Tests.{is_ephemeral, is_sequential}
-use Rattle.np_tree_nodes.specs.declared.node.Node.{Node}
-use Rattle.np_tree_nodes.specs.declared.kind.Mode.{Mode}
+use Rattle.np_tree.specs.Lower.{Mode, Node, TreeState, at_path, children_of, insert_before, is_ephemeral, is_sequential, name_of, option_map, ten_digits_of}
 
 -- a child of a directory
 pub record Row : Type 0 where

@@ -1,11 +1,6 @@
 -- a tree with nothing out of place
 use Rattle.std.specs.Prelude.{◌≡◌, ◌≤◌, ⊤, ℕ, true, List, [], Option, Some, None, Ok}
-use Rattle.np_tree_nodes.specs.Prelude.{AllByRecursion, AllPaths, IsSorted, TreeState, after_begin, after_end, after_part, after_raise, at_path, children_of, is_in, is_path, next_change, parent_of, part_answer, root}
-use Rattle.np_tree_nodes.specs.Kept.{HasRoom}
-use Rattle.np_tree_nodes.specs.Multi.{after_multi, answers_from, is_numbered, path_of}
-use Rattle.np_tree_nodes.specs.declared.node.Node.{Node}
-use Rattle.np_tree_nodes.specs.declared.op.Op.{Op}
-use Rattle.np_tree_nodes.specs.declared.op.OpDone.{OpDone}
+use Rattle.np_tree.specs.Lower.{AllByRecursion, AllPaths, HasRoom, IsSorted, Node, Op, OpDone, TreeState, after_begin, after_end, after_multi, after_part, after_raise, answers_from, at_path, children_of, is_in, is_numbered, is_path, next_change, parent_of, part_answer, path_of, root}
 
 -- ## the nodes
 

@@ -1,15 +1,7 @@
 -- worked calls on closed trees, and their answers
 use Rattle.std.specs.Prelude.{ℕ, List, [], ◌∷◌, codes, Result, Ok, Err, if◌then◌else◌}
 use Rattle.std.specs.Result.{is_ok}
-use Rattle.np_tree_nodes.specs.Prelude.{AtPart, TreeState, after_end, after_part, after_raise, new_tree, part_answer, with_next_number}
-use Rattle.np_tree_nodes.specs.declared.op.Op.{Op}
-use Rattle.np_tree_nodes.specs.declared.op.Op.TheVariants as op
-use Rattle.np_tree_nodes.specs.declared.op.OpDone.{OpDone}
-use Rattle.np_tree_nodes.specs.declared.op.OpDone.TheVariants as done
-use Rattle.np_tree_nodes.specs.declared.kind.Mode.TheVariants.{Persistent, Ephemeral, PersistentSequential}
-use Rattle.np_tree_nodes.specs.declared.kind.Expect.TheVariants.{Any, Exactly}
-use Rattle.np_tree_nodes.specs.declared.refusal.TreeRefusal.{TreeRefusal}
-use Rattle.np_tree_nodes.specs.declared.refusal.TreeRefusal.TheVariants as no
+use Rattle.np_tree.specs.Lower.{Any, AtPart, Ephemeral, Exactly, Op, OpDone, Persistent, PersistentSequential, TreeRefusal, TreeState, after_end, after_part, after_raise, new_tree, part_answer, with_next_number}
 
 -- a call that is accepted takes a change number
 abbrev pub after_call : TreeState → ℕ → Op → TreeState
@@ -30,39 +22,39 @@ abbrev pub begun_tree : TreeState
 begun_tree = record new_tree { live = 1 ∷ []; begun = 1 }
 
 abbrev pub create : List ℕ → Op
-create path = op.Create path [] Persistent
+create path = Op.Create path [] Persistent
 
 abbrev pub creates : List ℕ → Result OpDone TreeRefusal
-creates path = Ok (done.Created path)
+creates path = Ok (OpDone.Created path)
 
 -- tests and versions of single nodes (row of tree calls, own)
 abbrev pub calls : List Op
 calls =
-    create (codes "/a") ∷ op.Set (codes "/a") [] Any ∷ op.Set (codes "/a") [] (Exactly 0) ∷ create (codes "/a/b")
-    ∷ op.Delete (codes "/a") Any
-    ∷ op.Create (codes "/e") [] Ephemeral
+    create (codes "/a") ∷ Op.Set (codes "/a") [] Any ∷ Op.Set (codes "/a") [] (Exactly 0) ∷ create (codes "/a/b")
+    ∷ Op.Delete (codes "/a") Any
+    ∷ Op.Create (codes "/e") [] Ephemeral
     ∷ create (codes "/e/x")
     ∷ create (codes "/q")
     ∷ []
 
 abbrev pub replies : List (Result OpDone TreeRefusal)
 replies =
-    creates (codes "/a") ∷ Ok (done.Set 1) ∷ Err (no.BadVersion 1) ∷ creates (codes "/a/b") ∷ Err (no.NotEmpty 1) ∷ creates (codes "/e")
-    ∷ Err no.NoChildrenForEphemerals
+    creates (codes "/a") ∷ Ok (OpDone.Set 1) ∷ Err (TreeRefusal.BadVersion 1) ∷ creates (codes "/a/b") ∷ Err (TreeRefusal.NotEmpty 1) ∷ creates (codes "/e")
+    ∷ Err TreeRefusal.NoChildrenForEphemerals
     ∷ creates (codes "/q")
     ∷ []
 
 -- the same session's later calls, after the counter of `/q` was raised
 abbrev pub sequence_calls : List Op
 sequence_calls =
-    op.Create (codes "/q/t-") [] PersistentSequential ∷ op.Create (codes "/q/t-") [] PersistentSequential ∷ op.CreateUnder (codes "/q") [] PersistentSequential
+    Op.Create (codes "/q/t-") [] PersistentSequential ∷ Op.Create (codes "/q/t-") [] PersistentSequential ∷ Op.CreateUnder (codes "/q") [] PersistentSequential
     ∷ create (codes "/")
-    ∷ op.Delete (codes "/") Any
+    ∷ Op.Delete (codes "/") Any
     ∷ []
 
 abbrev pub sequence_replies : List (Result OpDone TreeRefusal)
 sequence_replies =
-    creates (codes "/q/t-2147483647") ∷ Err no.SequenceSpent ∷ Err no.SequenceSpent ∷ Err no.NodeExists ∷ Err no.RootKept ∷ []
+    creates (codes "/q/t-2147483647") ∷ Err TreeRefusal.SequenceSpent ∷ Err TreeRefusal.SequenceSpent ∷ Err TreeRefusal.NodeExists ∷ Err TreeRefusal.RootKept ∷ []
 
 -- the tree after the first calls, and after the counter was raised
 abbrev pub tree_raised : TreeState
@@ -74,16 +66,16 @@ tree_ended = after_end (tree_after tree_raised 1 sequence_calls) 1
 
 -- a tree with `/a` set once, and a `multi` in it with and without a part that fails
 abbrev pub with_a : TreeState
-with_a = tree_after begun_tree 1 (create (codes "/a") ∷ op.Set (codes "/a") [] Any ∷ [])
+with_a = tree_after begun_tree 1 (create (codes "/a") ∷ Op.Set (codes "/a") [] Any ∷ [])
 
 abbrev pub two_parts : List Op
-two_parts = op.Check (codes "/a") (Exactly 1) ∷ create (codes "/c") ∷ []
+two_parts = Op.Check (codes "/a") (Exactly 1) ∷ create (codes "/c") ∷ []
 
 abbrev pub three_parts : List Op
-three_parts = op.Check (codes "/a") (Exactly 1) ∷ create (codes "/c") ∷ op.Delete (codes "/zz") Any ∷ []
+three_parts = Op.Check (codes "/a") (Exactly 1) ∷ create (codes "/c") ∷ Op.Delete (codes "/zz") Any ∷ []
 
 abbrev pub two_done : Result (List OpDone) AtPart
-two_done = Ok (done.Checked ∷ done.Created (codes "/c") ∷ [])
+two_done = Ok (OpDone.Checked ∷ OpDone.Created (codes "/c") ∷ [])
 
 abbrev pub third_fails : Result (List OpDone) AtPart
-third_fails = Err (record { index = 2; refusal = no.NoNode })
+third_fails = Err (record { index = 2; refusal = TreeRefusal.NoNode })

@@ -1,16 +1,4 @@
-pub mod OrderLemmas
+pub mod Prelude
 pub mod PlaceLemmas
-pub mod PathsLemmas
-pub mod ChildLemmas
-pub mod FindLemmas
-pub mod AppendCmpLemmas
-pub mod MadePathLemmas
-pub mod GapLemmas
-pub mod EndLemmas
-pub mod MarkLemmas
 pub mod KeptLemmas
 pub mod PlanLemmas
-pub mod CreationLemmas
-pub mod RemovalLemmas
-pub mod TouchLemmas
-pub mod UndoLemmas

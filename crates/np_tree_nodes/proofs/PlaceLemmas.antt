@@ -1,29 +1,177 @@
--- a node by its path is the node at its place
-use Rattle.std.proofs.Common.{◌≡◌, ℕ, zero, suc, ◌≤◌, Bool, true, false, not, List, [], ◌∷◌, length, get_or, Some, None, sym, ap, ◌∙◌, subst}
-use Rattle.std.specs.Prelude.{slice_get, filter}
-use Rattle.std.specs.List.{AllByRecursion, insert, remove, list_any}
-use Rattle.std.specs.List.Sorted.{IsPartitionPoint}
-use Rattle.std.specs.Ordering.{nat_cmp, is_lt, is_le, ordering_then}
-use Rattle.std.specs.Cmp.Lexicographic.{slice_cmp}
-use Rattle.std.specs.Str.{bytes_eq}
-use Rattle.std.proofs.lemmas.List.Sums.{prefix_len-le-length}
-use Rattle.std.proofs.lemmas.Option.{slice_get-get_or}
-use Rattle.std.proofs.lemmas.Slice.Eq.{bytes_eq-Decides}
-use Rattle.np_lists.specs.Change.{change_at}
-use Rattle.np_lists.specs.Rising.{FirstAt, IsSplit, NonePass}
-use Rattle.np_lists.proofs.Each.{all-at, all-filter, all-get_or, all-insert, all-insert_before, all-remove, all-weaker}
-use Rattle.np_lists.proofs.FilterLemmas.{filter-not_none}
-use Rattle.np_lists.proofs.Halves.{absent, change_first-at, change_first-none, find-first, find-none, none-find}
-use Rattle.np_lists.proofs.RisingLemmas.{Rises-between, Rises-filter, Rises-remove, insert_before-point, none-remove}
-use Rattle.np_lists.proofs.SplitLemmas.{IsPartitionPoint-rises, IsSplit-rises}
-use Rattle.np_path.specs.Grammar.{is_path, is_slash}
-use Rattle.np_path.specs.Parts.{name_of}
-use Rattle.np_tree_nodes.specs.TreeState.{root_node}
-use Rattle.np_tree_nodes.specs.Nodes.{before_of, change_node, insert_node, path_before, is_at, at_path, without_node}
-use Rattle.np_tree_nodes.specs.Order.{AllPaths, IsSorted, node_before, place_of}
-use Rattle.np_tree_nodes.specs.declared.node.Node.{Node}
-use Rattle.np_tree_nodes.proofs.OrderLemmas.{path_before-first_le, path_before-halves, path_before-halves_le, halves_cmp, halves_of, has_slash, path_before-itself, path_before-trans, path_before-one_way, path_before-some_way}
-use Rattle.np_lists.proofs.Plain.{bytes_eq-apart}
+-- nodes in the order of their paths: the node at a path, its children, and where a path is free
+use Rattle.np_tree_nodes.proofs.Prelude.{AllByRecursion, AllPaths, Bool, Equal, FindsGap, FirstAt, Greater, IsBetween, IsChild-of, IsPartitionPoint, IsPartitionPoint-rises, IsSorted, IsSplit, IsSplit-rises, IsStretch, IsTotalOrder, Less, List, Node, None, NonePass, Option, Ordering, Rises-between, Rises-filter, Rises-remove, Some, absent, all-at, all-filter, all-get_or, all-insert, all-insert_before, all-remove, all-weaker, and_from, and_parts, ap, append-nil, arith, at_path, before_of, begins_with_slash, below, bytes_eq, bytes_eq-Decides, bytes_eq-apart, change_at, change_first-at, change_first-none, change_node, children_of, cond, drop, exact_bytes, false, filter, filter-between, filter-not_none, find-first, find-none, get_or, halves-whole, insert, insert_before-point, insert_node, is_at, is_child, is_element, is_le, is_lt, is_parent, is_path, is_slash, is_some, length, length-filter-insert, length-filter-remove, list_any, name_of, nat_cmp, nat_cmp_total, nat_list_cmp_total, nat_tests, node_before, none-find, none-remove, not, on_total, or_root, ordering_reverse, ordering_then, parent_of, path_before, place_of, prefix_len, prefix_len-le, prefix_len-le-length, refl, remove, root, root-of, root_node, slice_cmp, slice_get, slice_get-get_or, stands_before, subst, suc, sym, take, then-assoc, then_total, tied_itself, true, without_node, zero, ℕ, [], ◌&&◌, ◌++◌, ◌+◌, ◌-◌, ◌<◌, ◌==◌, ◌∙◌, ◌∷◌, ◌≡◌, ◌≤◌}
+
+-- # names of two parts
+
+-- a shorter name ends before the second part is read
+pub slice_cmp-shorter : (xs ys zs : List ℕ) → length xs < length ys → slice_cmp nat_cmp xs (ys ++ zs) ≡ slice_cmp nat_cmp xs ys
+slice_cmp-shorter xs [] zs short = absurd (omega arith)
+slice_cmp-shorter [] (y ∷ ys) zs short = refl
+slice_cmp-shorter (x ∷ xs) (y ∷ ys) zs short = ap (ordering_then (nat_cmp x y)) (slice_cmp-shorter xs ys zs (omega arith))
+
+-- parts of one length are compared in turn
+pub slice_cmp-append : (xs ys us vs : List ℕ) → length xs ≡ length ys → slice_cmp nat_cmp (xs ++ us) (ys ++ vs) ≡ ordering_then (slice_cmp nat_cmp xs ys) (slice_cmp nat_cmp us vs)
+slice_cmp-append [] [] us vs same = refl
+slice_cmp-append [] (y ∷ ys) us vs same = absurd (omega arith)
+slice_cmp-append (x ∷ xs) [] us vs same = absurd (omega arith)
+slice_cmp-append (x ∷ xs) (y ∷ ys) us vs same =
+    ap (ordering_then (nat_cmp x y)) (slice_cmp-append xs ys us vs (omega arith)) ∙ then-assoc (nat_cmp x y) (slice_cmp nat_cmp xs ys) (slice_cmp nat_cmp us vs)
+
+-- # the order of nodes is a strict total order on texts with a slash
+
+-- ## any total order
+
+is_lt-Less : (o : Ordering) → is_lt o ≡ true → o ≡ Less
+is_lt-Less Less is = refl
+is_lt-Less Equal is = absurd cc
+is_lt-Less Greater is = absurd cc
+
+is_lt-reverse : (o : Ordering) → is_lt o ≡ true → is_lt (ordering_reverse o) ≡ false
+is_lt-reverse Less is = refl
+is_lt-reverse Equal is = refl
+is_lt-reverse Greater is = absurd cc
+
+neither-Equal : (o : Ordering) → is_lt o ≡ false → is_lt (ordering_reverse o) ≡ false → o ≡ Equal
+neither-Equal Less this that = absurd cc
+neither-Equal Equal this that = refl
+neither-Equal Greater this that = absurd cc
+
+some_same : (x y : List ℕ) → Some x ≡ Some y → x ≡ y
+some_same x y is = cc
+
+module _ {K : Type 0} {R : K → K → Ordering} (order : IsTotalOrder R) where
+  pub lt-itself : (x : K) → is_lt (R x x) ≡ false
+  lt-itself x = ap is_lt (tied_itself order x)
+
+  pub lt-trans : (x y z : K) → is_lt (R x y) ≡ true → is_lt (R y z) ≡ true → is_lt (R x z) ≡ true
+  lt-trans x y z this that = ap is_lt (order.trans x y z (is_lt-Less _ this) (is_lt-Less _ that))
+
+  pub lt-one_way : (x y : K) → is_lt (R x y) ≡ true → is_lt (R y x) ≡ false
+  lt-one_way x y this = ap is_lt (order.antisymm y x) ∙ is_lt-reverse _ this
+
+  pub lt-neither : (x y : K) → is_lt (R x y) ≡ false → is_lt (R y x) ≡ false → R x y ≡ Equal
+  lt-neither x y this that = neither-Equal _ this (sym (ap is_lt (order.antisymm y x)) ∙ that)
+
+  lt_le-by : (x y z : K) (o : Ordering) → R y z ≡ o → is_lt (R x y) ≡ true → is_le o ≡ true → is_le (R x z) ≡ true
+  lt_le-by x y z Less is this that = ap is_le (order.trans x y z (is_lt-Less _ this) is)
+  lt_le-by x y z Equal is this that =
+      let turned : R z x ≡ R y x = sym (order.congr y z x is) in
+      ap is_le (order.antisymm x z ∙ ap ordering_reverse turned ∙ sym (order.antisymm x y) ∙ is_lt-Less _ this)
+  lt_le-by x y z Greater is this that = absurd cc
+
+  pub lt_le-trans : (x y z : K) → is_lt (R x y) ≡ true → is_le (R y z) ≡ true → is_le (R x z) ≡ true
+  lt_le-trans x y z this that = lt_le-by x y z (R y z) refl this that
+
+  le_le-by : (x y z : K) (o : Ordering) → R x y ≡ o → is_le o ≡ true → is_le (R y z) ≡ true → is_le (R x z) ≡ true
+  le_le-by x y z Less is this that = lt_le-trans x y z (ap is_lt is) that
+  le_le-by x y z Equal is this that = ap is_le (order.congr x y z is) ∙ that
+  le_le-by x y z Greater is this that = absurd cc
+
+  pub le-trans : (x y z : K) → is_le (R x y) ≡ true → is_le (R y z) ≡ true → is_le (R x z) ≡ true
+  le-trans x y z this that = le_le-by x y z (R x y) refl this that
+
+-- ## two halves
+
+-- what is before the last slash, and the name
+abbrev pub halves_of : List ℕ → List ℕ × List ℕ
+halves_of path = (before_of path, name_of path)
+
+abbrev pub halves_cmp : List ℕ × List ℕ → List ℕ × List ℕ → Ordering
+halves_cmp x y = ordering_then (slice_cmp nat_cmp x.0 y.0) (slice_cmp nat_cmp x.1 y.1)
+
+pub halves_cmp_total : IsTotalOrder halves_cmp
+halves_cmp_total = then_total (on_total (λ (x : List ℕ × List ℕ). x.0) nat_list_cmp_total) (on_total (λ (x : List ℕ × List ℕ). x.1) nat_list_cmp_total)
+
+pub then-Equal : (o p : Ordering) → ordering_then o p ≡ Equal → (o ≡ Equal) × (p ≡ Equal)
+then-Equal Less p is = absurd cc
+then-Equal Equal p is = (refl, is)
+then-Equal Greater p is = absurd cc
+
+then-le : (o p : Ordering) → is_lt (ordering_then o p) ≡ true → is_le o ≡ true
+then-le Less p is = refl
+then-le Equal p is = refl
+then-le Greater p is = absurd cc
+
+-- ## the order of paths
+
+pub path_before-itself : (p : List ℕ) → path_before p p ≡ false
+path_before-itself p = lt-itself halves_cmp_total (halves_of p)
+
+pub path_before-trans : (p q r : List ℕ) → path_before p q ≡ true → path_before q r ≡ true → path_before p r ≡ true
+path_before-trans p q r this that = lt-trans halves_cmp_total (halves_of p) (halves_of q) (halves_of r) this that
+
+pub path_before-one_way : (p q : List ℕ) → path_before p q ≡ true → path_before q p ≡ false
+path_before-one_way p q this = lt-one_way halves_cmp_total (halves_of p) (halves_of q) this
+
+pub same_halves : (p q : List ℕ) → list_any is_slash p ≡ true → list_any is_slash q ≡ true → before_of p ≡ before_of q → name_of p ≡ name_of q → p ≡ q
+same_halves p q has_p has_q before name =
+    halves-whole p has_p ∙ ap (λ b. b ++ 47 ∷ name_of p) before ∙ ap (λ n. before_of q ++ 47 ∷ n) name ∙ sym (halves-whole q has_q)
+
+pub path_before-neither : (p q : List ℕ) → list_any is_slash p ≡ true → list_any is_slash q ≡ true → path_before p q ≡ false → path_before q p ≡ false → p ≡ q
+path_before-neither p q has_p has_q this that =
+    let tied = then-Equal _ _ (lt-neither halves_cmp_total (halves_of p) (halves_of q) this that) in
+    same_halves p q has_p has_q (exact_bytes _ _ tied.0) (exact_bytes _ _ tied.1)
+
+-- if a path comes before another, it comes before what that other comes before, and its first half
+-- isn't greater
+pub path_before-halves : (p q : List ℕ) (h : List ℕ × List ℕ) → path_before p q ≡ true → is_lt (halves_cmp (halves_of q) h) ≡ true → is_lt (halves_cmp (halves_of p) h) ≡ true
+path_before-halves p q h this that = lt-trans halves_cmp_total (halves_of p) (halves_of q) h this that
+
+pub path_before-halves_le : (p q : List ℕ) (h : List ℕ × List ℕ) → path_before p q ≡ true → is_le (halves_cmp (halves_of q) h) ≡ true → is_le (halves_cmp (halves_of p) h) ≡ true
+path_before-halves_le p q h this that = lt_le-trans halves_cmp_total (halves_of p) (halves_of q) h this that
+
+pub path_before-first_le : (p q key : List ℕ) → path_before p q ≡ true → is_le (slice_cmp nat_cmp (before_of q) key) ≡ true → is_le (slice_cmp nat_cmp (before_of p) key) ≡ true
+path_before-first_le p q key this that = le-trans nat_list_cmp_total (before_of p) (before_of q) key (then-le _ _ this) that
+
+-- a path has a slash
+pub has_slash : (p : List ℕ) → is_path p ≡ true → list_any is_slash p ≡ true
+has_slash p is = let begun = begins_with_slash p is in rw begun.1 refl
+
+path_before-some_by : (p q : List ℕ) (b : Bool) → path_before q p ≡ b → (path_before q p ≡ false → p ≡ q) → (p ≡ q → ⊥) → path_before q p ≡ true
+path_before-some_by p q true is same other = is
+path_before-some_by p q false is same other = absurd (other (same is))
+
+-- of two paths that differ, one comes before the other
+pub path_before-some_way : (p q : List ℕ) → is_path p ≡ true → is_path q ≡ true → path_before p q ≡ false → (p ≡ q → ⊥) → path_before q p ≡ true
+path_before-some_way p q is_p is_q this other =
+    path_before-some_by p q (path_before q p) refl (path_before-neither p q (has_slash p is_p) (has_slash q is_q) this) other
+
+-- ## a parent and its child
+
+slice_cmp-longer : (xs : List ℕ) (y : ℕ) (ys : List ℕ) → slice_cmp nat_cmp xs (xs ++ y ∷ ys) ≡ Less
+slice_cmp-longer [] y ys = refl
+slice_cmp-longer (x ∷ xs) y ys = rw (tied_itself nat_cmp_total x) (slice_cmp-longer xs y ys)
+
+first_by : (before name : List ℕ) → (before ≡ [] → name ≡ [] → ⊥) → is_lt (halves_cmp ([], []) (before, name)) ≡ true
+first_by [] [] other = absurd (other refl refl)
+first_by [] (n ∷ name) other = refl
+first_by (b ∷ before) name other = refl
+
+-- the root comes before all other paths
+pub root-first : (q : List ℕ) → is_path q ≡ true → (q ≡ root → ⊥) → path_before root q ≡ true
+root-first q is other = first_by (before_of q) (name_of q) (λ before name. other (same_halves q root (has_slash q is) refl before name))
+
+-- what is before the last slash of a child
+pub parent-half : (p q : List ℕ) → parent_of q ≡ Some p → p ≡ or_root (before_of q)
+parent-half p [] above = absurd cc
+parent-half p (b ∷ []) above = absurd cc
+parent-half p (b ∷ c ∷ bs) above = sym (some_same _ _ above)
+
+parent-by : (p q before : List ℕ) → is_path p ≡ true → is_path q ≡ true → (q ≡ root → ⊥) → p ≡ or_root before → before_of q ≡ before → path_before p q ≡ true
+parent-by p q [] is_p is other same half = subst (λ (r : List ℕ). path_before r q ≡ true) (sym same) (root-first q is other)
+parent-by p q (b ∷ bs) is_p is other same half =
+    let around : before_of q ≡ before_of p ++ 47 ∷ name_of p = half ∙ sym same ∙ halves-whole p (has_slash p is_p) in
+    let less : slice_cmp nat_cmp (before_of p) (before_of q) ≡ Less = ap (slice_cmp nat_cmp (before_of p)) around ∙ slice_cmp-longer (before_of p) 47 (name_of p) in
+    ap (λ o. is_lt (ordering_then o (slice_cmp nat_cmp (name_of p) (name_of q)))) less
+
+-- a parent comes before its child
+pub parent-first : (p q : List ℕ) → is_path q ≡ true → parent_of q ≡ Some p → path_before p q ≡ true
+parent-first p q is above =
+    parent-by p q (before_of q) (IsChild-of q p is above).is is (λ same. absurd (root-none (sym (ap parent_of same) ∙ above))) (parent-half p q above) refl where
+      root-none : {x : List ℕ} → parent_of root ≡ Some x → ⊥
+      root-none e = cc
+
+-- # a node by its path is the node at its place
 
 -- ## whether two paths are equal
 
@@ -202,3 +350,208 @@ IsSorted-remove nodes k sorted = Rises-remove node_before nodes k sorted
 
 pub AllPaths-remove : (nodes : List Node) (k : ℕ) → AllPaths nodes → AllPaths (remove nodes k)
 AllPaths-remove nodes k paths = all-remove (λ m. is_path m.path ≡ true) nodes k paths
+
+-- # a path that is free, by its two halves
+
+-- the place of two halves
+pub record IsGapAt (path before name : List ℕ) (nodes : List Node) (k : ℕ) : Type 0 where
+  pub is : is_path path ≡ true
+  pub half : before_of path ≡ before
+  pub last : name_of path ≡ name
+  pub place : k ≡ prefix_len (λ n. stands_before before name n.path) nodes
+
+place : (path before name : List ℕ) (nodes : List Node) (k : ℕ) → IsGapAt path before name nodes k → k ≡ place_of path nodes
+place path before name nodes k gap =
+    gap.place
+    ∙ ap (λ (first : List ℕ). prefix_len (λ n. stands_before first name n.path) nodes) (sym gap.half)
+    ∙ ap (λ (last : List ℕ). prefix_len (λ n. stands_before (before_of path) last n.path) nodes) (sym gap.last)
+
+-- past the last node
+pub FindsGap-past : (path before name : List ℕ) (nodes : List Node) (k : ℕ) → IsGapAt path before name nodes k → IsSorted nodes → slice_get nodes k ≡ None → FindsGap nodes path (Some k)
+FindsGap-past path before name nodes k gap sorted past =
+    let at = place path before name nodes k gap in
+    (at_path-past path nodes sorted (rw at at past), at)
+
+-- there is a node of other halves at the place
+pub FindsGap-other : (path before name : List ℕ) (nodes : List Node) (k : ℕ) (n : Node) → IsGapAt path before name nodes k → IsSorted nodes → slice_get nodes k ≡ Some n →
+    false ≡ (bytes_eq (before_of n.path) before && bytes_eq (name_of n.path) name) → FindsGap nodes path (Some k)
+FindsGap-other path before name nodes k n gap sorted there differ =
+    let at = place path before name nodes k gap in
+    let other = bytes_eq-apart n.path path (λ same.
+    let halves = and_from _ _ (bytes_eq-from (before_of n.path) before (ap before_of same ∙ gap.half)) (bytes_eq-from (name_of n.path) name (ap name_of same ∙ gap.last)) in
+    cc) in
+    (at_path-other path nodes n sorted (rw at at there) other, at)
+
+some-node : (nodes : List Node) (path : List ℕ) (n : Node) → at_path nodes path ≡ Some n → is_some (at_path nodes path) ≡ true
+some-node nodes path n found = rw found refl
+
+-- the path's node is at the place
+pub FindsGap-none : (path before name : List ℕ) (nodes : List Node) (k : ℕ) (n : Node) → IsGapAt path before name nodes k → IsSorted nodes → AllPaths nodes → slice_get nodes k ≡ Some n →
+    true ≡ (bytes_eq (before_of n.path) before && bytes_eq (name_of n.path) name) → FindsGap nodes path None
+FindsGap-none path before name nodes k n gap sorted paths there agree =
+    let halves = and_parts _ _ (sym agree) in
+    let is_n = all-at (λ m. is_path m.path ≡ true) nodes k n paths there in
+    let same = same_halves n.path path (has_slash n.path is_n) (has_slash path gap.is)
+    (bytes_eq-is (before_of n.path) before halves.0 ∙ sym gap.half) (bytes_eq-is (name_of n.path) name halves.1 ∙ sym gap.last) in
+    some-node nodes path n (at_path-there path nodes k n sorted there (bytes_eq-from n.path path same))
+
+-- # the children of a path are one stretch of the nodes
+
+-- ## the children of a path
+
+-- whether a node comes before each child, or is the root
+abbrev pub is_above : List ℕ → Node → Bool
+is_above key n = is_le (ordering_then (slice_cmp nat_cmp (before_of n.path) key) (slice_cmp nat_cmp (name_of n.path) []))
+
+-- whether a node comes before each child, or is one
+abbrev pub is_upto : List ℕ → Node → Bool
+is_upto key n = is_le (slice_cmp nat_cmp (before_of n.path) key)
+
+above-upto-by : (o p : Ordering) → is_le (ordering_then o p) ≡ true → is_le o ≡ true
+above-upto-by Less p is = refl
+above-upto-by Equal p is = refl
+above-upto-by Greater p is = absurd cc
+
+pub above-upto : (key : List ℕ) (n : Node) → is_above key n ≡ true → is_upto key n ≡ true
+above-upto key n is = above-upto-by _ _ is
+
+-- what is before the last slash of a child
+pub record IsKey (key p : List ℕ) : Type 0 where
+  pub above : or_root key ≡ p
+  pub other : key ≡ root → ⊥
+
+pub IsKey-root : IsKey [] root
+IsKey-root = record { above = refl; other = λ same. absurd cc }
+
+or_root-same : (xs ys : List ℕ) → (xs ≡ root → ⊥) → (ys ≡ root → ⊥) → or_root xs ≡ or_root ys → xs ≡ ys
+or_root-same [] [] no_x no_y same = refl
+or_root-same [] (y ∷ ys) no_x no_y same = absurd (no_y (sym same))
+or_root-same (x ∷ xs) [] no_x no_y same = absurd (no_x same)
+or_root-same (x ∷ xs) (y ∷ ys) no_x no_y same = same
+
+-- no path has `/` before its last slash
+pub half-not_root : (path above : List ℕ) → is_path path ≡ true → parent_of path ≡ Some above → before_of path ≡ root → ⊥
+half-not_root path above is has half =
+    let child = IsChild-of path above is has in
+    let top : above ≡ root = parent-half above path has ∙ ap or_root half in
+    let short : 47 ∷ name_of path ≡ path = sym (ap (λ (a : List ℕ). below a (name_of path)) top) ∙ child.whole in
+    let long : path ≡ 47 ∷ 47 ∷ name_of path = halves-whole path (has_slash path is) ∙ ap (λ (b : List ℕ). b ++ 47 ∷ name_of path) half in
+    let both : length (47 ∷ name_of path) ≡ length (47 ∷ 47 ∷ name_of path) = ap length (short ∙ long) in
+    absurd (omega arith)
+
+pub child-half : (key p : List ℕ) (n : Node) (o : Option (List ℕ)) → IsKey key p → is_path n.path ≡ true → parent_of n.path ≡ o → is_parent p o ≡ true → before_of n.path ≡ key
+child-half key p n None is_key is has child = absurd cc
+child-half key p n (Some above) is_key is has child =
+    let same : or_root (before_of n.path) ≡ or_root key = sym (parent-half above n.path has) ∙ bytes_eq-is above p child ∙ sym is_key.above in
+    or_root-same (before_of n.path) key (half-not_root n.path above is has) is_key.other same
+
+-- a node with another half is not a child
+other-half : (key p : List ℕ) (n : Node) (b : Bool) → is_child p n ≡ b → IsKey key p → is_path n.path ≡ true → (before_of n.path ≡ key → ⊥) → is_child p n ≡ false
+other-half key p n true is is_key path other = absurd (other (child-half key p n (parent_of n.path) is_key path refl is))
+other-half key p n false is is_key path other = is
+
+-- the root has no name, and each other path has one
+name-root : (path above : List ℕ) → is_path path ≡ true → parent_of path ≡ Some above → name_of path ≡ [] → ⊥
+name-root path above is has empty = let named = (IsChild-of path above is has).named in let e : is_element [] ≡ true = sym (ap is_element empty) ∙ named in absurd cc
+
+same-half-by : (key p : List ℕ) (n : Node) (o : Option (List ℕ)) (name : List ℕ) → IsKey key p → is_path n.path ≡ true → before_of n.path ≡ key → parent_of n.path ≡ o → name_of n.path ≡ name → is_parent p o ≡ not (is_le (slice_cmp nat_cmp name []))
+same-half-by key p n None [] is_key is half has named = refl
+same-half-by key p n None (c ∷ name) is_key is half has named =
+    let e : name_of n.path ≡ [] = ap name_of (root-of n.path is has) in absurd (let f : [] ≡ c ∷ name = sym e ∙ named in cc)
+same-half-by key p n (Some above) [] is_key is half has named = absurd (name-root n.path above is has named)
+same-half-by key p n (Some above) (c ∷ name) is_key is half has named =
+    bytes_eq-from above p (parent-half above n.path has ∙ ap or_root half ∙ is_key.above)
+
+-- a child is what is between the two probes
+child-by : (key p : List ℕ) (n : Node) (o : Ordering) → IsKey key p → is_path n.path ≡ true → slice_cmp nat_cmp (before_of n.path) key ≡ o →
+    is_child p n ≡ (not (is_le (ordering_then o (slice_cmp nat_cmp (name_of n.path) []))) && is_le o)
+child-by key p n Less is_key is at = other-half key p n (is_child p n) refl is_key is (λ same. let e : slice_cmp nat_cmp (before_of n.path) key ≡ Equal = ap (λ (b : List ℕ). slice_cmp nat_cmp b key) same ∙ tied_itself nat_list_cmp_total key in absurd (let f : Less ≡ Equal = sym at ∙ e in cc))
+child-by key p n Greater is_key is at = other-half key p n (is_child p n) refl is_key is (λ same. let e : slice_cmp nat_cmp (before_of n.path) key ≡ Equal = ap (λ (b : List ℕ). slice_cmp nat_cmp b key) same ∙ tied_itself nat_list_cmp_total key in absurd (let f : Greater ≡ Equal = sym at ∙ e in cc))
+child-by key p n Equal is_key is at =
+    same-half-by key p n (parent_of n.path) (name_of n.path) is_key is (exact_bytes _ _ at) refl refl
+    ∙ and_true (not (is_le (slice_cmp nat_cmp (name_of n.path) []))) where
+      and_true : (b : Bool) → b ≡ (b && true)
+      and_true true = refl
+      and_true false = refl
+
+IsBetween-child : (key p : List ℕ) (n : Node) → IsKey key p → is_path n.path ≡ true → IsBetween (is_above key) (is_upto key) (is_child p) n
+IsBetween-child key p n is_key is = record { both = above-upto key n; is = child-by key p n (slice_cmp nat_cmp (before_of n.path) key) is_key is refl }
+
+-- where the children begin, and where they end
+abbrev pub children_from : List ℕ → List Node → ℕ
+children_from key nodes = prefix_len (is_above key) nodes
+
+abbrev pub children_to : List ℕ → List Node → ℕ
+children_to key nodes = prefix_len (is_upto key) nodes
+
+pub children-le : (key : List ℕ) (nodes : List Node) → children_from key nodes ≤ children_to key nodes
+children-le key nodes = prefix_len-le (is_above key) (is_upto key) nodes (above-upto key)
+
+pub children_of-stretch : (key p : List ℕ) (nodes : List Node) → IsKey key p → IsSorted nodes → AllPaths nodes →
+    children_of nodes p ≡ take (children_to key nodes - children_from key nodes) (drop (children_from key nodes) nodes)
+children_of-stretch key p nodes is_key sorted paths =
+    filter-between node_before (is_above key) (is_upto key) (is_child p)
+    (λ m n order above. path_before-halves_le m.path n.path (key, []) order above)
+    (λ m n order upto. path_before-first_le m.path n.path key order upto)
+    nodes
+    (all-weaker (λ n. is_path n.path ≡ true) (IsBetween (is_above key) (is_upto key) (is_child p)) (λ n is. IsBetween-child key p n is_key is) nodes paths)
+    sorted
+
+-- ## how many there are after a change
+
+pub length-children-insert : (p : List ℕ) (n : Node) (k : ℕ) (nodes : List Node) → length (children_of (insert nodes k n) p) ≡ length (children_of nodes p) + cond (is_child p n) 1 0
+length-children-insert p n k nodes = length-filter-insert (is_child p) n k nodes
+
+pub length-children-remove : (p : List ℕ) (k : ℕ) (nodes : List Node) → length (children_of (remove nodes k) p) ≤ length (children_of nodes p)
+length-children-remove p k nodes = length-filter-remove (is_child p) k nodes
+
+-- # what a search finds
+
+-- a path's place is that of its two halves
+pub place_of-halves : (p before name : List ℕ) (nodes : List Node) (k : ℕ) → k ≡ prefix_len (λ n. stands_before before (name ++ []) n.path) nodes → before ≡ before_of p → name ≡ name_of p → k ≡ place_of p nodes
+place_of-halves p before name nodes k at node_before is_name =
+    at
+    ∙ ap (λ (last : List ℕ). prefix_len (λ n. stands_before before last n.path) nodes) (append-nil name ∙ is_name)
+    ∙ ap (λ (first : List ℕ). prefix_len (λ n. stands_before first (name_of p) n.path) nodes) node_before
+
+-- no node is the child of an empty text
+not_empty : (path : List ℕ) → is_parent [] (parent_of path) ≡ false
+not_empty [] = refl
+not_empty (b ∷ []) = refl
+not_empty (b ∷ c ∷ bs) = or_root-some (before_of (b ∷ c ∷ bs)) where
+  or_root-some : (before : List ℕ) → bytes_eq (or_root before) [] ≡ false
+  or_root-some [] = refl
+  or_root-some (x ∷ xs) = refl
+
+pub children_of-empty : (nodes : List Node) → children_of nodes [] ≡ []
+children_of-empty [] = refl
+children_of-empty (n ∷ nodes) = rw (not_empty n.path) (children_of-empty nodes)
+
+pub IsStretch-empty : (path : List ℕ) (nodes : List Node) → path ≡ [] → IsStretch nodes path 0 0
+IsStretch-empty path nodes is = record { ordered = omega arith; within = omega arith; children = rw is (children_of-empty nodes) }
+
+pub IsStretch-key : (key p : List ℕ) (nodes : List Node) → IsKey key p → IsSorted nodes → AllPaths nodes → IsStretch nodes p (children_from key nodes) (children_to key nodes)
+IsStretch-key key p nodes is sorted paths =
+    record { ordered = children-le key nodes; within = prefix_len-le-length (is_upto key) nodes; children = children_of-stretch key p nodes is sorted paths }
+
+-- a text that is neither empty nor the root
+pub IsKey-itself : (p : List ℕ) → (p ≡ [] → ⊥) → (p ≡ root → ⊥) → IsKey p p
+IsKey-itself [] some other = absurd (some refl)
+IsKey-itself (b ∷ bs) some other = record { above = refl; other = other }
+
+-- whether a text is empty
+pub empty-is : (p : List ℕ) → true ≡ (length p == 0) → p ≡ []
+empty-is [] is = refl
+empty-is (b ∷ bs) is = absurd (grind (arith, nat_tests))
+
+pub empty-not : (p : List ℕ) → false ≡ (length p == 0) → p ≡ [] → ⊥
+empty-not [] is same = cc
+empty-not (b ∷ bs) is same = cc
+
+pub true-not : (b : Bool) → true ≡ not b → b ≡ false
+true-not true is = absurd cc
+true-not false is = refl
+
+pub false-not : (b : Bool) → false ≡ not b → b ≡ true
+false-not true is = refl
+false-not false is = absurd cc

@@ -11,7 +11,6 @@ use Rattle.np_tree_nodes.specs.Answer.{made_path}
 use Rattle.np_tree_nodes.specs.declared.node.Node.{Node}
 use Rattle.np_tree_nodes.specs.declared.kind.Mode.{Mode}
 use Rattle.np_tree_nodes.specs.declared.op.Op.{Op}
-use Rattle.np_tree_nodes.specs.declared.op.Op.TheVariants as op
 
 -- the state does not change if nothing was found
 abbrev pub where_found : {A : Type 0} → Option A → TreeState → (A → TreeState) → TreeState
@@ -97,8 +96,8 @@ after_end t session = record t {
 
 -- what a part of a `multi` does to the tree, before the change takes its number
 abbrev pub after_part : TreeState → ℕ → Op → TreeState
-after_part t s (op.Create path bytes mode) = after_create t s path bytes mode
-after_part t s (op.CreateUnder parent bytes mode) = after_create_under t s parent [] bytes mode
-after_part t s (op.Set path bytes expect) = after_set t path bytes
-after_part t s (op.Delete path expect) = after_delete t path
-after_part t s (op.Check path expect) = t
+after_part t s (Op.Create path bytes mode) = after_create t s path bytes mode
+after_part t s (Op.CreateUnder parent bytes mode) = after_create_under t s parent [] bytes mode
+after_part t s (Op.Set path bytes expect) = after_set t path bytes
+after_part t s (Op.Delete path expect) = after_delete t path
+after_part t s (Op.Check path expect) = t

@@ -6,7 +6,6 @@ use Rattle.np_tree_nodes.specs.Answer.{part_answer}
 use Rattle.np_tree_nodes.specs.Tests.{is_sequential}
 use Rattle.np_tree_nodes.specs.After.{with_next_number, after_part}
 use Rattle.np_tree_nodes.specs.declared.op.Op.{Op}
-use Rattle.np_tree_nodes.specs.declared.op.Op.TheVariants as op
 use Rattle.np_tree_nodes.specs.declared.op.OpDone.{OpDone}
 use Rattle.np_tree_nodes.specs.declared.refusal.MultiFault.{MultiFault}
 use Rattle.np_tree_nodes.specs.declared.refusal.MultiFault.TheVariants.{Refused, NoMemory}
@@ -34,11 +33,11 @@ after_parts t s [] = t
 after_parts t s (part ∷ parts) = after_parts (after_part t s part) s parts
 
 abbrev pub is_check : Op → Bool
-is_check (op.Create path bytes mode) = false
-is_check (op.CreateUnder parent bytes mode) = false
-is_check (op.Set path bytes expect) = false
-is_check (op.Delete path expect) = false
-is_check (op.Check path expect) = true
+is_check (Op.Create path bytes mode) = false
+is_check (Op.CreateUnder parent bytes mode) = false
+is_check (Op.Set path bytes expect) = false
+is_check (Op.Delete path expect) = false
+is_check (Op.Check path expect) = true
 
 -- all parts under one change number; if all are checks, under none
 abbrev pub after_multi : TreeState → ℕ → List Op → TreeState
@@ -46,19 +45,19 @@ after_multi t s parts = if list_any (λ part. not (is_check part)) parts then wi
 
 -- the path that a part names
 abbrev pub path_of : Op → List ℕ
-path_of (op.Create path bytes mode) = path
-path_of (op.CreateUnder parent bytes mode) = parent
-path_of (op.Set path bytes expect) = path
-path_of (op.Delete path expect) = path
-path_of (op.Check path expect) = path
+path_of (Op.Create path bytes mode) = path
+path_of (Op.CreateUnder parent bytes mode) = parent
+path_of (Op.Set path bytes expect) = path
+path_of (Op.Delete path expect) = path
+path_of (Op.Check path expect) = path
 
 -- each part that creates under a parent makes a sequence node
 abbrev pub is_numbered : Op → Bool
-is_numbered (op.Create path bytes mode) = true
-is_numbered (op.CreateUnder parent bytes mode) = is_sequential mode
-is_numbered (op.Set path bytes expect) = true
-is_numbered (op.Delete path expect) = true
-is_numbered (op.Check path expect) = true
+is_numbered (Op.Create path bytes mode) = true
+is_numbered (Op.CreateUnder parent bytes mode) = is_sequential mode
+is_numbered (Op.Set path bytes expect) = true
+is_numbered (Op.Delete path expect) = true
+is_numbered (Op.Check path expect) = true
 
 -- why nothing was done: a part was refused, or memory ran out at a part that was accepted, as those
 -- before it were

@@ -1,12 +1,5 @@
+pub mod Prelude
 pub mod Shown
-pub mod Beside
-pub mod Ten
-pub mod Waits
 pub mod Stored
 pub mod Registered
-pub mod RequestReads
 pub mod NodeReads
-pub mod HandleRows
-pub mod Holders
-pub mod Steps
-pub mod QueueRows

@@ -1,24 +1,6 @@
 -- what is read of the nodes of a stored state
-use Rattle.std.proofs.Common.{◌≡◌, ℕ, ◌<◌, ◌^◌, true, false, List, [], length, Option, Some, None, Result, Ok, refl, sym, ap, ◌∙◌, subst}
-use Rattle.std.specs.Prelude.{IfSome, slice_get}
-use Rattle.np_changes.specs.Prelude.{AllByRecursion, AllZip, Configuration, NodeEntry, NodeId, NodeRecord, Rises, SessionId, State, node_entry, node_in, node_queue, option_map, option_map_or, ten_digits_of}
-use Rattle.np_lists.proofs.Each.{all-at, all-find}
-use Rattle.np_layout.specs.Prelude.{BadRecord, IsGood, IsStored, Row, TreeState, bytes_at, find_named, is_named, path_of, place_name, rows_at}
-use Rattle.np_tree.proofs.RelationLemmas.{rows-rise}
-use Rattle.np_tree.proofs.SiblingLemmas.{other-name}
-use Rattle.np_spelling.specs.Spelling.{SpellsNode}
-use Rattle.np_layout.specs.declared.place.Place.TheVariants.{Node, NodeLock, Nodes}
-use Rattle.np_layout.specs.Layout.{HasNodeLock, IsNodeRow, HasQueue, IsWait, under}
-use Rattle.np_layout.specs.Rows.{persistent}
-use Rattle.np_layout.proofs.CreateNodeWaits.{node_before, rises-zip}
-use Rattle.np_layout.proofs.DeleteNodeWaits.{found-node, is_node_it, node-tells}
-use Rattle.np_layout.proofs.SetNodes.{named-by}
-use Rattle.np_look.specs.Views.{node_view}
-use Rattle.np_tree_rows.proofs.Beside.{Beside, beside-at, beside-found, found-there, if-at, length-beside}
-use Rattle.np_tree_rows.proofs.RequestReads.{IsRead}
-use Rattle.np_tree_rows.proofs.Shown.{bytes-named}
-use Rattle.np_tree_rows.proofs.Waits.{nothing-under}
-use Rattle.np_machine.proofs.Ids.{node-itself}
+use Rattle.np_tree_rows.proofs.Prelude.{AllByRecursion, AllZip, BadRecord, Configuration, HasNodeLock, HasQueue, IfSome, IsGood, IsNodeRow, IsStored, IsWait, List, Node, NodeEntry, NodeId, NodeLock, NodeRecord, Nodes, None, Ok, Option, Result, Rises, Row, SessionId, Some, SpellsNode, State, TreeState, all-at, all-find, ap, bytes_at, false, find_named, found-node, is_named, is_node_it, length, named-by, node-itself, node-tells, node_before, node_entry, node_in, node_queue, node_view, option_map, option_map_or, other-name, path_of, persistent, place_name, refl, rises-zip, rows-rise, rows_at, slice_get, subst, sym, ten_digits_of, true, under, ℕ, [], ◌<◌, ◌^◌, ◌∙◌, ◌≡◌}
+use Rattle.np_tree_rows.proofs.Shown.{Beside, IsRead, beside-at, beside-found, bytes-named, found-there, if-at, length-beside, nothing-under}
 
 -- a node is there, and its number is spelled by ten digits
 pub record IsSpelled (name : List ℕ) (o : Option NodeId) : Type 0 where

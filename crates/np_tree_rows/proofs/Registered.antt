@@ -1,18 +1,386 @@
--- who is registered for each pool, as the tree shows it, and the registrations in the order of pools
-use Rattle.std.proofs.Common.{◌≡◌, ℕ, zero, suc, ◌+◌, ◌-◌, ◌<◌, ◌≤◌, Bool, true, false, ◌||◌, cond, List, [], ◌∷◌, length, map, Option, Some, None, refl, sym, ap, ◌∙◌, arith}
-use Rattle.std.specs.Prelude.{filter, find, slice_get, ◌==◌, nat_le, nat_lt, option_and_then}
-use Rattle.np_changes.specs.Prelude.{AllByRecursion, Configuration, PoolId, Registration, Rises, SessionId, State, is_some, list_any, option_map, registered}
-use Rattle.std.specs.Str.{bytes_eq}
-use Rattle.std.proofs.lemmas.Bool.Decides.{nat_tests}
-use Rattle.np_lists.proofs.Each.{all-find, all-weaker}
-use Rattle.np_lists.proofs.FoundLemmas.{find-passes}
-use Rattle.np_layout.specs.Prelude.{IsGood, IsStored, Row, Stat, TreeState, find_named, is_named, path_of, place_name, stat_at}
-use Rattle.np_tree_nodes.proofs.PlaceLemmas.{bytes_eq-from}
-use Rattle.np_layout.specs.declared.place.Place.{Place}
-use Rattle.np_layout.specs.declared.place.Place.TheVariants.{Launcher, Launchers}
-use Rattle.np_layout.specs.Rows.{launcher_row}
-use Rattle.np_layout.proofs.SetSteps.{named-other}
-use Rattle.np_tree_rows.proofs.Shown.{IsOnly, find-ordered, owner-named}
+-- who holds, waits and is registered in a stored state, as its tree shows it
+use Rattle.np_tree_rows.proofs.Prelude.{AllByRecursion, AllZip, AreHolders, Bool, Configuration, Handle, HasHandles, HasNodeLock, HasQueue, HasText, IfSome, IsGood, IsNodeRow, IsStored, IsWait, IsWhole, Job, JobId, Launcher, Launchers, List, Node, NodeEntry, NodeId, NodeLock, Nodes, None, Option, Place, PoolId, Registration, Request, RequestEntry, RequestId, RequestLock, Requests, Rises, Row, SemId, Semaphore, Semaphores, SessionId, Some, Stat, State, Swept, SweptPair, SweptPairs, TreeState, above, add-one, all-at, all-find, all-numbered, all-weaker, any-by_name, any-mapped, ap, arith, at-range, by_name, bytes_eq, bytes_eq-from, cond, drop, drop_all, false, filter, filter-nothing, find, find-passes, find_named, handle_row, handles_of, has_handle, is_among, is_named, is_owner, is_pair, is_queued, is_session, is_some, is_swept, launcher_row, length, length-insert_before, length-map, list_any, list_any-none, map, map-some, named-other, nat_le, nat_lt, nat_tests, node_if_queued, option_and_then, option_map, option_map_or, or_parts, path_of, place_name, places, refl, registered, request_if_queued, request_of, request_of-spelled, request_row, row_before, rows_put, semaphore_row, slice_get, slice_get_past, stat_at, subst, suc, swept_row, sym, tree_session, true, under, unwrap_or, with_row, zero, ℕ, [], ◌+◌, ◌-◌, ◌<◌, ◌==◌, ◌^◌, ◌||◌, ◌∙◌, ◌∷◌, ◌≡◌, ◌≤◌}
+use Rattle.np_tree_rows.proofs.Shown.{owner-named, rows-none, IsOnly, find-ordered}
+use Rattle.np_layout.proofs.Creates.{named-by}
+
+-- # the members that pass a test, counted and found by a walk over all
+
+module _ {A B : Type 0} (p : A → Bool) (f : A → B) where
+  -- a member's value if it passes
+  abbrev pub if_passes : A → Option B
+  if_passes a = cond (p a) (Some (f a)) None
+
+  -- the values of those that pass, from a place on
+  abbrev pub passing_from : ℕ → List A → List B
+  passing_from at list = map f (filter p (drop at list))
+
+  abbrev with_first : Option B → List B → List B
+  with_first None rest = rest
+  with_first (Some b) rest = b ∷ rest
+
+  head-by : (a : A) (list : List A) (b : Bool) → map f (cond b (a ∷ filter p list) (filter p list)) ≡ with_first (cond b (Some (f a)) None) (map f (filter p list))
+  head-by a list true = refl
+  head-by a list false = refl
+
+  step : (list : List A) (at : ℕ) → passing_from at list ≡ with_first (option_and_then if_passes (slice_get list at)) (passing_from (suc at) list)
+  step [] zero = refl
+  step [] (suc at) = refl
+  step (a ∷ list) zero = head-by a list (p a)
+  step (a ∷ list) (suc at) = step list at
+
+  step-by : (list : List A) (at : ℕ) (o : Option B) → o ≡ option_and_then if_passes (slice_get list at) → passing_from at list ≡ with_first o (passing_from (suc at) list)
+  step-by list at o is = step list at ∙ ap (λ (x : Option B). with_first x (passing_from (suc at) list)) (sym is)
+
+  -- one that passes is counted, another is not
+  pub count-step : (list : List A) (at : ℕ) (o : Option B) → o ≡ option_and_then if_passes (slice_get list at) → length (passing_from at list) ≡ cond (is_some o) 1 0 + length (passing_from (at + 1) list)
+  count-step list at o is = rw add-one (ap length (step-by list at o is) ∙ by o) where
+    by : (x : Option B) → length (with_first x (passing_from (suc at) list)) ≡ cond (is_some x) 1 0 + length (passing_from (suc at) list)
+    by None = omega arith
+    by (Some b) = omega arith
+
+  -- one that passes is the first of those from its place on
+  pub first-here : (list : List A) (at left : ℕ) (b : B) → Some b ≡ option_and_then if_passes (slice_get list at) → left ≡ 0 → slice_get (passing_from at list) left ≡ Some b
+  first-here list at left b is first = ap (slice_get (passing_from at list)) first ∙ ap (λ (xs : List B). slice_get xs 0) (step-by list at (Some b) is)
+
+  pub first-later : (list : List A) (at left : ℕ) (b : B) → Some b ≡ option_and_then if_passes (slice_get list at) → (left ≡ 0 → ⊥) → slice_get (passing_from at list) left ≡ slice_get (passing_from (suc at) list) (left - 1)
+  first-later list at zero b is later = absurd (later refl)
+  first-later list at (suc left) b is later =
+      let minus : suc left - 1 ≡ left = omega arith in
+      ap (λ (xs : List B). slice_get xs (suc left)) (step-by list at (Some b) is) ∙ ap (slice_get (passing_from (suc at) list)) (sym minus)
+
+  -- another is passed over
+  pub first-over : (list : List A) (at left : ℕ) → None ≡ option_and_then if_passes (slice_get list at) → slice_get (passing_from at list) left ≡ slice_get (passing_from (suc at) list) left
+  first-over list at left is = ap (λ (xs : List B). slice_get xs left) (step-by list at None is)
+
+  -- none is left past the end
+  pub passing-past : (list : List A) (at : ℕ) → length list ≤ at → passing_from at list ≡ []
+  passing-past list at past = ap (λ (xs : List A). map f (filter p xs)) (drop_all at list past)
+
+-- # the handles and the swept pairs of a stored state, as its tree has them
+
+-- ## whether a place is there
+
+find-any : {X : Type 0} (p : X → Bool) (xs : List X) → is_some (find p xs) ≡ list_any p xs
+find-any p [] = refl
+find-any p (x ∷ xs) = by (p x) (find-any p xs) where
+  by : (b : Bool) → is_some (find p xs) ≡ list_any p xs → is_some (cond b (Some x) (find p xs)) ≡ (b || list_any p xs)
+  by true later = refl
+  by false later = later
+
+-- there is a stat at a good place if a row of its directory has its name
+pub there-named : (t : TreeState) (p dir : Place) → IsWhole t.nodes → IsGood p → above p ≡ Some dir → is_some (stat_at t (path_of p)) ≡ list_any (is_named (place_name p)) (under dir t)
+there-named t p dir whole good over =
+    sym (map-some (λ (stat : Stat). stat.owner) (stat_at t (path_of p)))
+    ∙ ap is_some (owner-named t p dir whole good over)
+    ∙ map-some (λ (row : Row). row.owner) (find_named (place_name p) (under dir t))
+    ∙ find-any (is_named (place_name p)) (under dir t)
+
+-- there is none if there is no stat
+is-none : (o : Option Stat) → is_some o ≡ false → o ≡ None
+is-none None is = refl
+is-none (Some stat) is = absurd cc
+
+-- ## rows in order
+
+length-put : (rows sorted : List Row) → length (rows_put sorted rows) ≡ length sorted + length rows
+length-put [] sorted = omega arith
+length-put (row ∷ rows) sorted =
+    let later = length-put rows (with_row row sorted) in
+    let one = length-insert_before (λ other. row_before row other) row sorted in
+    omega arith
+
+-- as many rows are in order as there are
+pub length-by_name : (rows : List Row) → length (by_name rows) ≡ length rows
+length-by_name rows = let all = length-put rows [] in omega arith
+
+-- ## handles
+
+-- what is true of no jobs and of each semaphore's is true of any semaphore's
+pub of-handles : (P : List JobId → Type 0) (handles : List (List JobId)) (x : SemId) → P [] → AllByRecursion P handles → P (handles_of x handles)
+of-handles P handles x none all = each handles x.0 all where
+  each : (list : List (List JobId)) (at : ℕ) → AllByRecursion P list → P (unwrap_or (slice_get list at) [])
+  each [] at all = none
+  each (jobs ∷ list) zero all = all.0
+  each (jobs ∷ list) (suc at) all = each list at all.1
+
+abbrev semaphore_of : Place → ℕ
+semaphore_of (Semaphore x) = x.0
+semaphore_of other = 0
+
+module _ (c : Configuration) (s : State) (t : TreeState) (stored : IsStored c s t) where
+  -- there is no node of a semaphore that is none of the site's
+  no-semaphore : (x : SemId) → IsGood (Semaphore x) → length s.handles ≤ x.0 → stat_at t (path_of (Semaphore x)) ≡ None
+  no-semaphore x good past =
+      is-none (stat_at t (path_of (Semaphore x)))
+      (there-named t (Semaphore x) Semaphores stored.whole good refl
+      ∙ ap (list_any (is_named (place_name (Semaphore x)))) stored.lays.semaphores.rows
+      ∙ any-by_name (is_named (place_name (Semaphore x))) (map semaphore_row (places s.handles))
+      ∙ list_any-none (is_named (place_name (Semaphore x))) (map semaphore_row (places s.handles))
+      (all-numbered (λ (row : Row). is_named (place_name (Semaphore x)) row ≡ false) semaphore_row (length s.handles) 0 (length s.handles) (omega arith)
+      (λ n low. named-other (Semaphore x) (Semaphore (record { 0 = n })) good (let few = stored.carried.good.semaphores in omega arith) refl
+      (λ equal. let number : n ≡ x.0 = ap semaphore_of equal in omega arith))))
+
+  -- the rows below a semaphore are those of its handles, of which there are none if it is none of the site's
+  pub handles-under : (x : SemId) → IsGood (Semaphore x) → under (Semaphore x) t ≡ by_name (map (handle_row x) (handles_of x s.handles))
+  handles-under x good = by (nat_lt x.0 (length s.handles)) refl where
+    by : (b : Bool) → nat_lt x.0 (length s.handles) ≡ b → under (Semaphore x) t ≡ by_name (map (handle_row x) (handles_of x s.handles))
+    by true is =
+        let low : x.0 < length s.handles = grind (arith, nat_tests) in
+        (at-range (λ n. HasHandles s.handles t (record { 0 = n })) (length s.handles) 0 x.0 (omega arith) (omega arith) stored.lays.semaphores.each).rows
+    by false is =
+        let past : length s.handles ≤ x.0 = grind (arith, nat_tests) in
+        rows-none t (path_of (Semaphore x)) stored.whole (no-semaphore x good past)
+        ∙ sym (ap (λ (o : Option (List JobId)). by_name (map (handle_row x) (unwrap_or o []))) (slice_get_past s.handles x.0 past))
+
+  -- there are as many as handles
+  pub handles-counted : (x : SemId) → IsGood (Semaphore x) → length (under (Semaphore x) t) ≡ length (handles_of x s.handles)
+  handles-counted x good =
+      ap length (handles-under x good) ∙ length-by_name (map (handle_row x) (handles_of x s.handles)) ∙ length-map (handles_of x s.handles) (handle_row x)
+
+-- ## the names of handles
+
+-- there is a node of a job's handle if the job has it
+pub handle-there : (c : Configuration) (s : State) (t : TreeState) (x : SemId) (j : JobId) → IsStored c s t → IsGood (Handle x j) → is_some (stat_at t (path_of (Handle x j))) ≡ has_handle j s.handles x
+handle-there c s t x j stored good =
+    there-named t (Handle x j) (Semaphore x) stored.whole good refl
+    ∙ ap (list_any (is_named (place_name (Handle x j)))) (handles-under c s t stored x good.0)
+    ∙ any-by_name (is_named (place_name (Handle x j))) (map (handle_row x) (handles_of x s.handles))
+    ∙ any-mapped (handle_row x) (is_named (place_name (Handle x j))) (λ other. other.0 == j.0) (handles_of x s.handles)
+    (all-weaker (λ (other : JobId). IsGood (Job other)) (λ (other : JobId). is_named (place_name (Handle x j)) (handle_row x other) ≡ (other.0 == j.0))
+    (λ other other_good. named-by x j other (other.0 == j.0) refl good (good.0, other_good)) (handles_of x s.handles)
+    (of-handles (λ jobs. AllByRecursion (λ other. IsGood (Job other)) jobs) s.handles x tt stored.carried.good.handles))
+
+-- ## swept pairs
+
+pair-is : (n : NodeId) (server : ℕ) (pair : SweptPair) → is_pair n server pair ≡ true → pair ≡ record { node = n; server = server }
+pair-is n server pair is =
+    let number : pair.node.0 ≡ n.0 = grind (arith, nat_tests) in
+    let other : pair.server ≡ server = grind (arith, nat_tests) in
+    both pair.node n pair.server server (ap (λ (k : ℕ). record { 0 = k }) number) other where
+      both : (m n : NodeId) (x y : ℕ) → m ≡ n → x ≡ y → ◌≡◌ {A = SweptPair} (record { node = m; server = x }) (record { node = n; server = y })
+      both m n x y same other = cc
+
+pair-self : (pair : SweptPair) → is_pair pair.node pair.server pair ≡ true
+pair-self pair = grind (arith, nat_tests)
+
+abbrev pair_of : Place → SweptPair
+pair_of (Swept n server) = record { node = n; server = server }
+pair_of other = record { node = record { 0 = 0 }; server = 0 }
+
+pair-named : (n : NodeId) (server : ℕ) (pair : SweptPair) (b : Bool) → is_pair n server pair ≡ b → IsGood (Swept n server) → IsGood (Swept pair.node pair.server) → bytes_eq (place_name (Swept pair.node pair.server)) (place_name (Swept n server)) ≡ b
+pair-named n server pair true is good pair_good =
+    bytes_eq-from (place_name (Swept pair.node pair.server)) (place_name (Swept n server)) (ap (λ (p : SweptPair). place_name (Swept p.node p.server)) (pair-is n server pair is))
+pair-named n server pair false is good pair_good =
+    named-other (Swept n server) (Swept pair.node pair.server) good pair_good refl (λ equal.
+    let itself = subst (λ (p : SweptPair). is_pair p.node p.server pair ≡ true) (ap pair_of equal) (pair-self pair) in
+    absurd cc)
+
+-- there is a node of a pair if it was swept
+pub swept-there : (c : Configuration) (s : State) (t : TreeState) (n : NodeId) (server : ℕ) → IsStored c s t → IsGood (Swept n server) → is_some (stat_at t (path_of (Swept n server))) ≡ is_swept n server s.swept
+swept-there c s t n server stored good =
+    there-named t (Swept n server) SweptPairs stored.whole good refl
+    ∙ ap (list_any (is_named (place_name (Swept n server)))) stored.lays.swept.rows
+    ∙ any-by_name (is_named (place_name (Swept n server))) (map swept_row s.swept)
+    ∙ any-mapped swept_row (is_named (place_name (Swept n server))) (is_pair n server) s.swept
+    (all-weaker (λ (pair : SweptPair). IsGood (Swept pair.node pair.server)) (λ (pair : SweptPair). is_named (place_name (Swept n server)) (swept_row pair) ≡ is_pair n server pair)
+    (λ pair pair_good. pair-named n server pair (is_pair n server pair) refl good pair_good) s.swept stored.carried.good.swept)
+
+-- # the jobs with a handle, from a number on
+
+-- the jobs whose numbers are not below this one
+abbrev pub jobs_from : ℕ → List JobId → List JobId
+jobs_from k jobs = filter (λ j. nat_le k j.0) jobs
+
+abbrev pub is_job_before : JobId → JobId → Bool
+is_job_before a b = nat_lt a.0 b.0
+
+-- they are all jobs, from the first number on
+pub from-zero : (jobs : List JobId) → jobs_from 0 jobs ≡ jobs
+from-zero [] = refl
+from-zero (j ∷ jobs) = ap (λ (b : Bool). cond b (j ∷ jobs_from 0 jobs) (jobs_from 0 jobs)) (low j.0) ∙ ap (λ (list : List JobId). j ∷ list) (from-zero jobs) where
+  low : (n : ℕ) → nat_le 0 n ≡ true
+  low n = grind (arith, nat_tests)
+
+from-by : (k : ℕ) (j : JobId) (jobs : List JobId) (b c : Bool) → nat_le k j.0 ≡ b → nat_le (suc k) j.0 ≡ c → (b ≡ c) → jobs_from k jobs ≡ jobs_from (suc k) jobs → cond b (j ∷ jobs_from k jobs) (jobs_from k jobs) ≡ cond c (j ∷ jobs_from (suc k) jobs) (jobs_from (suc k) jobs)
+from-by k j jobs true true low high same later = ap (λ (list : List JobId). j ∷ list) later
+from-by k j jobs true false low high same later = absurd cc
+from-by k j jobs false true low high same later = absurd cc
+from-by k j jobs false false low high same later = later
+
+-- a number that is none of theirs is passed over
+pub from-over : (k : ℕ) (jobs : List JobId) → is_among (record { 0 = k }) jobs ≡ false → jobs_from k jobs ≡ jobs_from (suc k) jobs
+from-over k [] is = refl
+from-over k (j ∷ jobs) is =
+    let none = or_parts (j.0 == k) (is_among (record { 0 = k }) jobs) is in
+    from-by k j jobs (nat_le k j.0) (nat_le (suc k) j.0) refl refl (steps k j.0 none.0) (from-over k jobs none.1) where
+      steps : (k n : ℕ) → (n == k) ≡ false → nat_le k n ≡ nat_le (suc k) n
+      steps k n other = grind (arith, nat_tests)
+
+-- none of those after a number is that number
+none-after : (k : ℕ) (j : JobId) (jobs : List JobId) → k ≤ j.0 → AllByRecursion (λ other. is_job_before j other ≡ true) jobs → is_among (record { 0 = k }) jobs ≡ false
+none-after k j jobs low all =
+    list_any-none (λ (other : JobId). other.0 == k) jobs
+    (all-weaker (λ (other : JobId). is_job_before j other ≡ true) (λ (other : JobId). (other.0 == k) ≡ false) (λ other later. apart k j.0 other.0 low later) jobs all) where
+      apart : (k m n : ℕ) → k ≤ m → nat_lt m n ≡ true → (n == k) ≡ false
+      apart k m n low later = grind (arith, nat_tests)
+
+-- a number that is one of theirs is the first of them
+pub from-here : (k : ℕ) (jobs : List JobId) → Rises is_job_before jobs → is_among (record { 0 = k }) jobs ≡ true → jobs_from k jobs ≡ record { 0 = k } ∷ jobs_from (suc k) jobs
+from-here k [] rises is = absurd cc
+from-here k (j ∷ jobs) rises is = here-by (j.0 == k) refl is (from-here k jobs rises.1) where
+  below : (k n : ℕ) → (n == k) ≡ false → nat_le k n ≡ true → k ≤ n
+  below k n other low = grind (arith, nat_tests)
+
+  above : (k n : ℕ) → nat_le k n ≡ false → nat_le (suc k) n ≡ false
+  above k n low = grind (arith, nat_tests)
+
+  low-by : (b c : Bool) → nat_le k j.0 ≡ b → nat_le (suc k) j.0 ≡ c → (j.0 == k) ≡ false → is_among (record { 0 = k }) jobs ≡ true → jobs_from k jobs ≡ record { 0 = k } ∷ jobs_from (suc k) jobs →
+      cond b (j ∷ jobs_from k jobs) (jobs_from k jobs) ≡ record { 0 = k } ∷ cond c (j ∷ jobs_from (suc k) jobs) (jobs_from (suc k) jobs)
+  low-by true c low high other any later = absurd (let none = none-after k j jobs (below k j.0 other low) rises.0 in cc)
+  low-by false true low high other any later = absurd (let no = above k j.0 low in cc)
+  low-by false false low high other any later = later
+
+  here-by : (b : Bool) → (j.0 == k) ≡ b → (b || is_among (record { 0 = k }) jobs) ≡ true → (is_among (record { 0 = k }) jobs ≡ true → jobs_from k jobs ≡ record { 0 = k } ∷ jobs_from (suc k) jobs) →
+      jobs_from k (j ∷ jobs) ≡ record { 0 = k } ∷ jobs_from (suc k) (j ∷ jobs)
+  here-by true same any later =
+      let number : j.0 ≡ k = grind (arith, nat_tests) in
+      let at : nat_le k j.0 ≡ true = grind (arith, nat_tests) in
+      let past : nat_le (suc k) j.0 ≡ false = grind (arith, nat_tests) in
+      let is_k : j ≡ record { 0 = k } = ap (λ (n : ℕ). record { 0 = n }) number in
+      let over = from-over k jobs (none-after k j jobs (omega arith) rises.0) in
+      ap (λ (b : Bool). cond b (j ∷ jobs_from k jobs) (jobs_from k jobs)) at
+      ∙ ap (λ (first : JobId). first ∷ jobs_from k jobs) is_k
+      ∙ ap (λ (list : List JobId). record { 0 = k } ∷ list) over
+      ∙ ap (λ (b : Bool). record { 0 = k } ∷ cond b (j ∷ jobs_from (suc k) jobs) (jobs_from (suc k) jobs)) (sym past)
+  here-by false other any later = low-by (nat_le k j.0) (nat_le (suc k) j.0) refl refl other any (later any)
+
+-- there are none past the number of jobs
+pub from-end : (count k : ℕ) (jobs : List JobId) → AllByRecursion (λ j. j.0 < count) jobs → count ≤ k → jobs_from k jobs ≡ []
+from-end count k jobs all past =
+    filter-nothing (λ (j : JobId). nat_le k j.0) jobs
+    (all-weaker (λ (j : JobId). j.0 < count) (λ (j : JobId). nat_le k j.0 ≡ false) (λ j low. short k j.0 (omega arith)) jobs all) where
+      short : (k n : ℕ) → n < k → nat_le k n ≡ false
+      short k n low = grind (arith, nat_tests)
+
+-- the handles of each semaphore of a stored state rise, and their jobs exist
+pub are-holders : (c : Configuration) (s : State) (t : TreeState) (x : SemId) → IsStored c s t → AreHolders (length c.jobs) (handles_of x s.handles)
+are-holders c s t x stored = of-handles (AreHolders (length c.jobs)) s.handles x (record { rise = tt; exist = tt }) stored.carried.ordered.handles
+
+-- ## a place among them
+
+-- a number that has a handle is at the first place of those from it on
+pub holder-here : (k at : ℕ) (jobs : List JobId) → Rises is_job_before jobs → is_among (record { 0 = k }) jobs ≡ true → at ≡ 0 → slice_get (jobs_from k jobs) at ≡ Some (record { 0 = k })
+holder-here k at jobs rises is first = ap (λ (n : ℕ). slice_get (jobs_from k jobs) n) first ∙ ap (λ (list : List JobId). slice_get list 0) (from-here k jobs rises is)
+
+-- and the others are at the places after it
+pub holder-later : (k at : ℕ) (jobs : List JobId) → Rises is_job_before jobs → is_among (record { 0 = k }) jobs ≡ true → (at ≡ 0 → ⊥) → slice_get (jobs_from k jobs) at ≡ slice_get (jobs_from (suc k) jobs) (at - 1)
+holder-later k zero jobs rises is later = absurd (later refl)
+holder-later k (suc at) jobs rises is later =
+    let minus : suc at - 1 ≡ at = omega arith in
+    ap (λ (list : List JobId). slice_get list (suc at)) (from-here k jobs rises is) ∙ ap (λ (n : ℕ). slice_get (jobs_from (suc k) jobs) n) (sym minus)
+
+-- # the queues that a session is in, in a stored state and in its tree
+
+-- the ids of those in whose queues a session is, from a place on
+abbrev pub requests_from : SessionId → ℕ → State → List RequestId
+requests_from session at s = passing_from (λ (e : RequestEntry). is_queued session e.queue) (λ (e : RequestEntry). e.id) at s.requests
+
+abbrev pub nodes_from : SessionId → ℕ → State → List NodeId
+nodes_from session at s = passing_from (λ (e : NodeEntry). is_queued session e.queue) (λ (e : NodeEntry). e.id) at s.nodes
+
+-- ## whether a session waits
+
+-- the rows of a lock that are a session's
+abbrev pub is_waiting : SessionId → Row → Bool
+is_waiting session row = is_owner (tree_session session) row.owner
+
+same-number : (m n : ℕ) → (m + 1 == n + 1) ≡ (m == n)
+same-number m n = grind (arith, nat_tests)
+
+wait-owner : (next : ℕ) (session : SessionId) (row : Row) (other : SessionId) → IsWait next row other → is_waiting session row ≡ is_session other session
+wait-owner next session row other wait = ap (is_waiting session) wait.is ∙ same-number other.0 session.0
+
+-- a session waits at a lock if it is in its queue
+pub lock-any : (next : ℕ) (session : SessionId) (rows : List Row) (queue : List SessionId) → AllZip (IsWait next) rows queue → list_any (is_waiting session) rows ≡ is_queued session queue
+lock-any next session [] [] zip = refl
+lock-any next session [] (other ∷ queue) zip = absurd zip
+lock-any next session (row ∷ rows) [] zip = absurd zip
+lock-any next session (row ∷ rows) (other ∷ queue) zip =
+    ap (λ (b : Bool). b || list_any (is_waiting session) rows) (wait-owner next session row other zip.0)
+    ∙ ap (λ (b : Bool). is_session other session || b) (lock-any next session rows queue zip.1)
+
+-- one more member
+pub any-step : {X : Type 0} (p : X → Bool) (xs : List X) (i : ℕ) → list_any p (drop i xs) ≡ (option_map_or p (slice_get xs i) false || list_any p (drop (suc i) xs))
+any-step p [] zero = refl
+any-step p [] (suc i) = refl
+any-step p (x ∷ xs) zero = refl
+any-step p (x ∷ xs) (suc i) = any-step p xs i
+
+-- ## the names of requests and nodes
+
+pub has-text : (text : List ℕ) (o : Option RequestId) → o ≡ request_of text → IfSome o HasText
+has-text text None is = tt
+has-text text (Some id) is = (request_of-spelled id text (sym is)).0
+
+module _ (c : Configuration) (s : State) (t : TreeState) (stored : IsStored c s t) where
+  -- the number of requests
+  pub requests-counted : length (under Requests t) ≡ length s.requests
+  requests-counted = ap length stored.lays.requests.rows ∙ length-map s.requests request_row
+
+  -- a session waits at the lock of a request if it is in its queue
+  pub request-waits : (at : ℕ) (session : SessionId) (e : RequestEntry) → slice_get s.requests at ≡ Some e → list_any (is_waiting session) (under (RequestLock e.id) t) ≡ is_queued session e.queue
+  request-waits at session e there =
+      let queue = all-at (λ (x : RequestEntry). HasQueue (RequestLock x.id) x.queue t) s.requests at e stored.lays.request_locks.queues there in
+      lock-any queue.next session (under (RequestLock e.id) t) e.queue queue.waits
+
+  -- the request at a place, if the session is in its queue
+  pub request-queued : (at : ℕ) (session : SessionId) (request : RequestId) (b : Bool) → Some request ≡ option_map (λ (e : RequestEntry). e.id) (slice_get s.requests at) → list_any (is_waiting session) (under (RequestLock request) t) ≡ b →
+      cond b (Some request) None ≡ option_and_then (request_if_queued session) (slice_get s.requests at)
+  request-queued at session request b found waits = by (slice_get s.requests at) refl found where
+    by : (o : Option RequestEntry) → slice_get s.requests at ≡ o → Some request ≡ option_map (λ (e : RequestEntry). e.id) o → cond b (Some request) None ≡ option_and_then (request_if_queued session) o
+    by None there some = absurd cc
+    by (Some e) there some =
+        let same : request ≡ e.id = cc in
+        let is : b ≡ is_queued session e.queue = sym waits ∙ ap (λ (r : RequestId). list_any (is_waiting session) (under (RequestLock r) t)) same ∙ request-waits at session e there in
+        ap (λ (x : Bool). cond x (Some request) None) is ∙ ap (λ (r : RequestId). cond (is_queued session e.queue) (Some r) None) same
+
+  -- ## the same of nodes
+
+  zip-name : (rows : List Row) (entries : List NodeEntry) → AllZip IsNodeRow rows entries → (at : ℕ) → option_map (λ (row : Row). row.name) (slice_get rows at) ≡ option_map (λ (e : NodeEntry). place_name (Node e.id)) (slice_get entries at)
+  zip-name [] [] zip at = refl
+  zip-name [] (e ∷ entries) zip at = absurd zip
+  zip-name (row ∷ rows) [] zip at = absurd zip
+  zip-name (row ∷ rows) (e ∷ entries) zip zero = ap (λ (r : Row). Some r.name) zip.0.is
+  zip-name (row ∷ rows) (e ∷ entries) zip (suc at) = zip-name rows entries zip.1 at
+
+  zip-length : (rows : List Row) (entries : List NodeEntry) → AllZip IsNodeRow rows entries → length rows ≡ length entries
+  zip-length [] [] zip = refl
+  zip-length [] (e ∷ entries) zip = absurd zip
+  zip-length (row ∷ rows) [] zip = absurd zip
+  zip-length (row ∷ rows) (e ∷ entries) zip = ap suc (zip-length rows entries zip.1)
+
+  -- the number of nodes
+  pub nodes-counted : length (under Nodes t) ≡ length s.nodes
+  nodes-counted = zip-length (under Nodes t) s.nodes stored.lays.nodes.rows
+
+  -- a session waits at the lock of a node if it is in its queue
+  pub node-waits : (at : ℕ) (session : SessionId) (e : NodeEntry) → slice_get s.nodes at ≡ Some e → list_any (is_waiting session) (under (NodeLock e.id) t) ≡ is_queued session e.queue
+  node-waits at session e there =
+      let lock = all-at (HasNodeLock t) s.nodes at e stored.lays.node_locks there in
+      lock-any lock.queue.next session (under (NodeLock e.id) t) e.queue lock.queue.waits
+
+  -- the node at a place, if the session is in its queue
+  pub node-queued : (at : ℕ) (session : SessionId) (node : NodeId) (b : Bool) → Some node ≡ option_map (λ (e : NodeEntry). e.id) (slice_get s.nodes at) → list_any (is_waiting session) (under (NodeLock node) t) ≡ b →
+      cond b (Some node) None ≡ option_and_then (node_if_queued session) (slice_get s.nodes at)
+  node-queued at session node b found waits = by (slice_get s.nodes at) refl found where
+    by : (o : Option NodeEntry) → slice_get s.nodes at ≡ o → Some node ≡ option_map (λ (e : NodeEntry). e.id) o → cond b (Some node) None ≡ option_and_then (node_if_queued session) o
+    by None there some = absurd cc
+    by (Some e) there some =
+        let same : node ≡ e.id = cc in
+        let is : b ≡ is_queued session e.queue = sym waits ∙ ap (λ (n : NodeId). list_any (is_waiting session) (under (NodeLock n) t)) same ∙ node-waits at session e there in
+        ap (λ (x : Bool). cond x (Some node) None) is ∙ ap (λ (n : NodeId). cond (is_queued session e.queue) (Some n) None) same
+
+-- # who is registered for each pool, as the tree shows it, and the registrations in the order of pools
 
 -- ## the row of a registration
 

@@ -1,20 +1,81 @@
--- what a tree's readers answer at the path of a place: the row of the place's name among its siblings
-use Rattle.std.proofs.Common.{◌≡◌, ℕ, zero, suc, ◌+◌, ◌<◌, ◌≤◌, Bool, true, false, ◌||◌, List, [], ◌∷◌, length, Option, Some, None, refl, sym, ap, ◌∙◌, subst, arith}
-use Rattle.std.specs.Prelude.{slice_get}
-use Rattle.np_layout.specs.Prelude.{AllByRecursion, IsGood, IsWhole, Node, Row, Seen, Stat, TreeState, above, at_path, bytes_at, child_name, children_of, find_named, is_at, is_named, is_some, list_any, name_of, option_map, path_of, place_name, row_of, rows_at, seen_at, seen_in, seen_of, stat_at, stat_of, stat_of_child, under}
-use Rattle.std.proofs.lemmas.List.{length-map}
-use Rattle.np_lists.proofs.Each.{all-find}
-use Rattle.np_lists.proofs.FilterLemmas.{list_any-none}
-use Rattle.np_lists.proofs.FoundLemmas.{find-passes}
-use Rattle.np_lists.proofs.Halves.{none-find}
-use Rattle.np_tree_nodes.proofs.PlaceLemmas.{bytes_eq-is}
-use Rattle.np_tree.proofs.RelationLemmas.{rows-nothing, seen-is-row}
-use Rattle.np_layout.specs.declared.place.Place.{Place}
-use Rattle.np_layout.proofs.AboveLemmas.{is_path-of, parts-of}
-use Rattle.np_layout.specs.Rows.{by_name, rows_from}
-use Rattle.np_layout.proofs.FirstLists.{all-put}
-use Rattle.np_layout.proofs.SetLists.{any-by_name}
-use Rattle.np_lists.proofs.Plain.{get-map}
+-- what a tree's readers answer at the path of a place, and what is read of the requests of a stored state
+use Rattle.np_tree_rows.proofs.Prelude.{AllByRecursion, AllZip, BadRecord, Bool, Configuration, HasText, IfSome, IsGood, IsRequest, IsStored, IsWait, IsWhole, List, None, Ok, Option, Place, Request, RequestEntry, RequestId, RequestLock, RequestLocks, RequestRecord, Requests, Result, Rises, Row, Seen, SessionId, Some, SpellsRequest, Stat, State, Tells, TreeState, above, all-at, all-find, all-put, all-weaker, any-by_name, ap, arith, at_path, by_name, bytes_at, bytes_eq-is, child_name, children_of, cond, false, find, find-passes, find_named, get-map, is_at, is_named, is_path-of, is_request_it, is_some, length, length-map, list_any, list_any-none, lock-names, map, name_of, none-find, nothing-below_nothing, option_map, option_map_or, other-name, parts-of, path_of, place_name, refl, request-good, request-itself, request-named-by, request-queue, request_entry, request_in, request_lock_row, request_of, request_of-text, request_queue, request_row, request_view, row_before, row_of, rows-nothing, rows-rise, rows_at, rows_from, seen-is-row, seen_at, seen_in, seen_of, slice_get, stat_at, stat_of, stat_of_child, subst, suc, sym, tells-mapped, true, under, zero, ℕ, [], ◌+◌, ◌-◌, ◌<◌, ◌||◌, ◌∙◌, ◌∷◌, ◌≡◌, ◌≤◌}
+use Rattle.np_layout.specs.Prelude.{Node}
+
+-- # two lists member by member: what is found in one stands beside what is found in the other
+
+-- a member and the one beside it, or neither
+abbrev pub Beside : {A B : Type 0} → (A → B → Type 0) → Option A → Option B → Type 0
+Beside R None None = Unit {0}
+Beside R None (Some b) = ⊥
+Beside R (Some a) None = ⊥
+Beside R (Some a) (Some b) = R a b
+
+-- members stand beside what they are made of
+pub zip-map : {A B : Type 0} (f : B → A) (list : List B) → AllZip (λ a b. a ≡ f b) (map f list) list
+zip-map f [] = tt
+zip-map f (b ∷ list) = (refl, zip-map f list)
+
+module _ {A B : Type 0} (R : A → B → Type 0) where
+  -- at a place
+  pub beside-at : (these : List A) (those : List B) (at : ℕ) → AllZip R these those → Beside R (slice_get these at) (slice_get those at)
+  beside-at [] [] at zip = tt
+  beside-at [] (b ∷ those) at zip = absurd zip
+  beside-at (a ∷ these) [] at zip = absurd zip
+  beside-at (a ∷ these) (b ∷ those) zero zip = zip.0
+  beside-at (a ∷ these) (b ∷ those) (suc at) zip = beside-at these those at zip.1
+
+  -- the lists are as long
+  pub length-beside : (these : List A) (those : List B) → AllZip R these those → length these ≡ length those
+  length-beside [] [] zip = refl
+  length-beside [] (b ∷ those) zip = absurd zip
+  length-beside (a ∷ these) [] zip = absurd zip
+  length-beside (a ∷ these) (b ∷ those) zip = ap suc (length-beside these those zip.1)
+
+  found-by : (a : A) (b : B) (f : Option A) (g : Option B) (found : Bool) → R a b → Beside R f g → Beside R (cond found (Some a) f) (cond found (Some b) g)
+  found-by a b f g true here later = here
+  found-by a b f g false here later = later
+
+  module _ (p : A → Bool) (q : B → Bool) where
+    -- by tests that agree
+    pub beside-found : (these : List A) (those : List B) → AllZip (λ a b. p a ≡ q b) these those → AllZip R these those → Beside R (find p these) (find q those)
+    beside-found [] [] agree zip = tt
+    beside-found [] (b ∷ those) agree zip = absurd zip
+    beside-found (a ∷ these) [] agree zip = absurd zip
+    beside-found (a ∷ these) (b ∷ those) agree zip =
+        subst (λ (found : Bool). Beside R (cond found (Some a) (find p these)) (cond (q b) (Some b) (find q those))) (sym agree.0)
+        (found-by a b (find p these) (find q those) (q b) zip.0 (beside-found these those agree.1 zip.1))
+
+-- what is true of each member is true of the one at a place
+pub if-at : {A : Type 0} (P : A → Type 0) (list : List A) (at : ℕ) → AllByRecursion P list → IfSome (slice_get list at) P
+if-at P [] at all = tt
+if-at P (a ∷ list) zero all = all.0
+if-at P (a ∷ list) (suc at) all = if-at P list at all.1
+
+-- ## lists in order
+
+module _ {A : Type 0} (before : A → A → Bool) (P : A → Type 0) (it : A → Bool) (a : A) (self : it a ≡ true) (apart : (b : A) → P b → before b a ≡ true → it b ≡ false) where
+  -- a member is found by a test that those before it do not pass
+  pub found-there : (list : List A) (at : ℕ) → Rises before list → AllByRecursion P list → slice_get list at ≡ Some a → find it list ≡ Some a
+  found-there [] at rises all there = absurd cc
+  found-there (b ∷ list) zero rises all there =
+      let is : b ≡ a = cc in
+      ap (λ (found : Bool). cond found (Some b) (find it list)) (ap it is ∙ self) ∙ ap Some is
+  found-there (b ∷ list) (suc at) rises all there =
+      ap (λ (found : Bool). cond found (Some b) (find it list)) (apart b all.0 (all-at (λ (x : A). before b x ≡ true) list at a rises.0 there))
+      ∙ found-there list at rises.1 all.1 there
+
+module _ {A B : Type 0} (f : B → A) (before : A → A → Bool) where
+  all-of : (b : B) (list : List B) → AllByRecursion (λ x. before (f b) x ≡ true) (map f list) → AllByRecursion (λ c. before (f b) (f c) ≡ true) list
+  all-of b [] all = tt
+  all-of b (c ∷ list) all = (all.0, all-of b list all.1)
+
+  -- members rise as what is made of them does
+  pub rises-of : (list : List B) → Rises before (map f list) → Rises (λ b c. before (f b) (f c)) list
+  rises-of [] rises = tt
+  rises-of (b ∷ list) rises = (all-of b list rises.0, rises-of list rises.1)
+
+-- # what a tree's readers answer at the path of a place: the row of the place's name among its siblings
 
 -- ## one place
 
@@ -147,3 +208,256 @@ module _ {A : Type 0} (row : ℕ → A → Row) (name : List ℕ) (k limit : ℕ
       ap (λ (b : Bool). b || list_any (is_named name) (rows_from row (at + 1) list)) here
   table-any (a ∷ list) at (suc j) within same =
       ap (λ (b : Bool). b || list_any (is_named name) (rows_from row (at + 1) list)) (others at a (omega arith) (λ is. omega arith)) ∙ table-any list (at + 1) j (omega arith) (omega arith)
+
+-- # the sessions that wait in a lock, and places of which there is none
+
+-- a place whose row is not there has nothing below it
+pub nothing-under : (t : TreeState) (p dir : Place) → IsWhole t.nodes → IsGood p → above p ≡ Some dir → find_named (place_name p) (under dir t) ≡ None → under p t ≡ []
+nothing-under t p dir whole good over none = nothing-below_nothing t (path_of p) whole (seen-named t p dir whole good over ∙ ap (option_map seen_in) none)
+
+-- a session waits at a place, and owns the child there
+pub record IsWaiting (owner : Option ℕ) (o : Option SessionId) : Type 0 where
+  pub session : SessionId
+  pub owns : owner ≡ Some (session.0 + 1)
+  pub there : o ≡ Some session
+
+module _ (t : TreeState) (lock : Place) (at next : ℕ) (queue : List SessionId) (waits : AllZip (IsWait next) (under lock t) queue) where
+  owner-by : (o : Option Row) (w : Option SessionId) → Beside (IsWait next) o w → option_map (λ (row : Row). row.owner) o ≡ option_map (λ (session : SessionId). Some (session.0 + 1)) w
+  owner-by None None beside = refl
+  owner-by None (Some session) beside = absurd beside
+  owner-by (Some row) None beside = absurd beside
+  owner-by (Some row) (Some session) beside = ap (λ (r : Row). Some r.owner) beside.is
+
+  -- the owner of the child at a place is the session there
+  owner-waits : option_map (λ (stat : Stat). stat.owner) (stat_of_child t (path_of lock) at) ≡ option_map (λ (session : SessionId). Some (session.0 + 1)) (slice_get queue at)
+  owner-waits = owner-at t (path_of lock) at ∙ owner-by (slice_get (under lock t) at) (slice_get queue at) (beside-at (IsWait next) (under lock t) queue at waits)
+
+  none-by : (o : Option SessionId) → option_map (λ (stat : Stat). stat.owner) None ≡ option_map (λ (session : SessionId). Some (session.0 + 1)) o → None ≡ o
+  none-by None is = refl
+  none-by (Some session) is = absurd cc
+
+  -- where there is no child, no session waits
+  pub waits-none : None ≡ stat_of_child t (path_of lock) at → None ≡ slice_get queue at
+  waits-none is = none-by (slice_get queue at) (ap (option_map (λ (stat : Stat). stat.owner)) is ∙ owner-waits)
+
+  some-by : (stat : Stat) (o : Option SessionId) → Some stat.owner ≡ option_map (λ (session : SessionId). Some (session.0 + 1)) o → IsWaiting stat.owner o
+  some-by stat None is = absurd cc
+  some-by stat (Some session) is = record { session = session; owns = cc; there = refl }
+
+  -- and where there is one, its owner does
+  pub waits-some : (stat : Stat) → Some stat ≡ stat_of_child t (path_of lock) at → IsWaiting stat.owner (slice_get queue at)
+  waits-some stat is = some-by stat (slice_get queue at) (ap (option_map (λ (s : Stat). s.owner)) is ∙ owner-waits)
+
+module _ (owner : ℕ) (w : Option ℕ) (o : Option SessionId) (waiting : IsWaiting w o) (is : w ≡ Some owner) where
+  owner-is : owner ≡ waiting.session.0 + 1
+  owner-is = let told : Some owner ≡ Some (waiting.session.0 + 1) = sym is ∙ waiting.owns in cc
+
+  -- the owner's number is at least one
+  pub waits-positive : 1 ≤ owner
+  waits-positive = let same = owner-is in omega arith
+
+  -- and that of the session is one less
+  pub waits-number : (number : ℕ) → number ≡ owner - 1 → Some (record { 0 = number }) ≡ o
+  waits-number number less =
+      let same = owner-is in
+      let this : number ≡ waiting.session.0 = omega arith in
+      ap (λ (n : ℕ). Some (record { 0 = n })) this ∙ sym waiting.there
+
+-- a session that waits owns its child
+pub waits-owned : (w : Option ℕ) (o : Option SessionId) → IsWaiting w o → w ≡ None → ⊥
+waits-owned w o waiting is = absurd (let told : None ≡ Some (waiting.session.0 + 1) = sym is ∙ waiting.owns in cc)
+
+-- # what is read of the requests of a stored state
+
+-- what was read is what is there
+pub record IsRead {A : Type 0} (o : Option A) (r : Result A BadRecord) : Type 0 where
+  pub kept : A
+  pub there : o ≡ Some kept
+  pub reads : r ≡ Ok kept
+
+-- what is there was read
+pub read-some : {A : Type 0} (o : Option A) (a : A) → IsRead o (Ok a) → Some a ≡ o
+read-some o a read = let same : a ≡ read.kept = let is = read.reads in cc in ap Some same ∙ sym read.there
+
+-- and what was not read is not there
+pub read-none : {A : Type 0} (o : Option A) (bad : BadRecord) → IsRead o (Result.Err bad) → None ≡ o
+read-none o bad read = absurd (let is = read.reads in cc)
+
+-- the row of a request's record, and that of its lock
+abbrev pub IsRequestRow : Row → RequestEntry → Type 0
+IsRequestRow row e = row ≡ request_row e
+
+abbrev pub IsLockRow : Row → RequestEntry → Type 0
+IsLockRow row e = row ≡ request_lock_row e
+
+abbrev request_before : RequestEntry → RequestEntry → Bool
+request_before a b = row_before (request_row a) (request_row b)
+
+module _ (c : Configuration) (s : State) (t : TreeState) (stored : IsStored c s t) where
+  abbrev HasId : RequestEntry → Type 0
+  HasId e = HasText e.id
+
+  has-ids : AllByRecursion HasId s.requests
+  has-ids = stored.carried.good.requests
+
+  request-rows : AllZip IsRequestRow (under Requests t) s.requests
+  request-rows = subst (λ (rows : List Row). AllZip IsRequestRow rows s.requests) (sym stored.lays.requests.rows) (zip-map request_row s.requests)
+
+  lock-rows : AllZip IsLockRow (under RequestLocks t) s.requests
+  lock-rows = subst (λ (rows : List Row). AllZip IsLockRow rows s.requests) (sym stored.lays.request_locks.rows) (zip-map request_lock_row s.requests)
+
+  -- as many rows as requests
+  pub requests-counted : length (rows_at t (path_of Requests)) ≡ length s.requests
+  requests-counted = length-beside IsRequestRow (under Requests t) s.requests request-rows
+
+  -- ## by place
+
+  named-at : (name : List ℕ) (o : Option Row) (p : Option RequestEntry) → Beside IsRequestRow o p → IfSome p HasId → Some name ≡ option_map (λ (row : Row). row.name) o → request_of name ≡ option_map (λ (e : RequestEntry). e.id) p
+  named-at name None None beside good is = absurd cc
+  named-at name None (Some e) beside good is = absurd beside
+  named-at name (Some row) None beside good is = absurd beside
+  named-at name (Some row) (Some e) beside good is =
+      let here : name ≡ row.name = cc in
+      ap request_of (here ∙ ap (λ (r : Row). r.name) beside) ∙ request_of-text e.id good
+
+  -- the name of a row spells the id of the request there
+  pub request-named : (at : ℕ) (name : List ℕ) → Some name ≡ option_map (λ (row : Row). row.name) (slice_get (under Requests t) at) → request_of name ≡ option_map (λ (e : RequestEntry). e.id) (slice_get s.requests at)
+  request-named at name is =
+      named-at name (slice_get (under Requests t) at) (slice_get s.requests at) (beside-at IsRequestRow (under Requests t) s.requests at request-rows) (if-at HasId s.requests at has-ids) is
+
+  unnamed-at : (o : Option Row) (p : Option RequestEntry) → Beside IsRequestRow o p → None ≡ option_map (λ (row : Row). row.name) o → None ≡ option_map (λ (e : RequestEntry). e.id) p
+  unnamed-at None None beside is = refl
+  unnamed-at None (Some e) beside is = absurd beside
+  unnamed-at (Some row) p beside is = absurd cc
+
+  -- and where there is no row there is no request
+  pub request-unnamed : (at : ℕ) → None ≡ option_map (λ (row : Row). row.name) (slice_get (under Requests t) at) → None ≡ option_map (λ (e : RequestEntry). e.id) (slice_get s.requests at)
+  request-unnamed at is = unnamed-at (slice_get (under Requests t) at) (slice_get s.requests at) (beside-at IsRequestRow (under Requests t) s.requests at request-rows) is
+
+  -- ## by id
+
+  no-entry : (r : RequestId) → ¬ HasText r → (o : Option RequestEntry) → request_entry r s.requests ≡ o → request_entry r s.requests ≡ None
+  no-entry r lacks None there = there
+  no-entry r lacks (Some e) there = absurd (lacks (request-good r s.requests e has-ids there))
+
+  -- a request that has no text is not there
+  pub request-none : (r : RequestId) → ¬ HasText r → None ≡ request_in r s.requests
+  request-none r lacks = sym (ap (option_map (λ (e : RequestEntry). e.kept)) (no-entry r lacks (request_entry r s.requests) refl))
+
+  -- and no session waits for it
+  pub request-unqueued : (r : RequestId) (at : ℕ) → ¬ HasText r → None ≡ slice_get (request_queue r s.requests) at
+  request-unqueued r at lacks = sym (ap (λ (o : Option RequestEntry). slice_get (option_map_or (λ (e : RequestEntry). e.queue) o []) at) (no-entry r lacks (request_entry r s.requests) refl))
+
+  module _ (r : RequestId) (good : HasText r) where
+    lock-tells : Tells (place_name (RequestLock r)) (is_request_it r) (under RequestLocks t) s.requests
+    lock-tells = subst (λ (rows : List Row). Tells (place_name (RequestLock r)) (is_request_it r) rows s.requests) (sym stored.lays.request_locks.rows)
+        (tells-mapped (place_name (RequestLock r)) (is_request_it r) request_lock_row s.requests (lock-names r s.requests good has-ids))
+
+    row-tells : Tells (place_name (Request r)) (is_request_it r) (under Requests t) s.requests
+    row-tells = subst (λ (rows : List Row). Tells (place_name (Request r)) (is_request_it r) rows s.requests) (sym stored.lays.requests.rows)
+        (tells-mapped (place_name (Request r)) (is_request_it r) request_row s.requests
+        (all-weaker (λ (e : RequestEntry). is_named (place_name (RequestLock r)) (request_lock_row e) ≡ is_request_it r e) (λ (e : RequestEntry). is_named (place_name (Request r)) (request_row e) ≡ is_request_it r e) (λ e same. same) s.requests (lock-names r s.requests good has-ids)))
+
+    row-found : Beside IsRequestRow (find_named (place_name (Request r)) (under Requests t)) (request_entry r s.requests)
+    row-found = beside-found IsRequestRow (is_named (place_name (Request r))) (is_request_it r) (under Requests t) s.requests row-tells request-rows
+
+    spelled : (o : Option RequestEntry) → request_entry r s.requests ≡ o → IfSome o (λ e. IsRequest e.kept)
+    spelled None there = tt
+    spelled (Some e) there = all-find (λ (x : RequestEntry). IsRequest x.kept) (is_request_it r) s.requests e stored.carried.spelled.requests there
+
+    read-by : (bytes : List ℕ) (read : Result RequestRecord BadRecord) (o : Option Row) (p : Option RequestEntry) → Beside IsRequestRow o p → IfSome p (λ e. IsRequest e.kept) → Some bytes ≡ option_map (λ (row : Row). row.bytes) o →
+        ((v : RequestRecord) → SpellsRequest v bytes → read ≡ Ok v) → IsRead (option_map (λ (e : RequestEntry). e.kept) p) read
+    read-by bytes read None None beside is_sound is all = absurd cc
+    read-by bytes read None (Some e) beside is_sound is all = absurd beside
+    read-by bytes read (Some row) None beside is_sound is all = absurd beside
+    read-by bytes read (Some row) (Some e) beside is_sound is all =
+        let here : bytes ≡ row.bytes = cc in
+        record { kept = e.kept; there = refl; reads = all e.kept (is_sound, here ∙ ap (λ (x : Row). x.bytes) beside) }
+
+    -- its record is read from its bytes
+    pub request-read : (bytes : List ℕ) (read : Result RequestRecord BadRecord) → Some bytes ≡ bytes_at t (path_of (Request r)) → ((v : RequestRecord) → SpellsRequest v bytes → read ≡ Ok v) → IsRead (request_in r s.requests) read
+    request-read bytes read is all =
+        read-by bytes read (find_named (place_name (Request r)) (under Requests t)) (request_entry r s.requests) row-found (spelled (request_entry r s.requests) refl) (is ∙ bytes-named t (Request r) Requests stored.whole good refl) all
+
+    unread-by : (o : Option Row) (p : Option RequestEntry) → Beside IsRequestRow o p → None ≡ option_map (λ (row : Row). row.bytes) o → None ≡ option_map (λ (e : RequestEntry). e.kept) p
+    unread-by None None beside is = refl
+    unread-by None (Some e) beside is = absurd beside
+    unread-by (Some row) p beside is = absurd cc
+
+    -- and where there are none it is not there
+    pub request-unread : None ≡ bytes_at t (path_of (Request r)) → None ≡ request_in r s.requests
+    request-unread is = unread-by (find_named (place_name (Request r)) (under Requests t)) (request_entry r s.requests) row-found (is ∙ bytes-named t (Request r) Requests stored.whole good refl)
+
+    -- ## its queue
+
+    none-beside : (o : Option Row) → Beside IsLockRow o None → o ≡ None
+    none-beside None beside = refl
+    none-beside (Some row) beside = absurd beside
+
+    waits-by : (o : Option RequestEntry) → request_entry r s.requests ≡ o → (next : ℕ) × AllZip (IsWait next) (under (RequestLock r) t) (request_queue r s.requests)
+    waits-by None there =
+        let found = beside-found IsLockRow (is_named (place_name (RequestLock r))) (is_request_it r) (under RequestLocks t) s.requests lock-tells lock-rows in
+        let none = none-beside (find_named (place_name (RequestLock r)) (under RequestLocks t)) (subst (λ (o : Option RequestEntry). Beside IsLockRow (find_named (place_name (RequestLock r)) (under RequestLocks t)) o) there found) in
+        let empty = nothing-under t (RequestLock r) RequestLocks stored.whole good refl none in
+        let queue : request_queue r s.requests ≡ [] = ap (λ (o : Option RequestEntry). option_map_or (λ (e : RequestEntry). e.queue) o []) there in
+        (0, subst (λ (rows : List Row). AllZip (IsWait 0) rows (request_queue r s.requests)) (sym empty) (subst (λ (list : List SessionId). AllZip (IsWait 0) [] list) (sym queue) tt))
+    waits-by (Some e) there = let queue = request-queue s t r e stored.lays there in (queue.next, queue.waits)
+
+    -- the rows of its lock are its queue
+    pub request-waits : (next : ℕ) × AllZip (IsWait next) (under (RequestLock r) t) (request_queue r s.requests)
+    request-waits = waits-by (request_entry r s.requests) refl
+
+  -- ## the request at a place
+
+  rises : Rises request_before s.requests
+  rises = rises-of request_row row_before s.requests (subst (Rises row_before) stored.lays.requests.rows (rows-rise t (path_of Requests) stored.whole))
+
+  apart : (e : RequestEntry) → HasId e → (x : RequestEntry) → HasId x → request_before x e ≡ true → is_request_it e.id x ≡ false
+  apart e e_good x x_good before = sym (request-named-by e.id x.id (is_request_it e.id x) refl e_good x_good) ∙ other-name (request_row x) (request_row e) before
+
+  -- is found by its id
+  entry-at : (at : ℕ) (e : RequestEntry) → slice_get s.requests at ≡ Some e → request_entry e.id s.requests ≡ Some e
+  entry-at at e there =
+      found-there request_before HasId (is_request_it e.id) e (request-itself e.id) (apart e (all-at HasId s.requests at e has-ids there)) s.requests at rises has-ids there
+
+  abbrev viewed_at : ℕ → Option RequestId
+  viewed_at at = option_map (λ (e : RequestEntry). e.id) (slice_get s.requests at)
+
+  unviewed-by : (o : Option RequestEntry) → None ≡ option_map (λ (e : RequestEntry). e.id) o → None ≡ option_map request_view o
+  unviewed-by None is = refl
+  unviewed-by (Some e) is = absurd cc
+
+  -- there is no view where there is no request
+  pub request-unviewed : (at : ℕ) → None ≡ viewed_at at → None ≡ option_map request_view (slice_get s.requests at)
+  request-unviewed at is = unviewed-by (slice_get s.requests at) is
+
+  kept-by : (at : ℕ) (id : RequestId) (o : Option RequestEntry) → slice_get s.requests at ≡ o → Some id ≡ option_map (λ (e : RequestEntry). e.id) o → o ≡ request_entry id s.requests
+  kept-by at id None there is = absurd cc
+  kept-by at id (Some e) there is =
+      let same : id ≡ e.id = cc in
+      sym (ap (λ (r : RequestId). request_entry r s.requests) same ∙ entry-at at e there)
+
+  view-by : (id : RequestId) (kept : RequestRecord) (holder : Option SessionId) (o p : Option RequestEntry) → o ≡ p → Some id ≡ option_map (λ (e : RequestEntry). e.id) o → Some kept ≡ option_map (λ (e : RequestEntry). e.kept) p → holder ≡ slice_get (option_map_or (λ (e : RequestEntry). e.queue) p []) 0 →
+      Some (record { id = id; kept = kept; holder = holder }) ≡ option_map request_view o
+  view-by id kept holder None p same is is_kept holds = absurd cc
+  view-by id kept holder (Some e) None same is is_kept holds = absurd cc
+  view-by id kept holder (Some e) (Some x) same is is_kept holds =
+      let this : e ≡ x = cc in
+      let first : id ≡ e.id = cc in
+      let second : kept ≡ x.kept = cc in
+      rw (first, second, holds, sym this) refl
+
+  -- the view of the request that is there
+  pub request-viewed : (at : ℕ) (id : RequestId) (kept : RequestRecord) (holder : Option SessionId) → Some id ≡ viewed_at at → Some kept ≡ request_in id s.requests → holder ≡ slice_get (request_queue id s.requests) 0 →
+      Some (record { id = id; kept = kept; holder = holder }) ≡ option_map request_view (slice_get s.requests at)
+  request-viewed at id kept holder is is_kept holds =
+      view-by id kept holder (slice_get s.requests at) (request_entry id s.requests) (kept-by at id (slice_get s.requests at) refl is) is is_kept holds
+
+  lost-by : (o p : Option RequestEntry) (id : RequestId) → o ≡ p → Some id ≡ option_map (λ (e : RequestEntry). e.id) o → None ≡ option_map (λ (e : RequestEntry). e.kept) p → None ≡ option_map request_view o
+  lost-by None p id same is none = refl
+  lost-by (Some e) None id same is none = absurd cc
+  lost-by (Some e) (Some x) id same is none = absurd cc
+
+  -- the request that is there has a record
+  pub request-kept : (at : ℕ) (id : RequestId) → Some id ≡ viewed_at at → None ≡ request_in id s.requests → None ≡ option_map request_view (slice_get s.requests at)
+  request-kept at id is none = lost-by (slice_get s.requests at) (request_entry id s.requests) id (kept-by at id (slice_get s.requests at) refl is) is none

@@ -1,23 +1,53 @@
 -- the bytes of the records of a stored state, and how many there are of each kind
-use Rattle.std.proofs.Common.{◌≡◌, ℕ, zero, suc, ◌+◌, ◌-◌, ◌<◌, ◌≤◌, Bool, true, false, ◌||◌, cond, List, [], ◌∷◌, ◌++◌, length, map, Option, Some, None, Result, Ok, refl, sym, ap, ◌∙◌, subst, arith}
-use Rattle.std.specs.Fmt.{decimal}
-use Rattle.std.specs.Prelude.{slice_get, ◌==◌, IfSome}
-use Rattle.np_changes.specs.Prelude.{AllByRecursion, Configuration, JobId, JobRecord, NonePass, PoolId, RequesterId, Role, RoleRecord, SessionFacts, SessionId, SessionRecord, State, is_some, list_any, number_of, option_map, range_with_len, role_in, session_of}
-use Rattle.std.proofs.lemmas.Bool.{eqb-false, eqb-true}
-use Rattle.std.proofs.lemmas.List.{length-map}
-use Rattle.std.proofs.lemmas.List.Folds.{list_any-append}
-use Rattle.np_text.specs.declared.id.Role.TheVariants as role
-use Rattle.np_text.proofs.SpellingLemmas.{number_of-decimal}
-use Rattle.np_lists.proofs.Each.{all-at, all-weaker, length-insert_before}
-use Rattle.np_lists.proofs.FilterLemmas.{list_any-none}
-use Rattle.np_layout.specs.Prelude.{BadRecord, IsGood, IsJob, IsRole, IsSession, IsSessionRole, IsStored, Row, TreeState, above, bytes_at, find_named, is_in, is_named, job_text, path_of, place_name, place_of_role, role_text, row_before, rows_at, session_text, under, with_row}
-use Rattle.np_layout.specs.declared.place.Place.{Place}
-use Rattle.np_layout.specs.declared.place.Place.TheVariants.{Jobs, Job, Launchers, LauncherRole, JanitorRole, RequesterRole, Poolsim, Roles, Sessions, Session, Tick}
-use Rattle.np_layout.specs.Rows.{by_name, janitor_role_row, job_row, launcher_role_row, launcher_row, requester_role_row, rows_from, session_row}
-use Rattle.np_layout.proofs.FirstKinds.{rows_put}
-use Rattle.np_layout.proofs.SetSteps.{named-here, named-other}
-use Rattle.np_layout.proofs.Leaves.{all-joined}
+use Rattle.np_tree_rows.proofs.Prelude.{AllByRecursion, AllDigits, BadRecord, Bool, Configuration, Err, IfSome, IsGood, IsJob, IsNumeral, IsRole, IsSession, IsSessionRole, IsStored, JanitorRole, Job, JobId, JobRecord, Jobs, LauncherRole, Launchers, List, None, NonePass, Ok, Option, ParsesUnsigned, Place, PoolId, Poolsim, RequesterId, RequesterRole, Result, Role, RoleRecord, Roles, Row, Session, SessionFacts, SessionId, SessionRecord, Sessions, Some, State, Tick, TreeState, above, all-at, all-joined, all-weaker, ap, arith, by_name, bytes_at, cond, decimal, decimal_is_IsNumeral, digits_value, digits_value-zeros, drop, eqb-false, eqb-true, false, find_named, is_in, is_named, is_some, janitor_role_row, job_row, job_text, launcher_role_row, launcher_row, length, length-insert_before, length-map, list_any, list_any-append, list_any-none, map, named-here, named-other, number_of, number_of-decimal, option_map, path_of, place_name, place_of_role, range_with_len, refl, replicate, requester_role_row, role_in, role_text, row_before, rows_at, rows_from, rows_put, session_of, session_row, session_text, slice_get, subst, suc, sym, ten-le-length, ten_digits_of, true, under, with_row, without_leading_plus, zero, ℕ, [], ◌++◌, ◌+◌, ◌-◌, ◌<◌, ◌==◌, ◌^◌, ◌||◌, ◌∙◌, ◌∷◌, ◌≡◌, ◌≤◌}
 use Rattle.np_tree_rows.proofs.Shown.{IsOnly, bytes-named, find-only, find-ordered, past-any, past-only, table-any, table-only}
+
+-- # ten digits are read as the number that they spell
+
+all-zeros : (k : ℕ) (digits : List ℕ) → AllDigits 10 digits → AllDigits 10 (replicate k 48 ++ digits)
+all-zeros zero digits all = all
+all-zeros (suc k) digits all = (omega arith, all-zeros k digits all)
+
+all-ten : (n : ℕ) → n < 2 ^ 64 → AllDigits 10 (ten_digits_of n)
+unfolding ten_digits_of
+all-ten n small = all-zeros (10 - length (decimal n)) (decimal n) (decimal_is_IsNumeral n small).0.1
+
+value-ten : (n : ℕ) → n < 2 ^ 64 → digits_value 10 (ten_digits_of n) ≡ n
+unfolding ten_digits_of
+value-ten n small = digits_value-zeros (10 - length (decimal n)) (decimal n) ∙ (decimal_is_IsNumeral n small).1
+
+-- no digit is a plus
+plus-by : (c : ℕ) (digits : List ℕ) (b : Bool) → (c == 43) ≡ b → AllDigits 10 (c ∷ digits) → drop (cond b 1 0) (c ∷ digits) ≡ c ∷ digits
+plus-by c digits true plus all =
+    let is : c ≡ 43 = eqb-true c 43 plus in
+    let none : AllDigits 10 (43 ∷ digits) = subst (λ (x : ℕ). AllDigits 10 (x ∷ digits)) is all in
+    absurd (let big = none.0 in omega arith)
+plus-by c digits false plus all = refl
+
+plus-none : (digits : List ℕ) → AllDigits 10 digits → without_leading_plus digits ≡ digits
+plus-none [] all = refl
+plus-none (c ∷ digits) all = plus-by c digits (c == 43) refl all
+
+-- what is parsed is the number
+pub ten-parsed : {E : Type 0} (n : ℕ) (r : Result ℕ E) → n < 2 ^ 32 → ParsesUnsigned 32 10 (ten_digits_of n) r → r ≡ Ok n
+ten-parsed n (Ok x) small parses =
+    ap Ok (parses.1 ∙ ap (digits_value 10) (plus-none (ten_digits_of n) (all-ten n (omega arith))) ∙ value-ten n (omega arith))
+ten-parsed n (Err e) small parses =
+    let Is : List ℕ → Type 0 = λ digits. IsNumeral 10 digits × (digits_value 10 digits < 2 ^ 32) in
+    let long = ten-le-length n in
+    let all = all-ten n (omega arith) in
+    let few : digits_value 10 (ten_digits_of n) < 2 ^ 32 = subst (λ (v : ℕ). v < 2 ^ 32) (sym (value-ten n (omega arith))) small in
+    absurd (parses (subst Is (sym (plus-none (ten_digits_of n) all)) ((omega arith, all), few)))
+
+-- and what is read from a text of ten digits
+pub ten-read : (text : List ℕ) (n x : ℕ) → n < 2 ^ 32 → text ≡ ten_digits_of n → ParsesUnsigned {E = Unit {0}} 32 10 text (Ok x) → Some x ≡ Some n
+ten-read text n x small is parses =
+    let P : List ℕ → Type 0 = λ digits. ParsesUnsigned {E = Unit {0}} 32 10 digits (Ok x) in
+    let same = ten-parsed {E = Unit {0}} n (Ok x) small (subst P is parses) in
+    let number : x ≡ n = cc in
+    ap Some number
+
+-- # the bytes of the records of a stored state, and how many there are of each kind
 
 -- ## how many rows
 
@@ -342,14 +372,14 @@ module _ (c : Configuration) (s : State) (t : TreeState) (stored : IsStored c s 
 
   -- a role's bytes are the text of its record
   pub role-bytes : (r : Role) (p : Place) → Some p ≡ place_of_role r → IsGood p → bytes_at t (path_of p) ≡ option_map role_text (role_in r s)
-  role-bytes (role.Launcher pool) p is good = let same : p ≡ LauncherRole pool = cc in subst (IsShown (role.Launcher pool)) (sym same) (launcher-bytes pool (subst IsGood same good))
-  role-bytes (role.Janitor pool) p is good = let same : p ≡ JanitorRole pool = cc in subst (IsShown (role.Janitor pool)) (sym same) (janitor-bytes pool (subst IsGood same good))
-  role-bytes (role.Requester q) p is good = let same : p ≡ RequesterRole q = cc in subst (IsShown (role.Requester q)) (sym same) (requester-bytes q (subst IsGood same good))
-  role-bytes role.Reaper p is good = absurd cc
+  role-bytes (Role.Launcher pool) p is good = let same : p ≡ LauncherRole pool = cc in subst (IsShown (Role.Launcher pool)) (sym same) (launcher-bytes pool (subst IsGood same good))
+  role-bytes (Role.Janitor pool) p is good = let same : p ≡ JanitorRole pool = cc in subst (IsShown (Role.Janitor pool)) (sym same) (janitor-bytes pool (subst IsGood same good))
+  role-bytes (Role.Requester q) p is good = let same : p ≡ RequesterRole q = cc in subst (IsShown (Role.Requester q)) (sym same) (requester-bytes q (subst IsGood same good))
+  role-bytes Role.Reaper p is good = absurd cc
 
   -- and the record has a spelling
   pub role-sound : (r : Role) → IfSome (role_in r s) IsRole
-  role-sound (role.Launcher pool) = get-if IsRole s.launchers pool.0 stored.carried.spelled.launchers
-  role-sound (role.Janitor pool) = get-if IsRole s.janitors pool.0 stored.carried.spelled.janitors
-  role-sound (role.Requester q) = get-if IsRole s.requesters q.0 stored.carried.spelled.requesters
-  role-sound role.Reaper = tt
+  role-sound (Role.Launcher pool) = get-if IsRole s.launchers pool.0 stored.carried.spelled.launchers
+  role-sound (Role.Janitor pool) = get-if IsRole s.janitors pool.0 stored.carried.spelled.janitors
+  role-sound (Role.Requester q) = get-if IsRole s.requesters q.0 stored.carried.spelled.requesters
+  role-sound Role.Reaper = tt

@@ -1,9 +1,2 @@
-pub mod Places
-pub mod Queues
-pub mod Accepts
-pub mod Currents
-pub mod Openings
-pub mod Searches
-pub mod Releases
-pub mod Wholes
-pub mod Among
+pub mod Prelude
+pub mod Useful

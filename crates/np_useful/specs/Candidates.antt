@@ -3,22 +3,19 @@ use Rattle.std.specs.Prelude.{ℕ, Bool, true, false, if◌then◌else◌, Optio
 use Rattle.np_changes.specs.Prelude.{Event, NodeId, RequestId, SessionId, State, option_map}
 use Rattle.np_look.specs.Readers.{queued_requests, queued_nodes}
 use Rattle.np_useful.specs.declared.kind.EventKind.{EventKind}
-use Rattle.np_useful.specs.declared.kind.EventKind.TheVariants as kind_of
 use Rattle.np_useful.specs.declared.kind.RequestKind.{RequestKind}
-use Rattle.np_useful.specs.declared.kind.RequestKind.TheVariants as of_request
 use Rattle.np_useful.specs.declared.kind.NodeKind.{NodeKind}
-use Rattle.np_useful.specs.declared.kind.NodeKind.TheVariants as of_node
 use Rattle.np_useful.specs.Kinds.{request_event, node_event, job_event}
 
 -- whether the machine accepts the event only from a session in the request's queue
 abbrev pub is_from_request_queue : RequestKind → Bool
-is_from_request_queue of_request.Lock = false
-is_from_request_queue of_request.FailDeclined = false
+is_from_request_queue RequestKind.Lock = false
+is_from_request_queue RequestKind.FailDeclined = false
 is_from_request_queue _ = true
 
 -- whether the machine accepts the event only from a session in the node's queue
 abbrev pub is_from_node_queue : NodeKind → Bool
-is_from_node_queue of_node.Lock = false
+is_from_node_queue NodeKind.Lock = false
 is_from_node_queue _ = true
 
 -- the request at a place: of those in whose queues the session is, if the machine accepts the event
@@ -32,12 +29,12 @@ node_named s session kind at = if is_from_node_queue kind then slice_get (queued
 
 -- how many places there are
 abbrev pub places : State → SessionId → EventKind → ℕ
-places s session (kind_of.Request kind) = if is_from_request_queue kind then length (queued_requests session s) else length s.requests
-places s session (kind_of.Node kind) = if is_from_node_queue kind then length (queued_nodes session s) else length s.nodes
-places s session (kind_of.Job kind) = length s.jobs
+places s session (EventKind.Request kind) = if is_from_request_queue kind then length (queued_requests session s) else length s.requests
+places s session (EventKind.Node kind) = if is_from_node_queue kind then length (queued_nodes session s) else length s.nodes
+places s session (EventKind.Job kind) = length s.jobs
 
 -- the session's event of the kind that names what is at the place
 abbrev pub candidate : State → SessionId → EventKind → ℕ → Option Event
-candidate s session (kind_of.Request kind) at = option_map (request_event kind session) (request_named s session kind at)
-candidate s session (kind_of.Node kind) at = option_map (node_event kind session) (node_named s session kind at)
-candidate s session (kind_of.Job kind) at = option_map (λ _. job_event kind session (record { 0 = at })) (slice_get s.jobs at)
+candidate s session (EventKind.Request kind) at = option_map (request_event kind session) (request_named s session kind at)
+candidate s session (EventKind.Node kind) at = option_map (node_event kind session) (node_named s session kind at)
+candidate s session (EventKind.Job kind) at = option_map (λ _. job_event kind session (record { 0 = at })) (slice_get s.jobs at)

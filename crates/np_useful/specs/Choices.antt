@@ -1,12 +1,10 @@
 -- what a choice returns
 use Rattle.std.specs.Prelude.{◌≡◌, ◌==◌, List, true, false, Option, Some, None}
 use Rattle.np_changes.specs.Prelude.{AllByRecursion, Configuration, Event, JobId, NodeId, RequestId, RequesterId, Role, SessionId, State}
-use Rattle.np_event.specs.declared.event.Event.TheVariants as ev
 use Rattle.np_useful.specs.Rows.{job_is}
 use Rattle.np_useful.specs.Sessions.{is_current, has_current}
 use Rattle.np_useful.specs.Useful.{IsUseful}
 use Rattle.np_useful.specs.declared.kind.EventKind.{EventKind}
-use Rattle.np_useful.specs.declared.kind.EventKind.TheVariants as kind_of
 use Rattle.np_useful.specs.Kinds.{request_event, node_event, job_event}
 
 -- ## the choice of a role
@@ -25,7 +23,7 @@ NamesCurrent role s (Some session) = is_current role session s ≡ true
 
 -- no session that the role may open is useful (own)
 abbrev pub NoneOpens : Configuration → State → Role → Type 0
-NoneOpens c s role = (other : Role) → IsUseful c s role (ev.OpenSession other) → ⊥
+NoneOpens c s role = (other : Role) → IsUseful c s role (Event.OpenSession other) → ⊥
 
 -- a useful opening of a session, or none if there is none (own)
 abbrev pub ChoosesOpening : Configuration → State → Role → Option Event → Type 0
@@ -34,9 +32,9 @@ ChoosesOpening c s role (Some e) = IsUseful c s role e
 
 -- no event of the kind is useful, whoever makes it and whatever it names (own)
 abbrev pub NoneOf : Configuration → State → Role → EventKind → Type 0
-NoneOf c s role (kind_of.Request kind) = (session : SessionId) (r : RequestId) → IsUseful c s role (request_event kind session r) → ⊥
-NoneOf c s role (kind_of.Node kind) = (session : SessionId) (n : NodeId) → IsUseful c s role (node_event kind session n) → ⊥
-NoneOf c s role (kind_of.Job kind) = (session : SessionId) (j : JobId) → IsUseful c s role (job_event kind session j) → ⊥
+NoneOf c s role (EventKind.Request kind) = (session : SessionId) (r : RequestId) → IsUseful c s role (request_event kind session r) → ⊥
+NoneOf c s role (EventKind.Node kind) = (session : SessionId) (n : NodeId) → IsUseful c s role (node_event kind session n) → ⊥
+NoneOf c s role (EventKind.Job kind) = (session : SessionId) (j : JobId) → IsUseful c s role (job_event kind session j) → ⊥
 
 -- a useful event of the kind, or none if there is none (own)
 abbrev pub ChoosesOf : Configuration → State → Role → EventKind → Option Event → Type 0
@@ -50,7 +48,7 @@ ChoosesOfAny c s role kinds (Some e) = IsUseful c s role e
 
 -- no release of a job of the requester is useful, whoever makes it (own)
 abbrev pub NoneReleased : Configuration → State → Role → RequesterId → Type 0
-NoneReleased c s role q = (session : SessionId) (j : JobId) → job_is j c (λ row. row.requester.0 == q.0) ≡ true → IsUseful c s role (ev.Release session j) → ⊥
+NoneReleased c s role q = (session : SessionId) (j : JobId) → job_is j c (λ row. row.requester.0 == q.0) ≡ true → IsUseful c s role (Event.Release session j) → ⊥
 
 -- a useful event, or none if no such release is useful (own)
 abbrev pub ChoosesRelease : Configuration → State → Role → RequesterId → Option Event → Type 0

@@ -1,7 +1,6 @@
 -- which nodes a janitor removes or frees
 use Rattle.std.specs.Prelude.{Bool, true, ◌&&◌, ◌||◌, is_some, is_none}
 use Rattle.np_machine.specs.Prelude.{Configuration, NodeRecord, NodeState, State, standing}
-use Rattle.np_text.specs.declared.word.NodeState.TheVariants as node_state
 use Rattle.np_machine.specs.Reasons.{is_old_ready, is_old_hold, is_paused}
 
 -- allocated to a request that no longer exists (own)
@@ -14,13 +13,13 @@ is_to_go c s k = is_none k.allocated_to && (is_old_ready c s k || is_paused c s 
 
 -- by the node's state (Nodepool: cleanup of lost, used, failed and aged nodes)
 abbrev pub is_cleanable_as : Configuration → State → NodeRecord → NodeState → Bool
-is_cleanable_as c s k node_state.Building = true
-is_cleanable_as c s k node_state.Ready = is_left_over s k || is_to_go c s k
-is_cleanable_as c s k node_state.InUse = true
-is_cleanable_as c s k node_state.Used = true
-is_cleanable_as c s k node_state.Hold = is_old_hold c s k
-is_cleanable_as c s k node_state.Deleting = true
-is_cleanable_as c s k node_state.Failed = true
+is_cleanable_as c s k NodeState.Building = true
+is_cleanable_as c s k NodeState.Ready = is_left_over s k || is_to_go c s k
+is_cleanable_as c s k NodeState.InUse = true
+is_cleanable_as c s k NodeState.Used = true
+is_cleanable_as c s k NodeState.Hold = is_old_hold c s k
+is_cleanable_as c s k NodeState.Deleting = true
+is_cleanable_as c s k NodeState.Failed = true
 
 -- a node that a janitor may remove or free if nobody holds it (Nodepool: cleanup)
 abbrev pub is_cleanable : Configuration → State → NodeRecord → Bool

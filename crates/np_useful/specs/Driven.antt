@@ -1,12 +1,10 @@
 -- when a journal was driven by the parties and their clouds, and not by a script
 use Rattle.std.specs.Prelude.{◌≡◌, ◌&&◌, ◌==◌, ℕ, Bool, true, false, List, [], ◌∷◌, ◌++◌, Some, ◌⊎◌}
 use Rattle.np_machine.specs.Prelude.{Configuration, EachTurn, Entry, Event, Janitor, NodeId, NodeRecord, Outcome, PoolId, Role, SessionId, SomeTurn, Turn, is_node, is_session, is_swept, node_in, outcome_of, turns}
-use Rattle.np_event.specs.declared.event.Event.TheVariants as ev
-use Rattle.np_event.specs.declared.event.Outcome.TheVariants as outcome
-use Rattle.np_event.specs.declared.reply.Reply.TheVariants as reply
-use Rattle.np_event.specs.declared.reply.Done.TheVariants as done
 use Rattle.np_useful.specs.Sessions.{is_current}
 use Rattle.np_useful.specs.Useful.{IsUseful}
+use Rattle.np_event.specs.declared.reply.Reply.{Reply}
+use Rattle.np_event.specs.declared.reply.Done.{Done}
 
 -- ## a useful event
 
@@ -19,12 +17,12 @@ pub record IsOfUse (c : Configuration) (t : Turn) : Type 0 where
 
 -- time advances by one (own)
 abbrev pub is_tick : Event → Bool
-is_tick ev.Tick = true
+is_tick Event.Tick = true
 is_tick _ = false
 
 -- a tick after something else: neither the first entry nor next to another tick (own)
 pub record IsTickBetween (past : List Turn) (t : Turn) : Type 0 where
-  pub event : t.entry.event ≡ ev.Tick
+  pub event : t.entry.event ≡ Event.Tick
   pub earlier : List Turn
   pub previous : Turn
   pub follows : past ≡ earlier ++ previous ∷ []
@@ -36,7 +34,7 @@ pub record IsTickBetween (past : List Turn) (t : Turn) : Type 0 where
 pub record NamesServer (n : NodeId) (x : ℕ) (t : Turn) : Type 0 where
   pub session : SessionId
   pub attempt : ℕ
-  pub event : t.entry.event ≡ ev.Done session n attempt (outcome.Launched x)
+  pub event : t.entry.event ≡ Event.Done session n attempt (Outcome.Launched x)
 
 -- the current session of a janitor removes a server that some report named for the node, and that was not swept yet (Nodepool: cleanup of leaked instances)
 pub record IsSweepOfServer (past : List Turn) (t : Turn) : Type 0 where
@@ -44,8 +42,8 @@ pub record IsSweepOfServer (past : List Turn) (t : Turn) : Type 0 where
   pub pool : PoolId
   pub number : NodeId
   pub server : ℕ
-  pub event : t.entry.event ≡ ev.Sweep session number server
-  pub removed : t.entry.reply ≡ reply.Done done.Remove
+  pub event : t.entry.event ≡ Event.Sweep session number server
+  pub removed : t.entry.reply ≡ Reply.Done Done.Remove
   pub current : is_current (Janitor pool) session t.before ≡ true
   pub named : SomeTurn (NamesServer number server) past
   pub unswept : is_swept number server t.before.swept ≡ false
@@ -58,15 +56,15 @@ Says = PoolId → NodeId → ℕ → ℕ → Outcome → Type 0
 
 -- a start of the session on the node that was answered with this attempt, as the start of this number in the pool, which the node is of (Nodepool: a launch)
 pub record BeginsLaunch (session : SessionId) (n : NodeId) (attempt m : ℕ) (p : PoolId) (t : Turn) : Type 0 where
-  pub event : t.entry.event ≡ ev.Start session n
-  pub started : t.entry.reply ≡ reply.Done (done.Started attempt m)
+  pub event : t.entry.event ≡ Event.Start session n
+  pub started : t.entry.reply ≡ Reply.Done (Done.Started attempt m)
   pub node : NodeRecord
   pub stood : node_in n t.before.nodes ≡ Some node
   pub of_pool : node.pool.0 ≡ p.0
 
 -- the event is the session's report on this attempt of the node (own)
 abbrev pub is_report_of : SessionId → NodeId → ℕ → Event → Bool
-is_report_of session n attempt (ev.Done by m k o) = is_session by session && is_node n m && (k == attempt)
+is_report_of session n attempt (Event.Done by m k o) = is_session by session && is_node n m && (k == attempt)
 is_report_of session n attempt _ = false
 
 module _ (says : Says) where
@@ -77,7 +75,7 @@ module _ (says : Says) where
     pub number : NodeId
     pub attempt : ℕ
     pub outcome : Outcome
-    pub event : t.entry.event ≡ ev.Done session number attempt outcome
+    pub event : t.entry.event ≡ Event.Done session number attempt outcome
     pub start : ℕ
     pub pool : PoolId
     pub begun : SomeTurn (BeginsLaunch session number attempt start pool) past

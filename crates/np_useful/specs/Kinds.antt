@@ -1,34 +1,30 @@
 -- the events of each kind that names a request, a node or a job
 use Rattle.np_changes.specs.Prelude.{Event, JobId, NodeId, RequestId, SessionId}
-use Rattle.np_event.specs.declared.event.Event.TheVariants as ev
 use Rattle.np_useful.specs.declared.kind.RequestKind.{RequestKind}
-use Rattle.np_useful.specs.declared.kind.RequestKind.TheVariants as of_request
 use Rattle.np_useful.specs.declared.kind.NodeKind.{NodeKind}
-use Rattle.np_useful.specs.declared.kind.NodeKind.TheVariants as of_node
 use Rattle.np_useful.specs.declared.kind.JobKind.{JobKind}
-use Rattle.np_useful.specs.declared.kind.JobKind.TheVariants as of_job
 
 abbrev pub request_event : RequestKind → SessionId → RequestId → Event
-request_event of_request.Lock session r = ev.LockRequest session r
-request_event of_request.Unlock session r = ev.UnlockRequest session r
-request_event of_request.Accept session r = ev.Accept session r
-request_event of_request.Create session r = ev.Create session r
-request_event of_request.Fulfil session r = ev.Fulfil session r
-request_event of_request.Reset session r = ev.Reset session r
-request_event of_request.FailDeclined session r = ev.FailDeclined session r
+request_event RequestKind.Lock session r = Event.LockRequest session r
+request_event RequestKind.Unlock session r = Event.UnlockRequest session r
+request_event RequestKind.Accept session r = Event.Accept session r
+request_event RequestKind.Create session r = Event.Create session r
+request_event RequestKind.Fulfil session r = Event.Fulfil session r
+request_event RequestKind.Reset session r = Event.Reset session r
+request_event RequestKind.FailDeclined session r = Event.FailDeclined session r
 
 abbrev pub node_event : NodeKind → SessionId → NodeId → Event
-node_event of_node.Lock session n = ev.LockNode session n
-node_event of_node.Unlock session n = ev.UnlockNode session n
-node_event of_node.Start session n = ev.Start session n
-node_event (of_node.End as_what) session n = ev.EndNode session n as_what
-node_event of_node.MarkDeleting session n = ev.MarkDeleting session n
-node_event of_node.Gone session n = ev.Gone session n
-node_event of_node.Free session n = ev.FreeNode session n
+node_event NodeKind.Lock session n = Event.LockNode session n
+node_event NodeKind.Unlock session n = Event.UnlockNode session n
+node_event NodeKind.Start session n = Event.Start session n
+node_event (NodeKind.End as_what) session n = Event.EndNode session n as_what
+node_event NodeKind.MarkDeleting session n = Event.MarkDeleting session n
+node_event NodeKind.Gone session n = Event.Gone session n
+node_event NodeKind.Free session n = Event.FreeNode session n
 
 abbrev pub job_event : JobKind → SessionId → JobId → Event
-job_event of_job.Acquire session j = ev.Acquire session j
-job_event of_job.Submit session j = ev.Submit session j
-job_event of_job.Take session j = ev.Take session j
-job_event of_job.Finish session j = ev.Finish session j
-job_event of_job.Release session j = ev.Release session j
+job_event JobKind.Acquire session j = Event.Acquire session j
+job_event JobKind.Submit session j = Event.Submit session j
+job_event JobKind.Take session j = Event.Take session j
+job_event JobKind.Finish session j = Event.Finish session j
+job_event JobKind.Release session j = Event.Release session j

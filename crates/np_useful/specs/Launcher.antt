@@ -1,9 +1,6 @@
 -- which events are useful for the launcher of a pool: one line per event
 use Rattle.std.specs.Prelude.{ℕ, Bool, true, false, ◌==◌, ◌&&◌, ◌||◌, not, Option, is_ok, is_none, find, slice_get, count_by, nat_lt, option_and_then}
 use Rattle.np_machine.specs.Prelude.{Configuration, Event, Janitor, Launcher, NodeId, NodeRecord, Outcome, PoolId, Reaper, Reason, RequestEntry, RequestId, RequestRecord, Requester, Role, SessionId, State, blocking, first_unoffered, holder, is_declined_by, is_node, is_paused, is_pending, is_pending_by, is_requested, is_session_of, is_spent, judge, list_any, maker_of, may_fit, never_fits, option_map, option_map_or, outcome_of, registered, role_of, same_role, tenant_never_fits}
-use Rattle.np_text.specs.declared.word.Reason.TheVariants as reason
-use Rattle.np_event.specs.declared.event.Event.TheVariants as ev
-use Rattle.np_event.specs.declared.event.Outcome.TheVariants as outcome
 use Rattle.np_useful.specs.Sessions.{may_open}
 use Rattle.np_useful.specs.Rows.{request_is, node_is, is_listed, is_complete, has_failed_node}
 
@@ -20,11 +17,11 @@ is_done_with c s p request = not (is_pending request.state) && not (is_worth_kee
 
 -- the reason is the first of the pool's for the request: labels in the request's order, the pool's limits, the tenant's, failed nodes in the list's order (own)
 abbrev pub is_first_reason : Configuration → State → PoolId → RequestRecord → Reason → Bool
-is_first_reason c s p request (reason.NoLabel l) = option_map_or (λ first. first.0 == l.0) (first_unoffered c p request) false
-is_first_reason c s p request reason.NeverFits = is_none (first_unoffered c p request) && never_fits c p request
-is_first_reason c s p request reason.TenantNeverFits =
+is_first_reason c s p request (Reason.NoLabel l) = option_map_or (λ first. first.0 == l.0) (first_unoffered c p request) false
+is_first_reason c s p request Reason.NeverFits = is_none (first_unoffered c p request) && never_fits c p request
+is_first_reason c s p request Reason.TenantNeverFits =
     is_none (first_unoffered c p request) && not (never_fits c p request) && tenant_never_fits c p request
-is_first_reason c s p request (reason.Spent n) =
+is_first_reason c s p request (Reason.Spent n) =
     may_fit c p request && option_map_or (is_node n) (find (λ m. is_spent m s) request.nodes) false
 
 -- ## nodes of the request that the pool serves
@@ -39,12 +36,12 @@ is_to_launch p s n = list_any (λ e. is_pending_by p e.kept && is_listed n e.kep
 
 -- some ready node may be allocated to the request (Nodepool: ready nodes are used first)
 abbrev pub may_take_ready : Configuration → State → SessionId → RequestId → Bool
-may_take_ready c s session r = list_any (λ e. is_ok (judge c s (ev.TakeReady session r e.id))) s.nodes
+may_take_ready c s session r = list_any (λ e. is_ok (judge c s (Event.TakeReady session r e.id))) s.nodes
 
 -- the same server, or both failed (own)
 abbrev pub same_outcome : Outcome → Outcome → Bool
-same_outcome (outcome.Launched x) (outcome.Launched y) = x == y
-same_outcome outcome.Failed outcome.Failed = true
+same_outcome (Outcome.Launched x) (Outcome.Launched y) = x == y
+same_outcome Outcome.Failed Outcome.Failed = true
 same_outcome _ _ = false
 
 -- the report on the node's last attempt that the simulated cloud makes (own)
@@ -100,19 +97,19 @@ has_turn_left c s p = option_map_or (λ most. nat_lt (requests_near c s p) most)
 
 -- what a launcher that holds its pool's registration does (Nodepool, in an order of its own)
 abbrev pub registered_row : Configuration → State → PoolId → Event → Bool
-registered_row c s p (ev.UnlockRequest session r) = request_is r s (is_done_with c s p)
-registered_row c s p (ev.UnlockNode session n) = node_is n s (λ k. not k.in_flight) && not (is_wanted_by p s n)
-registered_row c s p (ev.Accept session r) = true
-registered_row c s p (ev.Decline session r why) = request_is r s (λ request. is_first_reason c s p request why)
-registered_row c s p (ev.TakeReady session r n) = request_is r s (λ request. not (has_failed_node s request))
-registered_row c s p (ev.Create session r) =
+registered_row c s p (Event.UnlockRequest session r) = request_is r s (is_done_with c s p)
+registered_row c s p (Event.UnlockNode session n) = node_is n s (λ k. not k.in_flight) && not (is_wanted_by p s n)
+registered_row c s p (Event.Accept session r) = true
+registered_row c s p (Event.Decline session r why) = request_is r s (λ request. is_first_reason c s p request why)
+registered_row c s p (Event.TakeReady session r n) = request_is r s (λ request. not (has_failed_node s request))
+registered_row c s p (Event.Create session r) =
     request_is r s (λ request. not (has_failed_node s request)) && not (may_take_ready c s session r)
-registered_row c s p (ev.Start session n) = is_to_launch p s n
-registered_row c s p (ev.Done session n attempt o) = node_is n s (is_as_planned c p attempt o)
-registered_row c s p (ev.Fulfil session r) = true
-registered_row c s p (ev.LockRequest session r) =
+registered_row c s p (Event.Start session n) = is_to_launch p s n
+registered_row c s p (Event.Done session n attempt o) = node_is n s (is_as_planned c p attempt o)
+registered_row c s p (Event.Fulfil session r) = true
+registered_row c s p (Event.LockRequest session r) =
     not (list_any (is_under_way p) s.requests) && not (list_any (is_in_hand p session) s.requests) && has_turn_left c s p
-registered_row c s p (ev.MinReady session l) = not (is_paused c s p)
+registered_row c s p (Event.MinReady session l) = not (is_paused c s p)
 registered_row c s p _ = false
 
 -- the event's maker holds the registration of the pool (own)
@@ -122,6 +119,6 @@ is_by_registrant s p e = option_map_or (λ session. is_session_of session (regis
 -- it opens its session and registers first; everything else waits for that (Nodepool: launchers
 -- register)
 abbrev pub launcher_row : Configuration → State → PoolId → Event → Bool
-launcher_row c s p (ev.OpenSession role) = same_role role (Launcher p) && may_open c role s
-launcher_row c s p (ev.Register session) = true
+launcher_row c s p (Event.OpenSession role) = same_role role (Launcher p) && may_open c role s
+launcher_row c s p (Event.Register session) = true
 launcher_row c s p e = is_by_registrant s p e && registered_row c s p e

@@ -1,17 +1,16 @@
 -- events that were chosen on an older state and committed later
 use Rattle.std.specs.Prelude.{◌≡◌, ◌≤◌, ◌++◌, ◌∷◌, [], ℕ, Bool, true, false, List, length, take, is_ok}
 use Rattle.np_machine.specs.Prelude.{Configuration, Entry, Event, Role, SomeTurn, Turn, after, judge}
-use Rattle.np_event.specs.declared.event.Event.TheVariants as ev
 use Rattle.np_useful.specs.Useful.{IsUseful}
 
 -- a launcher's events that can be planned (own)
 abbrev pub is_planned : Event → Bool
-is_planned (ev.Start session n) = true
-is_planned (ev.UnlockNode session n) = true
-is_planned (ev.UnlockRequest session r) = true
-is_planned (ev.Decline session r why) = true
-is_planned (ev.TakeReady session r n) = true
-is_planned (ev.Fulfil session r) = true
+is_planned (Event.Start session n) = true
+is_planned (Event.UnlockNode session n) = true
+is_planned (Event.UnlockRequest session r) = true
+is_planned (Event.Decline session r why) = true
+is_planned (Event.TakeReady session r n) = true
+is_planned (Event.Fulfil session r) = true
 is_planned _ = false
 
 -- the event can be planned, was useful for the role after some beginning of the journal, and is accepted after all of it (own)

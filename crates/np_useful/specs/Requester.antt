@@ -1,8 +1,6 @@
 -- which events are useful for a requester: one line per event
 use Rattle.std.specs.Prelude.{Bool, true, false, ◌==◌, ◌&&◌, ◌||◌, not, slice_get, option_and_then}
 use Rattle.np_machine.specs.Prelude.{Configuration, EndAs, Event, Job, JobId, JobRecord, NodeId, RequestEntry, Requester, RequesterId, State, is_asked, is_fulfilled, is_in_use, is_new, is_queued, list_any, missing_handles, node_queue, option_map_or, request_in, same_role}
-use Rattle.np_text.specs.declared.word.EndAs.TheVariants as end
-use Rattle.np_event.specs.declared.event.Event.TheVariants as ev
 use Rattle.np_machine.specs.Node.{owner_from}
 use Rattle.np_useful.specs.Sessions.{may_open}
 use Rattle.np_useful.specs.Window.{is_in_window}
@@ -38,8 +36,8 @@ is_for c s q n = list_any (λ e. is_handed_over c s q e && is_listed n e.kept) s
 
 -- both used, or both held (own)
 abbrev pub same_end : EndAs → EndAs → Bool
-same_end end.Used end.Used = true
-same_end end.Hold end.Hold = true
+same_end EndAs.Used EndAs.Used = true
+same_end EndAs.Hold EndAs.Hold = true
 same_end _ _ = false
 
 -- the job that has the node leaves its nodes this way (Zuul: nodes are returned as used or held)
@@ -48,13 +46,13 @@ is_left_as c s n as_what = option_map_or (λ job. same_end job.end as_what) (own
 
 -- what a requester does (Zuul, in an order of its own)
 abbrev pub requester_row : Configuration → State → RequesterId → Event → Bool
-requester_row c s q (ev.OpenSession role) = same_role role (Requester q) && may_open c role s
-requester_row c s q (ev.Acquire session j) = job_is j c (is_to_acquire c s q j)
-requester_row c s q (ev.Submit session j) = is_in_window c s q j
-requester_row c s q (ev.LockNode session n) = is_for c s q n && not (is_queued session (node_queue n s.nodes))
-requester_row c s q (ev.Take session j) = true
-requester_row c s q (ev.Finish session j) = true
-requester_row c s q (ev.EndNode session n as_what) = is_left_as c s n as_what
-requester_row c s q (ev.UnlockNode session n) = node_is n s (λ k. not (is_in_use k.state)) && not (is_for c s q n)
-requester_row c s q (ev.Release session j) = job_is j c (has_some_handle s j)
+requester_row c s q (Event.OpenSession role) = same_role role (Requester q) && may_open c role s
+requester_row c s q (Event.Acquire session j) = job_is j c (is_to_acquire c s q j)
+requester_row c s q (Event.Submit session j) = is_in_window c s q j
+requester_row c s q (Event.LockNode session n) = is_for c s q n && not (is_queued session (node_queue n s.nodes))
+requester_row c s q (Event.Take session j) = true
+requester_row c s q (Event.Finish session j) = true
+requester_row c s q (Event.EndNode session n as_what) = is_left_as c s n as_what
+requester_row c s q (Event.UnlockNode session n) = node_is n s (λ k. not (is_in_use k.state)) && not (is_for c s q n)
+requester_row c s q (Event.Release session j) = job_is j c (has_some_handle s j)
 requester_row c s q _ = false

@@ -1,7 +1,6 @@
 -- who acts for a role, and the faults that are planned for it
 use Rattle.std.specs.Prelude.{ℕ, ◌-◌, List, Bool, true, false, ◌==◌, ◌&&◌, not, if◌then◌else◌, Option, None, filter, drop, slice_get, nat_le}
 use Rattle.np_machine.specs.Prelude.{Configuration, Fault, FaultKind, Role, SessionId, State, list_any, option_map_or, role_in, session_of}
-use Rattle.np_config.specs.declared.row.FaultKind.TheVariants as kind
 use Rattle.np_machine.specs.Laws.{acts_of, same_role, speaks_for}
 
 -- ## sessions
@@ -36,15 +35,15 @@ next_fault c role s = slice_get (faults_of c role) (strikes_of role s)
 
 -- the session ends, and its party continues with a new one (ZooKeeper: a session expires)
 abbrev pub is_expire : FaultKind → Bool
-is_expire kind.Expire = true
-is_expire kind.Crash = false
-is_expire kind.Stop = false
+is_expire FaultKind.Expire = true
+is_expire FaultKind.Crash = false
+is_expire FaultKind.Stop = false
 
 -- the party stops for good (own)
 abbrev pub is_stop : FaultKind → Bool
-is_stop kind.Expire = false
-is_stop kind.Crash = false
-is_stop kind.Stop = true
+is_stop FaultKind.Expire = false
+is_stop FaultKind.Crash = false
+is_stop FaultKind.Stop = true
 
 -- the role stopped for good: its last fault was a stop (own)
 abbrev pub is_stopped : Configuration → Role → State → Bool

@@ -1,11 +1,5 @@
 -- what the test of stats says
-use Rattle.std.proofs.Common.{◌≡◌, ℕ, ◌≤◌, ◌<◌, Bool, true, false, List, Option, Some, None, refl, ap, ◌∙◌, arith}
-use Rattle.std.specs.Prelude.{◌&&◌, max, nat_le}
-use Rattle.std.specs.Option.{option_and_then, option_map}
-use Rattle.std.proofs.lemmas.Bool.Decides.{nat_tests}
-use Rattle.np_tree.specs.Prelude.{Node, TreeState, at_path, parent_of, stat_at, stat_of}
-use Rattle.np_watch.specs.Fresh.{IsFreshPath, StaleIsLater, TestSaysFresh, is_fresh, is_listed_by, is_written_by, stat_above}
-use Rattle.std.proofs.lemmas.Bool.{and_parts, and_from}
+use Rattle.np_watch.proofs.Prelude.{Bool, IsFreshPath, List, Node, None, Option, Some, StaleIsLater, TestSaysFresh, TreeState, and_from, and_parts, ap, arith, at_path, false, is_fresh, is_listed_by, is_written_by, max, nat_le, nat_tests, option_and_then, option_map, parent_of, refl, stat_above, stat_at, stat_of, true, ℕ, ◌&&◌, ◌<◌, ◌∙◌, ◌≡◌, ◌≤◌}
 
 module _ (t : TreeState) (z : ℕ) where
   -- the node of a path that was listed at z or before

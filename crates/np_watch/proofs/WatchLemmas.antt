@@ -1,12 +1,5 @@
 -- watches in their order, and the first that passes a test
-use Rattle.std.proofs.Common.{◌≡◌, ℕ, suc, ◌<◌, Bool, true, false, not, cond, List, [], ◌∷◌, length, filter, find, Option, Some, None, refl, ap, arith}
-use Rattle.std.specs.Prelude.{option_map}
-use Rattle.std.proofs.lemmas.Bool.Decides.{nat_tests}
-use Rattle.np_tree.specs.Prelude.{NonePass, Rises, remove_first}
-use Rattle.np_lists.proofs.Each.{all-find, all-insert_before, all-remove_first, all-weaker, length-insert_before, length-remove_first}
-use Rattle.np_watch.specs.Keys.{key_transitive}
-use Rattle.np_watch.specs.Watching.{AreWatches, has_key, key_before, with_watch}
-use Rattle.np_watch.specs.declared.watch.Watch.{Watch}
+use Rattle.np_watch.proofs.Prelude.{AreWatches, Bool, List, None, NonePass, Option, Rises, Some, Watch, all-find, all-insert_before, all-remove_first, all-weaker, ap, arith, cond, false, filter, find, has_key, key_before, key_transitive, length, length-insert_before, length-remove_first, nat_tests, not, option_map, refl, remove_first, suc, true, with_watch, ℕ, [], ◌<◌, ◌∷◌, ◌≡◌}
 
 -- ## one more
 

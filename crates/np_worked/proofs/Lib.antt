@@ -1,2 +1,3 @@
+pub mod Prelude
 mod CausedLemmas
-mod Cases
+mod DrivenLemmas

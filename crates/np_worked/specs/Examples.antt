@@ -1,18 +1,10 @@
 -- what the examples say, and the sites and journals that are made for them
-use Rattle.std.specs.Prelude.{◌≡◌, ℕ, List, [], ◌∷◌, ◌++◌, Some, None, true, false, is_ok, codes, take}
-use Rattle.np_machine.specs.Prelude.{Configuration, Entry, Event, FaultKind, Role, State, after, judge, maker_of, replayed, start}
-use Rattle.np_config.specs.declared.row.FaultKind.TheVariants as kind
-use Rattle.np_event.specs.declared.event.Event.TheVariants as ev
-use Rattle.np_event.specs.declared.event.Outcome.TheVariants as outcome
-use Rattle.np_event.specs.declared.reply.Done.TheVariants as done
+use Rattle.std.specs.Prelude.{◌≡◌, ℕ, List, [], ◌∷◌, ◌++◌, Option, Some, None, true, false, is_ok, codes, take}
 use Rattle.np_worked.specs.Site.{session, node, job, label, request, launcher, janitor, requester, at_most, offer, a_label, a_provider, a_pool, a_job, one_pool, plain_site, line}
-use Rattle.np_worked.specs.PlainPath as plain
-use Rattle.np_worked.specs.ExpiryDuringALaunch as expiry_during_a_launch
-use Rattle.np_worked.specs.FailDeclined as fail_declined
-use Rattle.np_worked.specs.RetriesSpent as retries_spent
-use Rattle.np_worked.specs.TenantLimit as tenant_limit
-use Rattle.np_worked.specs.FinishedByTheJanitor as finished_by_the_janitor
-use Rattle.np_useful.specs.Useful.{is_maker_of, row_holds}
+use Rattle.np_worked.specs.Jobs.{fail_declined, finished_by_the_janitor, min_ready_and_taken, plain_path, retries_spent}
+use Rattle.np_worked.specs.Nodes.{expiry_during_a_launch}
+use Rattle.np_worked.specs.Shares.{tenant_limit}
+use Rattle.np_worked.specs.Lower.{Configuration, Done, Entry, Event, FaultKind, Outcome, PoolId, Role, State, after, is_maker_of, judge, maker_of, node_in, option_map, replayed, request_in, role_in, row_holds, start}
 
 -- the machine would accept the event from the role's current session, but it is not useful
 pub record IsUseless (c : Configuration) (s : State) (role : Role) (e : Event) : Type 0 where
@@ -24,6 +16,18 @@ pub record IsUseless (c : Configuration) (s : State) (role : Role) (e : Event) :
 abbrev pub after_first : ℕ → Configuration → List Entry → State
 after_first count c journal = after c (take count journal)
 
+-- since when the first node is in its state
+abbrev pub since_after : Configuration → List Entry → Option ℕ
+since_after c journal = option_map (λ k. k.since) (node_in (node 0) (after c journal).nodes)
+
+-- the pool that serves the first request, if it has one
+abbrev pub pool_after : Configuration → List Entry → Option (Option PoolId)
+pool_after c journal = option_map (λ k. k.pool) (request_in (request 200 0) (after c journal).requests)
+
+-- how many times the role's session was lost
+abbrev pub strikes_after : Role → Configuration → List Entry → Option ℕ
+strikes_after role c journal = option_map (λ k. k.strikes) (role_in role (after c journal))
+
 -- the machine's replies are those of the journal
 abbrev pub HasReplies : Configuration → List Entry → Type 0
 HasReplies c journal = replayed c (start c) journal ≡ journal
@@ -32,11 +36,11 @@ HasReplies c journal = replayed c (start c) journal ≡ journal
 
 abbrev pub two_sessions : List Entry
 two_sessions =
-    take 7 plain.journal
-    ++ line (ev.OpenSession (launcher 0)) (done.Session (session 3))
-    ∷ line (ev.UnlockNode (session 1) (node 0)) done.Plain
-    ∷ line (ev.LockNode (session 3) (node 0)) done.Held
-    ∷ line (ev.Crash (session 3)) done.Plain
+    take 7 plain_path.journal
+    ++ line (Event.OpenSession (launcher 0)) (Done.Session (session 3))
+    ∷ line (Event.UnlockNode (session 1) (node 0)) Done.Plain
+    ∷ line (Event.LockNode (session 3) (node 0)) Done.Held
+    ∷ line (Event.Crash (session 3)) Done.Plain
     ∷ []
 
 -- ## a job whose labels the pool does not offer
@@ -69,24 +73,15 @@ failing_site = record (one_pool (a_job (codes "j") (label 1 ∷ label 1 ∷ labe
 
 abbrev pub failing : List Entry
 failing =
-    line (ev.OpenSession (launcher 0)) (done.Session (session 1))
-    ∷ line (ev.Register (session 1)) done.Plain
-    ∷ line (ev.MinReady (session 1) (label 0)) (done.Request (request 400 0))
-    ∷ line (ev.LockRequest (session 1) (request 400 0)) done.Held
-    ∷ line (ev.Accept (session 1) (request 400 0)) done.Plain
-    ∷ line (ev.Create (session 1) (request 400 0)) (done.Node (node 0))
-    ∷ line (ev.Start (session 1) (node 0)) (done.Started 1 1)
-    ∷ line (ev.Done (session 1) (node 0) 1 (outcome.Launched 1)) done.Plain
-    ∷ line (ev.Fulfil (session 1) (request 400 0)) done.Plain
-    ∷ line (ev.UnlockNode (session 1) (node 0)) done.Plain
-    ∷ line (ev.OpenSession (requester 0)) (done.Session (session 2))
-    ∷ line (ev.Submit (session 2) (job 0)) (done.Request (request 200 1))
-    ∷ line (ev.LockRequest (session 1) (request 200 1)) done.Held
-    ∷ line (ev.Accept (session 1) (request 200 1)) done.Plain
-    ∷ line (ev.Create (session 1) (request 200 1)) (done.Node (node 1))
-    ∷ line (ev.Create (session 1) (request 200 1)) (done.Node (node 2))
-    ∷ line (ev.Start (session 1) (node 1)) (done.Started 1 2)
-    ∷ line (ev.Done (session 1) (node 1) 1 outcome.Failed) done.Plain
+    take 10 min_ready_and_taken.journal
+    ++ line (Event.OpenSession (requester 0)) (Done.Session (session 2))
+    ∷ line (Event.Submit (session 2) (job 0)) (Done.Request (request 200 1))
+    ∷ line (Event.LockRequest (session 1) (request 200 1)) Done.Held
+    ∷ line (Event.Accept (session 1) (request 200 1)) Done.Plain
+    ∷ line (Event.Create (session 1) (request 200 1)) (Done.Node (node 1))
+    ∷ line (Event.Create (session 1) (request 200 1)) (Done.Node (node 2))
+    ∷ line (Event.Start (session 1) (node 1)) (Done.Started 1 2)
+    ∷ line (Event.Done (session 1) (node 1) 1 Outcome.Failed) Done.Plain
     ∷ []
 
 -- ## two jobs, a window and a concurrency
@@ -103,21 +98,18 @@ concurrency_site concurrency = record (window_site 20) { providers = record (a_p
 
 abbrev pub two_jobs : List Entry
 two_jobs =
-    line (ev.OpenSession (launcher 0)) (done.Session (session 1))
-    ∷ line (ev.OpenSession (requester 0)) (done.Session (session 2))
-    ∷ line (ev.Register (session 1)) done.Plain
-    ∷ line (ev.Submit (session 2) (job 0)) (done.Request (request 200 0))
-    ∷ line (ev.Submit (session 2) (job 1)) (done.Request (request 200 1))
-    ∷ line (ev.LockRequest (session 1) (request 200 0)) done.Held
-    ∷ line (ev.Accept (session 1) (request 200 0)) done.Plain
-    ∷ line (ev.Create (session 1) (request 200 0)) (done.Node (node 0))
+    take 4 plain_path.journal
+    ++ line (Event.Submit (session 2) (job 1)) (Done.Request (request 200 1))
+    ∷ line (Event.LockRequest (session 1) (request 200 0)) Done.Held
+    ∷ line (Event.Accept (session 1) (request 200 0)) Done.Plain
+    ∷ line (Event.Create (session 1) (request 200 0)) (Done.Node (node 0))
     ∷ []
 
 -- a job is withdrawn, and the next moves into a window of one
 abbrev pub moved_window : List Entry
 moved_window =
-    line (ev.OpenSession (requester 0)) (done.Session (session 1))
-    ∷ line (ev.Withdraw (session 1) (job 0)) done.Plain
+    line (Event.OpenSession (requester 0)) (Done.Session (session 1))
+    ∷ line (Event.Withdraw (session 1) (job 0)) Done.Plain
     ∷ []
 
 -- ## a pool that has room for a node of one label and waits for room for another
@@ -131,18 +123,18 @@ waiting_site = record (one_pool (a_job (codes "j") (label 0 ∷ []) ∷ a_job (c
 }
 
 abbrev pub waiting : List Entry
-waiting = two_jobs ++ line (ev.LockRequest (session 1) (request 200 1)) done.Held ∷ line (ev.Accept (session 1) (request 200 1)) done.Plain ∷ []
+waiting = two_jobs ++ line (Event.LockRequest (session 1) (request 200 1)) Done.Held ∷ line (Event.Accept (session 1) (request 200 1)) Done.Plain ∷ []
 
 -- ## the janitor of another pool
 
 abbrev pub other_pool : List Entry
 other_pool =
     take 9 retries_spent.journal
-    ++ line (ev.Expire (session 1)) done.Plain
-    ∷ line (ev.OpenSession (janitor 1)) (done.Session (session 4))
-    ∷ line (ev.LockRequest (session 4) (request 200 0)) done.Held
-    ∷ line (ev.LockNode (session 4) (node 0)) done.Held
-    ∷ line (ev.MarkDeleting (session 4) (node 0)) done.Plain
+    ++ line (Event.Expire (session 1)) Done.Plain
+    ∷ line (Event.OpenSession (janitor 1)) (Done.Session (session 4))
+    ∷ line (Event.LockRequest (session 4) (request 200 0)) Done.Held
+    ∷ line (Event.LockNode (session 4) (node 0)) Done.Held
+    ∷ line (Event.MarkDeleting (session 4) (node 0)) Done.Plain
     ∷ []
 
 -- ## planned faults
@@ -153,10 +145,10 @@ struck_site what = record plain_site { faults = record { role = launcher 0; kind
 
 abbrev pub struck : List Entry
 struck =
-    line (ev.OpenSession (launcher 0)) (done.Session (session 1))
-    ∷ line (ev.Register (session 1)) done.Plain
-    ∷ line (ev.Crash (session 1)) done.Plain
-    ∷ line (ev.Expire (session 1)) done.Plain
+    line (Event.OpenSession (launcher 0)) (Done.Session (session 1))
+    ∷ line (Event.Register (session 1)) Done.Plain
+    ∷ line (Event.Crash (session 1)) Done.Plain
+    ∷ line (Event.Expire (session 1)) Done.Plain
     ∷ []
 
 -- the requester of a job that a janitor finishes has such a fault
@@ -167,14 +159,14 @@ left_alone_site what = record finished_by_the_janitor.site { faults = record { r
 
 -- the launcher's session expires after its fifth act, while it launches
 abbrev pub expiring_site : Configuration
-expiring_site = record plain_site { faults = record { role = launcher 0; kind = kind.Expire; after = 5 } ∷ [] }
+expiring_site = record plain_site { faults = record { role = launcher 0; kind = FaultKind.Expire; after = 5 } ∷ [] }
 
 -- a journal of all kinds: useful events, a late report, the sweep of its server, and a tick
 abbrev pub all_kinds : List Entry
-all_kinds = take 18 expiry_during_a_launch.journal ++ line ev.Tick done.Plain ∷ []
+all_kinds = take 18 expiry_during_a_launch.journal ++ line Event.Tick Done.Plain ∷ []
 
 abbrev pub first_tick : List Entry
-first_tick = line ev.Tick done.Plain ∷ []
+first_tick = line Event.Tick Done.Plain ∷ []
 
 -- a site without pools, requesters and jobs
 abbrev pub empty_site : Configuration
@@ -185,4 +177,4 @@ abbrev pub quiet_site : Configuration
 quiet_site = record plain_site { pools = []; jobs = [] }
 
 abbrev pub quiet : List Entry
-quiet = line (ev.OpenSession (requester 0)) (done.Session (session 1)) ∷ []
+quiet = line (Event.OpenSession (requester 0)) (Done.Session (session 1)) ∷ []

@@ -1,14 +1,17 @@
 -- what worked journals are made of: ids, sites and lines
 use Rattle.std.specs.Prelude.{◌≡◌, ℕ, List, [], ◌∷◌, Some, None, false, codes}
-use Rattle.np_machine.specs.Prelude.{Configuration, Done, Entry, Event, Fate, Janitor, Job, JobId, Label, LabelId, Launcher, Limit, NodeId, Offer, Pool, PoolId, Refusal, RequestId, Requester, Role, Sem, SemId, SessionId, Tenant, TenantId, after, fates, no_limit, replayed, start}
-use Rattle.np_text.specs.declared.word.EndAs.TheVariants as end
-use Rattle.np_config.specs.declared.row.Provider.{Provider}
-use Rattle.np_event.specs.declared.reply.Reply.TheVariants as reply
+use Rattle.np_worked.specs.Lower.{Configuration, Done, EndAs, Entry, Event, Fate, Janitor, Job, JobId, Label, LabelId, Launcher, Limit, NodeId, Offer, Pool, PoolId, Provider, Refusal, Reply, RequestId, Requester, Role, Sem, SemId, SessionId, Tenant, TenantId, after, fates, no_limit, replayed, start}
 
 -- the machine's replies are those of the journal, and the jobs end with these fates
 pub record Plays (c : Configuration) (journal : List Entry) (ends : List Fate) : Type 0 where
   pub replies : replayed c (start c) journal ≡ journal
   pub fates : fates (after c journal) ≡ ends
+
+-- a site, the events with their replies, and what becomes of each job
+pub record Story : Type 0 where
+  pub site : Configuration
+  pub journal : List Entry
+  pub ends : List Fate
 
 -- ## ids
 
@@ -80,7 +83,7 @@ a_job name labels = record {
   relative_priority = 0;
   semaphores = [];
   resources_first = false;
-  end = end.Used;
+  end = EndAs.Used;
   tenant = tenant 0;
 }
 
@@ -105,7 +108,7 @@ plain_site = one_pool (a_job (codes "j") (label 0 ∷ []) ∷ [])
 -- ## lines
 
 abbrev pub line : Event → Done → Entry
-line e what = record { event = e; reply = reply.Done what }
+line e what = record { event = e; reply = Reply.Done what }
 
 abbrev pub refused : Event → Refusal → Entry
-refused e why = record { event = e; reply = reply.Refused why }
+refused e why = record { event = e; reply = Reply.Refused why }

@@ -1,49 +1,17 @@
 -- a worked state, the tree that lays it out, and trees that do not
 use Rattle.std.specs.Prelude.{ℕ, true, false, List, [], ◌∷◌, ◌++◌, codes, map, Some, None}
-use Rattle.np_text.specs.declared.word.NodeState.TheVariants as node_state
-use Rattle.np_text.specs.declared.word.Phase.TheVariants as phase
-use Rattle.np_text.specs.declared.word.RequestState.TheVariants as request_state
-use Rattle.np_machine.specs.Prelude.{JobRecord, NodeRecord, RequestRecord, State, new_job, no_deeds}
-use Rattle.np_tree.specs.TreeState.{TreeState, new_tree}
-use Rattle.np_tree.specs.After.{after_end, after_set}
-use Rattle.np_tree.specs.Calls.{after_begin}
-use Rattle.np_tree.specs.Multi.{after_parts}
-use Rattle.np_tree.specs.Prelude.{Any, Ephemeral, EphemeralSequential, Op, Persistent, PersistentSequential}
-use Rattle.np_tree_nodes.specs.declared.op.Op.TheVariants as op
-use Rattle.np_worked.specs.Site.{session, job, label, node, pool, tenant, request, launcher, janitor, requester}
-use Rattle.np_layout.specs.First.{first_directories, make}
+use Rattle.np_worked.specs.Site.{session, job, node, pool, tenant, request, launcher, janitor, requester}
+use Rattle.np_worked.specs.Parts.{allocated, asked_for, asked_job}
+use Rattle.np_worked.specs.Lower.{Any, Ephemeral, EphemeralSequential, NodeRecord, NodeState, Op, Persistent, PersistentSequential, RequestRecord, RequestState, State, TreeState, after_begin, after_end, after_parts, after_set, first_directories, make, new_job, new_tree, no_deeds}
 
 -- ## the state
 
 -- pending at pool 0, which is to give it node 1
 abbrev pub asked : RequestRecord
-asked = record {
-  declined = [];
-  job = Some (job 0);
-  labels = label 0 ∷ [];
-  nodes = node 1 ∷ [];
-  pinned = None;
-  pool = Some (pool 0);
-  relative_priority = 0;
-  state = request_state.Pending;
-}
+asked = record (asked_for RequestState.Pending) { nodes = node 1 ∷ []; pool = Some (pool 0) }
 
 abbrev pub in_building : NodeRecord
-in_building = record {
-  allocated_to = Some (request 200 0);
-  attempts = 1;
-  in_flight = true;
-  label = label 0;
-  pool = pool 0;
-  server = None;
-  since = 3;
-  start = 2;
-  state = node_state.Building;
-  tenant = Some (tenant 0);
-}
-
-abbrev pub asking : JobRecord
-asking = record { ending = None; nodes = []; phase = phase.Asked; pool = None; request = Some (request 200 0) }
+in_building = record (allocated NodeState.Building) { in_flight = true; server = None; since = 3; start = 2; tenant = Some (tenant 0) }
 
 -- launcher 0 serves the request of job 0, at whose lock the requester waits; the janitor's session has
 -- ended. The jobs 2 and 10 have handles, and the servers 9 and 10 of node 0 were swept: the order of
@@ -60,7 +28,7 @@ worked = record {
   requests = record { id = request 200 0; kept = asked; queue = session 1 ∷ session 3 ∷ [] } ∷ [];
   nodes = record { id = node 1; kept = in_building; queue = session 1 ∷ [] } ∷ [];
   handles = (job 2 ∷ job 10 ∷ []) ∷ [];
-  jobs = asking ∷ new_job ∷ [];
+  jobs = asked_job ∷ new_job ∷ [];
   launchers = no_deeds ∷ [];
   janitors = no_deeds ∷ [];
   requesters = no_deeds ∷ [];
@@ -72,7 +40,7 @@ worked = record {
 -- ## the tree
 
 abbrev pub file : List ℕ → List ℕ → Op
-file path bytes = op.Create path bytes Persistent
+file path bytes = Op.Create path bytes Persistent
 
 abbrev pub no_deeds_text : List ℕ
 no_deeds_text = codes "{\"acts\":0,\"starts\":0,\"strikes\":0}"
@@ -95,29 +63,29 @@ housekeeping =
     ∷ file (codes "/poolsim/swept/0000000000-9") []
     ∷ file (codes "/poolsim/swept/0000000000-10") []
     ∷ file (codes "/poolsim/tick") (codes "12")
-    ∷ op.CreateUnder (codes "/nodepool/nodes") [] PersistentSequential
-    ∷ op.Delete (codes "/nodepool/nodes/0000000000") Any
+    ∷ Op.CreateUnder (codes "/nodepool/nodes") [] PersistentSequential
+    ∷ Op.Delete (codes "/nodepool/nodes/0000000000") Any
     ∷ []
 
 -- the requester makes the request and its lock
 abbrev pub asking_parts : List Op
 asking_parts =
-    op.Create (codes "/nodepool/requests/200-") (codes "{\"declined\":[],\"job\":0,\"labels\":[0],\"nodes\":[1],\"pool\":0,\"relative-priority\":0,\"state\":\"pending\"}") PersistentSequential
+    Op.Create (codes "/nodepool/requests/200-") (codes "{\"declined\":[],\"job\":0,\"labels\":[0],\"nodes\":[1],\"pool\":0,\"relative-priority\":0,\"state\":\"pending\"}") PersistentSequential
     ∷ file (codes "/nodepool/requests-lock/200-0000000000") []
     ∷ []
 
 -- a session waits at the request's lock
 abbrev pub wait : Op
-wait = op.Create (codes "/nodepool/requests-lock/200-0000000000/lock-") [] EphemeralSequential
+wait = Op.Create (codes "/nodepool/requests-lock/200-0000000000/lock-") [] EphemeralSequential
 
 -- the launcher makes its registration, and the node with its lock, which it holds; the node is spelled
 -- as before there were tenants
 abbrev pub serving_parts : List Op
 serving_parts =
-    op.Create (codes "/nodepool/launchers/0") [] Ephemeral
-    ∷ op.CreateUnder (codes "/nodepool/nodes") (codes "{\"allocated-to\":\"200-0000000000\",\"attempts\":1,\"in-flight\":true,\"label\":0,\"pool\":0,\"since\":3,\"start\":2,\"state\":\"building\"}") PersistentSequential
+    Op.Create (codes "/nodepool/launchers/0") [] Ephemeral
+    ∷ Op.CreateUnder (codes "/nodepool/nodes") (codes "{\"allocated-to\":\"200-0000000000\",\"attempts\":1,\"in-flight\":true,\"label\":0,\"pool\":0,\"since\":3,\"start\":2,\"state\":\"building\"}") PersistentSequential
     ∷ file (codes "/nodepool/nodes/0000000001/lock") []
-    ∷ op.Create (codes "/nodepool/nodes/0000000001/lock/lock-") [] EphemeralSequential
+    ∷ Op.Create (codes "/nodepool/nodes/0000000001/lock/lock-") [] EphemeralSequential
     ∷ []
 
 -- the tree's first session and the machine's three have begun

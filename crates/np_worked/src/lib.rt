@@ -1,10 +1,11 @@
 //! Worked examples: the definitions, checked against what they are meant to say.
 //!
 //! Each function is a theorem with an empty body. Those of this file are journals: on its site, the
-//! machine's replies are those of the journal, one by one, and each job has its fate. The file of the
-//! same name in `specs/` has the site, the journal and the fates; the checker computes them from the
-//! definitions alone. `trees` has a worked tree, which lays its state out, and others, which don't.
-//! `useful` has examples of both sides for each kind of useful event, in states of these journals.
+//! machine's replies are those of the journal, one by one, and each job has its fate. The story of the
+//! same name in `specs/Jobs`, `Nodes` or `Shares` has the site, the journal and the fates; the checker
+//! computes them from the definitions alone. `trees` has a worked tree, which lays its state out, and
+//! others, which don't. `useful` has examples of both sides for each kind of useful event, in states
+//! of these journals.
 //!
 //! `refused` has made-up cases that a definition has to refuse. What holds after every step of a run
 //! is proved of the machine, in which nothing is ever lost, so a definition with a weaker word would
@@ -12,9 +13,8 @@
 //! does not hold of them. With a weaker word it would, and the law would not be proved. Beside such
 //! cases stands one that differs from them in little, and of which the definition does hold.
 //!
-//! Read `specs/Parts`, which has the state that most cases start from, then the files of the
-//! definitions: `Losses` and `Ends` for `Kept`, `Changes` for `Fenced`, `Journals` and `Handles`
-//! for `Safe`, `Journals` for the ticks of `Driven`, and `Clouds` for its sweeps and reports.
+//! Read `specs/Parts`, which has the state that most cases start from, then `Turns` for `Kept` and
+//! `Fenced`, and `Runs` for `Safe` and `Driven`.
 #![tactic(auto)]
 
 mod property;
@@ -23,47 +23,9 @@ mod trees;
 mod useful;
 
 ghost use Rattle.np_worked.specs.Site.{Plays};
-ghost use Rattle.np_worked.specs.PlainPath as plain_path;
-ghost use Rattle.np_worked.specs.ServedJob as served_job;
-ghost use Rattle.np_worked.specs.MinReadyAndTaken as min_ready_and_taken;
-ghost use Rattle.np_worked.specs.NeverFits as never_fits;
-ghost use Rattle.np_worked.specs.DeclinedByAll as declined_by_all;
-ghost use Rattle.np_worked.specs.DeclinedButTakenUp as declined_but_taken_up;
-ghost use Rattle.np_worked.specs.RetriesSpent as retries_spent;
-ghost use Rattle.np_worked.specs.ExpiryDuringALaunch as expiry_during_a_launch;
-ghost use Rattle.np_worked.specs.QueueAfterAnExpiry as queue_after_an_expiry;
-ghost use Rattle.np_worked.specs.WrongAttempt as wrong_attempt;
-ghost use Rattle.np_worked.specs.SemaphoresAllOrNone as semaphores_all_or_none;
-ghost use Rattle.np_worked.specs.ShortQuota as short_quota;
-ghost use Rattle.np_worked.specs.CrashedRequester as crashed_requester;
-ghost use Rattle.np_worked.specs.WithdrawnRequest as withdrawn_request;
-ghost use Rattle.np_worked.specs.Priorities as priorities;
-ghost use Rattle.np_worked.specs.HoldAge as hold_age;
-ghost use Rattle.np_worked.specs.Refusals as refusals;
-ghost use Rattle.np_worked.specs.SpentMinReady as spent_min_ready;
-ghost use Rattle.np_worked.specs.PinnedElsewhere as pinned_elsewhere;
-ghost use Rattle.np_worked.specs.SweptServers as swept_servers;
-ghost use Rattle.np_worked.specs.SweptWhileBuilding as swept_while_building;
-ghost use Rattle.np_worked.specs.FreedNode as freed_node;
-ghost use Rattle.np_worked.specs.ResetRequest as reset_request;
-ghost use Rattle.np_worked.specs.FailDeclined as fail_declined;
-ghost use Rattle.np_worked.specs.WithdrawnEarly as withdrawn_early;
-ghost use Rattle.np_worked.specs.ReadyAge as ready_age;
-ghost use Rattle.np_worked.specs.PausedPool as paused_pool;
-ghost use Rattle.np_worked.specs.EndedByTheWrongParty as ended_by_the_wrong_party;
-ghost use Rattle.np_worked.specs.TwoHandles as two_handles;
-ghost use Rattle.np_worked.specs.TenantCountsByPool as tenant_counts_by_pool;
-ghost use Rattle.np_worked.specs.TenantOfANode as tenant_of_a_node;
-ghost use Rattle.np_worked.specs.TakenWithItsHandles as taken_with_its_handles;
-ghost use Rattle.np_worked.specs.AgedNode as aged_node;
-ghost use Rattle.np_worked.specs.KeptReadyByAllPools as kept_ready_by_all_pools;
-ghost use Rattle.np_worked.specs.NodesThatAreNotFree as nodes_that_are_not_free;
-ghost use Rattle.np_worked.specs.PausedByAKeptLabel as paused_by_a_kept_label;
-ghost use Rattle.np_worked.specs.FinishedByTheJanitor as finished_by_the_janitor;
-ghost use Rattle.np_worked.specs.DeletedDuringALaunch as deleted_during_a_launch;
-ghost use Rattle.np_worked.specs.HalfBuiltRequests as half_built_requests;
-ghost use Rattle.np_worked.specs.TenantLimit as tenant_limit;
-ghost use Rattle.np_worked.specs.Revise as revise;
+ghost use Rattle.np_worked.specs.Jobs.{crashed_requester, declined_but_taken_up, declined_by_all, ended_by_the_wrong_party, fail_declined, finished_by_the_janitor, min_ready_and_taken, never_fits, pinned_elsewhere, plain_path, priorities, refusals, reset_request, retries_spent, revise, served_job, spent_min_ready, withdrawn_early, withdrawn_request};
+ghost use Rattle.np_worked.specs.Nodes.{aged_node, deleted_during_a_launch, expiry_during_a_launch, freed_node, hold_age, kept_ready_by_all_pools, nodes_that_are_not_free, queue_after_an_expiry, ready_age, swept_servers, swept_while_building, wrong_attempt};
+ghost use Rattle.np_worked.specs.Shares.{half_built_requests, paused_by_a_kept_label, paused_pool, semaphores_all_or_none, short_quota, taken_with_its_handles, tenant_counts_by_pool, tenant_limit, tenant_of_a_node, two_handles};
 
 pub use property::{
     a_failure_needs_its_decline, a_false_reason_is_no_cause, a_lost_node_is_not_kept,

@@ -8,16 +8,10 @@ ghost use Rattle.np_machine.specs.Fenced.{Fenced, IsFenced};
 ghost use Rattle.np_machine.specs.Prelude.{Kept, LosesNothing, RemovesNode, outcome_of};
 ghost use Rattle.np_machine.specs.LiveHolder.{IsLiveHolder, IsLiveRequestHolder};
 ghost use Rattle.np_machine.specs.Safe.{OneHolder, Safe};
-ghost use Rattle.np_worked.specs.AgedNode as aged_node;
-ghost use Rattle.np_worked.specs.AgedNode.{pool_after, since_after, strikes_after};
-ghost use Rattle.np_worked.specs.CrashedRequester as crashed_requester;
+ghost use Rattle.np_worked.specs.Jobs.{crashed_requester, never_fits, plain_path, reset_request, retries_spent};
+ghost use Rattle.np_worked.specs.Nodes.{aged_node, queue_after_an_expiry};
+ghost use Rattle.np_worked.specs.Examples.{pool_after, since_after, strikes_after};
 ghost use Rattle.np_worked.specs.MadeUp.{deleting_reset, deleting_tick, false_decline, losing_expiry, lost_node, standing_gone, two_holders, unsaid_decline};
-ghost use Rattle.np_worked.specs.NeverFits as never_fits;
-ghost use Rattle.np_worked.specs.PlainPath as plain_path;
-ghost use Rattle.np_worked.specs.QueueAfterAnExpiry as queue_after_an_expiry;
-ghost use Rattle.np_worked.specs.SemaphoresAllOrNone as semaphores_all_or_none;
-ghost use Rattle.np_worked.specs.ResetRequest as reset_request;
-ghost use Rattle.np_worked.specs.RetriesSpent as retries_spent;
 ghost use Rattle.np_worked.specs.Site.{janitor, launcher, node, pool, request, requester, session};
 
 /// When the first in a node's queue expires, the next is its live holder, and the third is not.

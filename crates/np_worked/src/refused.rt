@@ -8,12 +8,8 @@ ghost use Rattle.np_machine.specs.Fenced.{ByHolder, Fenced, IsFenced, TakenBack}
 ghost use Rattle.np_machine.specs.Kept.{EndsRequest, Kept, LosesNothing, NodesKept, RemovesNode, RequestsKept};
 ghost use Rattle.np_machine.specs.Safe.{Safe, WithinMax};
 ghost use Rattle.np_useful.specs.Driven.{Driven, DrivenBy, IsReportOfLaunch, IsSweepOfServer};
-ghost use Rattle.np_worked.specs.Changes.{declining, deleted, deleting_expiry, deletion_by, free, of_another, removal_by, resetting, was};
-ghost use Rattle.np_worked.specs.Clouds.{answers_elsewhere, naming, refused_start, reporting, starting, sweeping, with_janitor, with_mute_janitor, with_swept_server};
-ghost use Rattle.np_worked.specs.Ends.{creating, crashing, expiring, fulfilment, other_fulfilment, other_gone, other_take, other_withdrawal, pinned_fulfilment, refused_gone, refused_withdrawal, removal, standing_gone, standing_withdrawal, stocking, submitting, taking, ticking, unmade_node, unmade_request, withdrawal};
-ghost use Rattle.np_worked.specs.Handles.{roomy_site, same_handle_twice, two_handles};
-ghost use Rattle.np_worked.specs.Journals.{any_answer, first_tick, one_tick, two_holders, two_ticks};
-ghost use Rattle.np_worked.specs.Losses.{MayNotBeLeft, crash_to, expiry_to, with_deleting_node, with_failed_request, with_new_job, with_node_again, with_other_handle, with_other_node, with_other_request, with_request_again, with_session_again, without_handle, without_job, without_node, without_request, without_session, without_swept};
+ghost use Rattle.np_worked.specs.Turns.{MayNotBeLeft, crash_to, crashing, creating, declining, deleted, deleting_expiry, deletion_by, expiring, expiry_to, free, fulfilment, of_another, other_fulfilment, other_gone, other_take, other_withdrawal, pinned_fulfilment, refused_gone, refused_withdrawal, removal, removal_by, resetting, standing_gone, standing_withdrawal, stocking, submitting, taking, ticking, unmade_node, unmade_request, was, with_deleting_node, with_failed_request, with_new_job, with_node_again, with_other_handle, with_other_node, with_other_request, with_request_again, with_session_again, withdrawal, without_handle, without_job, without_node, without_request, without_session, without_swept};
+ghost use Rattle.np_worked.specs.Runs.{answers_elsewhere, any_answer, first_tick, naming, one_tick, refused_start, reporting, roomy_site, same_handle_twice, starting, sweeping, two_handles, two_holders, two_ticks, with_janitor, with_mute_janitor, with_swept_server};
 ghost use Rattle.np_worked.specs.Parts.{node, request, session, site};
 
 /// Neither a crash nor an expiry may lose a request, a node, a job's record, a handle, or that a

@@ -1,20 +1,328 @@
--- the turns of a pool's worker: what each leaves of what is known
-use Rattle.np_worker.proofs.Prelude.{AreAloneSound, Ask, Bool, Configuration, Contains, Entry, Event, FailAfter, IsAskOf, IsOfServer, IsReplied, IsServerOf, IsSoundAlone, IsUseful, Janitor, Launch, Launcher, List, NodeEntry, NodeId, NodeRecord, None, Ok, Option, Outcome, Phase, PoolId, Role, Server, SessionId, Some, Start, State, Turn, WasLaunchedFor, [], acting, acts, after, all-push, answers, answers_sweep, ap, append-nil, arith, cond, ended, eq-eqb, false, false≢true, inl, is_idle, is_ok, is_unwanted, is_wanted, judge_done, judge_start, length, length-append, looks, maker_of, nat_tests, next, next-keeps, none-some, number_in, numbers_in, of_pool, owes_due, owes_launch, owes_report, owes_swept, recorded, refl, report_of, reported, reports_of, role_of, start_made, start_of, subst, sweeps, sym, true, turns, ℕ, ⊎_elim, ◌++◌, ◌+◌, ◌∙◌, ◌∷◌, ◌≡◌, ◌≤◌, ◌⊎◌}
-use Rattle.np_event.specs.declared.event.Event.TheVariants as ev
-use Rattle.np_event.specs.declared.event.Outcome.TheVariants as outcome
-use Rattle.np_event.specs.declared.reply.Done.TheVariants as done
-use Rattle.np_worker.specs.declared.ask.Ask.TheVariants as ask
-use Rattle.np_worker.specs.declared.ask.Turn.TheVariants as turn
-use Rattle.np_worker.proofs.Events.{start-parts}
-use Rattle.np_worker.proofs.Choices.{chosen-start}
-use Rattle.np_worker.proofs.RoleLemmas.{useful-done, useful-start_role, current-role}
-use Rattle.np_worker.proofs.Starts.{MayReport}
-use Rattle.np_worker.proofs.Idle.{NoLauncherWaits, may-report, report-accepted, IsReportedBy, may-before_done}
-use Rattle.np_worker.proofs.Waiting.{IsPolite}
-use Rattle.np_worker.proofs.Pools.{was-of, quiet-report, reports-next}
-use Rattle.np_worker.proofs.StageLemmas.{Reportable, Begun, At, at-step, at-quiet, after-next, may-last, IsForeign, numbers-push, fail-push, nobody, IsReportOf, Never, WasStarted, Tells, Held, Calm, IsThere, Reporting, IsLeft, Rest, Stands, tells-gap, held-gap}
-use Rattle.np_worker.proofs.Steps.{TurnCases, goes_on}
-use Rattle.np_worker.proofs.RoundEnds.{role_goes}
+-- what is known of a pool's nodes after a journal, and what each turn of the pool's worker leaves of it
+use Rattle.np_worker.proofs.Prelude.{Answer, AreAloneSound, ArePresent, Ask, Bool, Configuration, Contains, DistinctNumbers, Done, Entry, Event, FailAfter, Invariant, IsAskOf, IsOfServer, IsReplied, IsServerOf, IsSoundAlone, IsUseful, Janitor, Launch, Launcher, List, MayAsk, NodeEntry, NodeId, NodeRecord, None, Ok, Option, Outcome, Phase, PoolId, Role, Server, SessionId, Some, Start, State, Turn, WasLaunchedFor, WereLaunched, acting, acts, after, all-push, answers, answers_sweep, ap, append-nil, append_assoc, arith, cond, ended, eq-eqb, false, false≢true, inl, inr, is_deleting, is_idle, is_ok, is_unwanted, is_wanted, judge, judge_done, judge_start, launcher, launcher-role, length, length-append, looks, maker_of, nat_tests, next, next-keeps, node_in, none-some, number_in, numbers_in, of_pool, ok-is, owes_due, owes_launch, owes_report, owes_swept, recorded, refl, report_of, reported, reports_of, role_of, same_pool, start, start_made, start_of, subst, suc, sweeps, sym, true, turns, ℕ, [], ⊎_elim, ◌++◌, ◌+◌, ◌∙◌, ◌∷◌, ◌≡◌, ◌≤◌, ◌⊎◌}
+use Rattle.np_worker.proofs.Records.{MayReport, current-role, holds-after, quiet-report, reports-next, state_after-append, useful-done, useful-start_role, was-of}
+use Rattle.np_worker.proofs.Reports.{IsOfStart, IsPolite, IsReportedBy, KeptServer, NoLauncherWaits, chosen-start, may-before, may-before_done, may-before_lock, may-before_start, may-report, report-accepted, server-before}
+use Rattle.np_worker.proofs.Journals.{numbers-append, outcomes, start-parts}
+use Rattle.np_worker.proofs.Steps.{TurnCases, goes_on, role_goes}
+
+-- # what is known of a pool's nodes after a journal, and how one entry more changes it
+
+-- ## reports that may be made next
+
+-- the event is an accepted start, by the pool's launcher, of this attempt
+pub record Begun (s : State) (e : Event) (p : PoolId) (session : SessionId) (n : NodeId) (k : ℕ) : Type 0 where
+  pub event : e ≡ Event.Start session n
+  pub first : ℕ
+  pub ok : judge_start s session n ≡ Ok (Done.Started k first)
+  pub who : launcher s session ≡ Ok p
+
+module _ (c : Configuration) (s : State) (whole : Invariant c s) (waits : NoLauncherWaits s) (p : PoolId) (session : SessionId) (n : NodeId) (k : ℕ) where
+  abbrev Was : Event → Type 0
+  Was f = MayReport s p session n k ⊎ Begun s f p session n k
+
+  same-state : (f : Event) → is_ok (judge c s f) ≡ false → MayReport (next c s f) p session n k → MayReport s p session n k
+  same-state f out may = let same : next c s f ≡ s = rw out refl in subst (λ (t : State). MayReport t p session n k) same may
+
+  of-start : (by : SessionId) (m : NodeId) (what : Done) (ok : judge_start s by m ≡ Ok what) → IsOfStart c s by m what ok p session n k → Begun s (Event.Start by m) p session n k
+  of-start by m what ok is =
+      let maker : session ≡ by = is.by_maker in
+      let node : n ≡ m = is.of_node in
+      let here : judge_start s session n ≡ Ok what = ap (λ (x : SessionId). judge_start s x n) maker ∙ (ap (λ (y : NodeId). judge_start s by y) node ∙ ok) in
+      record { event = cc; first = is.first; ok = here ∙ ap (λ (x : Done). let a : Answer = Ok x in a) is.attempt; who = is.who }
+
+  started-by : (by : SessionId) (m : NodeId) (b : Bool) → is_ok (judge_start s by m) ≡ b → MayReport (next c s (Event.Start by m)) p session n k → Was (Event.Start by m)
+  started-by by m true ok may =
+      let was : (what : Done) × (judge_start s by m ≡ Ok what) = ok-is (judge_start s by m) ok in
+      ⊎_elim (λ old. inl old) (λ new. inr (of-start by m was.0 was.1 new)) (may-before_start c s by m was.0 was.1 p session n k may)
+  started-by by m false out may = inl (same-state (Event.Start by m) out may)
+
+  done-by : (by : SessionId) (m : NodeId) (a : ℕ) (o : Outcome) (b : Bool) → is_ok (judge_done s by m a) ≡ b → MayReport (next c s (Event.Done by m a o)) p session n k → MayReport s p session n k
+  done-by by m a o true ok may = (may-before_done c s by m a o ok p session n k may).0
+  done-by by m a o false out may = same-state (Event.Done by m a o) out may
+
+  -- a report that may be made after an event might be before, or the event began its launch
+  pub may-next : (e : Event) → IsPolite s e → MayReport (next c s e) p session n k → Was e
+  may-next (Event.Start by m) polite may = started-by by m (is_ok (judge_start s by m)) refl may
+  may-next (Event.Done by m a o) polite may = inl (done-by by m a o (is_ok (judge_done s by m a)) refl may)
+  may-next (Event.LockNode by m) polite may = inl (may-before_lock c s by m (polite.locks by m refl) p session n k may)
+  may-next e polite may = inl (may-before c s e whole waits refl p session n k may)
+
+-- ## one entry more
+
+-- which reports may be made
+abbrev pub Reportable : Type 1
+Reportable = SessionId → NodeId → ℕ → Type 0
+
+module _ (c : Configuration) (p : PoolId) (never : Type 0) where
+  -- no other reports may be made; the servers of nodes were launched, and those that are up are
+  -- there if no number was launched twice
+  pub record At (X : Reportable) (journal : List Entry) (launches : List Launch) (servers : List Server) : Type 0 where
+    pub idle : (session : SessionId) (n : NodeId) (k : ℕ) → MayReport (after c journal) p session n k → X session n k
+    pub launched : WereLaunched p (after c journal) launches
+    pub present : never → ArePresent p (after c journal) servers
+
+  module _ (journal : List Entry) (e : Entry) where
+    abbrev now : State
+    now = after c journal
+
+    pub after-next : after c (journal ++ e ∷ []) ≡ next c now e.event
+    after-next = state_after-append c (start c) journal (e ∷ [])
+
+    pub may-last : NoLauncherWaits now → IsPolite now e.event → (session : SessionId) (n : NodeId) (k : ℕ) → MayReport (after c (journal ++ e ∷ [])) p session n k → MayReport now p session n k ⊎ Begun now e.event p session n k
+    may-last waits polite session n k may = may-next c now (holds-after c journal) waits p session n k e.event polite (subst (λ (t : State). MayReport t p session n k) after-next may)
+
+    -- where a server of the pool comes from
+    abbrev Came : NodeId → NodeRecord → ℕ → Type 0
+    Came n k x = KeptServer now n k ⊎ IsReportedBy now e.event n k x
+
+    came : (n : NodeId) (k : NodeRecord) (x : ℕ) → node_in n (after c (journal ++ e ∷ [])).nodes ≡ Some k → k.server ≡ Some x → Came n k x
+    came n k x is has = server-before c now e.event (holds-after c journal) n k x (subst (λ (t : State). node_in n t.nodes ≡ Some k) after-next is) has
+
+    module _ (launches : List Launch) (servers : List Server) where
+      -- an accepted report is of a server that was launched and is there
+      abbrev pub Covers : Type 0
+      Covers = (n : NodeId) (k : NodeRecord) (x : ℕ) → IsReportedBy now e.event n k x → k.pool.0 ≡ p.0 → WasLaunchedFor launches n x × (never → IsServerOf servers n x)
+
+      pub at-step : (X Y : Reportable) → At X journal launches servers → NoLauncherWaits now → IsPolite now e.event
+          → ((session : SessionId) (n : NodeId) (k : ℕ) → MayReport (after c (journal ++ e ∷ [])) p session n k → (MayReport now p session n k → X session n k) → Y session n k) → Covers → At Y (journal ++ e ∷ []) launches servers
+      at-step X Y at waits polite idle covers = record {
+        idle = λ session n k may. idle session n k may (at.idle session n k);
+        launched = λ n k x is own has. ⊎_elim
+            (λ (old : KeptServer now n k). at.launched n old.old x old.stood (sym old.of_pool ∙ own) (sym old.server ∙ has))
+            (λ (new : IsReportedBy now e.event n k x). (covers n k x new own).0)
+            (came n k x is has);
+        present = λ none n k x is own up has. ⊎_elim
+            (λ (old : KeptServer now n k). at.present none n old.old x old.stood (sym old.of_pool ∙ own) (old.up up) (sym old.server ∙ has))
+            (λ (new : IsReportedBy now e.event n k x). (covers n k x new own).1 none)
+            (came n k x is has);
+      }
+
+      -- the usual step: nothing was begun and nothing reported
+      pub at-quiet : (X : Reportable) → At X journal launches servers → NoLauncherWaits now → IsPolite now e.event
+          → ((session : SessionId) (n : NodeId) (k : ℕ) → Begun now e.event p session n k → ⊥) → ((n : NodeId) (k : NodeRecord) (x : ℕ) → IsReportedBy now e.event n k x → k.pool.0 ≡ p.0 → ⊥) → At X (journal ++ e ∷ []) launches servers
+      at-quiet X at waits polite none silent = at-step X X at waits polite
+          (λ session n k may old. ⊎_elim (λ was. old was) (λ new. absurd (none session n k new)) (may-last waits polite session n k may))
+          (λ n k x new own. absurd (silent n k x new own))
+
+  -- ## entries of others
+
+  -- the entry reports nothing of the pool, and its launcher does not make it
+  pub record IsForeign (journal : List Entry) (e : Entry) : Type 0 where
+    pub quiet : reported p (turns c journal) e.event ≡ []
+    pub maker : (session : SessionId) → maker_of e.event ≡ Some session → role_of session (after c journal) ≡ Some (Launcher p) → ⊥
+    pub waits : NoLauncherWaits (after c journal)
+    pub polite : IsPolite (after c journal) e.event
+
+  same-reporter : (k : NodeRecord) → k.pool.0 ≡ p.0 → k.pool ≡ p
+  same-reporter k own = same_pool k.pool p (eq-eqb k.pool.0 p.0 own)
+
+  pub at-foreign : (X : Reportable) (journal : List Entry) (e : Entry) (launches : List Launch) (servers : List Server) → At X journal launches servers → IsForeign journal e → At X (journal ++ e ∷ []) launches servers
+  at-foreign X journal e launches servers at foreign = at-quiet journal e launches servers X at foreign.waits foreign.polite
+      (λ session n k new. foreign.maker session (ap maker_of new.event) (launcher-role (after c journal) session p new.who))
+      (λ n k x new own. foreign.maker new.by (ap maker_of new.event) (launcher-role (after c journal) new.by p (new.who ∙ ap (λ (q : PoolId). Ok q) (same-reporter k own))))
+
+  pub reports-foreign : (journal : List Entry) (e : Entry) → IsForeign journal e → reports_of c p (journal ++ e ∷ []) ≡ reports_of c p journal
+  reports-foreign journal e foreign = reports-next c p journal e ∙ (ap (λ (l : List Outcome). reports_of c p journal ++ l) foreign.quiet ∙ append-nil (reports_of c p journal))
+
+  -- each of these entries is another's, at its place
+  abbrev pub AreForeign : List Entry → List Entry → Type 0
+  AreForeign journal [] = Unit {0}
+  AreForeign journal (e ∷ more) = IsForeign journal e × AreForeign (journal ++ e ∷ []) more
+
+  pub at-gap : (X : Reportable) (journal more : List Entry) (launches : List Launch) (servers : List Server) → At X journal launches servers → AreForeign journal more → At X (journal ++ more) launches servers
+  at-gap X journal [] launches servers at foreign = subst (λ (j : List Entry). At X j launches servers) (sym (append-nil journal)) at
+  at-gap X journal (e ∷ more) launches servers at foreign = subst (λ (j : List Entry). At X j launches servers) (append_assoc journal (e ∷ []) more)
+      (at-gap X (journal ++ e ∷ []) more launches servers (at-foreign X journal e launches servers at foreign.0) foreign.1)
+
+  pub reports-gap : (journal more : List Entry) → AreForeign journal more → reports_of c p (journal ++ more) ≡ reports_of c p journal
+  reports-gap journal [] foreign = ap (reports_of c p) (append-nil journal)
+  reports-gap journal (e ∷ more) foreign = ap (reports_of c p) (sym (append_assoc journal (e ∷ []) more)) ∙ (reports-gap (journal ++ e ∷ []) more foreign.1 ∙ reports-foreign journal e foreign.0)
+
+-- ## what is known of a pool's journal, nodes and driver in each phase of the round of its worker
+
+-- ## lists of outcomes
+
+pub numbers-push : (os : List Outcome) (o : Outcome) → numbers_in (os ++ o ∷ []) ≡ numbers_in os ++ number_in o
+numbers-push os o = numbers-append os (o ∷ []) ∙ ap (λ (l : List ℕ). numbers_in os ++ l) (append-nil (number_in o))
+
+-- a failure has this many launched servers before it
+abbrev pub IsLate : ℕ → Outcome → ℕ → Type 0
+IsLate room (Outcome.Launched x) n = Unit {0}
+IsLate room Outcome.Failed n = room ≤ n
+
+fail-push_from : (room n : ℕ) (os : List Outcome) (o : Outcome) → FailAfter room n os → IsLate room o (n + length (numbers_in os)) → FailAfter room n (os ++ o ∷ [])
+fail-push_from room n [] (Outcome.Launched x) fails late = tt
+fail-push_from room n [] Outcome.Failed fails late = (omega (arith, late), tt)
+fail-push_from room n (Outcome.Launched x ∷ os) o fails late = fail-push_from room (suc n) os o fails (later o late) where
+  later : (q : Outcome) → IsLate room q (n + length (numbers_in (Outcome.Launched x ∷ os))) → IsLate room q (suc n + length (numbers_in os))
+  later (Outcome.Launched y) is = tt
+  later Outcome.Failed is = omega (arith, is)
+fail-push_from room n (Outcome.Failed ∷ os) o fails late = (fails.0, fail-push_from room n os o fails.1 late)
+
+pub fail-push : (room : ℕ) (os : List Outcome) (o : Outcome) → FailAfter room 0 os → IsLate room o (length (numbers_in os)) → FailAfter room 0 (os ++ o ∷ [])
+fail-push room os o fails late = fail-push_from room 0 os o fails (at_once o late) where
+  at_once : (q : Outcome) → IsLate room q (length (numbers_in os)) → IsLate room q (0 + length (numbers_in os))
+  at_once (Outcome.Launched y) is = tt
+  at_once Outcome.Failed is = omega (arith, is)
+
+-- ## reports
+
+abbrev pub nobody : Reportable
+nobody session n k = ⊥
+
+-- it is the report of this start
+pub record IsReportOf (s : Start) (session : SessionId) (n : NodeId) (k : ℕ) : Type 0 where
+  pub by : session ≡ s.session
+  pub node : n ≡ s.tag.node
+  pub attempt : k ≡ s.tag.attempt
+
+-- ## phases
+
+module _ (c : Configuration) (p : PoolId) (sound : List ℕ → Bool) (room earlier : ℕ) (final : List Launch) where
+  -- none of the launches was answered with the number of another
+  abbrev pub Never : Type 0
+  Never = DistinctNumbers (numbers_in (outcomes final))
+
+  -- the node was of the pool before
+  pub record WasStarted (journal : List Entry) (n : NodeId) : Type 0 where
+    pub before : List Entry
+    pub entry : Entry
+    pub rest : List Entry
+    pub stands : journal ≡ before ++ entry ∷ rest
+    pub node : NodeRecord
+    pub stood : node_in n (after c before).nodes ≡ Some node
+    pub own : node.pool.0 ≡ p.0
+
+  -- what the journal reports is sound and late enough
+  pub record Tells (journal : List Entry) : Type 0 where
+    pub alone : AreAloneSound sound (reports_of c p journal)
+    pub failed : earlier ≡ 0 → FailAfter room 0 (reports_of c p journal)
+
+  -- these launches, of which one may be unreported, and these servers
+  pub record Held (X : Reportable) (unreported uncounted : ℕ) (journal : List Entry) (launches : List Launch) (servers : List Server) : Type 0 where
+    pub at : At c p Never X journal launches servers
+    pub few : length launches ≤ earlier + (length (reports_of c p journal) + unreported)
+    pub fits : length servers ≤ length (numbers_in (reports_of c p journal)) + uncounted
+    pub made : (s : Server) → Contains servers s → Contains launches (record { tag = s.tag; outcome = Outcome.Launched s.number })
+    pub among : (l : Launch) → Contains launches l → Contains final l
+
+  abbrev pub Calm : List Entry → List Launch → List Server → Type 0
+  Calm journal launches servers = Held nobody 0 0 journal launches servers
+
+  -- the server that was launched, if one was, is there
+  abbrev pub IsThere : Start → Outcome → List Server → Type 0
+  IsThere s (Outcome.Launched x) servers = Contains servers (record { tag = s.tag; number = x })
+  IsThere s Outcome.Failed servers = Unit {0}
+
+  -- a launch was answered, and is not reported yet
+  pub record Reporting (s : Start) (o : Outcome) (journal : List Entry) (launches : List Launch) (servers : List Server) : Type 0 where
+    pub held : Held (IsReportOf s) 1 (length (number_in o)) journal launches servers
+    pub started : WasStarted journal s.tag.node
+    pub answered : Contains launches (record { tag = s.tag; outcome = o })
+    pub there : IsThere s o servers
+    pub alone : IsSoundAlone sound o
+    pub late : earlier ≡ 0 → IsLate room o (length (numbers_in (reports_of c p journal)))
+
+  -- a node of the pool that is deleted has the server
+  pub record IsGoing (journal : List Entry) (x : ℕ) : Type 0 where
+    pub number : NodeId
+    pub node : NodeRecord
+    pub stands : node_in number (after c journal).nodes ≡ Some node
+    pub own : node.pool.0 ≡ p.0
+    pub deleting : is_deleting node.state ≡ true
+    pub server : node.server ≡ Some x
+
+  -- nobody wants the server, which is there
+  pub record IsLeft (journal : List Entry) (servers : List Server) (x : ℕ) : Type 0 where
+    pub server : Server
+    pub there : Contains servers server
+    pub number : server.number ≡ x
+    pub unwanted : is_wanted (after c journal) server.tag.node x ≡ false
+
+  abbrev pub Rest : Phase → List Entry → List Launch → List Server → Type 0
+  Rest (owes_launch pool m s) journal launches servers = Held (IsReportOf s) 0 0 journal launches servers × WasStarted journal s.tag.node
+  Rest (owes_report pool m s o) journal launches servers = Reporting s o journal launches servers
+  Rest (owes_due pool m x) journal launches servers = Calm journal launches servers × IsGoing journal x
+  Rest (owes_swept pool x) journal launches servers = Calm journal launches servers × IsLeft journal servers x
+  Rest ended journal launches servers = Unit {0}
+  Rest _ journal launches servers = Calm journal launches servers
+
+  pub record Stands (ph : Phase) (journal : List Entry) (launches : List Launch) (servers : List Server) : Type 0 where
+    pub tells : Tells journal
+    pub rest : Rest ph journal launches servers
+
+  -- what is left of it when others go on
+  abbrev pub Leaves : Phase → List Entry → List Launch → List Server → Type 0
+  Leaves (owes_launch pool m s) journal launches servers = Unit {0}
+  Leaves (owes_report pool m s o) journal launches servers = Unit {0}
+  Leaves ended journal launches servers = Unit {0}
+  Leaves _ journal launches servers = Calm journal launches servers
+
+  pub leaves-of : (ph : Phase) (journal : List Entry) (launches : List Launch) (servers : List Server) → Rest ph journal launches servers → Leaves ph journal launches servers
+  leaves-of (owes_launch pool m s) journal launches servers rest = tt
+  leaves-of (owes_report pool m s o) journal launches servers rest = tt
+  leaves-of ended journal launches servers rest = tt
+  leaves-of (owes_due pool m x) journal launches servers rest = rest.0
+  leaves-of (owes_swept pool x) journal launches servers rest = rest.0
+  leaves-of _ journal launches servers rest = rest
+
+  -- ## entries of others
+
+  module _ (journal more : List Entry) (foreign : AreForeign c p Never journal more) where
+    same-reports : reports_of c p (journal ++ more) ≡ reports_of c p journal
+    same-reports = reports-gap c p Never journal more foreign
+
+    pub tells-gap : Tells journal → Tells (journal ++ more)
+    tells-gap tells = record {
+      alone = subst (AreAloneSound sound) (sym same-reports) tells.alone;
+      failed = λ none. subst (FailAfter room 0) (sym same-reports) (tells.failed none);
+    }
+
+    pub held-gap : (X : Reportable) (a b : ℕ) (launches : List Launch) (servers : List Server) → Held X a b journal launches servers → Held X a b (journal ++ more) launches servers
+    held-gap X a b launches servers held = record {
+      at = at-gap c p Never X journal more launches servers held.at foreign;
+      few = subst (λ (os : List Outcome). length launches ≤ earlier + (length os + a)) (sym same-reports) held.few;
+      fits = subst (λ (os : List Outcome). length servers ≤ length (numbers_in os) + b) (sym same-reports) held.fits;
+      made = held.made;
+      among = held.among;
+    }
+
+    reporting-gap : (s : Start) (o : Outcome) (launches : List Launch) (servers : List Server) → Reporting s o journal launches servers → Reporting s o (journal ++ more) launches servers
+    reporting-gap s o launches servers r = record {
+      held = held-gap (IsReportOf s) 1 (length (number_in o)) launches servers r.held;
+      started = record {
+        before = r.started.before;
+        entry = r.started.entry;
+        rest = r.started.rest ++ more;
+        stands = ap (λ (j : List Entry). j ++ more) r.started.stands ∙ append_assoc r.started.before (r.started.entry ∷ r.started.rest) more;
+        node = r.started.node;
+        stood = r.started.stood;
+        own = r.started.own;
+      };
+      answered = r.answered;
+      there = r.there;
+      alone = r.alone;
+      late = λ none. subst (λ (os : List Outcome). IsLate room o (length (numbers_in os))) (sym same-reports) (r.late none);
+    }
+
+    rest-gap : (ph : Phase) (a : Ask) (launches : List Launch) (servers : List Server) → MayAsk ph a → Rest ph journal launches servers → Rest ph (journal ++ more) launches servers
+    rest-gap (acts r m) a launches servers may rest = held-gap nobody 0 0 launches servers rest
+    rest-gap (owes_report pool m s o) a launches servers may rest = reporting-gap s o launches servers rest
+    rest-gap (looks pool m) a launches servers may rest = held-gap nobody 0 0 launches servers rest
+    rest-gap (sweeps pool) a launches servers may rest = held-gap nobody 0 0 launches servers rest
+    rest-gap _ a launches servers may rest = absurd may
+
+    -- before a turn
+    pub stands-gap : (ph : Phase) (a : Ask) (launches : List Launch) (servers : List Server) → MayAsk ph a → Stands ph journal launches servers → Stands ph (journal ++ more) launches servers
+    stands-gap ph a launches servers may stands = record { tells = tells-gap stands.tells; rest = rest-gap ph a launches servers may stands.rest }
+
+    pub leaves-later : (ph : Phase) (launches : List Launch) (servers : List Server) → Leaves ph journal launches servers → Leaves ph (journal ++ more) launches servers
+    leaves-later (owes_launch pool m s) launches servers rest = tt
+    leaves-later (owes_report pool m s o) launches servers rest = tt
+    leaves-later ended launches servers rest = tt
+    leaves-later _ launches servers rest = held-gap nobody 0 0 launches servers rest
+
+-- # the turns of a pool's worker: what each leaves of what is known
 
 -- the roles of a pool's worker
 abbrev pub IsOwn : PoolId → Role → Type 0
@@ -34,20 +342,20 @@ module _ (c : Configuration) (p : PoolId) (sound : List ℕ → Bool) (room earl
 
   -- nothing is reported
   module _ (quiet : reported p (turns c before) e.event ≡ []) where
-    same-reports : reports_of c p (before ++ e ∷ []) ≡ reports_of c p before
-    same-reports = reports-next c p before e ∙ (ap (λ (l : List Outcome). reports_of c p before ++ l) quiet ∙ append-nil (reports_of c p before))
+    quiet-same-reports : reports_of c p (before ++ e ∷ []) ≡ reports_of c p before
+    quiet-same-reports = reports-next c p before e ∙ (ap (λ (l : List Outcome). reports_of c p before ++ l) quiet ∙ append-nil (reports_of c p before))
 
     tells-quiet : Tells c p sound room earlier final before → Tells c p sound room earlier final (before ++ e ∷ [])
     tells-quiet tells = record {
-      alone = subst (AreAloneSound sound) (sym same-reports) tells.alone;
-      failed = λ none. subst (FailAfter room 0) (sym same-reports) (tells.failed none);
+      alone = subst (AreAloneSound sound) (sym quiet-same-reports) tells.alone;
+      failed = λ none. subst (FailAfter room 0) (sym quiet-same-reports) (tells.failed none);
     }
 
     held-quiet : (X Y : Reportable) → Held c p sound room earlier final X 0 0 before launches servers → At c p never Y (before ++ e ∷ []) launches servers → Held c p sound room earlier final Y 0 0 (before ++ e ∷ []) launches servers
     held-quiet X Y held at = record {
       at = at;
-      few = subst (λ (os : List Outcome). length launches ≤ earlier + (length os + 0)) (sym same-reports) held.few;
-      fits = subst (λ (os : List Outcome). length servers ≤ length (numbers_in os) + 0) (sym same-reports) held.fits;
+      few = subst (λ (os : List Outcome). length launches ≤ earlier + (length os + 0)) (sym quiet-same-reports) held.few;
+      fits = subst (λ (os : List Outcome). length servers ≤ length (numbers_in os) + 0) (sym quiet-same-reports) held.fits;
       made = held.made;
       among = held.among;
     }
@@ -57,9 +365,9 @@ module _ (c : Configuration) (p : PoolId) (sound : List ℕ → Bool) (room earl
 
   module _ (r : Role) (own : IsOwn p r) (useful : IsUseful c s r e.event) (replied : IsReplied c before e) where
     -- no report would be accepted, so it is none
-    no-done : calm before → (session : SessionId) (n : NodeId) (k : ℕ) (o : Outcome) → e.event ≡ ev.Done session n k o → ⊥
+    no-done : calm before → (session : SessionId) (n : NodeId) (k : ℕ) (o : Outcome) → e.event ≡ Event.Done session n k o → ⊥
     no-done held session n k o is =
-        let it : IsUseful c s r (ev.Done session n k o) = subst (IsUseful c s r) is useful in
+        let it : IsUseful c s r (Event.Done session n k o) = subst (IsUseful c s r) is useful in
         let who = useful-done c s r session n k o it in
         let pool : who.0 ≡ p = own-launcher p who.0 r own who.1 in
         let role : role_of session s ≡ Some (Launcher p) = who.2 ∙ ap (λ (q : PoolId). Some (Launcher q)) pool in
@@ -69,22 +377,22 @@ module _ (c : Configuration) (p : PoolId) (sound : List ℕ → Bool) (room earl
     quiet-act held = quiet-report p (turns c before) e.event (λ session n k o is. absurd (no-done held session n k o is))
 
     no-report : calm before → (n : NodeId) (k : NodeRecord) (x : ℕ) → IsReportedBy s e.event n k x → k.pool.0 ≡ p.0 → ⊥
-    no-report held n k x new mine = no-done held new.by n new.attempt (outcome.Launched x) new.event
+    no-report held n k x new mine = no-done held new.by n new.attempt (Outcome.Launched x) new.event
 
     -- an accepted start has such a reply
-    start-is : (session : SessionId) (n : NodeId) (k first : ℕ) → e.event ≡ ev.Start session n → judge_start s session n ≡ Ok (done.Started k first) → start_of p e ≡ Some (record { session = session; tag = record { pool = p; node = n; attempt = k; start = first } })
+    start-is : (session : SessionId) (n : NodeId) (k first : ℕ) → e.event ≡ Event.Start session n → judge_start s session n ≡ Ok (Done.Started k first) → start_of p e ≡ Some (record { session = session; tag = record { pool = p; node = n; attempt = k; start = first } })
     start-is session n k first x1 x2 = grind (arith, nat_tests)
 
     -- ### no start
 
-    module _ (none : start_made (ask.Act r) (turn.Did e) ≡ None) where
+    module _ (none : start_made (Ask.Act r) (Turn.Did e) ≡ None) where
       no-start : (session : SessionId) (n : NodeId) (k : ℕ) → Begun s e.event p session n k → ⊥
       no-start session n k new =
-          let it : IsUseful c s r (ev.Start session n) = subst (IsUseful c s r) new.event useful in
+          let it : IsUseful c s r (Event.Start session n) = subst (IsUseful c s r) new.event useful in
           let who = useful-start_role c s r session n it in
           let pool : who.0 ≡ p = own-launcher p who.0 r own who.1 in
           let role : r ≡ Launcher p = who.1 ∙ ap Launcher pool in
-          let none-here : start_of p e ≡ None = subst (λ (q : Role). start_made (ask.Act q) (turn.Did e) ≡ None) role none in
+          let none-here : start_of p e ≡ None = subst (λ (q : Role). start_made (Ask.Act q) (Turn.Did e) ≡ None) role none in
           none-some _ (sym none-here ∙ start-is session n k new.first new.event new.ok)
 
       pub calm-act : calm before → calm (before ++ e ∷ [])
@@ -100,19 +408,19 @@ module _ (c : Configuration) (p : PoolId) (sound : List ℕ → Bool) (room earl
       abbrev Awaits : Reportable
       Awaits = IsReportOf st
 
-      parts-event : e.event ≡ ev.Start st.session st.tag.node
+      parts-event : e.event ≡ Event.Start st.session st.tag.node
       parts-event = (start-parts p e.event e.reply st is).event
 
       begun-is : (session : SessionId) (n : NodeId) (k : ℕ) → Begun s e.event p session n k → Awaits session n k
       begun-is session n k new =
-          let same : ev.Start session n ≡ ev.Start st.session st.tag.node = sym new.event ∙ parts-event in
+          let same : Event.Start session n ≡ Event.Start st.session st.tag.node = sym new.event ∙ parts-event in
           let both : Some (record { session = session; tag = record { pool = p; node = n; attempt = k; start = new.first } }) ≡ Some st = sym (start-is session n k new.first new.event new.ok) ∙ is in
           let it : ◌≡◌ {A = Start} (record { session = session; tag = record { pool = p; node = n; attempt = k; start = new.first } }) st = cc in
           record { by = ap (λ (x : Start). x.session) it; node = ap (λ (x : Start). x.tag.node) it; attempt = ap (λ (x : Start). x.tag.attempt) it }
 
       pub held-start : r ≡ Launcher p → calm before → Held c p sound room earlier final Awaits 0 0 (before ++ e ∷ []) launches servers × WasStarted c p sound room earlier final (before ++ e ∷ []) st.tag.node
       held-start role held =
-          let it : IsUseful c s (Launcher p) (ev.Start st.session st.tag.node) = subst (λ (q : Role). IsUseful c s q (ev.Start st.session st.tag.node)) role (subst (IsUseful c s r) parts-event useful) in
+          let it : IsUseful c s (Launcher p) (Event.Start st.session st.tag.node) = subst (λ (q : Role). IsUseful c s q (Event.Start st.session st.tag.node)) role (subst (IsUseful c s r) parts-event useful) in
           let node = (chosen-start false c before p st.session st.tag.node (inl it)).1 in (
             held-quiet (quiet-act held) nobody Awaits held
                 (at-step c p never before e launches servers nobody Awaits held.at waits polite
@@ -156,9 +464,9 @@ module _ (c : Configuration) (p : PoolId) (sound : List ℕ → Bool) (room earl
 
     covers : (n : NodeId) (k : NodeRecord) (x : ℕ) → IsReportedBy s e.event n k x → k.pool.0 ≡ p.0 → WasLaunchedFor launches n x × (never → IsServerOf servers n x)
     covers n k x new mine =
-        let same : ev.Done st.session st.tag.node st.tag.attempt o ≡ ev.Done new.by n new.attempt (outcome.Launched x) = sym is ∙ new.event in
+        let same : Event.Done st.session st.tag.node st.tag.attempt o ≡ Event.Done new.by n new.attempt (Outcome.Launched x) = sym is ∙ new.event in
         let node : st.tag.node ≡ n = cc in
-        let launched : o ≡ outcome.Launched x = cc in (
+        let launched : o ≡ Outcome.Launched x = cc in (
           record { tag = st.tag; node = node; answered = subst (λ (q : Outcome). Contains launches (record { tag = st.tag; outcome = q })) launched r.answered },
           λ none. record {
             server = record { tag = st.tag; number = x };
@@ -209,7 +517,7 @@ module _ (c : Configuration) (p : PoolId) (sound : List ℕ → Bool) (room earl
   -- what stands before a turn stands after it, in the phase that it leads to
   abbrev pub Turned : Phase → Ask → Turn → Phase → Type 0
   Turned ph a t to = (before seen : List Entry) → IsAskOf (of_pool p) a → IsOfServer a servers → answers c before a t → Sees (recorded a t) before seen
-      → (t ≡ turn.Full → to ≡ ended) → ((e : Entry) → t ≡ turn.Did e → IsReady c before e) → At' ph before → At' to seen
+      → (t ≡ Turn.Full → to ≡ ended) → ((e : Entry) → t ≡ Turn.Did e → IsReady c before e) → At' ph before → At' to seen
 
   here : (ph : Phase) (before seen : List Entry) → seen ≡ before → At' ph before → At' ph seen
   here ph before seen same stands = subst (λ (j : List Entry). At' ph j) (sym same) stands
@@ -220,12 +528,12 @@ module _ (c : Configuration) (p : PoolId) (sound : List ℕ → Bool) (room earl
   goes : (r : Role) (m : ℕ) (journal : List Entry) → tells journal → calm-at journal → At' (acting r m) journal
   goes r m journal told held = record { tells = told; rest = calm-rest r m journal held }
 
-  own-role : (r : Role) → IsAskOf (of_pool p) (ask.Act r) → IsOwn p r
+  own-role : (r : Role) → IsAskOf (of_pool p) (Ask.Act r) → IsOwn p r
   own-role r is = is
 
   -- ## turns in which a role acts
 
-  acted : (r : Role) (m : ℕ) (e : Entry) → start_made (ask.Act r) (turn.Did e) ≡ None → Turned (acts r m) (ask.Act r) (turn.Did e) (acting r m)
+  acted : (r : Role) (m : ℕ) (e : Entry) → start_made (Ask.Act r) (Turn.Did e) ≡ None → Turned (acts r m) (Ask.Act r) (Turn.Did e) (acting r m)
   acted r m e none before seen own of answer sees full ready stands =
       let it = ready e refl in
       subst (λ (j : List Entry). At' (acting r m) j) (sym sees)
@@ -233,7 +541,7 @@ module _ (c : Configuration) (p : PoolId) (sound : List ℕ → Bool) (room earl
       (tells-act c p sound room earlier final before e it.waits it.polite launches servers r (own-role r own) answer.0 answer.1 none stands.rest stands.tells)
       (calm-act c p sound room earlier final before e it.waits it.polite launches servers r (own-role r own) answer.0 answer.1 none stands.rest))
 
-  started : (pool : PoolId) (m : ℕ) (e : Entry) (s : Start) → start_of pool e ≡ Some s → Turned (acts (Launcher pool) m) (ask.Act (Launcher pool)) (turn.Did e) (owes_launch pool m s)
+  started : (pool : PoolId) (m : ℕ) (e : Entry) (s : Start) → start_of pool e ≡ Some s → Turned (acts (Launcher pool) m) (Ask.Act (Launcher pool)) (Turn.Did e) (owes_launch pool m s)
   started pool m e s is before seen own of answer sees full ready stands =
       let it = ready e refl in
       let same : pool ≡ p = ⊎_elim (λ (h : Launcher pool ≡ Launcher p). cc) (λ (h : Launcher pool ≡ Janitor p). absurd cc) own in
@@ -243,26 +551,26 @@ module _ (c : Configuration) (p : PoolId) (sound : List ℕ → Bool) (room earl
         rest = held-start c p sound room earlier final before e it.waits it.polite launches servers (Launcher pool) own answer.0 answer.1 s mine (ap Launcher same) stands.rest;
       })
 
-  rested : (r : Role) (m : ℕ) (t : Turn) → is_idle t ≡ true → Turned (acts r m) (ask.Act r) t (acting r 0)
-  rested r m (turn.Did e) i before seen own of answer sees full ready stands = absurd (false≢true i)
-  rested r m turn.Full i before seen own of answer sees full ready stands = absurd (false≢true i)
+  rested : (r : Role) (m : ℕ) (t : Turn) → is_idle t ≡ true → Turned (acts r m) (Ask.Act r) t (acting r 0)
+  rested r m (Turn.Did e) i before seen own of answer sees full ready stands = absurd (false≢true i)
+  rested r m Turn.Full i before seen own of answer sees full ready stands = absurd (false≢true i)
   rested r m _ i before seen own of answer sees full ready stands = here (acting r 0) before seen sees (goes r 0 before stands.tells stands.rest)
 
   -- ## reports
 
-  told : (pool : PoolId) (m : ℕ) (s : Start) (o : Outcome) (t : Turn) → Turned (owes_report pool m s o) (ask.Do (report_of s o)) t (acting (Launcher pool) m)
-  told pool m s o (turn.Did e) before seen own of answer sees full ready stands =
+  told : (pool : PoolId) (m : ℕ) (s : Start) (o : Outcome) (t : Turn) → Turned (owes_report pool m s o) (Ask.Do (report_of s o)) t (acting (Launcher pool) m)
+  told pool m s o (Turn.Did e) before seen own of answer sees full ready stands =
       let it = ready e refl in
       subst (λ (j : List Entry). At' (acting (Launcher pool) m) j) (sym sees)
       (goes (Launcher pool) m (before ++ e ∷ [])
       (tells-report c p sound room earlier final before e it.waits it.polite launches servers s o answer.0 stands.rest stands.tells)
       (calm-report c p sound room earlier final before e it.waits it.polite launches servers s o answer.0 stands.rest))
-  told pool m s o turn.Full before seen own of answer sees full ready stands = absurd (role_goes (Launcher pool) m (full refl))
+  told pool m s o Turn.Full before seen own of answer sees full ready stands = absurd (role_goes (Launcher pool) m (full refl))
   told pool m s o _ before seen own of answer sees full ready stands = absurd answer
 
   -- ## due nodes
 
-  found-due : (pool : PoolId) (m : ℕ) (n : NodeId) (x : ℕ) → Turned (looks pool m) (ask.Due pool) (turn.DueNode n (Some x)) (owes_due pool m x)
+  found-due : (pool : PoolId) (m : ℕ) (n : NodeId) (x : ℕ) → Turned (looks pool m) (Ask.Due pool) (Turn.DueNode n (Some x)) (owes_due pool m x)
   found-due pool m n x before seen own of answer sees full ready stands = here (owes_due pool m x) before seen sees (record {
     tells = stands.tells;
     rest = (
@@ -278,15 +586,15 @@ module _ (c : Configuration) (p : PoolId) (sound : List ℕ → Bool) (room earl
     );
   })
 
-  looked : (pool : PoolId) (m : ℕ) (t : Turn) → Turned (looks pool m) (ask.Due pool) t (acts (Janitor pool) m)
-  looked pool m (turn.DueNode n x) before seen own of answer sees full ready stands = here (acts (Janitor pool) m) before seen sees (record { tells = stands.tells; rest = stands.rest })
-  looked pool m turn.Idle before seen own of answer sees full ready stands = here (acts (Janitor pool) m) before seen sees (record { tells = stands.tells; rest = stands.rest })
+  looked : (pool : PoolId) (m : ℕ) (t : Turn) → Turned (looks pool m) (Ask.Due pool) t (acts (Janitor pool) m)
+  looked pool m (Turn.DueNode n x) before seen own of answer sees full ready stands = here (acts (Janitor pool) m) before seen sees (record { tells = stands.tells; rest = stands.rest })
+  looked pool m Turn.Idle before seen own of answer sees full ready stands = here (acts (Janitor pool) m) before seen sees (record { tells = stands.tells; rest = stands.rest })
   looked pool m _ before seen own of answer sees full ready stands = absurd answer
 
   -- ## sweeps
 
   -- the sweep of a janitor is as another's entry
-  sweep-foreign : (before : List Entry) (e : Entry) (pool : PoolId) (n : NodeId) (x : ℕ) → answers_sweep c before pool n x (turn.Did e) → IsReady c before e → IsForeign c p (Never c p sound room earlier final) before e
+  sweep-foreign : (before : List Entry) (e : Entry) (pool : PoolId) (n : NodeId) (x : ℕ) → answers_sweep c before pool n x (Turn.Did e) → IsReady c before e → IsForeign c p (Never c p sound room earlier final) before e
   sweep-foreign before e pool n x answer ready = record {
     quiet = ap (reported p (turns c before)) answer.2.event;
     maker = λ session makes role.
@@ -299,7 +607,7 @@ module _ (c : Configuration) (p : PoolId) (sound : List ℕ → Bool) (room earl
     polite = ready.polite;
   }
 
-  swept-stands : (pool : PoolId) (before : List Entry) (e : Entry) (n : NodeId) (x : ℕ) → answers_sweep c before pool n x (turn.Did e) → IsReady c before e → At' (sweeps pool) before → tells (before ++ e ∷ []) × calm-at (before ++ e ∷ [])
+  swept-stands : (pool : PoolId) (before : List Entry) (e : Entry) (n : NodeId) (x : ℕ) → answers_sweep c before pool n x (Turn.Did e) → IsReady c before e → At' (sweeps pool) before → tells (before ++ e ∷ []) × calm-at (before ++ e ∷ [])
   swept-stands pool before e n x answer ready stands =
       let foreign = sweep-foreign before e pool n x answer ready in (
         tells-gap c p sound room earlier final before (e ∷ []) (foreign, tt) stands.tells,
@@ -307,10 +615,10 @@ module _ (c : Configuration) (p : PoolId) (sound : List ℕ → Bool) (room earl
       )
 
   -- a sweep changes no node
-  same-nodes : (s : State) (session : SessionId) (n : NodeId) (x : ℕ) → (next c s (ev.Sweep session n x)).nodes ≡ s.nodes
-  same-nodes s session n x = next-keeps (λ t. t.nodes ≡ s.nodes) c s (ev.Sweep session n x) refl (λ what _. refl)
+  same-nodes : (s : State) (session : SessionId) (n : NodeId) (x : ℕ) → (next c s (Event.Sweep session n x)).nodes ≡ s.nodes
+  same-nodes s session n x = next-keeps (λ t. t.nodes ≡ s.nodes) c s (Event.Sweep session n x) refl (λ what _. refl)
 
-  still-unwanted : (pool : PoolId) (before : List Entry) (e : Entry) (n : NodeId) (x : ℕ) → answers_sweep c before pool n x (turn.Did e) → is_wanted (after c (before ++ e ∷ [])) n x ≡ false
+  still-unwanted : (pool : PoolId) (before : List Entry) (e : Entry) (n : NodeId) (x : ℕ) → answers_sweep c before pool n x (Turn.Did e) → is_wanted (after c (before ++ e ∷ [])) n x ≡ false
   still-unwanted pool before e n x answer =
       subst (λ (s : State). is_wanted s n x ≡ false) (sym (after-next c p (Never c p sound room earlier final) before e))
       (subst (λ (f : Event). is_wanted (next c (after c before) f) n x ≡ false) (sym answer.2.event)
@@ -327,20 +635,20 @@ module _ (c : Configuration) (p : PoolId) (sound : List ℕ → Bool) (room earl
     unwanted = subst (λ (m : NodeId). is_wanted (after c journal) m x ≡ false) (sym there.2) unwanted;
   }
 
-  unwanted-found : (pool : PoolId) (n : NodeId) (x : ℕ) (t : Turn) → is_unwanted t ≡ true → Turned (sweeps pool) (ask.Sweep pool n x) t (owes_swept pool x)
-  unwanted-found pool n x (turn.Did e) u before seen own of answer sees full ready stands =
+  unwanted-found : (pool : PoolId) (n : NodeId) (x : ℕ) (t : Turn) → is_unwanted t ≡ true → Turned (sweeps pool) (Ask.Sweep pool n x) t (owes_swept pool x)
+  unwanted-found pool n x (Turn.Did e) u before seen own of answer sees full ready stands =
       let it = swept-stands pool before e n x answer (ready e refl) stands in
       subst (λ (j : List Entry). At' (owes_swept pool x) j) (sym sees)
       (record { tells = it.0; rest = (it.1, left-server (before ++ e ∷ []) n x of (still-unwanted pool before e n x answer)) })
-  unwanted-found pool n x (turn.DueNode m y) u before seen own of answer sees full ready stands = absurd answer
-  unwanted-found pool n x turn.Swept u before seen own of answer sees full ready stands = here (owes_swept pool x) before seen sees (record { tells = stands.tells; rest = (stands.rest, left-server before n x of answer.0.unwanted) })
+  unwanted-found pool n x (Turn.DueNode m y) u before seen own of answer sees full ready stands = absurd answer
+  unwanted-found pool n x Turn.Swept u before seen own of answer sees full ready stands = here (owes_swept pool x) before seen sees (record { tells = stands.tells; rest = (stands.rest, left-server before n x of answer.0.unwanted) })
   unwanted-found pool n x _ u before seen own of answer sees full ready stands = absurd (false≢true u)
 
-  kept-found : (pool : PoolId) (n : NodeId) (x : ℕ) (t : Turn) → Turned (sweeps pool) (ask.Sweep pool n x) t (sweeps pool)
-  kept-found pool n x (turn.Did e) before seen own of answer sees full ready stands =
+  kept-found : (pool : PoolId) (n : NodeId) (x : ℕ) (t : Turn) → Turned (sweeps pool) (Ask.Sweep pool n x) t (sweeps pool)
+  kept-found pool n x (Turn.Did e) before seen own of answer sees full ready stands =
       let it = swept-stands pool before e n x answer (ready e refl) stands in
       subst (λ (j : List Entry). At' (sweeps pool) j) (sym sees) (record { tells = it.0; rest = it.1 })
-  kept-found pool n x (turn.DueNode m y) before seen own of answer sees full ready stands = absurd answer
+  kept-found pool n x (Turn.DueNode m y) before seen own of answer sees full ready stands = absurd answer
   kept-found pool n x _ before seen own of answer sees full ready stands = here (sweeps pool) before seen sees stands
 
   pub turns-stand : TurnCases Turned

@@ -1,16 +1,112 @@
--- A worker's round at a board.
-use Rattle.np_worker.proofs.Prelude.{All, AreAsksOf, AreKept, Ask, Bool, Configuration, Driving, EndsAs, Entry, Err, Event, HasServers, IfOk, IfSome, IsAskOf, IsPastJanitor, IsPastLauncher, IsUseful, Janitor, Launcher, List, MatchBool, Move, NoMemory, None, Ok, Option, OwesRemoval, Part, Phase, Player, PlayerEnd, PlaysFrom, PoolId, Reaper, Records, RemovalFailed, Requester, Rests, Result, Role, RolesTook, RoundEnd, Server, Sight, Some, StandAt, StartsWith, TookAll, Turn, Walk, WasAnswered, WasIdle, WasKept, Work, [], after, answers_of, ap, append-nil, append_assoc, arith, asked, ended, entries_of, false, false≢true, first_phase, inl, inr, is_idle, length, length-append, nat_tests, of_pool, of_reaper, of_requester, owes_due, owes_swept, recorded, refl, starts_on, starts_same, subst, sym, true, ℕ, ⊎_elim, ◌++◌, ◌+◌, ◌∙◌, ◌∷◌, ◌≡◌}
-use Rattle.np_worker.specs.Board.{AnswersAsBoard, AreSweptSo, CameFar, CameToEnd, HadNothing, HasRoundAtBoard, IsRoundAtBoard, IsSweptSo, RolesCameFar, ServersGo, ServersLeave, ServersStay, acts_as}
-use Rattle.np_worker.specs.declared.ask.Ask.TheVariants as ask
-use Rattle.np_worker.specs.declared.ask.Turn.TheVariants as turn
-use Rattle.np_worker.proofs.Gained.{turn_seen, walk_gains, walk_seen}
-use Rattle.np_worker.proofs.Leaving.{kept-stay, left-with_cause, own-node, own-pair}
-use Rattle.np_worker.proofs.OfRoles.{entry-of_worker}
-use Rattle.np_worker.proofs.RoundEnds.{ends_full, is_at_end}
-use Rattle.np_worker.proofs.SweepLemmas.{sweep-removes}
-use Rattle.np_worker.proofs.Servers.{rises}
-use Rattle.np_worker.proofs.Unwanted.{unwanted-gone}
-use Rattle.np_worker.proofs.Orderly.{orderly}
+-- a round at a board: a server that no record wants any more is gone after it
+use Rattle.np_worker.proofs.Prelude.{All, All-contains, AnswersAsBoard, AreAsksOf, AreKept, AreSweptSo, Ask, BeginsLaunch, Bool, CameFar, CameToEnd, Changes, Configuration, Contains, DrivenAs, Driving, EndsAs, Entry, Err, Event, HadNothing, HasRoundAtBoard, HasServers, IfOk, IfSome, IsAskOf, IsDrivenTurn, IsKept, IsOfUse, IsPastJanitor, IsPastLauncher, IsReportOfLaunch, IsRoundAtBoard, IsSweepOfServer, IsSweptSo, IsTickBetween, IsTurnAs, IsUseful, Janitor, KeepsJanitor, Launcher, List, MatchBool, Move, NamesServer, NoMemory, NodeId, NodeRecord, None, Ok, Option, Outcome, OwesRemoval, Part, Phase, Player, PlayerEnd, PlaysFrom, PoolId, Reaper, Records, RemovalFailed, Requester, Rests, Result, Role, RolesCameFar, RolesTook, RoundEnd, Says, Server, ServersGo, ServersLeave, ServersStay, Sight, Some, StandAt, StartsWith, State, StaysKept, TookAll, Turn, Walk, WasAnswered, WasIdle, WasKept, WasNamed, WasOfUse, WasUnwanted, Way, Work, acts_as, after, answers_of, ap, append-nil, append_assoc, arith, asked, ended, entries_of, false, false≢true, first_phase, inl, inr, is_building, is_idle, is_ok, is_server, is_wanted, judge, length, length-append, nat_tests, node_in, node_in-below, not-second, of_pool, of_reaper, of_requester, option_map_or, owes_due, owes_swept, recorded, refl, start, starts_on, starts_same, subst, sym, true, turns, ℕ, [], ⊎_elim, ◌++◌, ◌+◌, ◌<◌, ◌||◌, ◌∙◌, ◌∷◌, ◌≡◌, ◌≤◌}
+use Rattle.np_worker.proofs.Records.{IsSteady, IsGiven, attempts-steady, given-stays, holds-after, done-spends}
+use Rattle.np_worker.proofs.Journals.{turn_after, some-place, driven-at}
+use Rattle.np_worker.proofs.Leaving.{kept-stay, left-with_cause, own-node, own-pair, sweep-removes}
+use Rattle.np_worker.proofs.Walks.{orderly, turn_seen, walk_gains, walk_seen}
+use Rattle.np_worker.proofs.Made.{entry-of_worker, rises}
+use Rattle.np_worker.proofs.Steps.{ends_full, is_at_end}
+
+-- # a server that no record wants any more is never wanted again, and so is gone after a whole round
+
+-- ## a record that does not want a server stays so
+
+-- the record does not have this server, and none is being launched for it
+abbrev Leaves : ℕ → NodeRecord → Type 0
+Leaves x node = (is_building node.state || is_server x node.server) ≡ false
+
+put-leaves : (x : ℕ) (c : Configuration) (s : State) (ch : Changes) (n : NodeId) (node kept : NodeRecord) → (node.in_flight ≡ true → is_building node.state ≡ true) → Way c s ch n node kept → Leaves x node → Leaves x kept
+put-leaves x c s ch n node kept runs way old = grind (arith, nat_tests)
+
+leaves-steady : (x : ℕ) → IsSteady (Leaves x)
+leaves-steady x = record {
+  allocated = λ r tenant node old. old;
+  given_back = λ node old. old;
+  taken_over = λ tick node old. not-second (is_building node.state) (is_server x node.server) old;
+  put = λ c s ch n node kept runs way old. put-leaves x c s ch n node kept runs way old;
+}
+
+-- ## numbers that were given
+
+module _ (c : Configuration) where
+  given-later : (n : NodeId) (journal more : List Entry) → n.0 < (after c journal).next_node → n.0 < (after c (journal ++ more)).next_node
+  given-later n journal more given = (given-stays n (λ (node : NodeRecord). 0 ≤ node.attempts) (attempts-steady 0) c journal more (record { given = given; holds = λ node is. omega arith })).given
+
+  stood-given : (n : NodeId) (node : NodeRecord) (journal : List Entry) → node_in n (after c journal).nodes ≡ Some node → n.0 < (after c journal).next_node
+  stood-given n node journal is = node_in-below n (after c journal).next_node node (after c journal).nodes (holds-after c journal).numbered.nodes_below is
+
+  module _ (says : Says) (n : NodeId) (x : ℕ) (b : List Entry) (u : Entry) (names : NamesServer n x (turn_after c b u)) where
+    accepted-given : is_ok (judge c (after c b) u.event) ≡ true → n.0 < (after c b).next_node
+    accepted-given accepted =
+        (done-spends c (after c b) names.session n names.attempt (Outcome.Launched x) (holds-after c b).numbered
+        (subst (λ (e : Event). is_ok (judge c (after c b) e) ≡ true) names.event accepted)).given
+
+    reported-given : IsReportOfLaunch says (turns c b) (turn_after c b u) → n.0 < (after c b).next_node
+    reported-given r =
+        let same : Event.Done r.session r.number r.attempt r.outcome ≡ Event.Done names.session n names.attempt (Outcome.Launched x) = sym r.event ∙ names.event in
+        let number : r.number ≡ n = cc in
+        let found = some-place c (BeginsLaunch r.session r.number r.attempt r.start r.pool) (start c) b r.begun in
+        let stood : node_in n (after c found.before).nodes ≡ Some found.holds.node = subst (λ (m : NodeId). node_in m (after c found.before).nodes ≡ Some found.holds.node) number found.holds.stood in
+        subst (λ (j : List Entry). n.0 < (after c j).next_node) (sym found.stands)
+        (given-later n found.before (found.entry ∷ found.rest) (stood-given n found.holds.node found.before stood))
+
+    named-turn_given : IsDrivenTurn says c (turns c b) (turn_after c b u) → n.0 < (after c b).next_node
+    named-turn_given h = ⊎_elim (λ (t : IsOfUse c (turn_after c b u)). accepted-given t.useful.accepted)
+        (λ g. ⊎_elim (λ (t : IsTickBetween (turns c b) (turn_after c b u)). absurd (cc (t.event, names.event)))
+        (λ f. ⊎_elim (λ (t : IsSweepOfServer (turns c b) (turn_after c b u)). absurd (cc (t.event, names.event))) reported-given f) g) h
+
+    named-turn_given_as : (plans : Bool) → IsTurnAs says plans c (turns c b) (turn_after c b u) → n.0 < (after c b).next_node
+    named-turn_given_as false h = named-turn_given h
+    named-turn_given_as true h = ⊎_elim named-turn_given (λ (was : WasOfUse c (turns c b) (turn_after c b u)). accepted-given was.accepted) h
+
+  -- the number of a node whose server was named was given
+  named-given : (plans : Bool) (says : Says) (journal before rest : List Entry) (server : Server) → DrivenAs says plans c journal → journal ≡ before ++ rest → WasNamed c before server → server.tag.node.0 < (after c before).next_node
+  named-given plans says journal before rest server driven is named =
+      let found = some-place c (NamesServer server.tag.node server.number) (start c) before named in
+      let outer : journal ≡ found.before ++ found.entry ∷ (found.rest ++ rest) = is ∙ (ap (λ (l : List Entry). l ++ rest) found.stands ∙ append_assoc found.before (found.entry ∷ found.rest) rest) in
+      let turn = driven-at c says plans journal found.before found.entry (found.rest ++ rest) driven outer in
+      let given = named-turn_given_as says server.tag.node server.number found.before found.entry found.holds plans turn in
+      subst (λ (j : List Entry). server.tag.node.0 < (after c j).next_node) (sym found.stands)
+      (given-later server.tag.node found.before (found.entry ∷ found.rest) given)
+
+  -- ## unwanted for good
+
+  leaves-of : (s : State) (n : NodeId) (x : ℕ) (node : NodeRecord) → is_wanted s n x ≡ false → node_in n s.nodes ≡ Some node → Leaves x node
+  leaves-of s n x node unwanted is =
+      subst (λ (o : Option NodeRecord). option_map_or (λ (k : NodeRecord). is_building k.state || is_server x k.server) o false ≡ false) is unwanted
+
+  unwanted-by : (x : ℕ) (o : Option NodeRecord) → ((node : NodeRecord) → o ≡ Some node → Leaves x node) → option_map_or (λ (k : NodeRecord). is_building k.state || is_server x k.server) o false ≡ false
+  unwanted-by x o each = grind (arith, nat_tests)
+
+  unwanted-stays : (journal more : List Entry) (n : NodeId) (x : ℕ) → n.0 < (after c journal).next_node → is_wanted (after c journal) n x ≡ false → is_wanted (after c (journal ++ more)) n x ≡ false
+  unwanted-stays journal more n x given unwanted =
+      let old : IsGiven n (Leaves x) (after c journal) = record { given = given; holds = λ node is. leaves-of (after c journal) n x node unwanted is } in
+      let new : IsGiven n (Leaves x) (after c (journal ++ more)) = given-stays n (Leaves x) (leaves-steady x) c journal more old in
+      unwanted-by x (node_in n (after c (journal ++ more)).nodes) new.holds
+
+  -- ## a whole round
+
+  not-kept : (plans : Bool) (says : Says) (history before seen : List Entry) (pool : PoolId) (server : Server) → DrivenAs says plans c history → StartsWith before history → StartsWith seen before → KeepsJanitor c history seen pool → WasUnwanted c history server → IsKept pool server.tag.node server.number (after c before) → ⊥
+  not-kept plans says history before seen pool server driven of_round of_seen keeps was kept =
+      ⊎_elim (λ none. false≢true (sym none ∙ keeps before of_round of_seen))
+      (λ wanted. false≢true (sym stays ∙ wanted)) kept
+    where
+      later : StartsWith before was.before
+      later = starts_on before history was.before of_round was.of_history
+
+      given : server.tag.node.0 < (after c was.before).next_node
+      given = named-given plans says history was.before was.of_history.0 server driven was.of_history.1 was.named
+
+      stays : is_wanted (after c before) server.tag.node server.number ≡ false
+      stays = subst (λ (j : List Entry). is_wanted (after c j) server.tag.node server.number ≡ false) (sym later.1)
+          (unwanted-stays was.before later.0 server.tag.node server.number given was.unwanted)
+
+  pub unwanted-gone : (plans : Bool) (says : Says) (history : List Entry) (player : Player) (end : PlayerEnd) (pool : PoolId) (servers : List Server) (plays : PlaysFrom plans c history player end) → DrivenAs says plans c history → (end.phase ≡ ended → ⊥) → All (WasKept pool plays.trace) servers → KeepsJanitor c history end.sight.seen pool → (server : Server) → WasUnwanted c history server → Contains servers server → ⊥
+  unwanted-gone plans says history player end pool servers plays driven room kept keeps server was there =
+      let stay = All-contains (StaysKept c history end.sight pool) servers server (kept-stay plans c history player end pool servers plays room kept) there in
+      not-kept plans says history stay.before end.sight.seen pool server driven stay.of_round stay.of_seen keeps was stay.kept
+
+-- # A worker's round at a board.
 
 -- ## earlier places
 
@@ -48,7 +144,7 @@ stands plans c history player end plays =
 -- ## sweeps
 
 swept_so : (plans : Bool) (c : Configuration) (before : List Entry) (a : Ask) (t : Turn) → answers_of plans c before a t → IsSweptSo a t
-swept_so plans c before (ask.Sweep p n x) (turn.Did e) h = sweep-removes c before p n x e h
+swept_so plans c before (Ask.Sweep p n x) (Turn.Did e) h = sweep-removes c before p n x e h
 swept_so plans c before a t h = tt
 
 are_swept_so : (plans : Bool) (c : Configuration) (ms : List Move) (v w : Sight Entry) → Walk (answers_of plans) c ms v w → AreSweptSo ms
@@ -63,12 +159,12 @@ unrecorded a t x1 = grind (arith, nat_tests)
 
 module _ (plans : Bool) (c : Configuration) where
   -- a board answers so only where the role has no useful event
-  idle_turn : (before : List Entry) (role : Role) (t : Turn) → is_idle t ≡ true → answers_of plans c before (ask.Act role) t → (e : Event) → IsUseful c (after c before) role e → ⊥
+  idle_turn : (before : List Entry) (role : Role) (t : Turn) → is_idle t ≡ true → answers_of plans c before (Ask.Act role) t → (e : Event) → IsUseful c (after c before) role e → ⊥
   idle_turn before role t x1 x2 e x3 = grind (arith, nat_tests)
 
   -- the turns that are counted for a role are its own
   abbrev Names : Work → Role → Type 0
-  Names work role = (a : Ask) → IsAskOf work a → acts_as role a ≡ true → a ≡ ask.Act role
+  Names work role = (a : Ask) → IsAskOf work a → acts_as role a ≡ true → a ≡ Ask.Act role
 
   had_nothing : (work : Work) (role : Role) → Names work role → (history : List Entry) (ms : List Move) (v w : Sight Entry) → StartsWith v.seen history → Walk (answers_of plans) c ms v w → AreAsksOf work ms → WasIdle (acts_as role) ms → HadNothing c role history w.seen
   had_nothing work role names history [] v w on h asks idle = absurd idle
@@ -89,11 +185,11 @@ module _ (plans : Bool) (c : Configuration) where
   came_far work role names history ms w h asks (inr idle) = inr (had_nothing work role names history ms (sight history []) w (starts_same history) h asks idle)
 
 names_launcher : (plans : Bool) (c : Configuration) (pool : PoolId) → Names plans c (of_pool pool) (Launcher pool)
-names_launcher plans c pool (ask.Act (Launcher p)) own is = ⊎_elim (λ (same : Launcher p ≡ Launcher pool). ap ask.Act same) (λ (other : Launcher p ≡ Janitor pool). absurd cc) own
+names_launcher plans c pool (Ask.Act (Launcher p)) own is = ⊎_elim (λ (same : Launcher p ≡ Launcher pool). ap Ask.Act same) (λ (other : Launcher p ≡ Janitor pool). absurd cc) own
 names_launcher plans c pool _ own is = absurd (false≢true is)
 
 names_janitor : (plans : Bool) (c : Configuration) (pool : PoolId) → Names plans c (of_pool pool) (Janitor pool)
-names_janitor plans c pool (ask.Act (Janitor p)) own is = ⊎_elim (λ (other : Janitor p ≡ Launcher pool). absurd cc) (λ (same : Janitor p ≡ Janitor pool). ap ask.Act same) own
+names_janitor plans c pool (Ask.Act (Janitor p)) own is = ⊎_elim (λ (other : Janitor p ≡ Launcher pool). absurd cc) (λ (same : Janitor p ≡ Janitor pool). ap Ask.Act same) own
 names_janitor plans c pool _ own is = absurd (false≢true is)
 
 owes_past : (p : Phase) → OwesRemoval p → IsPastLauncher p

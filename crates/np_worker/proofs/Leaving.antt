@@ -1,22 +1,135 @@
--- Why a server left: a removal comes right after a turn that named the server.
-use Rattle.np_worker.proofs.Prelude.{All, All-contains, All-contains_itself, All-filter, All-weaker, Answered, AreAsksOf, AreInOrder, Ask, Bool, Configuration, Contains, Contains-push, Contains-push_cases, Drives, Driving, Drove, Entry, HasServers, IsAskOf, IsDue, IsOfRound, IsOfServer, IsOnlyNodeOfItsNumber, IsOnlyOfItsNumber, IsSweepAt, IsSweptAfter, Launch, Leads, LeftWithCause, List, Move, NodeId, None, Option, Outcome, Phase, Player, PlayerEnd, PlaysFrom, PoolId, Records, Server, Sight, Some, StartsWith, StaysKept, SweepsServers, Tag, Turn, Walk, WasDue, WasFull, WasKept, WasLaunched, WasRemoved, WasSwept, Work, [], after, answers_of, answers_sweep, ap, arith, asked, ended, false, filter, first_phase, fresh_sight, get_or, inl, inr, is_remove, is_swept, is_unwanted, launched, launches_of, length, length-append, nat_tests, not, of_pool, recorded, refl, removed, servers_after, slice_get, stage_of, starts_on, starts_same, subst, suc, sym, true, with_launched, without_number, zero, ℕ, ◌++◌, ◌+◌, ◌<◌, ◌==◌, ◌∙◌, ◌∷◌, ◌≡◌, ◌⊎◌}
+-- how and why servers leave: sweeps, and removals that come right after a turn that named the server
+use Rattle.np_worker.proofs.Prelude.{All, All-contains, All-contains_itself, All-filter, All-weaker, Answer, Answered, AreAsksOf, AreInOrder, Ask, Bool, Configuration, Contains, Contains-append_left, Contains-push, Contains-push_cases, Done, Drives, Driving, Drove, Entry, Err, Event, Growth, HasServers, IsAskOf, IsDue, IsOfRound, IsOfServer, IsOnlyNodeOfItsNumber, IsOnlyOfItsNumber, IsSweepAt, IsSweptAfter, Janitor, Launch, Leads, LeftWithCause, List, Maker, Move, NodeId, None, Ok, Option, Outcome, Phase, Player, PlayerEnd, PlaysFrom, PoolId, Records, Reply, Role, Server, SessionId, Sight, Some, StartsWith, State, StaysKept, SweepsServers, Swept, Tag, Turn, Walk, WasDue, WasFull, WasKept, WasLaunched, WasRemoved, WasSwept, Work, after, answers_of, answers_sweep, ap, arith, asked, by_bool, cond, effect, ended, eq-eqb, eqb-true, false, filter, first_phase, fresh_sight, get_or, grown, if◌then◌else◌, inl, inr, insert_before, is_current, is_ok, is_pair, is_pair_after, is_remove, is_swept, is_unwanted, is_wanted, janitor, judge, launched, launches_of, length, length-append, list_any-insert_before, nat_tests, next, not, of_pool, or_left, or_right, plan, plan-next, recorded, refl, removed, reply_of, servers_after, slice_get, stage_of, start, starts_on, starts_same, state_after, subst, suc, sym, true, with_act, with_launched, with_pair, without_number, zero, ℕ, [], ◌++◌, ◌+◌, ◌-◌, ◌<◌, ◌==◌, ◌∙◌, ◌∷◌, ◌≡◌, ◌⊎◌}
+use Rattle.np_changes.specs.Prelude.{acting}
+use Rattle.np_worker.proofs.Records.{state_after-append}
 use Rattle.np_worker.specs.Trace.{NamesServer, AreNamed}
-use Rattle.np_event.specs.declared.event.Outcome.TheVariants as outcome
-use Rattle.np_worker.specs.declared.ask.Ask.TheVariants as ask
-use Rattle.np_worker.specs.declared.ask.Turn.TheVariants as turn
-use Rattle.np_text.specs.declared.id.Role.TheVariants as role
-use Rattle.np_event.specs.declared.reply.Done.TheVariants as done
-use Rattle.np_event.specs.declared.reply.Reply.TheVariants as reply
-use Rattle.np_worker.proofs.Removed.{stays_or_goes}
-use Rattle.np_worker.proofs.Swept.{swept-stays, swept-after}
-use Rattle.np_worker.proofs.Gained.{turn_seen, walk_seen, get_last}
-use Rattle.np_worker.proofs.Histories.{starts_length}
-use Rattle.np_worker.proofs.RoundEnds.{is_at_end}
-use Rattle.np_worker.proofs.Order.{in_order}
-use Rattle.np_worker.proofs.Removals.{are_named}
-use Rattle.np_worker.proofs.Works.{asks_of}
-use Rattle.np_worker.proofs.Servers.{told}
-use Rattle.np_worker.proofs.SweepLemmas.{sweep-removes}
+use Rattle.np_worker.proofs.Walks.{get_last, starts_length, turn_seen, walk_seen}
+use Rattle.np_worker.proofs.Steps.{are_named, asks_of, in_order, is_at_end}
+use Rattle.np_worker.proofs.Made.{told}
+
+-- # a sweep by the current janitor, as the machine judges it
+
+module _ (s : State) (p : PoolId) (session : SessionId) where
+  pub janitor-is : is_current (Janitor p) session s ≡ true → janitor s session ≡ Ok p
+  janitor-is x1 = grind (arith, nat_tests)
+
+  pub sweep-judged : (c : Configuration) (n : NodeId) (x : ℕ) → is_current (Janitor p) session s ≡ true → judge c s (Event.Sweep session n x) ≡ Ok (if is_wanted s n x then Done.Keep else Done.Remove)
+  sweep-judged c n x current = rw (janitor-is current) refl
+
+pub sweep-removes : (c : Configuration) (journal : List Entry) (p : PoolId) (n : NodeId) (x : ℕ) (e : Entry) → answers_sweep c journal p n x (Turn.Did e) → e.reply ≡ Reply.Done Done.Remove
+sweep-removes c journal p n x e answer =
+    let by = answer.2 in
+    let says : judge c (after c journal) (Event.Sweep by.session n x) ≡ Ok Done.Remove =
+    sweep-judged (after c journal) p by.session c n x by.current ∙ ap (λ (b : Bool). Ok (if b then Done.Keep else Done.Remove)) answer.0.unwanted in
+    answer.3.reply ∙ ap (λ (f : Event). reply_of (judge c (after c journal) f)) by.event ∙ ap reply_of says
+
+-- # Swept pairs: what a sweep adds, and that none goes.
+
+-- ## a pair more
+
+abbrev pair : NodeId → ℕ → Swept
+pair n x = record { node = n; server = x }
+
+itself : (n : NodeId) (x : ℕ) → is_pair n x (pair n x) ≡ true
+itself n x = rw (eq-eqb n.0 n.0 refl, eq-eqb x x refl) refl
+
+inserted : (n : NodeId) (x : ℕ) (swept : List Swept) → is_swept n x (insert_before (is_pair_after n x) (pair n x) swept) ≡ true
+inserted n x swept = list_any-insert_before (is_pair n x) (is_pair_after n x) (pair n x) swept ∙ or_left (is_pair n x (pair n x)) (is_swept n x swept) (itself n x)
+
+pair-there_by : (n : NodeId) (x : ℕ) (swept : List Swept) (b : Bool) → is_swept n x swept ≡ b → is_swept n x (cond b swept (insert_before (is_pair_after n x) (pair n x) swept)) ≡ true
+pair-there_by n x swept true is = is
+pair-there_by n x swept false is = inserted n x swept
+
+-- the pair that joined is there
+pair-there : (n : NodeId) (x : ℕ) (swept : List Swept) → is_swept n x (with_pair n x swept) ≡ true
+pair-there n x swept = pair-there_by n x swept (is_swept n x swept) refl
+
+pair-keeps_by : (n m : NodeId) (x y : ℕ) (swept : List Swept) (b : Bool) → is_swept m y swept ≡ true → is_swept m y (cond b swept (insert_before (is_pair_after n x) (pair n x) swept)) ≡ true
+pair-keeps_by n m x y swept true is = is
+pair-keeps_by n m x y swept false is = list_any-insert_before (is_pair m y) (is_pair_after n x) (pair n x) swept ∙ or_right (is_pair m y (pair n x)) (is_swept m y swept) is
+
+-- ## what an event leaves
+
+-- each pair that is swept at first is swept then
+pub record KeepsSwept (s t : State) : Type 0 where
+  pub keeps : (n : NodeId) (x : ℕ) → is_swept n x s.swept ≡ true → is_swept n x t.swept ≡ true
+
+still : (s t : State) → t.swept ≡ s.swept → KeepsSwept s t
+still s t same = record { keeps = λ n x is. subst (λ (pairs : List Swept). is_swept n x pairs ≡ true) (sym same) is }
+
+grown-keeps : (c : Configuration) (maker : Option Maker) (growth : Growth) (s : State) → KeepsSwept s (grown c maker growth s)
+grown-keeps c maker (Growth.Swept n x) s = record { keeps = λ m y is. pair-keeps_by n m x y s.swept (is_swept n x s.swept) is }
+grown-keeps c None (Growth.Registration p) s = still s s refl
+grown-keeps c maker _ s = still s _ refl
+
+-- no event takes a swept pair away
+next-keeps_swept : (c : Configuration) (s : State) (e : Event) → KeepsSwept s (next c s e)
+next-keeps_swept c s e = by (is_ok (judge c s e)) refl where
+  by : (b : Bool) → is_ok (judge c s e) ≡ b → KeepsSwept s (next c s e)
+  by true ok =
+      let grown-one : KeepsSwept s (grown c (plan c s e).maker (plan c s e).grows s) = grown-keeps c (plan c s e).maker (plan c s e).grows s in
+      record { keeps = λ n x is. subst (λ (t : State). is_swept n x t.swept ≡ true) (plan-next c s e ok) (grown-one.keeps n x is) }
+  by false refused = rw refused (still s s refl)
+
+-- ## over journals
+
+later-keeps : (c : Configuration) (s : State) (journal : List Entry) → KeepsSwept s (state_after c s journal)
+later-keeps c s [] = still s s refl
+later-keeps c s (e ∷ journal) =
+    let first : KeepsSwept s (next c s e.event) = next-keeps_swept c s e.event in
+    let rest : KeepsSwept (next c s e.event) (state_after c (next c s e.event) journal) = later-keeps c (next c s e.event) journal in
+    record { keeps = λ n x is. rest.keeps n x (first.keeps n x is) }
+
+-- what is swept after a history is swept after each that continues it
+pub swept-stays : (c : Configuration) (seen before : List Entry) → StartsWith seen before → KeepsSwept (after c before) (after c seen)
+swept-stays c seen before h =
+    subst (KeepsSwept (after c before)) (sym (ap (λ (l : List Entry). after c l) h.1 ∙ state_after-append c (start c) before h.0))
+    (later-keeps c (after c before) h.0)
+
+-- ## what a sweep adds
+
+accepted-next_by : (P : State → Type 0) (c : Configuration) (s : State) (e : Event) (a : Answer) → judge c s e ≡ a → is_remove (reply_of a) ≡ true → P (with_act (acting s e) (effect c s e)) → P (next c s e)
+accepted-next_by P c s e (Ok what) is removes new = rw is new
+accepted-next_by P c s e (Err why) is removes new = absurd cc
+
+added-by : (s : State) (n : NodeId) (x : ℕ) (b : Bool) → b ≡ false → is_swept n x (cond b s.swept (with_pair n x s.swept)) ≡ true
+added-by s n x b unwanted = grind (arith, nat_tests, pair-there)
+
+sweep-adds : (c : Configuration) (s : State) (e : Event) (session : SessionId) (n : NodeId) (x : ℕ) → e ≡ Event.Sweep session n x → is_wanted s n x ≡ false → is_swept n x (with_act (acting s e) (effect c s e)).swept ≡ true
+sweep-adds c s e session n x is unwanted =
+    subst (λ (f : Event). is_swept n x (with_act (acting s f) (effect c s f)).swept ≡ true) (sym is) (added-by s n x (is_wanted s n x) unwanted)
+
+-- a sweep that is answered `Remove` leaves its pair swept
+pub swept-after : (c : Configuration) (journal : List Entry) (e : Entry) (session : SessionId) (n : NodeId) (x : ℕ) → e.event ≡ Event.Sweep session n x → is_wanted (after c journal) n x ≡ false → e.reply ≡ reply_of (judge c (after c journal) e.event) → is_remove e.reply ≡ true → is_swept n x (after c (journal ++ e ∷ [])).swept ≡ true
+swept-after c journal e session n x is unwanted reply removes =
+    subst (λ (s : State). is_swept n x s.swept ≡ true) (sym (state_after-append c (start c) journal (e ∷ [])))
+    (accepted-next_by (λ (s : State). is_swept n x s.swept ≡ true) c (after c journal) e.event (judge c (after c journal) e.event) refl
+    (sym (ap is_remove reply) ∙ removes) (sweep-adds c (after c journal) e.event session n x is unwanted))
+
+-- # How servers leave a driver.
+
+pub kept_at : (f : Server → Bool) (xs : List Server) (s : Server) → f s ≡ true → (k : ℕ) → k < length xs → get_or xs k s ≡ s → Contains (filter f xs) s
+kept_at f [] s e k l i = absurd (omega arith)
+kept_at f (x ∷ xs) s e zero l i = by_bool (λ b. Contains (cond b (x ∷ filter f xs) (filter f xs)) s) (f x) (λ t. (0, omega arith, i)) (λ t. let u : f x ≡ f s = ap f i in absurd (cc))
+kept_at f (x ∷ xs) s e (suc k) l i = let r = kept_at f xs s e k (omega arith) i in by_bool (λ b. Contains (cond b (x ∷ filter f xs) (filter f xs)) s) (f x) (λ t. (suc r.0, omega (arith, r.1), r.2)) (λ t. r)
+
+pub launched_stay : (tag : Tag) (o : Outcome) (servers : List Server) (s : Server) → Contains servers s → Contains (with_launched tag o servers) s
+launched_stay tag (Outcome.Launched x) servers s h = Contains-append_left servers (record { tag = tag; number = x } ∷ []) s h
+launched_stay tag Outcome.Failed servers s h = h
+
+leaves_one : (x : ℕ) (servers : List Server) (s : Server) → Contains servers s → (Contains (without_number x servers) s) ⊎ (x ≡ s.number)
+leaves_one x servers s h = by_bool (λ b. (not b ≡ true → Contains (without_number x servers) s) → (b ≡ true → x ≡ s.number) → (Contains (without_number x servers) s) ⊎ (x ≡ s.number)) (s.number == x) (λ t f g. inr (g refl)) (λ t f g. inl (f refl)) (λ e. kept_at (λ (y : Server). not (y.number == x)) servers s e h.0 h.1 h.2) (λ e. sym (eqb-true s.number x e))
+
+pub stays_or_goes : (ms : List Move) (servers : List Server) (s : Server) → Contains servers s → (Contains (servers_after ms servers) s) ⊎ WasRemoved s.number ms
+stays_or_goes [] servers s h = inl h
+stays_or_goes (asked a t ∷ ms) servers s h = stays_or_goes ms servers s h
+stays_or_goes (launched tag o ∷ ms) servers s h = stays_or_goes ms (with_launched tag o servers) s (launched_stay tag o servers s h)
+stays_or_goes (removed x ∷ ms) servers s h = elim (leaves_one x servers s h) [
+  | inl k ↦ elim (stays_or_goes ms (without_number x servers) s k) [ inl i ↦ inl i | inr i ↦ inr (inr i) ]
+  | inr e ↦ inr (inl e)
+]
+
+-- # Why a server left: a removal comes right after a turn that named the server.
 
 -- ## members of lists
 
@@ -29,14 +142,14 @@ filtered-member f xs s h = All-contains (Contains xs) (filter f xs) s (All-filte
 
 -- ## the servers of a round
 
-launched-there : (tag : Tag) (o : Outcome) (now : List Server) (s : Server) → tag ≡ s.tag → o ≡ outcome.Launched s.number → Contains (with_launched tag o now) s
+launched-there : (tag : Tag) (o : Outcome) (now : List Server) (s : Server) → tag ≡ s.tag → o ≡ Outcome.Launched s.number → Contains (with_launched tag o now) s
 launched-there tag o now s of_tag of_number =
     subst (λ (q : Outcome). Contains (with_launched tag q now) s) (sym of_number)
     (subst (λ (g : Tag). Contains (now ++ record { tag = g; number = s.number } ∷ []) s) (sym of_tag) (Contains-push now s))
 
 launch-leaves : (tag : Tag) (o : Outcome) (ms : List Move) (now : List Server) (s : Server)
-    → (Contains (launches_of ms) (record { tag = s.tag; outcome = outcome.Launched s.number }) → (Contains (servers_after ms (with_launched tag o now)) s) ⊎ WasRemoved s.number ms)
-    → (k : ℕ) → k < length (launches_of (launched tag o ∷ ms)) → get_or (launches_of (launched tag o ∷ ms)) k (record { tag = s.tag; outcome = outcome.Launched s.number }) ≡ record { tag = s.tag; outcome = outcome.Launched s.number }
+    → (Contains (launches_of ms) (record { tag = s.tag; outcome = Outcome.Launched s.number }) → (Contains (servers_after ms (with_launched tag o now)) s) ⊎ WasRemoved s.number ms)
+    → (k : ℕ) → k < length (launches_of (launched tag o ∷ ms)) → get_or (launches_of (launched tag o ∷ ms)) k (record { tag = s.tag; outcome = Outcome.Launched s.number }) ≡ record { tag = s.tag; outcome = Outcome.Launched s.number }
     → (Contains (servers_after ms (with_launched tag o now)) s) ⊎ WasRemoved s.number ms
 launch-leaves tag o ms now s later zero l i =
     stays_or_goes ms (with_launched tag o now) s (launched-there tag o now s (ap (λ (launch : Launch). launch.tag) i) (ap (λ (launch : Launch). launch.outcome) i))
@@ -67,31 +180,31 @@ module _ (plans : Bool) (c : Configuration) (pool : PoolId) (history : List Entr
   LaunchesAreOfRound ms = (s : Server) → WasLaunched ms s → IsOfRound trace servers s
 
   more-of_round : (tag : Tag) (o : Outcome) (ms : List Move) (now : List Server) → AreOfRound now → LaunchesAreOfRound (launched tag o ∷ ms) → AreOfRound (with_launched tag o now)
-  more-of_round tag (outcome.Launched x) ms now own launches = λ s h.
+  more-of_round tag (Outcome.Launched x) ms now own launches = λ s h.
       elim (Contains-push_cases now (record { tag = tag; number = x }) s h) [
         | inl k ↦ own s k
         | inr e ↦ subst (IsOfRound trace servers) e (launches (record { tag = tag; number = x }) (zero, omega arith, refl))
       ]
-  more-of_round tag outcome.Failed ms now own launches = own
+  more-of_round tag Outcome.Failed ms now own launches = own
 
   later-launches : (tag : Tag) (o : Outcome) (ms : List Move) → LaunchesAreOfRound (launched tag o ∷ ms) → LaunchesAreOfRound ms
-  later-launches tag o ms launches = λ s h. launches s (later-member (record { tag = tag; outcome = o }) (launches_of ms) (record { tag = s.tag; outcome = outcome.Launched s.number }) h)
+  later-launches tag o ms launches = λ s h. launches s (later-member (record { tag = tag; outcome = o }) (launches_of ms) (record { tag = s.tag; outcome = Outcome.Launched s.number }) h)
 
   fewer-of_round : (x : ℕ) (now : List Server) → AreOfRound now → AreOfRound (without_number x now)
   fewer-of_round x now own = λ s h. own s (filtered-member (λ (server : Server). not (server.number == x)) now s h)
 
   -- after the answer that nobody wants the server, it is swept
-  unwanted-swept : (before : List Entry) (p : PoolId) (n : NodeId) (x : ℕ) (t : Turn) (v u : Sight Entry) → answers_sweep c before p n x t → is_unwanted t ≡ true → Records (recorded (ask.Sweep p n x) t) before v u → is_swept n x (after c u.seen).swept ≡ true
-  unwanted-swept before p n x (turn.Did e) v u h unwanted r =
+  unwanted-swept : (before : List Entry) (p : PoolId) (n : NodeId) (x : ℕ) (t : Turn) (v u : Sight Entry) → answers_sweep c before p n x t → is_unwanted t ≡ true → Records (recorded (Ask.Sweep p n x) t) before v u → is_swept n x (after c u.seen).swept ≡ true
+  unwanted-swept before p n x (Turn.Did e) v u h unwanted r =
       subst (λ (l : List Entry). is_swept n x (after c l).swept ≡ true) (sym r.0) (swept-after c before e h.2.session n x h.2.event h.0.unwanted h.3.reply unwanted)
-  unwanted-swept before p n x (turn.DueNode m y) v u h unwanted r = absurd h
-  unwanted-swept before p n x turn.Swept v u h unwanted r = subst (λ (l : List Entry). is_swept n x (after c l).swept ≡ true) (sym r.0) h.1
+  unwanted-swept before p n x (Turn.DueNode m y) v u h unwanted r = absurd h
+  unwanted-swept before p n x Turn.Swept v u h unwanted r = subst (λ (l : List Entry). is_swept n x (after c l).swept ≡ true) (sym r.0) h.1
   unwanted-swept before p n x _ v u h unwanted r = absurd cc
 
   stays-swept : (u : Sight Entry) → StartsWith w.seen u.seen → (n : NodeId) (x : ℕ) → is_swept n x (after c u.seen).swept ≡ true → is_swept n x (after c w.seen).swept ≡ true
   stays-swept u to = let stays = swept-stays c w.seen u.seen to in stays.keeps
 
-  server-swept : (now : List Server) → AreOfRound now → (p : PoolId) (n : NodeId) (x : ℕ) → IsOfServer (ask.Sweep p n x) now → is_swept n x (after c w.seen).swept ≡ true → WasSwept c w.seen trace servers x
+  server-swept : (now : List Server) → AreOfRound now → (p : PoolId) (n : NodeId) (x : ℕ) → IsOfServer (Ask.Sweep p n x) now → is_swept n x (after c w.seen).swept ≡ true → WasSwept c w.seen trace servers x
   server-swept now own p n x there swept = record {
     server = there.0;
     of_round = own there.0 there.1;
@@ -111,9 +224,9 @@ module _ (plans : Bool) (c : Configuration) (pool : PoolId) (history : List Entr
 
   -- a turn that named a server gave the cause
   named-cause : (now : List Server) → AreOfRound now → (a : Ask) (t : Turn) (y : ℕ) (v u : Sight Entry) → IsAskOf (of_pool pool) a → IsOfServer a now → NamesServer a t y → StartsWith v.seen history → StartsWith w.seen u.seen → Answered (answers_of plans) recorded c v a t u → HasCause y
-  named-cause now own (ask.Due p) (turn.DueNode n (Some x)) y v u mine there names from to h =
+  named-cause now own (Ask.Due p) (Turn.DueNode n (Some x)) y v u mine there names from to h =
       inl (node-due h.0 p n x y mine names (starts_on h.0 v.seen history h.1 from) (subst (λ (l : List Entry). StartsWith w.seen l) h.3.0 to) h.2)
-  named-cause now own (ask.Sweep p n x) t y v u mine there names from to h =
+  named-cause now own (Ask.Sweep p n x) t y v u mine there names from to h =
       inr (subst (WasSwept c w.seen trace servers) names.0
       (server-swept now own p n x there (stays-swept u to n x (unwanted-swept h.0 p n x t v u h.2 names.1 h.3))))
   named-cause now own _ _ y v u mine there names from to h = absurd names
@@ -154,7 +267,7 @@ below-turn (Some e) before v u from h below = λ x there.
 module _ (plans : Bool) (c : Configuration) where
   -- ## sweeps come last
 
-  sweep-stands : (before : List Entry) (p : PoolId) (n : NodeId) (y : ℕ) (e : Entry) (u w : Sight Entry) → answers_sweep c before p n y (turn.Did e) → u.seen ≡ before ++ e ∷ [] → StartsWith w.seen u.seen → IsSweepAt w.seen (length before)
+  sweep-stands : (before : List Entry) (p : PoolId) (n : NodeId) (y : ℕ) (e : Entry) (u w : Sight Entry) → answers_sweep c before p n y (Turn.Did e) → u.seen ≡ before ++ e ∷ [] → StartsWith w.seen u.seen → IsSweepAt w.seen (length before)
   sweep-stands before p n y e u w h seen to = record {
     entry = e;
     stands = subst (λ (l : List Entry). slice_get l (length before) ≡ Some e) (sym (to.1 ∙ ap (λ (l : List Entry). l ++ to.0) seen)) (get_last before e to.0);
@@ -164,41 +277,41 @@ module _ (plans : Bool) (c : Configuration) where
     event = h.2.event;
   }
 
-  sweep-made : (p : PoolId) (n : NodeId) (y : ℕ) (t : Turn) (v u w : Sight Entry) → Answered (answers_of plans) recorded c v (ask.Sweep p n y) t u → StartsWith w.seen u.seen → (x : ℕ) → Contains u.mine x → (Contains v.mine x) ⊎ IsSweepAt w.seen x
-  sweep-made p n y (turn.Did e) v u w h to x there =
+  sweep-made : (p : PoolId) (n : NodeId) (y : ℕ) (t : Turn) (v u w : Sight Entry) → Answered (answers_of plans) recorded c v (Ask.Sweep p n y) t u → StartsWith w.seen u.seen → (x : ℕ) → Contains u.mine x → (Contains v.mine x) ⊎ IsSweepAt w.seen x
+  sweep-made p n y (Turn.Did e) v u w h to x there =
       elim (Contains-push_cases v.mine (length h.0) x (subst (λ (l : List ℕ). Contains l x) h.3.1 there)) [
         | inl k ↦ inl k
         | inr k ↦ inr (subst (IsSweepAt w.seen) k (sweep-stands h.0 p n y e u w h.2 h.3.0 to))
       ]
-  sweep-made p n y (turn.DueNode m z) v u w h to x there = absurd h.2
+  sweep-made p n y (Turn.DueNode m z) v u w h to x there = absurd h.2
   sweep-made p n y _ v u w h to x there = inl (subst (λ (l : List ℕ). Contains l x) h.3.1 there)
 
   sweeps-last : (ms : List Move) (v w : Sight Entry) → AreInOrder 2 ms → Walk (answers_of plans) c ms v w → (x : ℕ) → Contains w.mine x → (Contains v.mine x) ⊎ IsSweepAt w.seen x
   sweeps-last [] v w order walk x there = inl (subst (λ (l : List ℕ). Contains l x) walk.1 there)
-  sweeps-last (asked (ask.Sweep p n y) t ∷ ms) v w order walk x there =
+  sweeps-last (asked (Ask.Sweep p n y) t ∷ ms) v w order walk x there =
       elim (sweeps-last ms walk.0 w order.1 walk.2 x there) [
         | inl k ↦ sweep-made p n y t v walk.0 w walk.1 (walk_seen (answers_of plans) c ms walk.0 w walk.2) x k
         | inr s ↦ inr s
       ]
-  sweeps-last (asked (ask.Act (role.Janitor p)) t ∷ ms) v w order walk x there = absurd (omega (arith, order.0))
+  sweeps-last (asked (Ask.Act (Role.Janitor p)) t ∷ ms) v w order walk x there = absurd (omega (arith, order.0))
   sweeps-last (asked a t ∷ ms) v w order walk x there = absurd (omega (arith, order.0))
   sweeps-last (move ∷ ms) v w order walk x there = sweeps-last ms v w order walk x there
 
   -- ## a server that was kept
 
-  module _ (removes : (journal : List Entry) (p : PoolId) (n : NodeId) (y : ℕ) (e : Entry) → answers_sweep c journal p n y (turn.Did e) → e.reply ≡ reply.Done done.Remove)
+  module _ (removes : (journal : List Entry) (p : PoolId) (n : NodeId) (y : ℕ) (e : Entry) → answers_sweep c journal p n y (Turn.Did e) → e.reply ≡ Reply.Done Done.Remove)
       (history : List Entry) (w : Sight Entry) (pool : PoolId) (server : Server) where
     abbrev this_move : Turn → Move
-    this_move t = asked (ask.Sweep pool server.tag.node server.number) t
+    this_move t = asked (Ask.Sweep pool server.tag.node server.number) t
 
     turn-kept : (t : Turn) (ms : List Move) (v : Sight Entry) (stage : ℕ) → is_unwanted t ≡ false → (WasFull (this_move t ∷ ms) → ⊥) → AreInOrder stage (this_move t ∷ ms) → StartsWith v.seen history → AreBelow v → Walk (answers_of plans) c (this_move t ∷ ms) v w → StaysKept c history w pool server
-    turn-kept (turn.Did e) ms v stage unwanted room order from below walk =
-        let is : is_remove e.reply ≡ is_remove (reply.Done done.Remove) = ap is_remove (removes walk.1.0 pool server.tag.node server.number e walk.1.2) in
+    turn-kept (Turn.Did e) ms v stage unwanted room order from below walk =
+        let is : is_remove e.reply ≡ is_remove (Reply.Done Done.Remove) = ap is_remove (removes walk.1.0 pool server.tag.node server.number e walk.1.2) in
         absurd cc
-    turn-kept (turn.DueNode m y) ms v stage unwanted room order from below walk = absurd walk.1.2
-    turn-kept turn.Swept ms v stage unwanted room order from below walk = absurd cc
-    turn-kept turn.Full ms v stage unwanted room order from below walk = absurd (room (inl refl))
-    turn-kept turn.Idle ms v stage unwanted room order from below walk = record {
+    turn-kept (Turn.DueNode m y) ms v stage unwanted room order from below walk = absurd walk.1.2
+    turn-kept Turn.Swept ms v stage unwanted room order from below walk = absurd cc
+    turn-kept Turn.Full ms v stage unwanted room order from below walk = absurd (room (inl refl))
+    turn-kept Turn.Idle ms v stage unwanted room order from below walk = record {
       before = walk.1.0;
       of_round = starts_on walk.1.0 v.seen history walk.1.1 from;
       of_seen = subst (λ (l : List Entry). StartsWith w.seen l) walk.1.3.0 (walk_seen (answers_of plans) c ms walk.0 w walk.2);

@@ -1,13 +1,12 @@
--- why a player's round made an entry: it acted for its role, it swept a server, or it reported a launch that it had begun with its entry before
-use Rattle.np_worker.proofs.Prelude.{All, All-contains, All-filter, Answered, AreAsksOf, Ask, Bool, Configuration, Contains, Contains-push, Contains-push_cases, Entry, IsAskOf, IsChosen, IsOfServer, IsReplied, Launch, Launcher, Leads, List, MayAsk, MayLaunch, MayRemove, Move, NamesServer, NodeId, None, Option, Outcome, Phase, PoolId, Role, Server, Sight, Some, SomeTurn, Start, StartsWith, SweepsServers, Tag, Turn, Unturned, Walk, WasNamed, Work, [], acting, acts, after_entry, after_launch, after_removal, after_role, after_start, after_turn, answers_of, answers_sweep, ap, append-nil, append_assoc, arith, asked, cond, ended, false, first_phase, inl, inr, is_remove, launched, launches_of, length, looks, not, of_pool, owes_due, owes_launch, owes_report, owes_swept, recorded, refl, removed, report_of, servers_after, start_of, starts_more, starts_on, starts_same, subst, sweeps, sym, true, turns, with_launched, without_number, ℕ, ⊎_elim, ◌++◌, ◌==◌, ◌∙◌, ◌∷◌, ◌≡◌, ◌⊎◌}
-use Rattle.np_worker.specs.Prelude.{IsFull}
-use Rattle.np_worker.specs.declared.ask.Ask.TheVariants as ask
-use Rattle.np_worker.specs.declared.ask.Turn.TheVariants as turn
-use Rattle.np_text.specs.declared.id.Role.TheVariants as role
-use Rattle.np_worker.proofs.Histories.{starts_equal, contains_later, starts_length}
-use Rattle.np_worker.proofs.Steps.{goes_on, of_removal}
-use Rattle.np_worker.proofs.Events.{act-work, sweep-work}
-use Rattle.np_worker.proofs.Journals.{all_named_later, named_later, report_names}
+-- why and by whom an entry of a round was made: the player whose work it is, its role and its servers
+use Rattle.np_worker.proofs.Prelude.{All, All-cons, All-contains, All-filter, All-head, All-nil, Answered, AreAsksOf, AreNamed, AreNumbered, AreRising, Ask, Bool, Configuration, Contains, Contains-append_left, Contains-append_right, Contains-push, Contains-push_cases, Drives, Driving, Drove, EachPlaysFrom, Entry, Event, FollowsPlan, IfSome, IsAskOf, IsChosen, IsCutOff, IsFull, IsNumbered, IsOfRole, IsOfServer, IsOfWorker, IsReplied, IsRound, Janitor, Launch, Launcher, Leads, List, MayAsk, MayLaunch, MayRemove, Move, NamesServer, NodeId, None, Option, Outcome, Phase, Player, PlayerEnd, PlaysFrom, PoolId, Role, Server, SessionId, Sight, Some, SomeTurn, Start, StartsWith, State, SweepsServers, Tag, Turn, Unturned, Walk, WasAnswered, WasNamed, Work, acting, acts, after, after_entry, after_launch, after_removal, after_role, after_start, after_turn, answers_of, answers_sweep, ap, append-nil, append_assoc, arith, asked, cond, driving_in, drivings_of, ended, false, first_phase, fresh_sight, inl, inr, is_remove, launch_of, launched, launches_of, length, looks, maker_of, map, nat_tests, next_number, none-some, not, of_pool, option_map, owes_due, owes_launch, owes_report, owes_swept, recorded, refl, removed, report_of, role_of, same_Some, servers_after, slice_get, start_of, starts_more, starts_on, starts_same, subst, suc, sweeps, sym, true, turns, with_launched, without_number, zero, ℕ, [], ⊎_elim, ◌++◌, ◌+◌, ◌==◌, ◌∙◌, ◌∷◌, ◌≡◌, ◌≤◌, ◌⊎◌}
+use Rattle.np_worker.proofs.Walks.{starts_equal, contains_later, starts_length, Rises, walk_rises, rising_lower, rising_least, member-cases, no-member, All-left, All-right}
+use Rattle.np_worker.proofs.Steps.{asks_of, goes_on, of_removal}
+use Rattle.np_worker.proofs.Journals.{act-work, all_named_later, named_later, report_names, start-parts, sweep-work}
+use Rattle.np_worker.proofs.Reports.{chosen-of_role}
+use Rattle.np_worker.proofs.Records.{current-role, role-stays}
+
+-- # why a player's round made an entry: it acted for its role, it swept a server, or it reported a launch that it had begun with its entry before
 
 -- the second place comes right after the first
 pub record Follows (places : List ℕ) (first second : ℕ) : Type 0 where
@@ -27,7 +26,7 @@ follows_later xs ys first second s h = record {
 module _ (plans : Bool) (c : Configuration) (before : List Entry) (entry : Entry) where
   pub record IsActed (work : Work) : Type 0 where
     pub role : Role
-    pub own : IsAskOf work (ask.Act role)
+    pub own : IsAskOf work (Ask.Act role)
     pub answer : IsChosen plans c before role entry.event × IsReplied c before entry
 
   -- if it was known which servers there are, the server was named
@@ -36,7 +35,7 @@ module _ (plans : Bool) (c : Configuration) (before : List Entry) (entry : Entry
     pub own : work ≡ of_pool pool
     pub node : NodeId
     pub server : ℕ
-    pub answer : answers_sweep c before pool node server (turn.Did entry)
+    pub answer : answers_sweep c before pool node server (Turn.Did entry)
     pub named : knew → SomeTurn (NamesServer node server) (turns c before)
 
   pub record IsReported (work : Work) : Type 0 where
@@ -123,7 +122,7 @@ pub record HasBegun (plans : Bool) (c : Configuration) (work : Work) (pool : Poo
   pub places : List ℕ
   pub stood : v.seen ≡ earlier ++ begin ∷ rest
   pub begun : start_of pool begin ≡ Some s
-  pub act : IsChosen plans c earlier (role.Launcher pool) begin.event × IsReplied c earlier begin
+  pub act : IsChosen plans c earlier (Role.Launcher pool) begin.event × IsReplied c earlier begin
   pub last : v.mine ≡ places ++ length earlier ∷ []
 
 module _ (plans : Bool) (c : Configuration) (work : Work) (knew : Type 0) where
@@ -195,27 +194,27 @@ module _ (plans : Bool) (c : Configuration) (work : Work) (knew : Type 0) where
     -- ### a role acts
 
     start_fits : (pool : PoolId) (n : ℕ) (before : List Entry) (e : Entry) (o : Option Start) → start_of pool e ≡ o → work ≡ of_pool pool → Adds before e v u
-        → IsChosen plans c before (role.Launcher pool) e.event × IsReplied c before e → Named u.seen servers → Fits (after_start pool n o) u launches servers
-    start_fits pool n before e None is own m a k = acting_fits (role.Launcher pool) n u launches servers k
+        → IsChosen plans c before (Role.Launcher pool) e.event × IsReplied c before e → Named u.seen servers → Fits (after_start pool n o) u launches servers
+    start_fits pool n before e None is own m a k = acting_fits (Role.Launcher pool) n u launches servers k
     start_fits pool n before e (Some s) is own m a k =
         (record { own = own; earlier = before; begin = e; rest = []; places = v.mine; stood = m.1; begun = is; act = a; last = m.2 }, k)
 
-    entry_fits : (r : Role) (n : ℕ) (before : List Entry) (e : Entry) → IsAskOf work (ask.Act r) → Adds before e v u → IsChosen plans c before r e.event × IsReplied c before e
+    entry_fits : (r : Role) (n : ℕ) (before : List Entry) (e : Entry) → IsAskOf work (Ask.Act r) → Adds before e v u → IsChosen plans c before r e.event × IsReplied c before e
         → Named u.seen servers → Fits (after_entry r n e) u launches servers
-    entry_fits (role.Launcher pool) n before e own m a k = start_fits pool n before e (start_of pool e) refl (act-work work (role.Launcher pool) pool own refl) m a k
-    entry_fits (role.Janitor pool) n before e own m a k = acting_fits (role.Janitor pool) n u launches servers k
+    entry_fits (Role.Launcher pool) n before e own m a k = start_fits pool n before e (start_of pool e) refl (act-work work (Role.Launcher pool) pool own refl) m a k
+    entry_fits (Role.Janitor pool) n before e own m a k = acting_fits (Role.Janitor pool) n u launches servers k
     entry_fits r n before e own m a k = acting_fits r n u launches servers k
 
     -- what the worker owes after the turn, if it owed this before, and asks so
     abbrev Turned : Phase → Turn → Ask → Type 0
     Turned p t a = IsAskOf work a → (knew → (pool : PoolId) → work ≡ of_pool pool → IsOfServer a servers) → Answered (answers_of plans) recorded c v a t u → Stands (after_turn p a t) u launches servers
 
-    act_step : (r : Role) (n : ℕ) (t : Turn) → Named v.seen servers → Turned (acts r n) t (ask.Act r)
-    act_step r n (turn.Did e) k own there a =
+    act_step : (r : Role) (n : ℕ) (t : Turn) → Named v.seen servers → Turned (acts r n) t (Ask.Act r)
+    act_step r n (Turn.Did e) k own there a =
         let m : Adds a.0 e v u = (a.1, a.3.0, a.3.1) in
         did (after_entry r n e) a.0 e m (inl (record { role = r; own = own; answer = a.2 })) (entry_fits r n a.0 e own m a.2 (named_more v.seen u.seen servers (adds_seen a.0 e v u m) k))
-    act_step r n turn.Idle k own there a = quiet (after_role r) a.0 a.1 a.3 (λ m. acting_fits r 0 u launches servers (named_more v.seen u.seen servers m.0 k))
-    act_step r n turn.Full k own there a = quiet ended a.0 a.1 a.3 (λ m. full a.0 a.3 a.2.1)
+    act_step r n Turn.Idle k own there a = quiet (after_role r) a.0 a.1 a.3 (λ m. acting_fits r 0 u launches servers (named_more v.seen u.seen servers m.0 k))
+    act_step r n Turn.Full k own there a = quiet ended a.0 a.1 a.3 (λ m. full a.0 a.3 a.2.1)
     act_step r n _ k own there a = absurd a.2
 
     -- ### a launch is reported
@@ -244,20 +243,20 @@ module _ (plans : Bool) (c : Configuration) (work : Work) (knew : Type 0) where
       l,
     )
 
-    report_step : (pool : PoolId) (n : ℕ) (s : Start) (o : Outcome) (t : Turn) → Fits (owes_report pool n s o) v launches servers → Turned (owes_report pool n s o) t (ask.Do (report_of s o))
-    report_step pool n s o (turn.Did e) h own there a =
+    report_step : (pool : PoolId) (n : ℕ) (s : Start) (o : Outcome) (t : Turn) → Fits (owes_report pool n s o) v launches servers → Turned (owes_report pool n s o) t (Ask.Do (report_of s o))
+    report_step pool n s o (Turn.Did e) h own there a =
         let m : Adds a.0 e v u = (a.1, a.3.0, a.3.1) in
-        did (acting (role.Launcher pool) n) a.0 e m (inr (inr (report_cause pool s o a.0 e h.0 h.1 m a.2.0)))
-        (acting_fits (role.Launcher pool) n u launches servers (subst (λ (l : List Entry). Named l servers) (sym m.1) (h.2 a.0 e a.1 a.2.0)))
-    report_step pool n s o turn.Full h own there a = quiet ended a.0 a.1 a.3 (λ m. full a.0 a.3 a.2)
+        did (acting (Role.Launcher pool) n) a.0 e m (inr (inr (report_cause pool s o a.0 e h.0 h.1 m a.2.0)))
+        (acting_fits (Role.Launcher pool) n u launches servers (subst (λ (l : List Entry). Named l servers) (sym m.1) (h.2 a.0 e a.1 a.2.0)))
+    report_step pool n s o Turn.Full h own there a = quiet ended a.0 a.1 a.3 (λ m. full a.0 a.3 a.2)
     report_step pool n s o _ h own there a = absurd a.2
 
     -- ### the janitor looks for a due node
 
-    look_step : (pool : PoolId) (n : ℕ) (t : Turn) → Named v.seen servers → Turned (looks pool n) t (ask.Due pool)
-    look_step pool n (turn.DueNode node None) k own there a = quiet (acts (role.Janitor pool) n) a.0 a.1 a.3 (λ m. named_more v.seen u.seen servers m.0 k)
-    look_step pool n (turn.DueNode node (Some x)) k own there a = quiet (owes_due pool n x) a.0 a.1 a.3 (λ m. named_more v.seen u.seen servers m.0 k)
-    look_step pool n turn.Idle k own there a = quiet (acts (role.Janitor pool) n) a.0 a.1 a.3 (λ m. named_more v.seen u.seen servers m.0 k)
+    look_step : (pool : PoolId) (n : ℕ) (t : Turn) → Named v.seen servers → Turned (looks pool n) t (Ask.Due pool)
+    look_step pool n (Turn.DueNode node None) k own there a = quiet (acts (Role.Janitor pool) n) a.0 a.1 a.3 (λ m. named_more v.seen u.seen servers m.0 k)
+    look_step pool n (Turn.DueNode node (Some x)) k own there a = quiet (owes_due pool n x) a.0 a.1 a.3 (λ m. named_more v.seen u.seen servers m.0 k)
+    look_step pool n Turn.Idle k own there a = quiet (acts (Role.Janitor pool) n) a.0 a.1 a.3 (λ m. named_more v.seen u.seen servers m.0 k)
     look_step pool n _ k own there a = absurd a.2
 
     -- ### a server is asked about
@@ -268,16 +267,16 @@ module _ (plans : Bool) (c : Configuration) (work : Work) (knew : Type 0) where
         subst (λ (y : ℕ). SomeTurn (NamesServer n y) (turns c before)) there.3 (subst (λ (m : NodeId). SomeTurn (NamesServer m there.0.number) (turns c before)) there.2
         (named_later c v.seen before there.0 s (All-contains (WasNamed c v.seen) servers there.0 k there.1)))
 
-    sweep_step : (pool : PoolId) (n : NodeId) (x : ℕ) (t : Turn) → Named v.seen servers → Turned (sweeps pool) t (ask.Sweep pool n x)
-    sweep_step pool n x (turn.Did e) k own there a =
+    sweep_step : (pool : PoolId) (n : NodeId) (x : ℕ) (t : Turn) → Named v.seen servers → Turned (sweeps pool) t (Ask.Sweep pool n x)
+    sweep_step pool n x (Turn.Did e) k own there a =
         let m : Adds a.0 e v u = (a.1, a.3.0, a.3.1) in
         let is : work ≡ of_pool pool = sweep-work work pool n x own in
         let swept : IsSwept plans c a.0 e work knew = record { pool = pool; own = is; node = n; server = x; answer = a.2; named = λ known. sweep_named a.0 n x a.1 (there known pool is) (k known) } in
         did (cond (is_remove e.reply) (owes_swept pool x) (sweeps pool)) a.0 e m (inr (inl swept))
         (swept_fits (is_remove e.reply) pool x u launches servers (named_more v.seen u.seen servers (adds_seen a.0 e v u m) k))
-    sweep_step pool n x turn.Swept k own there a = quiet (owes_swept pool x) a.0 a.1 a.3 (λ m. named_more v.seen u.seen servers m.0 k)
-    sweep_step pool n x turn.Idle k own there a = quiet (sweeps pool) a.0 a.1 a.3 (λ m. named_more v.seen u.seen servers m.0 k)
-    sweep_step pool n x turn.Full k own there a = quiet ended a.0 a.1 a.3 (λ m. full a.0 a.3 a.2.2)
+    sweep_step pool n x Turn.Swept k own there a = quiet (owes_swept pool x) a.0 a.1 a.3 (λ m. named_more v.seen u.seen servers m.0 k)
+    sweep_step pool n x Turn.Idle k own there a = quiet (sweeps pool) a.0 a.1 a.3 (λ m. named_more v.seen u.seen servers m.0 k)
+    sweep_step pool n x Turn.Full k own there a = quiet ended a.0 a.1 a.3 (λ m. full a.0 a.3 a.2.2)
     sweep_step pool n x _ k own there a = absurd a.2
 
     -- a sweep of a pool's worker asks about a server that is there
@@ -333,3 +332,379 @@ module _ (plans : Bool) (c : Configuration) (work : Work) (knew : Type 0) where
   pub first_fits : (w : Work) (v : Sight Entry) (launches : List Launch) (servers : List Server) → Named v.seen servers → Fits (first_phase w) v launches servers
   first_fits (of_pool pool) v launches servers k = k
   first_fits _ v launches servers k = k
+
+-- # The servers of a worker's driver over a round
+
+-- a pool's worker has a driver
+abbrev pub HasDriver : Work → Option Driving → Type 0
+HasDriver (of_pool pool) None = ⊥
+HasDriver _ _ = Unit {0}
+
+-- a worker with its number among the pools' has one
+pub numbered_driver : (n : ℕ) (work : Work) (driving : Option Driving) → IsNumbered n work driving → HasDriver work driving
+numbered_driver n (of_pool pool) None h = h
+numbered_driver n _ _ h = tt
+
+-- the servers that a worker's driver had before a round, each of them named, and what the round did with them
+pub record Serves (c : Configuration) (history : List Entry) (work : Work) (moves : List Move) (now : Option Driving) : Type 0 where
+  pub servers : List Server
+  pub named : All (WasNamed c history) servers
+  pub swept : (pool : PoolId) → work ≡ of_pool pool → SweepsServers moves servers
+  pub left : (journal : List Entry) → All (WasNamed c journal) (servers_after moves servers) → All (AreNamed c journal) (driving_in now)
+
+-- what holds of the value, if there is one, holds of this one
+pub told : {A : Type 0} (P : A → Type 0) (o : Option A) (a : A) → o ≡ Some a → IfSome o P → P a
+told {A} P o a is h = subst (λ (x : Option A). IfSome x P) is h
+
+serves_none : (c : Configuration) (history : List Entry) (work : Work) (moves : List Move) → HasDriver work None → Serves c history work moves None
+serves_none c history (of_pool pool) moves h = absurd h
+serves_none c history _ moves h = record { servers = []; named = All-nil (WasNamed c history); swept = λ pool e. absurd cc; left = λ journal k. All-nil (AreNamed c journal) }
+
+left_named : (c : Configuration) (journal : List Entry) (moves : List Move) (before now : Driving) (servers : List Server) → before.facts.servers ≡ Some servers → Drives moves before now → All (WasNamed c journal) (servers_after moves servers) → AreNamed c journal now
+left_named c journal moves before now servers told d h = record { servers = servers_after moves servers; told = d.servers ∙ ap (option_map (servers_after moves)) told; named = h }
+
+serves_some : (c : Configuration) (history : List Entry) (work : Work) (moves : List Move) (before now : Driving) → AreNamed c history before → Drives moves before now → Serves c history work moves (Some now)
+serves_some c history work moves before now h d = record {
+  servers = h.servers;
+  named = h.named;
+  swept = λ pool e. told (SweepsServers moves) before.facts.servers h.servers h.told d.swept;
+  left = λ journal k. All-cons (AreNamed c journal) now [] (left_named c journal moves before now h.servers h.told d k) (All-nil (AreNamed c journal));
+}
+
+pub serves : (c : Configuration) (history : List Entry) (work : Work) (moves : List Move) (before now : Option Driving) → HasDriver work before → All (AreNamed c history) (driving_in before) → Drove moves before now → Serves c history work moves now
+serves c history work moves None None h k d = serves_none c history work moves h
+serves c history work moves (Some before) (Some now) h k d = serves_some c history work moves before now (All-head (AreNamed c history) before [] k) d
+serves c history work moves _ _ h k d = absurd d
+
+-- ## What a player's round made, and which servers it leaves named
+
+-- all servers were named, unless the round was cut off
+fits_named : (plans : Bool) (c : Configuration) (work : Work) (p : Phase) (v : Sight Entry) (launches : List Launch) (servers : List Server) → (IsCutOff p → ⊥)
+    → Fits plans c work (Unit {0}) p v launches servers → All (WasNamed c v.seen) servers
+fits_named plans c work (owes_launch pool n s) v launches servers o h = absurd (o tt)
+fits_named plans c work (owes_report pool n s x) v launches servers o h = absurd (o tt)
+fits_named plans c work ended v launches servers o h = absurd (o tt)
+fits_named plans c work _ v launches servers o h = h tt
+
+module _ {plans : Bool} (c : Configuration) (history : List Entry) (player : Player) (end : PlayerEnd) (p : PlaysFrom plans c history player end) where
+  -- ## the history
+
+  pub rises : Rises (length history) end.sight
+  rises = walk_rises (answers_of plans) c (length history) p.trace (fresh_sight history) end.sight p.walked (omega arith, tt)
+
+  -- the places of what it made rise, and come after the history
+  pub places_rise : AreRising 0 end.sight.mine (length end.sight.seen)
+  places_rise = rising_lower (length history) 0 (length end.sight.seen) end.sight.mine (omega arith) (rises).1
+
+  pub places_new : (x : ℕ) → Contains end.sight.mine x → length history ≤ x
+  places_new x h = rising_least (length history) (length end.sight.seen) end.sight.mine (rises).1 x h
+
+  -- ## entries and servers
+
+  comes_to : (knew : Type 0) (servers : List Server) → (knew → All (WasNamed c history) servers) → (knew → (pool : PoolId) → player.work ≡ of_pool pool → SweepsServers p.trace servers)
+      → Stands plans c player.work knew end.phase end.sight (launches_of p.trace) (servers_after p.trace servers)
+  comes_to knew servers named swept =
+      walk_stands plans c player.work knew p.trace (first_phase player.work) end.phase (fresh_sight history) end.sight [] servers
+      (record { made = λ x k. absurd (omega (arith, k.1)); fits = first_fits plans c player.work knew player.work (fresh_sight history) [] servers named })
+      p.walked p.led (asks_of player.work end.phase p.trace p.led) swept
+
+  -- each entry of the round has its cause, whatever its servers are
+  pub each_caused : (x : ℕ) → Contains end.sight.mine x → Made plans c player.work ⊥ end.sight.mine (launches_of p.trace) end.sight.seen x
+  each_caused = (comes_to ⊥ [] (λ none. absurd none) (λ none. absurd none)).made
+
+  -- a pool's worker has a driver, or no one would know which servers it sweeps
+  module _ (driver : HasDriver player.work player.driving) (knew : All (AreNamed c history) (driving_in player.driving)) where
+    had_servers : Serves c history player.work p.trace end.player.driving
+    had_servers = serves c history player.work p.trace player.driving end.player.driving driver knew p.drove
+
+    came_to : Stands plans c player.work (Unit {0}) end.phase end.sight (launches_of p.trace) (servers_after p.trace (had_servers).servers)
+    came_to = comes_to (Unit {0}) (had_servers).servers (λ _. (had_servers).named) (λ _. (had_servers).swept)
+
+    -- each entry that the round made has its cause, and the servers that it swept were named
+    pub each_made : (x : ℕ) → Contains end.sight.mine x → Made plans c player.work (Unit {0}) end.sight.mine (launches_of p.trace) end.sight.seen x
+    each_made = (came_to).made
+
+    -- the servers that are left were named, unless the round was cut off
+    pub servers_named : (IsCutOff end.phase → ⊥) → All (AreNamed c end.sight.seen) (driving_in end.player.driving)
+    servers_named o = (had_servers).left end.sight.seen (fits_named plans c player.work end.phase end.sight (launches_of p.trace) (servers_after p.trace (had_servers).servers) o (came_to).fits)
+
+-- # players and their ends: whose work each is, and the drivers among them
+
+abbrev pub player_of : PlayerEnd → Player
+player_of end = end.player
+
+-- ## whose end it is
+
+-- the round that an end is of; the servers of its player were named before
+pub record RoundOf (plans : Bool) (c : Configuration) (history : List Entry) (end : PlayerEnd) : Type 0 where
+  pub player : Player
+  pub plays : PlaysFrom plans c history player end
+  pub named : All (AreNamed c history) (driving_in player.driving)
+  pub driver : HasDriver player.work player.driving
+
+module _ {plans : Bool} (c : Configuration) (history : List Entry) where
+  pub round-of : (n : ℕ) (players : List Player) (ends : List PlayerEnd) → EachPlaysFrom plans c history players ends → AreNumbered n players → All (AreNamed c history) (drivings_of players) → (end : PlayerEnd) → Contains ends end → RoundOf plans c history end
+  round-of n [] [] each are named end there = no-member end there
+  round-of n (player ∷ players) (first ∷ ends) each are named end there = ⊎_elim
+      (λ (same : first ≡ end). subst (λ (e : PlayerEnd). RoundOf plans c history e) same
+      (record { player = player; plays = each.0; named = All-left (AreNamed c history) (driving_in player.driving) (drivings_of players) named; driver = numbered_driver n player.work player.driving are.0 }))
+      (λ (later : Contains ends end). round-of (next_number n player.work) players ends each.1 are.1 (All-right (AreNamed c history) (driving_in player.driving) (drivings_of players) named) end later)
+      (member-cases first ends end there)
+  round-of n _ _ each are named end there = absurd each
+
+  -- some player's round came to this end
+  pub end-plays : (players : List Player) (ends : List PlayerEnd) → EachPlaysFrom plans c history players ends → (end : PlayerEnd) → Contains ends end → (player : Player) × PlaysFrom plans c history player end
+  end-plays [] [] each end there = no-member end there
+  end-plays (player ∷ players) (first ∷ ends) each end there = ⊎_elim
+      (λ (same : first ≡ end). (player, subst (PlaysFrom plans c history player) same each.0))
+      (λ (later : Contains ends end). end-plays players ends each.1 end later)
+      (member-cases first ends end there)
+  end-plays _ _ each end there = absurd each
+
+-- ## numbers
+
+number-kept : (n : ℕ) (work : Work) (before now : Option Driving) (moves : List Move) → Drove moves before now → IsNumbered n work before → IsNumbered n work now
+number-kept n work None None moves drove is = is
+number-kept n (of_pool pool) (Some a) (Some b) moves drove is = is
+number-kept n _ (Some a) (Some b) moves drove is = absurd is
+number-kept n work _ _ moves drove is = absurd drove
+
+module _ (plans : Bool) (c : Configuration) (history : List Entry) where
+  pub numbered-now : (n : ℕ) (players : List Player) (ends : List PlayerEnd) → EachPlaysFrom plans c history players ends → AreNumbered n players → AreNumbered n (map player_of ends)
+  numbered-now n [] [] each are = tt
+  numbered-now n (player ∷ players) (end ∷ ends) each are =
+      let work : player.work ≡ end.player.work = sym each.0.work in (
+        subst (λ (w : Work). IsNumbered n w end.player.driving) work (number-kept n player.work player.driving end.player.driving each.0.trace each.0.drove are.0),
+        subst (λ (w : Work). AreNumbered (next_number n w) (map player_of ends)) work (numbered-now (next_number n player.work) players ends each.1 are.1),
+      )
+  numbered-now n _ _ each are = absurd each
+
+-- the first number only rises
+next-least : (n : ℕ) (work : Work) → n ≤ next_number n work
+next-least n work = grind (arith, nat_tests)
+
+-- a pool's worker is not numbered below the first
+number-least : (n : ℕ) (work : Work) (driving : Option Driving) (pool : PoolId) → IsNumbered n work driving → work ≡ of_pool pool → (pool.0 ≡ n) × (next_number n work ≡ suc n)
+number-least n work driving pool x1 x2 = grind (arith, nat_tests)
+
+numbered-least : (n : ℕ) (players : List Player) → AreNumbered n players → (player : Player) → Contains players player → (pool : PoolId) → player.work ≡ of_pool pool → n ≤ pool.0
+numbered-least n [] are player there pool own = no-member player there
+numbered-least n (first ∷ players) are player there pool own = ⊎_elim
+    (λ (same : first ≡ player). let h = number-least n first.work first.driving pool are.0 (ap (λ (p : Player). p.work) same ∙ own) in omega (arith, h.0))
+    (λ (later : Contains players player). omega (arith, next-least n first.work, numbered-least (next_number n first.work) players are.1 player later pool own))
+    (member-cases first players player there)
+
+pub player-there : (ends : List PlayerEnd) (end : PlayerEnd) → Contains ends end → Contains (map player_of ends) end.player
+player-there [] end there = no-member end there
+player-there (first ∷ ends) end there = ⊎_elim
+    (λ (same : first ≡ end). (0, omega arith, ap player_of same))
+    (λ (later : Contains ends end). let h = player-there ends end later in (suc h.0, omega (arith, h.1), h.2))
+    (member-cases first ends end there)
+
+-- only one of them is of the pool's worker
+pub one-end : (n : ℕ) (ends : List PlayerEnd) → AreNumbered n (map player_of ends) → (a b : PlayerEnd) → Contains ends a → Contains ends b → (pool : PoolId) → a.player.work ≡ of_pool pool → b.player.work ≡ of_pool pool → a ≡ b
+one-end n [] are a b there also pool own of = no-member a there
+one-end n (first ∷ ends) are a b there also pool own of =
+    let later-is : (e : PlayerEnd) → Contains ends e → e.player.work ≡ of_pool pool → next_number n first.player.work ≤ pool.0 = λ e h k. numbered-least (next_number n first.player.work) (map player_of ends) are.1 e.player (player-there ends e h) pool k in
+    let first-is : (e : PlayerEnd) → first ≡ e → e.player.work ≡ of_pool pool → (pool.0 ≡ n) × (next_number n first.player.work ≡ suc n) = λ e h k. number-least n first.player.work first.player.driving pool are.0 (ap (λ (p : PlayerEnd). p.player.work) h ∙ k) in
+    ⊎_elim
+    (λ (same : first ≡ a). ⊎_elim
+    (λ (equal : first ≡ b). sym same ∙ equal)
+    (λ (later : Contains ends b). absurd (omega (arith, (first-is a same own).0, (first-is a same own).1, later-is b later of)))
+    (member-cases first ends b also))
+    (λ (past : Contains ends a). ⊎_elim
+    (λ (equal : first ≡ b). absurd (omega (arith, (first-is b equal of).0, (first-is b equal of).1, later-is a past own)))
+    (λ (later : Contains ends b). one-end (next_number n first.player.work) ends are.1 a b past later pool own of)
+    (member-cases first ends b also))
+    (member-cases first ends a there)
+
+-- ## What a driver answered to the launches of a round
+
+-- the driver answered this, if it reports its answers
+abbrev pub HasAnswered : Driving → Launch → Type 0
+HasAnswered driving l = IfSome driving.facts.answered (λ launches. Contains launches l)
+
+-- what became of the launch is what was planned for it, if anything was
+abbrev pub IsPlanned : (Tag → Option Outcome) → Launch → Type 0
+IsPlanned plan l = IfSome (plan l.tag) (λ planned. planned ≡ l.outcome)
+
+stays_some : (more : List Launch) (l : Launch) (o : Option (List Launch)) → IfSome o (λ launches. Contains launches l) → IfSome (option_map (λ launches. launches ++ more) o) (λ launches. Contains launches l)
+stays_some more l None h = tt
+stays_some more l (Some launches) h = Contains-append_left launches more l h
+
+joins_some : (more : List Launch) (l : Launch) (o : Option (List Launch)) → Contains more l → IfSome (option_map (λ launches. launches ++ more) o) (λ launches. Contains launches l)
+joins_some more l None h = tt
+joins_some more l (Some launches) h = Contains-append_right launches more l h
+
+-- what a driver once answered stays answered
+pub answer_stays : (moves : List Move) (before now : Driving) → Drives moves before now → (l : Launch) → HasAnswered before l → HasAnswered now l
+answer_stays moves before now d l h = subst (λ (o : Option (List Launch)). IfSome o (λ launches. Contains launches l)) (sym d.answered) (stays_some (launches_of moves) l before.facts.answered h)
+
+-- the launches of a round are among the answers
+pub answers_launches : (moves : List Move) (before now : Driving) → Drives moves before now → (l : Launch) → Contains (launches_of moves) l → HasAnswered now l
+answers_launches moves before now d l h = subst (λ (o : Option (List Launch)). IfSome o (λ launches. Contains launches l)) (sym d.answered) (joins_some (launches_of moves) l before.facts.answered h)
+
+all_planned : (plan : Tag → Option Outcome) (moves : List Move) → FollowsPlan plan moves → All (IsPlanned plan) (launches_of moves)
+all_planned plan [] h = All-nil (IsPlanned plan)
+all_planned plan (launched tag o ∷ moves) h = All-cons (IsPlanned plan) (record { tag = tag; outcome = o }) (launches_of moves) h.0 (all_planned plan moves h.1)
+all_planned plan (move ∷ moves) h = all_planned plan moves h
+
+-- each launch of a round went as it was planned
+pub launches_planned : (moves : List Move) (before now : Driving) → Drives moves before now → (l : Launch) → Contains (launches_of moves) l → IsPlanned before.plan l
+launches_planned moves before now d l h = All-contains (IsPlanned before.plan) (launches_of moves) l (all_planned before.plan moves d.planned) h
+
+pub launches_planned_now : (moves : List Move) (before now : Driving) → Drives moves before now → (l : Launch) → Contains (launches_of moves) l → IsPlanned now.plan l
+launches_planned_now moves before now d l h = subst (λ (plan : Tag → Option Outcome). IsPlanned plan l) (sym d.plan) (launches_planned moves before now d l h)
+
+-- ## drivers after a round: what they had answered before, and what they answered in it
+
+-- ## what was answered before
+
+-- the driver that is at the place now was this before
+record DrivesOn (drivings : List Driving) (k : ℕ) (before : Driving) : Type 0 where
+  now : Driving
+  stands : slice_get drivings k ≡ Some now
+  moves : List Move
+  drives : Drives moves before now
+
+module _ (rest later : List Driving) (d : Driving) (tail : (k : ℕ) → slice_get rest k ≡ Some d → DrivesOn later k d) where
+  kept-first : (before now : Option Driving) (moves : List Move) → Drove moves before now → (k : ℕ) → slice_get (driving_in before ++ rest) k ≡ Some d → DrivesOn (driving_in now ++ later) k d
+  kept-first None None moves drove k is = tail k is
+  kept-first (Some a) (Some b) moves drove zero is =
+      let same : a ≡ d = cc in
+      record { now = b; stands = refl; moves = moves; drives = subst (λ (x : Driving). Drives moves x b) same drove }
+  kept-first (Some a) (Some b) moves drove (suc k) is =
+      let h = tail k is in
+      record { now = h.now; stands = h.stands; moves = h.moves; drives = h.drives }
+  kept-first _ _ moves drove k is = absurd drove
+
+module _ (plans : Bool) (c : Configuration) (history : List Entry) where
+  kept-at : (players : List Player) (ends : List PlayerEnd) → EachPlaysFrom plans c history players ends → (k : ℕ) (d : Driving) → slice_get (drivings_of players) k ≡ Some d → DrivesOn (drivings_of (map player_of ends)) k d
+  kept-at [] [] each k d is = absurd cc
+  kept-at (player ∷ players) (end ∷ ends) each k d is =
+      kept-first (drivings_of players) (drivings_of (map player_of ends)) d (λ j there. kept-at players ends each.1 j d there)
+      player.driving end.player.driving each.0.trace each.0.drove k is
+  kept-at _ _ each k d is = absurd each
+
+  -- what the pool's driver had answered before the round, it has answered after it
+  pub answer-kept : (players : List Player) (ends : List PlayerEnd) → EachPlaysFrom plans c history players ends → (pool : PoolId) (n : NodeId) (attempt first : ℕ) (o : Outcome) → WasAnswered (drivings_of players) pool n attempt first o → WasAnswered (drivings_of (map player_of ends)) pool n attempt first o
+  answer-kept players ends each pool n attempt first o was =
+      let kept = kept-at players ends each pool.0 was.driving was.of_pool in
+      record {
+        driving = kept.now;
+        of_pool = kept.stands;
+        answered = answer_stays kept.moves was.driving kept.now kept.drives (launch_of pool n attempt first o) was.answered;
+        planned = subst (λ (plan : Tag → Option Outcome). IfSome (plan (launch_of pool n attempt first o).tag) (λ planned. planned ≡ o)) (sym kept.drives.plan) was.planned;
+      }
+
+-- ## what is answered in the round
+
+-- the driver of the pool is at the pool's place
+record DrivesPool (players : List Player) (n : ℕ) (player : Player) (pool : PoolId) : Type 0 where
+  place : ℕ
+  driving : Driving
+  at_place : pool.0 ≡ n + place
+  own : player.driving ≡ Some driving
+  stands : slice_get (drivings_of players) place ≡ Some driving
+
+pool-first : (n : ℕ) (work : Work) (driving : Option Driving) (rest : List Driving) (pool : PoolId) → IsNumbered n work driving → work ≡ of_pool pool → (d : Driving) × (driving ≡ Some d) × (pool.0 ≡ n) × (slice_get (driving_in driving ++ rest) 0 ≡ Some d)
+pool-first n (of_pool other) (Some d) rest pool is same =
+    let equal : other ≡ pool = cc in
+    (d, refl, ap (λ (p : PoolId). p.0) (sym equal) ∙ is, refl)
+pool-first n (of_pool other) None rest pool is same = absurd is
+pool-first n _ driving rest pool is same = absurd cc
+
+past-first : (n : ℕ) (work : Work) (driving : Option Driving) (rest : List Driving) (number k : ℕ) (d : Driving) → IsNumbered n work driving → number ≡ next_number n work + k → slice_get rest k ≡ Some d → (j : ℕ) × (number ≡ n + j) × (slice_get (driving_in driving ++ rest) j ≡ Some d)
+past-first n (of_pool pool) (Some a) rest number k d is sum there = (suc k, omega arith, there)
+past-first n (of_pool pool) None rest number k d is sum there = absurd is
+past-first n _ None rest number k d is sum there = (k, sum, there)
+past-first n _ (Some a) rest number k d is sum there = absurd is
+
+drives-pool : (n : ℕ) (players : List Player) → AreNumbered n players → (player : Player) → Contains players player → (pool : PoolId) → player.work ≡ of_pool pool → DrivesPool players n player pool
+drives-pool n [] are player there pool own = no-member player there
+drives-pool n (first ∷ players) are player there pool own = ⊎_elim
+    (λ (same : first ≡ player).
+    let h = pool-first n first.work first.driving (drivings_of players) pool are.0 (ap (λ (p : Player). p.work) same ∙ own) in
+    record { place = 0; driving = h.0; at_place = omega (arith, h.2); own = ap (λ (p : Player). p.driving) (sym same) ∙ h.1; stands = h.3 })
+    (λ (later : Contains players player).
+    let h = drives-pool (next_number n first.work) players are.1 player later pool own in
+    let k = past-first n first.work first.driving (drivings_of players) pool.0 h.place h.driving are.0 h.at_place h.stands in
+    record { place = k.0; driving = h.driving; at_place = k.1; own = h.own; stands = k.2 })
+    (member-cases first players player there)
+
+-- the drive of a worker that has a driver now
+drive-of : (before now : Option Driving) (moves : List Move) (d : Driving) → Drove moves before now → now ≡ Some d → (a : Driving) × Drives moves a d
+drive-of None None moves d drove is = absurd cc
+drive-of (Some a) (Some b) moves d drove is =
+    let same : b ≡ d = cc in
+    (a, subst (λ (x : Driving). Drives moves a x) same drove)
+drive-of _ _ moves d drove is = absurd drove
+
+module _ {plans : Bool} where
+  -- what was launched in the round of a pool's worker was answered by the pool's driver
+  pub answer-new : (c : Configuration) (history : List Entry) (now : List Player) → AreNumbered 0 now → (player : Player) (end : PlayerEnd) (plays : PlaysFrom plans c history player end) → Contains now end.player
+      → (pool : PoolId) → end.player.work ≡ of_pool pool → (n : NodeId) (attempt first : ℕ) (o : Outcome) → Contains (launches_of plays.trace) (launch_of pool n attempt first o)
+      → WasAnswered (drivings_of now) pool n attempt first o
+  answer-new c history now are player end plays there pool own n attempt first o made =
+      let h = drives-pool 0 now are end.player there pool own in
+      let place : h.place ≡ pool.0 = omega (arith, h.at_place) in
+      let drive = drive-of player.driving end.player.driving plays.trace h.driving plays.drove h.own in
+      record {
+        driving = h.driving;
+        of_pool = subst (λ (k : ℕ). slice_get (drivings_of now) k ≡ Some h.driving) place h.stands;
+        answered = answers_launches plays.trace drive.0 h.driving drive.1 (launch_of pool n attempt first o) made;
+        planned = launches_planned_now plays.trace drive.0 h.driving drive.1 (launch_of pool n attempt first o) made;
+      }
+
+-- # each entry of a worker's round is of a role that the worker acts for
+
+-- an event of a maker of the role is of the role
+made-of_role : (role : Role) (s : State) (session : SessionId) (e : Event) → maker_of e ≡ Some session → role_of session s ≡ Some role → IsOfRole role s e
+made-of_role role s session e made is = record {
+  maker = λ other also. subst (λ (x : SessionId). role_of x s ≡ Some role) (same_Some session other (sym made ∙ also)) is;
+  opens = λ r opens. absurd (none-some session (sym (ap maker_of opens) ∙ made));
+  crashes = λ crashed crashes. absurd (none-some session (sym (ap maker_of crashes) ∙ made));
+  expires = λ expired expires. absurd (none-some session (sym (ap maker_of expires) ∙ made));
+}
+
+-- the entry after this history is of a role that the worker acts for
+pub record OfRole (c : Configuration) (work : Work) (before : List Entry) (e : Entry) : Type 0 where
+  pub role : Role
+  pub own : IsAskOf work (Ask.Act role)
+  pub of_role : IsOfRole role (after c before) e.event
+
+-- it is, whatever its cause
+pub of-cause : (plans : Bool) (c : Configuration) (before : List Entry) (e : Entry) (work : Work) (knew : Type 0) (mine : List ℕ) (launches : List Launch)
+    → Cause plans c before e work knew mine launches → OfRole c work before e
+of-cause plans c before e work knew mine launches (inl a) = record { role = a.role; own = a.own; of_role = chosen-of_role c before a.role plans e.event a.answer.0 }
+of-cause plans c before e work knew mine launches (inr (inl s)) =
+    let by = s.answer.2 in
+    record {
+      role = Janitor s.pool;
+      own = subst (λ (w : Work). IsAskOf w (Ask.Act (Janitor s.pool))) (sym s.own) (inr refl);
+      of_role = made-of_role (Janitor s.pool) (after c before) by.session e.event (ap maker_of by.event) (current-role (Janitor s.pool) by.session (after c before) by.current);
+    }
+of-cause plans c before e work knew mine launches (inr (inr (r, next, there))) =
+    let parts = start-parts r.pool r.begin.event r.begin.reply r.start r.begun in
+    let begun : role_of r.start.session (after c r.earlier) ≡ Some (Launcher r.pool) =
+    (chosen-of_role c r.earlier (Launcher r.pool) plans r.begin.event r.act.0).maker r.start.session (ap maker_of parts.event) in
+    let now : role_of r.start.session (after c before) ≡ Some (Launcher r.pool) = subst (λ (l : List Entry). role_of r.start.session (after c l) ≡ Some (Launcher r.pool)) (sym r.stood)
+    (role-stays c r.earlier (r.begin ∷ r.rest) r.start.session (Launcher r.pool) begun) in
+    record {
+      role = Launcher r.pool;
+      own = subst (λ (w : Work). IsAskOf w (Ask.Act (Launcher r.pool))) (sym r.own) (inl refl);
+      of_role = made-of_role (Launcher r.pool) (after c before) r.start.session e.event (ap maker_of r.event) now;
+    }
+
+module _ {plans : Bool} where
+  pub entry-of_worker : (c : Configuration) (history : List Entry) (player : Player) (end : PlayerEnd) → PlaysFrom plans c history player end → (x : ℕ) → Contains end.sight.mine x → IsOfWorker c end.sight.seen player.work x
+  entry-of_worker c history player end plays x mine =
+      let made = each_caused c history player end plays x mine in
+      let of = of-cause plans c made.before made.entry player.work ⊥ _ _ made.cause in
+      record { before = made.before; entry = made.entry; place = made.place; stands = made.stands; role = of.role; own = of.own; of_role = of.of_role }
+
+  pub entry-of_player : (c : Configuration) (history later : List Entry) (players now : List Player) (is_cut : Bool) (round : IsRound plans c history later players now is_cut)
+      → (end : PlayerEnd) → Contains round.ends end → (x : ℕ) → Contains end.sight.mine x → IsOfWorker c end.sight.seen end.player.work x
+  entry-of_player c history later players now is_cut round end there x mine =
+      let p = end-plays c history players round.ends round.plays end there in
+      subst (λ (w : Work). IsOfWorker c end.sight.seen w x) (sym p.1.work) (entry-of_worker c history p.0 end p.1 x mine)

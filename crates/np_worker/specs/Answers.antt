@@ -1,13 +1,10 @@
 -- which answers an ask may have, after a journal of the machine
 use Rattle.std.specs.Prelude.{◌≡◌, ◌<◌, ◌≤◌, ◌⊎◌, ℕ, true, false, List, length, Option, Some}
 use Rattle.np_changes.specs.Prelude.{Configuration, Entry, Event, Janitor, NodeId, NodeRecord, PoolId, Role, SessionId, State, after, is_deleting, is_swept, is_wanted, judge, node_holder, node_in, reply_of}
-use Rattle.np_event.specs.declared.event.Event.TheVariants as ev
 use Rattle.np_useful.specs.Sessions.{is_current, has_current}
 use Rattle.np_useful.specs.Useful.{IsUseful}
 use Rattle.np_worker.specs.declared.ask.Ask.{Ask}
-use Rattle.np_worker.specs.declared.ask.Ask.TheVariants as ask
 use Rattle.np_worker.specs.declared.ask.Turn.{Turn}
-use Rattle.np_worker.specs.declared.ask.Turn.TheVariants as turn
 
 -- ## what is recorded
 
@@ -24,21 +21,21 @@ IsFull journal = 262144 ≤ length journal
 
 -- a useful event of the role was recorded; none is; or one is and there is no room (own)
 abbrev pub answers_act : Configuration → List Entry → Role → Turn → Type 0
-answers_act c journal role (turn.Did e) = IsUseful c (after c journal) role e.event × IsReplied c journal e
-answers_act c journal role (turn.DueNode n x) = ⊥
-answers_act c journal role turn.Swept = ⊥
-answers_act c journal role turn.Idle = (e : Event) → IsUseful c (after c journal) role e → ⊥
-answers_act c journal role turn.Full = ((e : Event) × IsUseful c (after c journal) role e) × IsFull journal
+answers_act c journal role (Turn.Did e) = IsUseful c (after c journal) role e.event × IsReplied c journal e
+answers_act c journal role (Turn.DueNode n x) = ⊥
+answers_act c journal role Turn.Swept = ⊥
+answers_act c journal role Turn.Idle = (e : Event) → IsUseful c (after c journal) role e → ⊥
+answers_act c journal role Turn.Full = ((e : Event) × IsUseful c (after c journal) role e) × IsFull journal
 
 -- ## Do
 
 -- the event was recorded, or there is no room (own)
 abbrev pub answers_do : Configuration → List Entry → Event → Turn → Type 0
-answers_do c journal event (turn.Did e) = (e.event ≡ event) × IsReplied c journal e
-answers_do c journal event (turn.DueNode n x) = ⊥
-answers_do c journal event turn.Swept = ⊥
-answers_do c journal event turn.Idle = ⊥
-answers_do c journal event turn.Full = IsFull journal
+answers_do c journal event (Turn.Did e) = (e.event ≡ event) × IsReplied c journal e
+answers_do c journal event (Turn.DueNode n x) = ⊥
+answers_do c journal event Turn.Swept = ⊥
+answers_do c journal event Turn.Idle = ⊥
+answers_do c journal event Turn.Full = IsFull journal
 
 -- ## Due
 
@@ -55,11 +52,11 @@ pub record IsDue (p : PoolId) (s : State) (n : NodeId) (x : Option ℕ) : Type 0
 
 -- a node that is due, or none is (own)
 abbrev pub answers_due : Configuration → List Entry → PoolId → Turn → Type 0
-answers_due c journal p (turn.Did e) = ⊥
-answers_due c journal p (turn.DueNode n x) = IsDue p (after c journal) n x
-answers_due c journal p turn.Swept = ⊥
-answers_due c journal p turn.Idle = (n : NodeId) (x : Option ℕ) → IsDue p (after c journal) n x → ⊥
-answers_due c journal p turn.Full = ⊥
+answers_due c journal p (Turn.Did e) = ⊥
+answers_due c journal p (Turn.DueNode n x) = IsDue p (after c journal) n x
+answers_due c journal p Turn.Swept = ⊥
+answers_due c journal p Turn.Idle = (n : NodeId) (x : Option ℕ) → IsDue p (after c journal) n x → ⊥
+answers_due c journal p Turn.Full = ⊥
 
 -- ## Sweep
 
@@ -76,24 +73,24 @@ pub record IsNotKept (p : PoolId) (n : NodeId) (x : ℕ) (s : State) : Type 0 wh
 pub record IsSweepBy (p : PoolId) (n : NodeId) (x : ℕ) (s : State) (e : Event) : Type 0 where
   pub session : SessionId
   pub current : is_current (Janitor p) session s ≡ true
-  pub event : e ≡ ev.Sweep session n x
+  pub event : e ≡ Event.Sweep session n x
 
 -- the server is kept; it was swept before; it is swept now; or there is no room for that (own)
 abbrev pub answers_sweep : Configuration → List Entry → PoolId → NodeId → ℕ → Turn → Type 0
-answers_sweep c journal p n x (turn.Did e) =
+answers_sweep c journal p n x (Turn.Did e) =
     IsNotKept p n x (after c journal) × (is_swept n x (after c journal).swept ≡ false) × IsSweepBy p n x (after c journal) e.event × IsReplied c journal e
-answers_sweep c journal p n x (turn.DueNode m y) = ⊥
-answers_sweep c journal p n x turn.Swept = IsNotKept p n x (after c journal) × (is_swept n x (after c journal).swept ≡ true)
-answers_sweep c journal p n x turn.Idle = IsKept p n x (after c journal)
-answers_sweep c journal p n x turn.Full = IsNotKept p n x (after c journal) × (is_swept n x (after c journal).swept ≡ false) × IsFull journal
+answers_sweep c journal p n x (Turn.DueNode m y) = ⊥
+answers_sweep c journal p n x Turn.Swept = IsNotKept p n x (after c journal) × (is_swept n x (after c journal).swept ≡ true)
+answers_sweep c journal p n x Turn.Idle = IsKept p n x (after c journal)
+answers_sweep c journal p n x Turn.Full = IsNotKept p n x (after c journal) × (is_swept n x (after c journal).swept ≡ false) × IsFull journal
 
 -- ## any ask
 
 abbrev pub answers : Configuration → List Entry → Ask → Turn → Type 0
-answers c journal (ask.Act role) t = answers_act c journal role t
-answers c journal (ask.Do event) t = answers_do c journal event t
-answers c journal (ask.Due p) t = answers_due c journal p t
-answers c journal (ask.Sweep p n x) t = answers_sweep c journal p n x t
+answers c journal (Ask.Act role) t = answers_act c journal role t
+answers c journal (Ask.Do event) t = answers_do c journal event t
+answers c journal (Ask.Due p) t = answers_due c journal p t
+answers c journal (Ask.Sweep p n x) t = answers_sweep c journal p n x t
 
 -- ## with events that nobody chose just now
 
@@ -107,11 +104,11 @@ nothing_else c journal role e = ⊥
 
 -- as above, but a turn of a role may also have recorded one of those (own)
 abbrev pub answers_also : Also → Configuration → List Entry → Ask → Turn → Type 0
-answers_also also c journal (ask.Act role) (turn.Did e) = (IsUseful c (after c journal) role e.event ⊎ also c journal role e.event) × IsReplied c journal e
-answers_also also c journal (ask.Act role) (turn.DueNode n x) = ⊥
-answers_also also c journal (ask.Act role) turn.Swept = ⊥
-answers_also also c journal (ask.Act role) turn.Idle = answers_act c journal role turn.Idle
-answers_also also c journal (ask.Act role) turn.Full = answers_act c journal role turn.Full
-answers_also also c journal (ask.Do event) t = answers_do c journal event t
-answers_also also c journal (ask.Due p) t = answers_due c journal p t
-answers_also also c journal (ask.Sweep p n x) t = answers_sweep c journal p n x t
+answers_also also c journal (Ask.Act role) (Turn.Did e) = (IsUseful c (after c journal) role e.event ⊎ also c journal role e.event) × IsReplied c journal e
+answers_also also c journal (Ask.Act role) (Turn.DueNode n x) = ⊥
+answers_also also c journal (Ask.Act role) Turn.Swept = ⊥
+answers_also also c journal (Ask.Act role) Turn.Idle = answers_act c journal role Turn.Idle
+answers_also also c journal (Ask.Act role) Turn.Full = answers_act c journal role Turn.Full
+answers_also also c journal (Ask.Do event) t = answers_do c journal event t
+answers_also also c journal (Ask.Due p) t = answers_due c journal p t
+answers_also also c journal (Ask.Sweep p n x) t = answers_sweep c journal p n x t

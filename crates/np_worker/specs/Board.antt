@@ -2,12 +2,8 @@
 use Rattle.std.specs.Prelude.{◌≡◌, ◌⊎◌, ◌++◌, ℕ, length, List, [], ◌∷◌, Bool, true, false, Contains, All, IfOk, Option, Result}
 use Rattle.np_changes.specs.Prelude.{Configuration, Entry, Event, Janitor, Launcher, NoMemory, PoolId, Reaper, Requester, Role, after}
 use Rattle.np_worker.specs.Prelude.{AreRising, Driving, IsUseful, Move, Phase, Server, Sight, StartsWith, Work, asked, launched, of_pool, of_reaper, of_requester, removed}
-use Rattle.np_event.specs.declared.reply.Reply.TheVariants as reply
-use Rattle.np_event.specs.declared.reply.Done.TheVariants as done
 use Rattle.np_worker.specs.declared.ask.Ask.{Ask}
-use Rattle.np_worker.specs.declared.ask.Ask.TheVariants as ask
 use Rattle.np_worker.specs.declared.ask.Turn.{Turn}
-use Rattle.np_worker.specs.declared.ask.Turn.TheVariants as turn
 use Rattle.np_worker.specs.Move.{entries_of}
 use Rattle.np_worker.specs.Trace.{StandAt, WasFull, did_count, is_launcher_act, is_janitor_act, is_lone_act}
 use Rattle.np_worker.specs.Makers.{IsOfWorker}
@@ -18,6 +14,8 @@ use Rattle.np_worker.specs.Servers.{HasServers, IsOfRound, IsOnlyNodeOfItsNumber
 use Rattle.np_worker.specs.declared.worker.RoundEnd.{RoundEnd}
 use Rattle.np_worker.specs.Moves.{AreOrderly}
 use Rattle.np_worker.specs.Part.{RemovalFailed}
+use Rattle.np_event.specs.declared.reply.Reply.{Reply}
+use Rattle.np_event.specs.declared.reply.Done.{Done}
 
 -- ## how far the roles came
 
@@ -50,7 +48,7 @@ RolesCameFar c of_reaper history seen trace failed = CameFar c history seen trac
 
 -- a sweep that made an entry was answered that nobody wants the server (own)
 abbrev pub IsSweptSo : Ask → Turn → Type 0
-IsSweptSo (ask.Sweep pool n x) (turn.Did e) = e.reply ≡ reply.Done done.Remove
+IsSweptSo (Ask.Sweep pool n x) (Turn.Did e) = e.reply ≡ Reply.Done Done.Remove
 IsSweptSo _ _ = Unit {0}
 
 abbrev pub AreSweptSo : List Move → Type 0

@@ -1,10 +1,10 @@
 -- what holds of a journal that drivers carried
 use Rattle.std.specs.Prelude.{◌≡◌, List, [], ◌∷◌, ◌++◌, map, slice_get, true, Some, IfSome, IsTrue, is_some}
 use Rattle.np_changes.specs.Prelude.{Configuration, Entry, PoolId, after}
-use Rattle.np_event.specs.declared.event.Event.TheVariants as ev
 use Rattle.np_worker.specs.Prelude.{DistinctNumbers, DriverFacts, Driving}
 use Rattle.np_worker.specs.Nodes.{servers_up}
 use Rattle.np_worker.specs.Reports.{reports_of, numbers_in, AreAloneSound, FailAfter}
+use Rattle.np_event.specs.declared.event.Event.{Event}
 
 -- ## drivers
 
@@ -29,7 +29,7 @@ NeverRepeats d = IfSome d.facts.answered (λ launches. DistinctNumbers (numbers_
 -- number; and each server that a report names is sound by itself (own)
 pub record AreCarried (c : Configuration) (journal : List Entry) (drivings : List Driving) : Type 0 where
   pub nodes : (p : PoolId) (d : Driving) → slice_get drivings p.0 ≡ Some d → NeverRepeats d
-      → (before rest : List Entry) (e : Entry) → journal ≡ before ++ e ∷ rest → e.event ≡ ev.Tick
+      → (before rest : List Entry) (e : Entry) → journal ≡ before ++ e ∷ rest → e.event ≡ Event.Tick
       → IsTrue (d.sound (servers_up p (after c (before ++ e ∷ [])).nodes))
   pub reports : (p : PoolId) (d : Driving) → slice_get drivings p.0 ≡ Some d → AreAloneSound d.sound (reports_of c p journal)
 

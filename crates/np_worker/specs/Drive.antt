@@ -1,7 +1,6 @@
 -- what a round did with its driver
 use Rattle.std.specs.Prelude.{◌≡◌, ◌⊎◌, ◌≤◌, ℕ, List, [], ◌∷◌, ◌++◌, length, Bool, Contains, IsTrue, Option, Some, None, IfSome}
 use Rattle.np_changes.specs.Prelude.{Outcome, option_map}
-use Rattle.np_event.specs.declared.event.Outcome.TheVariants as outcome
 use Rattle.np_cloud.specs.declared.driver.Tag.{Tag}
 use Rattle.np_cloud.specs.declared.driver.Launch.{Launch}
 use Rattle.np_cloud.specs.declared.driver.Server.{Server}
@@ -9,7 +8,6 @@ use Rattle.np_cloud.specs.declared.driver.TheConstants.{MOST_LAUNCHES}
 use Rattle.np_cloud.specs.Facts.{DriverFacts}
 use Rattle.np_cloud.specs.Calls.{with_launch, with_launched, without_number, KeepsCounts}
 use Rattle.np_worker.specs.declared.ask.Ask.{Ask}
-use Rattle.np_worker.specs.declared.ask.Ask.TheVariants as ask
 use Rattle.np_worker.specs.Move.{Move, asked, launched, removed, launches_of}
 
 -- what contracts know of a driver, with its plan, which lists of server numbers are sound for it,
@@ -32,7 +30,7 @@ servers_after (removed x ∷ moves) servers = servers_after moves (without_numbe
 
 -- a sweep asks about a server that is there (own)
 abbrev pub IsOfServer : Ask → List Server → Type 0
-IsOfServer (ask.Sweep pool n x) servers = (server : Server)
+IsOfServer (Ask.Sweep pool n x) servers = (server : Server)
     × Contains servers server × (server.tag.node ≡ n) × (server.number ≡ x)
 IsOfServer _ servers = Unit {0}
 
@@ -53,8 +51,8 @@ FollowsPlan plan (removed x ∷ moves) = FollowsPlan plan moves
 
 -- the server that a launch made, if any, is sound by itself (own)
 abbrev pub IsSoundAlone : (List ℕ → Bool) → Outcome → Type 0
-IsSoundAlone sound (outcome.Launched x) = IsTrue (sound (x ∷ []))
-IsSoundAlone sound outcome.Failed = Unit {0}
+IsSoundAlone sound (Outcome.Launched x) = IsTrue (sound (x ∷ []))
+IsSoundAlone sound Outcome.Failed = Unit {0}
 
 -- the same for each launch (own)
 abbrev pub AreSoundAlone : (List ℕ → Bool) → List Move → Type 0
@@ -66,8 +64,8 @@ AreSoundAlone sound (removed x ∷ moves) = AreSoundAlone sound moves
 -- a launch failed only when there were as many servers as the driver has room for, or as many
 -- launches answered as may be, if it reports them (own)
 abbrev pub FailsFull : ℕ → Outcome → Option (List Launch) → Option (List Server) → Type 0
-FailsFull room (outcome.Launched x) launches servers = Unit {0}
-FailsFull room outcome.Failed launches servers =
+FailsFull room (Outcome.Launched x) launches servers = Unit {0}
+FailsFull room Outcome.Failed launches servers =
     IfSome servers (λ some. room ≤ length some) ⊎ IfSome launches (λ some. MOST_LAUNCHES ≤ length some)
 
 -- the same for each launch, with the launches that were answered and the servers that were there

@@ -1,13 +1,12 @@
 -- what is kept from round to round of a pool, its driver and the journal
 use Rattle.std.specs.Prelude.{◌≡◌, ◌≤◌, ◌+◌, ℕ, List, [], ◌∷◌, ◌++◌, length, All, slice_get, Bool, true, false, Contains, IfSome, IsTrue, is_ok, Some}
 use Rattle.np_changes.specs.Prelude.{Configuration, Entry, Launcher, NodeId, NodeRecord, Outcome, PoolId, SessionId, State, after, judge, node_in, role_of}
-use Rattle.np_event.specs.declared.event.Event.TheVariants as ev
-use Rattle.np_event.specs.declared.event.Outcome.TheVariants as outcome
 use Rattle.np_worker.specs.Prelude.{Driving, Launch, Server, Soundness, Tag}
 use Rattle.np_worker.specs.Players.{Player, drivings_of, HaveDriven}
 use Rattle.np_worker.specs.Nodes.{is_up, servers_up}
 use Rattle.np_worker.specs.Reports.{reports_of, numbers_in, AreAloneSound, FailAfter}
 use Rattle.np_worker.specs.Carried.{NeverRepeats, BeginsEmpty}
+use Rattle.np_event.specs.declared.event.Event.{Event}
 
 -- ## nodes and servers
 
@@ -15,7 +14,7 @@ use Rattle.np_worker.specs.Carried.{NeverRepeats, BeginsEmpty}
 pub record WasLaunchedFor (launches : List Launch) (n : NodeId) (x : ℕ) : Type 0 where
   pub tag : Tag
   pub node : tag.node ≡ n
-  pub answered : Contains launches (record { tag = tag; outcome = outcome.Launched x })
+  pub answered : Contains launches (record { tag = tag; outcome = Outcome.Launched x })
 
 -- this server of the node is among these (own)
 pub record IsServerOf (servers : List Server) (n : NodeId) (x : ℕ) : Type 0 where
@@ -34,14 +33,14 @@ ArePresent p s servers = (n : NodeId) (k : NodeRecord) (x : ℕ) → node_in n s
 
 -- the machine would accept no report of the pool's launcher (own)
 abbrev pub HasNoReport : Configuration → PoolId → State → Type 0
-HasNoReport c p s = (session : SessionId) (n : NodeId) (k : ℕ) (o : Outcome) → role_of session s ≡ Some (Launcher p) → is_ok (judge c s (ev.Done session n k o)) ≡ true → ⊥
+HasNoReport c p s = (session : SessionId) (n : NodeId) (k : ℕ) (o : Outcome) → role_of session s ≡ Some (Launcher p) → is_ok (judge c s (Event.Done session n k o)) ≡ true → ⊥
 
 -- ## a pool and its driver
 
 -- after this many launches that were answered before, the journal is carried by the pool's driver
 -- (own)
 pub record Carries (earlier : ℕ) (c : Configuration) (journal : List Entry) (p : PoolId) (d : Driving) : Type 0 where
-  pub nodes : NeverRepeats d → (before rest : List Entry) (e : Entry) → journal ≡ before ++ e ∷ rest → e.event ≡ ev.Tick
+  pub nodes : NeverRepeats d → (before rest : List Entry) (e : Entry) → journal ≡ before ++ e ∷ rest → e.event ≡ Event.Tick
       → IsTrue (d.sound (servers_up p (after c (before ++ e ∷ [])).nodes))
   pub reports : AreAloneSound d.sound (reports_of c p journal)
   pub failed : earlier ≡ 0 → FailAfter d.room 0 (reports_of c p journal)
@@ -53,7 +52,7 @@ pub record Hosts (earlier : ℕ) (c : Configuration) (journal : List Entry) (p :
   pub servers : List Server
   pub answered : d.facts.answered ≡ Some launches
   pub told : d.facts.servers ≡ Some servers
-  pub made : (server : Server) → Contains servers server → Contains launches (record { tag = server.tag; outcome = outcome.Launched server.number })
+  pub made : (server : Server) → Contains servers server → Contains launches (record { tag = server.tag; outcome = Outcome.Launched server.number })
   pub idle : HasNoReport c p (after c journal)
   pub launched : WereLaunched p (after c journal) launches
   pub present : NeverRepeats d → ArePresent p (after c journal) servers

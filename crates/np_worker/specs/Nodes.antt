@@ -1,17 +1,16 @@
 -- which servers a pool's nodes have
 use Rattle.std.specs.Prelude.{ℕ, List, [], ◌∷◌, ◌++◌, Bool, true, false, ◌==◌, ◌&&◌, if◌then◌else◌, Option, Some, None}
 use Rattle.np_changes.specs.Prelude.{NodeEntry, NodeRecord, NodeState, PoolId}
-use Rattle.np_text.specs.declared.word.NodeState.TheVariants as node
 
 -- launched, and not given up: ready, in use, used or on hold (Nodepool)
 abbrev pub is_up : NodeState → Bool
-is_up node.Building = false
-is_up node.Ready = true
-is_up node.InUse = true
-is_up node.Used = true
-is_up node.Hold = true
-is_up node.Deleting = false
-is_up node.Failed = false
+is_up NodeState.Building = false
+is_up NodeState.Ready = true
+is_up NodeState.InUse = true
+is_up NodeState.Used = true
+is_up NodeState.Hold = true
+is_up NodeState.Deleting = false
+is_up NodeState.Failed = false
 
 abbrev pub listed : Option ℕ → List ℕ
 listed None = []

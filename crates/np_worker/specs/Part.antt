@@ -5,14 +5,12 @@ use Rattle.np_io.specs.Counts.{Rose}
 use Rattle.np_worker.specs.Prelude.{Drives, Driving, Drove, IsOfServer, Leads, Move, OwesRemoval, Phase, Server, Sight, Walk, WasKept, after_turn, asked, removed, without_number}
 use Rattle.np_worker.specs.declared.ask.Ask.{Ask}
 use Rattle.np_worker.specs.declared.ask.Turn.{Turn}
-use Rattle.np_worker.specs.declared.ask.Turn.TheVariants as turn
 use Rattle.np_worker.specs.declared.next.Next.{Next}
-use Rattle.np_worker.specs.declared.next.Next.TheVariants as next
 use Rattle.np_worker.specs.Phase as phase
 
 -- how many entries a turn made (own)
 abbrev pub entry_count : Turn → ℕ
-entry_count (turn.Did e) = 1
+entry_count (Turn.Did e) = 1
 entry_count _ = 0
 
 -- the count of entries rose by as many as one's own places (own)
@@ -42,18 +40,18 @@ module _ {F : Type 0} (answers : F → List Entry → Ask → Turn → Type 0) (
 
 -- the phase that a part without removals leads to, by how the round goes on (own)
 abbrev pub Goes : Phase → Phase → Result Next NoMemory → List Move → Phase → Type 0
-Goes go idle (Ok next.Go) trace to = to ≡ go
-Goes go idle (Ok next.Idle) trace to = to ≡ idle
-Goes go idle (Ok next.Full) trace to = to ≡ phase.ended
-Goes go idle (Ok next.Failed) trace to = ⊥
+Goes go idle (Ok Next.Go) trace to = to ≡ go
+Goes go idle (Ok Next.Idle) trace to = to ≡ idle
+Goes go idle (Ok Next.Full) trace to = to ≡ phase.ended
+Goes go idle (Ok Next.Failed) trace to = ⊥
 Goes go idle (Err _) trace to = Unit {0}
 
 -- the same with removals, of which one may have failed (own)
 abbrev pub Comes : Phase → Phase → Option Driving → Option Driving → Result Next NoMemory → List Move → Phase → Type 0
-Comes go idle before now (Ok next.Go) trace to = to ≡ go
-Comes go idle before now (Ok next.Idle) trace to = to ≡ idle
-Comes go idle before now (Ok next.Full) trace to = to ≡ phase.ended
-Comes go idle before now (Ok next.Failed) trace to = OwesRemoval to × RemovalFailed before now
+Comes go idle before now (Ok Next.Go) trace to = to ≡ go
+Comes go idle before now (Ok Next.Idle) trace to = to ≡ idle
+Comes go idle before now (Ok Next.Full) trace to = to ≡ phase.ended
+Comes go idle before now (Ok Next.Failed) trace to = OwesRemoval to × RemovalFailed before now
 Comes go idle before now (Err _) trace to = Unit {0}
 
 -- what a turn came to in this phase (own)
@@ -74,33 +72,33 @@ IsDealtWith pool server before now trace =
 
 -- what the sweep of one server came to (own)
 abbrev pub SweepsOne : PoolId → Server → Driving → Driving → Result Next NoMemory → List Move → Phase → Type 0
-SweepsOne pool server before now (Ok next.Go) trace to =
+SweepsOne pool server before now (Ok Next.Go) trace to =
     (to ≡ phase.sweeps pool) × IsDealtWith pool server before now trace
-SweepsOne pool server before now (Ok next.Idle) trace to = ⊥
-SweepsOne pool server before now (Ok next.Full) trace to = to ≡ phase.ended
-SweepsOne pool server before now (Ok next.Failed) trace to =
+SweepsOne pool server before now (Ok Next.Idle) trace to = ⊥
+SweepsOne pool server before now (Ok Next.Full) trace to = to ≡ phase.ended
+SweepsOne pool server before now (Ok Next.Failed) trace to =
     OwesRemoval to × RemovalFailed (Some before) (Some now)
 SweepsOne pool server before now (Err _) trace to = Unit {0}
 
 -- what a pool's round came to (own)
 abbrev pub SweepsAll : PoolId → Driving → Driving → Result Next NoMemory → List Move → Phase → Type 0
-SweepsAll pool before now (Ok next.Go) trace to = (to ≡ phase.sweeps pool) × AreKept pool trace (Some now)
-SweepsAll pool before now (Ok next.Idle) trace to = (to ≡ phase.sweeps pool) × AreKept pool trace (Some now)
-SweepsAll pool before now (Ok next.Full) trace to = to ≡ phase.ended
-SweepsAll pool before now (Ok next.Failed) trace to =
+SweepsAll pool before now (Ok Next.Go) trace to = (to ≡ phase.sweeps pool) × AreKept pool trace (Some now)
+SweepsAll pool before now (Ok Next.Idle) trace to = (to ≡ phase.sweeps pool) × AreKept pool trace (Some now)
+SweepsAll pool before now (Ok Next.Full) trace to = to ≡ phase.ended
+SweepsAll pool before now (Ok Next.Failed) trace to =
     OwesRemoval to × RemovalFailed (Some before) (Some now)
 SweepsAll pool before now (Err _) trace to = Unit {0}
 
 -- whether the journal has no room (own)
 abbrev pub is_full : Next → Bool
-is_full next.Go = false
-is_full next.Idle = false
-is_full next.Full = true
-is_full next.Failed = false
+is_full Next.Go = false
+is_full Next.Idle = false
+is_full Next.Full = true
+is_full Next.Failed = false
 
 -- what a removal came to (own)
 abbrev pub RemovalEnds : ℕ → Driving → Driving → Next → Type 0
-RemovalEnds x before now next.Go = Drives (removed x ∷ []) before now
-RemovalEnds x before now next.Failed = Drives [] before now × RemovalFailed (Some before) (Some now)
-RemovalEnds x before now next.Idle = ⊥
-RemovalEnds x before now next.Full = ⊥
+RemovalEnds x before now Next.Go = Drives (removed x ∷ []) before now
+RemovalEnds x before now Next.Failed = Drives [] before now × RemovalFailed (Some before) (Some now)
+RemovalEnds x before now Next.Idle = ⊥
+RemovalEnds x before now Next.Full = ⊥

@@ -6,17 +6,12 @@
 -- and owes the removal of each that nobody wants.
 use Rattle.std.specs.Prelude.{◌≡◌, ℕ, zero, suc, List, [], ◌∷◌, Bool, true, false, cond, Option, Some, None}
 use Rattle.np_changes.specs.Prelude.{Entry, Event, NodeId, Outcome, PoolId, Reply, RequesterId, Role}
-use Rattle.np_text.specs.declared.id.Role.TheVariants as role
-use Rattle.np_event.specs.declared.event.Event.TheVariants as event
-use Rattle.np_event.specs.declared.reply.Reply.TheVariants as reply
-use Rattle.np_event.specs.declared.reply.Done.TheVariants as done
 use Rattle.np_cloud.specs.declared.driver.Tag.{Tag}
 use Rattle.np_worker.specs.declared.ask.Ask.{Ask}
-use Rattle.np_worker.specs.declared.ask.Ask.TheVariants as ask
 use Rattle.np_worker.specs.declared.ask.Turn.{Turn}
-use Rattle.np_worker.specs.declared.ask.Turn.TheVariants as turn
 use Rattle.np_worker.specs.declared.start.Start.{Start}
 use Rattle.np_worker.specs.Move.{Move, asked, launched, removed}
+use Rattle.np_event.specs.declared.reply.Done.{Done}
 
 -- ## what answers mean
 
@@ -28,7 +23,7 @@ pub data Work : Type 0 where
 
 -- the start that an entry accepted, if it is one (own)
 abbrev pub start_in : PoolId → Event → Reply → Option Start
-start_in pool (event.Start s n) (reply.Done (done.Started k m)) = Some record {
+start_in pool (Event.Start s n) (Reply.Done (Done.Started k m)) = Some record {
   session = s;
   tag = record { pool = pool; node = n; attempt = k; start = m };
 }
@@ -39,17 +34,17 @@ start_of pool e = start_in pool e.event e.reply
 
 -- the report of a launch (own)
 abbrev pub report_of : Start → Outcome → Event
-report_of s o = event.Done s.session s.tag.node s.tag.attempt o
+report_of s o = Event.Done s.session s.tag.node s.tag.attempt o
 
 -- nobody wants the server any more (own)
 abbrev pub is_remove : Reply → Bool
-is_remove (reply.Done done.Remove) = true
+is_remove (Reply.Done Done.Remove) = true
 is_remove _ = false
 
 -- the answer to a sweep is that nobody wants the server, now or before (own)
 abbrev pub is_unwanted : Turn → Bool
-is_unwanted (turn.Did e) = is_remove e.reply
-is_unwanted turn.Swept = true
+is_unwanted (Turn.Did e) = is_remove e.reply
+is_unwanted Turn.Swept = true
 is_unwanted _ = false
 
 -- ## phases
@@ -76,33 +71,33 @@ pub data Phase : Type 0 where
 
 -- what follows when a role has nothing to do, or has taken its 16 turns (own)
 abbrev pub after_role : Role → Phase
-after_role (role.Launcher pool) = looks pool 15
-after_role (role.Janitor pool) = sweeps pool
-after_role (role.Requester q) = rests
-after_role role.Reaper = rests
+after_role (Role.Launcher pool) = looks pool 15
+after_role (Role.Janitor pool) = sweeps pool
+after_role (Role.Requester q) = rests
+after_role Role.Reaper = rests
 
 -- a role that may take this many turns (own)
 abbrev pub acting : Role → ℕ → Phase
 acting r zero = after_role r
-acting (role.Launcher pool) (suc n) = acts (role.Launcher pool) n
-acting (role.Janitor pool) (suc n) = looks pool n
-acting (role.Requester q) (suc n) = acts (role.Requester q) n
-acting role.Reaper (suc n) = acts role.Reaper n
+acting (Role.Launcher pool) (suc n) = acts (Role.Launcher pool) n
+acting (Role.Janitor pool) (suc n) = looks pool n
+acting (Role.Requester q) (suc n) = acts (Role.Requester q) n
+acting Role.Reaper (suc n) = acts Role.Reaper n
 
 -- the phase in which a round begins (own)
 abbrev pub first_phase : Work → Phase
-first_phase (of_pool pool) = acting (role.Launcher pool) 16
-first_phase (of_requester q) = acting (role.Requester q) 16
-first_phase of_reaper = acting role.Reaper 16
+first_phase (of_pool pool) = acting (Role.Launcher pool) 16
+first_phase (of_requester q) = acting (Role.Requester q) 16
+first_phase of_reaper = acting Role.Reaper 16
 
 -- ## what may come, and what it leads to
 
 -- what is asked in a phase (own)
 abbrev pub MayAsk : Phase → Ask → Type 0
-MayAsk (acts r n) a = a ≡ ask.Act r
-MayAsk (owes_report pool n s o) a = a ≡ ask.Do (report_of s o)
-MayAsk (looks pool n) a = a ≡ ask.Due pool
-MayAsk (sweeps pool) a = (n : NodeId) × (x : ℕ) × (a ≡ ask.Sweep pool n x)
+MayAsk (acts r n) a = a ≡ Ask.Act r
+MayAsk (owes_report pool n s o) a = a ≡ Ask.Do (report_of s o)
+MayAsk (looks pool n) a = a ≡ Ask.Due pool
+MayAsk (sweeps pool) a = (n : NodeId) × (x : ℕ) × (a ≡ Ask.Sweep pool n x)
 MayAsk _ a = ⊥
 
 -- which launch comes in a phase (own)
@@ -118,37 +113,37 @@ MayRemove _ y = ⊥
 
 -- a launcher's start is launched; after another entry the role goes on (own)
 abbrev pub after_start : PoolId → ℕ → Option Start → Phase
-after_start pool n None = acting (role.Launcher pool) n
+after_start pool n None = acting (Role.Launcher pool) n
 after_start pool n (Some s) = owes_launch pool n s
 
 abbrev pub after_entry : Role → ℕ → Entry → Phase
-after_entry (role.Launcher pool) n e = after_start pool n (start_of pool e)
-after_entry (role.Janitor pool) n e = acting (role.Janitor pool) n
-after_entry (role.Requester q) n e = acting (role.Requester q) n
-after_entry role.Reaper n e = acting role.Reaper n
+after_entry (Role.Launcher pool) n e = after_start pool n (start_of pool e)
+after_entry (Role.Janitor pool) n e = acting (Role.Janitor pool) n
+after_entry (Role.Requester q) n e = acting (Role.Requester q) n
+after_entry Role.Reaper n e = acting Role.Reaper n
 
 -- an entry was made, or the role has nothing to do (own)
 abbrev pub after_act : Role → ℕ → Turn → Phase
-after_act r n (turn.Did e) = after_entry r n e
-after_act r n turn.Full = ended
+after_act r n (Turn.Did e) = after_entry r n e
+after_act r n Turn.Full = ended
 after_act r n _ = after_role r
 
 abbrev pub after_report : PoolId → ℕ → Turn → Phase
-after_report pool n turn.Full = ended
-after_report pool n _ = acting (role.Launcher pool) n
+after_report pool n Turn.Full = ended
+after_report pool n _ = acting (Role.Launcher pool) n
 
 -- the server of a due node is removed before the janitor's turn (own)
 abbrev pub after_look : PoolId → ℕ → Turn → Phase
-after_look pool n (turn.DueNode node (Some x)) = owes_due pool n x
-after_look pool n turn.Full = ended
-after_look pool n _ = acts (role.Janitor pool) n
+after_look pool n (Turn.DueNode node (Some x)) = owes_due pool n x
+after_look pool n Turn.Full = ended
+after_look pool n _ = acts (Role.Janitor pool) n
 
 abbrev pub after_sweep : PoolId → ℕ → Turn → Phase
-after_sweep pool x turn.Full = ended
+after_sweep pool x Turn.Full = ended
 after_sweep pool x t = cond (is_unwanted t) (owes_swept pool x) (sweeps pool)
 
 abbrev pub server_in : Ask → ℕ
-server_in (ask.Sweep pool n x) = x
+server_in (Ask.Sweep pool n x) = x
 server_in _ = 0
 
 -- the phase after a turn (own)
@@ -166,7 +161,7 @@ after_launch phase o = phase
 
 -- the phase after a removal (own)
 abbrev pub after_removal : Phase → Phase
-after_removal (owes_due pool n x) = acts (role.Janitor pool) n
+after_removal (owes_due pool n x) = acts (Role.Janitor pool) n
 after_removal (owes_swept pool x) = sweeps pool
 after_removal phase = phase
 

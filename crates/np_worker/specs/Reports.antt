@@ -1,8 +1,6 @@
 -- what a journal reports of the launches of a pool
 use Rattle.std.specs.Prelude.{ℕ, suc, ◌≤◌, List, [], ◌∷◌, ◌++◌, Bool, false, ◌==◌, if◌then◌else◌}
 use Rattle.np_changes.specs.Prelude.{AllByRecursion, Configuration, Entry, Event, NodeId, Outcome, PoolId, State, Turn, list_any, node_in, option_map_or, turns}
-use Rattle.np_event.specs.declared.event.Event.TheVariants as ev
-use Rattle.np_event.specs.declared.event.Outcome.TheVariants as outcome
 use Rattle.np_worker.specs.Drive.{IsSoundAlone}
 
 -- ## of which pool a report is
@@ -17,7 +15,7 @@ was_node_of p n past = list_any (λ t. is_node_of p n t.before) past
 
 -- what the event reports of a launch of the pool, after these turns, if it does (own)
 abbrev pub reported : PoolId → List Turn → Event → List Outcome
-reported p past (ev.Done session n attempt o) = if was_node_of p n past then o ∷ [] else []
+reported p past (Event.Done session n attempt o) = if was_node_of p n past then o ∷ [] else []
 reported p past _ = []
 
 abbrev pub reports_from : PoolId → List Turn → List Turn → List Outcome
@@ -32,8 +30,8 @@ reports_of c p journal = reports_from p [] (turns c journal)
 
 -- the number of the server, if one was launched (own)
 abbrev pub number_in : Outcome → List ℕ
-number_in (outcome.Launched x) = x ∷ []
-number_in outcome.Failed = []
+number_in (Outcome.Launched x) = x ∷ []
+number_in Outcome.Failed = []
 
 -- the numbers of the servers that were launched, in order (own)
 abbrev pub numbers_in : List Outcome → List ℕ
@@ -48,5 +46,5 @@ AreAloneSound sound outcomes = AllByRecursion (IsSoundAlone sound) outcomes
 -- list (own)
 abbrev pub FailAfter : ℕ → ℕ → List Outcome → Type 0
 FailAfter room n [] = Unit {0}
-FailAfter room n (outcome.Launched x ∷ outcomes) = FailAfter room (suc n) outcomes
-FailAfter room n (outcome.Failed ∷ outcomes) = (room ≤ n) × FailAfter room n outcomes
+FailAfter room n (Outcome.Launched x ∷ outcomes) = FailAfter room (suc n) outcomes
+FailAfter room n (Outcome.Failed ∷ outcomes) = (room ≤ n) × FailAfter room n outcomes

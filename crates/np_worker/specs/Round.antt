@@ -4,7 +4,6 @@ use Rattle.np_changes.specs.Prelude.{NoMemory, Outcome}
 use Rattle.np_worker.specs.Prelude.{DriverFacts, Driving, Move, OwesRemoval, Phase, Tag, Work, driving, ended, of_pool, of_reaper, of_requester, rests, sweeps}
 use Rattle.np_worker.specs.declared.worker.RoundEnd.{RoundEnd}
 use Rattle.np_worker.specs.declared.worker.Worker.{Worker}
-use Rattle.np_worker.specs.declared.worker.Worker.TheVariants as worker
 use Rattle.np_worker.specs.Part.{RemovalFailed, AreKept}
 
 -- a round that was not cut off: all servers were asked about, or a removal failed (own)
@@ -23,12 +22,12 @@ EndsAs work before now (Err _) trace to = Unit {0}
 
 -- whose worker it is (own)
 abbrev pub work_of : {D : Type 0} → Worker D → Work
-work_of (worker.Pool pool driver) = of_pool pool
-work_of (worker.Requester q) = of_requester q
-work_of worker.Reaper = of_reaper
+work_of (Worker.Pool pool driver) = of_pool pool
+work_of (Worker.Requester q) = of_requester q
+work_of Worker.Reaper = of_reaper
 
 -- what it drives (own)
 abbrev pub driving_of : {D : Type 0} → (D → DriverFacts) → (D → Tag → Option Outcome) → (D → List ℕ → Bool) → (D → ℕ) → Worker D → Option Driving
-driving_of facts plan sound room (worker.Pool pool driver) = Some (driving facts plan sound room driver)
-driving_of facts plan sound room (worker.Requester q) = None
-driving_of facts plan sound room worker.Reaper = None
+driving_of facts plan sound room (Worker.Pool pool driver) = Some (driving facts plan sound room driver)
+driving_of facts plan sound room (Worker.Requester q) = None
+driving_of facts plan sound room Worker.Reaper = None

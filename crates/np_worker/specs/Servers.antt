@@ -1,12 +1,12 @@
 -- what became of a driver's servers in a round
 use Rattle.std.specs.Prelude.{◌≡◌, ◌⊎◌, ◌≤◌, ℕ, true, false, List, length, slice_get, Contains, Some}
 use Rattle.np_changes.specs.Prelude.{Configuration, Entry, Janitor, NodeId, NodeRecord, PoolId, SessionId, after, is_swept, is_wanted, node_in}
-use Rattle.np_event.specs.declared.event.Event.TheVariants as event
-use Rattle.np_event.specs.declared.event.Outcome.TheVariants as outcome
 use Rattle.np_worker.specs.Prelude.{Driving, Move, Server, Sight, StartsWith, launches_of}
 use Rattle.np_useful.specs.Sessions.{has_current}
 use Rattle.np_worker.specs.Answers.{IsDue, IsKept}
 use Rattle.np_worker.specs.Players.{Player, WasNamed}
+use Rattle.np_event.specs.declared.event.Event.{Event}
+use Rattle.np_event.specs.declared.event.Outcome.{Outcome}
 
 -- ## which servers
 
@@ -19,7 +19,7 @@ pub record HasServers (player : Player) (servers : List Server) : Type 0 where
 -- a launch of the round returned this server (own)
 abbrev pub WasLaunched : List Move → Server → Type 0
 WasLaunched trace server = Contains (launches_of trace)
-    (record { tag = server.tag; outcome = outcome.Launched server.number })
+    (record { tag = server.tag; outcome = Outcome.Launched server.number })
 
 -- the driver had the server before the round, or launched it in the round (own)
 abbrev pub IsOfRound : List Move → List Server → Server → Type 0
@@ -71,7 +71,7 @@ pub record IsSweepAt (seen : List Entry) (x : ℕ) : Type 0 where
   pub session : SessionId
   pub node : NodeId
   pub server : ℕ
-  pub event : entry.event ≡ event.Sweep session node server
+  pub event : entry.event ≡ Event.Sweep session node server
 
 -- at some time of the round, after a history that was seen, the server was kept; from then on the round made no entries but sweeps (own)
 pub record StaysKept (c : Configuration) (history : List Entry) (sight : Sight Entry) (pool : PoolId) (server : Server) : Type 0 where

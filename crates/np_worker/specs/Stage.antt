@@ -1,33 +1,29 @@
 -- the stages of a round, and the phases that they are
 use Rattle.std.specs.Prelude.{◌≡◌, ◌⊎◌, ℕ, ◌+◌, ◌*◌, ◌<◌, ◌≤◌, ◌^◌, List, Option, Some, None, Result, Ok, Err}
 use Rattle.np_changes.specs.Prelude.{NoMemory, Role}
-use Rattle.np_text.specs.declared.id.Role.TheVariants as role
 use Rattle.np_worker.specs.declared.ask.Ask.{Ask}
-use Rattle.np_worker.specs.declared.ask.Ask.TheVariants as ask
 use Rattle.np_worker.specs.declared.ask.Turn.{Turn}
 use Rattle.np_worker.specs.Prelude.{Move, Phase, Work, acts, after_turn, ended, looks, of_pool, of_reaper, of_requester, owes_due, owes_launch, owes_report, owes_swept, report_of, rests, sweeps}
 use Rattle.np_worker.specs.Part.{entry_count}
 use Rattle.np_worker.specs.declared.next.Next.{Next}
-use Rattle.np_worker.specs.declared.next.Next.TheVariants as next
 use Rattle.np_worker.specs.declared.playing.Playing.{Playing}
 use Rattle.np_worker.specs.declared.stage.Stage.{Stage}
-use Rattle.np_worker.specs.declared.stage.Stage.TheVariants as stage
 
 abbrev pub phase_of : Stage → Phase
-phase_of (stage.Acts r n) = acts r n
-phase_of (stage.Launches pool n s) = owes_launch pool n s
-phase_of (stage.Reports pool n s o) = owes_report pool n s o
-phase_of (stage.Looks pool n) = looks pool n
-phase_of (stage.Removes pool n x) = owes_due pool n x
-phase_of (stage.Sweeps pool) = sweeps pool
-phase_of stage.Rests = rests
-phase_of stage.Ended = ended
+phase_of (Stage.Acts r n) = acts r n
+phase_of (Stage.Launches pool n s) = owes_launch pool n s
+phase_of (Stage.Reports pool n s o) = owes_report pool n s o
+phase_of (Stage.Looks pool n) = looks pool n
+phase_of (Stage.Removes pool n x) = owes_due pool n x
+phase_of (Stage.Sweeps pool) = sweeps pool
+phase_of Stage.Rests = rests
+phase_of Stage.Ended = ended
 
 -- what is asked in a turn, if a turn comes next (own)
 abbrev pub ask_of : Stage → Option Ask
-ask_of (stage.Acts r n) = Some (ask.Act r)
-ask_of (stage.Reports pool n s o) = Some (ask.Do (report_of s o))
-ask_of (stage.Looks pool n) = Some (ask.Due pool)
+ask_of (Stage.Acts r n) = Some (Ask.Act r)
+ask_of (Stage.Reports pool n s o) = Some (Ask.Do (report_of s o))
+ask_of (Stage.Looks pool n) = Some (Ask.Due pool)
 ask_of _ = None
 
 -- what a series of turns asks next (own)
@@ -43,10 +39,10 @@ Hears p t q = ((a : Ask) → ask_of p.stage ≡ Some a → phase_of q.stage ≡ 
 
 -- who plays a role (own)
 abbrev pub player : Role → Work
-player (role.Launcher pool) = of_pool pool
-player (role.Janitor pool) = of_pool pool
-player (role.Requester q) = of_requester q
-player role.Reaper = of_reaper
+player (Role.Launcher pool) = of_pool pool
+player (Role.Janitor pool) = of_pool pool
+player (Role.Requester q) = of_requester q
+player Role.Reaper = of_reaper
 
 -- it plays one role, which does nothing but act (own)
 abbrev pub IsLone : Work → Type 0
@@ -71,16 +67,16 @@ IsOfWork w ended = Unit {0}
 -- how many turns, launches and removals may come, if the role may take n turns; those of the servers
 -- at the end are not counted (own)
 abbrev pub steps_acting : Role → ℕ → ℕ
-steps_acting (role.Launcher pool) n = 48 + 3 * n
-steps_acting (role.Janitor pool) n = 3 * n
-steps_acting (role.Requester q) n = n
-steps_acting role.Reaper n = n
+steps_acting (Role.Launcher pool) n = 48 + 3 * n
+steps_acting (Role.Janitor pool) n = 3 * n
+steps_acting (Role.Requester q) n = n
+steps_acting Role.Reaper n = n
 
 abbrev pub steps_act : Role → ℕ → ℕ
-steps_act (role.Launcher pool) n = 51 + 3 * n
-steps_act (role.Janitor pool) n = 1 + 3 * n
-steps_act (role.Requester q) n = 1 + n
-steps_act role.Reaper n = 1 + n
+steps_act (Role.Launcher pool) n = 51 + 3 * n
+steps_act (Role.Janitor pool) n = 1 + 3 * n
+steps_act (Role.Requester q) n = 1 + n
+steps_act Role.Reaper n = 1 + n
 
 abbrev pub steps_left : Phase → ℕ
 steps_left (acts r n) = steps_act r n
@@ -103,10 +99,10 @@ IsPlayed _ = ⊥
 
 -- how a stage went on (own)
 abbrev pub WentOn : Next → Phase → Phase → Type 0
-WentOn next.Go before now = steps_left now < steps_left before
-WentOn next.Idle before now = IsPlayed now
-WentOn next.Full before now = Unit {0}
-WentOn next.Failed before now = Unit {0}
+WentOn Next.Go before now = steps_left now < steps_left before
+WentOn Next.Idle before now = IsPlayed now
+WentOn Next.Full before now = Unit {0}
+WentOn Next.Failed before now = Unit {0}
 
 -- the phase that a series of turns leads to (own)
 abbrev pub Reaches : Result Stage NoMemory → List Move → Phase → Type 0

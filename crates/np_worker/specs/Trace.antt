@@ -1,17 +1,15 @@
 -- what holds of the moves of every round
 use Rattle.std.specs.Prelude.{◌≡◌, ◌⊎◌, ◌≤◌, ℕ, ◌+◌, List, [], ◌∷◌, ◌++◌, slice_get, Bool, true, false, cond, ◌&&◌, Contains, Option, Some, None, IfSome}
 use Rattle.np_changes.specs.Prelude.{Entry, Outcome, PoolId}
-use Rattle.np_text.specs.declared.id.Role.TheVariants as role
 use Rattle.np_desk.specs.Pass.{Sight}
 use Rattle.np_cloud.specs.declared.driver.Tag.{Tag}
 use Rattle.np_cloud.specs.declared.driver.Server.{Server}
 use Rattle.np_worker.specs.declared.ask.Ask.{Ask}
-use Rattle.np_worker.specs.declared.ask.Ask.TheVariants as ask
 use Rattle.np_worker.specs.declared.ask.Turn.{Turn}
-use Rattle.np_worker.specs.declared.ask.Turn.TheVariants as turn
 use Rattle.np_worker.specs.declared.start.Start.{Start}
 use Rattle.np_worker.specs.Move.{Move, asked, launched, removed}
 use Rattle.np_worker.specs.Phase.{Work, of_pool, of_requester, of_reaper, Phase, acts, owes_launch, owes_report, looks, owes_due, sweeps, owes_swept, report_of, start_of, is_unwanted}
+use Rattle.np_text.specs.declared.id.Role.{Role}
 
 -- ## starts
 
@@ -21,7 +19,7 @@ tags_of (Some s) = s.tag ∷ []
 
 -- the accepted start of a launcher's turn, if it made one (own)
 abbrev pub start_made : Ask → Turn → Option Start
-start_made (ask.Act (role.Launcher pool)) (turn.Did e) = start_of pool e
+start_made (Ask.Act (Role.Launcher pool)) (Turn.Did e) = start_of pool e
 start_made _ _ = None
 
 -- the tags of the accepted starts, in order (own)
@@ -53,7 +51,7 @@ IsBeforeReport s o to = (pool : PoolId) × (n : ℕ) × (to ≡ owes_report pool
 -- the launch is reported next (own)
 abbrev pub Reports : Start → Outcome → List Move → Phase → Type 0
 Reports s o [] to = IsBeforeReport s o to
-Reports s o (asked a t ∷ moves) to = a ≡ ask.Do (report_of s o)
+Reports s o (asked a t ∷ moves) to = a ≡ Ask.Do (report_of s o)
 Reports s o (launched tag q ∷ moves) to = ⊥
 Reports s o (removed x ∷ moves) to = ⊥
 
@@ -77,12 +75,12 @@ AreReported (removed x ∷ moves) to = AreReported moves to
 -- a worker's asks: for a pool's, that its launcher or janitor acts, the report of a launch, a look
 -- for a due node, and sweeps; for the others, that the role acts (own)
 abbrev pub IsAskOf : Work → Ask → Type 0
-IsAskOf (of_pool pool) (ask.Act r) = (r ≡ role.Launcher pool) ⊎ (r ≡ role.Janitor pool)
-IsAskOf (of_pool pool) (ask.Do e) = (s : Start) × (o : Outcome) × (e ≡ report_of s o)
-IsAskOf (of_pool pool) (ask.Due p) = p ≡ pool
-IsAskOf (of_pool pool) (ask.Sweep p n x) = p ≡ pool
-IsAskOf (of_requester q) a = a ≡ ask.Act (role.Requester q)
-IsAskOf of_reaper a = a ≡ ask.Act role.Reaper
+IsAskOf (of_pool pool) (Ask.Act r) = (r ≡ Role.Launcher pool) ⊎ (r ≡ Role.Janitor pool)
+IsAskOf (of_pool pool) (Ask.Do e) = (s : Start) × (o : Outcome) × (e ≡ report_of s o)
+IsAskOf (of_pool pool) (Ask.Due p) = p ≡ pool
+IsAskOf (of_pool pool) (Ask.Sweep p n x) = p ≡ pool
+IsAskOf (of_requester q) a = a ≡ Ask.Act (Role.Requester q)
+IsAskOf of_reaper a = a ≡ Ask.Act Role.Reaper
 
 abbrev pub AreAsksOf : Work → List Move → Type 0
 AreAsksOf work [] = Unit {0}
@@ -92,11 +90,11 @@ AreAsksOf work (removed x ∷ moves) = AreAsksOf work moves
 
 -- a launcher's asks come first, then a janitor's, then the sweeps (own)
 abbrev pub stage_of : Ask → ℕ
-stage_of (ask.Act (role.Janitor pool)) = 1
-stage_of (ask.Act _) = 0
-stage_of (ask.Do e) = 0
-stage_of (ask.Due pool) = 1
-stage_of (ask.Sweep pool n x) = 2
+stage_of (Ask.Act (Role.Janitor pool)) = 1
+stage_of (Ask.Act _) = 0
+stage_of (Ask.Do e) = 0
+stage_of (Ask.Due pool) = 1
+stage_of (Ask.Sweep pool n x) = 2
 
 -- no ask is of an earlier stage than one before it (own)
 abbrev pub AreInOrder : ℕ → List Move → Type 0
@@ -110,8 +108,8 @@ AreInOrder stage (removed x ∷ moves) = AreInOrder stage moves
 -- the answer names a due node with this server, or says that nobody wants the server that was asked
 -- about (own)
 abbrev pub NamesServer : Ask → Turn → ℕ → Type 0
-NamesServer (ask.Due pool) (turn.DueNode n (Some y)) x = y ≡ x
-NamesServer (ask.Sweep pool n y) t x = (y ≡ x) × (is_unwanted t ≡ true)
+NamesServer (Ask.Due pool) (Turn.DueNode n (Some y)) x = y ≡ x
+NamesServer (Ask.Sweep pool n y) t x = (y ≡ x) × (is_unwanted t ≡ true)
 NamesServer _ _ x = ⊥
 
 -- the removal comes right after a turn that named the server (own)
@@ -125,7 +123,7 @@ AreNamed (removed x ∷ moves) = ⊥
 -- the answer to a sweep of the server was not that nobody wants it (own)
 abbrev pub WasKept : PoolId → List Move → Server → Type 0
 WasKept pool trace server = (t : Turn)
-    × Contains trace (asked (ask.Sweep pool server.tag.node server.number) t)
+    × Contains trace (asked (Ask.Sweep pool server.tag.node server.number) t)
     × (is_unwanted t ≡ false)
 
 -- ## what was gained of the history
@@ -145,27 +143,27 @@ Gains v entries w = (gained : List ℕ)
 -- ## how far the roles came
 
 abbrev pub is_did : Turn → Bool
-is_did (turn.Did e) = true
+is_did (Turn.Did e) = true
 is_did _ = false
 
 -- the role has nothing to do (own)
 abbrev pub is_idle : Turn → Bool
-is_idle (turn.Did e) = false
-is_idle turn.Full = false
+is_idle (Turn.Did e) = false
+is_idle Turn.Full = false
 is_idle _ = true
 
 abbrev pub is_launcher_act : Ask → Bool
-is_launcher_act (ask.Act (role.Launcher pool)) = true
+is_launcher_act (Ask.Act (Role.Launcher pool)) = true
 is_launcher_act _ = false
 
 abbrev pub is_janitor_act : Ask → Bool
-is_janitor_act (ask.Act (role.Janitor pool)) = true
+is_janitor_act (Ask.Act (Role.Janitor pool)) = true
 is_janitor_act _ = false
 
 -- a requester acts, or the reaper (own)
 abbrev pub is_lone_act : Ask → Bool
-is_lone_act (ask.Act (role.Requester q)) = true
-is_lone_act (ask.Act role.Reaper) = true
+is_lone_act (Ask.Act (Role.Requester q)) = true
+is_lone_act (Ask.Act Role.Reaper) = true
 is_lone_act _ = false
 
 -- how many of these turns made an entry (own)
@@ -189,7 +187,7 @@ TookAll test moves = (did_count test moves ≡ 16) ⊎ WasIdle test moves
 
 -- the launcher is done (own)
 abbrev pub IsPastLauncher : Phase → Type 0
-IsPastLauncher (acts (role.Janitor pool) n) = Unit {0}
+IsPastLauncher (acts (Role.Janitor pool) n) = Unit {0}
 IsPastLauncher (looks pool n) = Unit {0}
 IsPastLauncher (owes_due pool n x) = Unit {0}
 IsPastLauncher (sweeps pool) = Unit {0}
@@ -207,14 +205,14 @@ IsPastJanitor _ = ⊥
 -- a turn found no room in the journal (own)
 abbrev pub WasFull : List Move → Type 0
 WasFull [] = ⊥
-WasFull (asked a t ∷ moves) = (t ≡ turn.Full) ⊎ WasFull moves
+WasFull (asked a t ∷ moves) = (t ≡ Turn.Full) ⊎ WasFull moves
 WasFull (launched tag o ∷ moves) = WasFull moves
 WasFull (removed x ∷ moves) = WasFull moves
 
 -- nothing comes after such a turn (own)
 abbrev pub EndsWhereFull : List Move → Type 0
 EndsWhereFull [] = Unit {0}
-EndsWhereFull (asked a t ∷ moves) = (t ≡ turn.Full → moves ≡ []) × EndsWhereFull moves
+EndsWhereFull (asked a t ∷ moves) = (t ≡ Turn.Full → moves ≡ []) × EndsWhereFull moves
 EndsWhereFull (launched tag o ∷ moves) = EndsWhereFull moves
 EndsWhereFull (removed x ∷ moves) = EndsWhereFull moves
 

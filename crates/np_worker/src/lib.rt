@@ -44,7 +44,7 @@
 //! servers left or stayed. np_rounds plays such rounds over threads.
 //!
 //! A report is the first one for its start, since a node's attempts only rise and its number is not
-//! used again (`proofs/Starts`), and since only the pool's own worker acts for its launcher.
+//! used again (`proofs/Records`), and since only the pool's own worker acts for its launcher.
 //!
 //! A driver may have room for so many servers, and only some lists of server numbers may be sound
 //! for it (np_cloud). `specs/Carried` says what holds of a whole journal that drivers carried: after
@@ -53,9 +53,9 @@
 //! for. `specs/Nodes` says which servers a pool's nodes have, and `specs/Reports` what a journal
 //! reports of a pool's launches. `specs/Hosting` has what is kept from round to round, and
 //! `law/hosted` states that rounds and ticks keep it, and that it says the above of the journal in
-//! the end. The machine would accept no report of a launch that was reported (`proofs/Idle`), so that
-//! all reports of a pool are those of its worker's round (`proofs/Carrying`), and other workers
-//! change none of this (`proofs/Others`).
+//! the end. The machine would accept no report of a launch that was reported (`proofs/Reports`), so that
+//! all reports of a pool are those of its worker's round (`proofs/Hosted`), and other workers
+//! change none of this (`proofs/Rounds`).
 #![tactic(auto)]
 
 mod act;

@@ -4,18 +4,9 @@ ghost use Rattle.np_config.specs.declared.row.FaultKind.TheVariants as kind;
 ghost use Rattle.np_event.specs.declared.event.Event.TheVariants as ev;
 ghost use Rattle.np_useful.specs.Useful.{IsUseful};
 ghost use Rattle.np_worked.specs.Examples.{IsUseless, HasReplies, after_first, other_pool, left_alone_site};
-ghost use Rattle.np_worked.specs.CrashedRequester as crashed_requester;
-ghost use Rattle.np_worked.specs.DeclinedByAll as declined_by_all;
-ghost use Rattle.np_worked.specs.ExpiryDuringALaunch as expiry_during_a_launch;
-ghost use Rattle.np_worked.specs.FinishedByTheJanitor as finished_by_the_janitor;
-ghost use Rattle.np_worked.specs.FreedNode as freed_node;
-ghost use Rattle.np_worked.specs.HoldAge as hold_age;
-ghost use Rattle.np_worked.specs.PausedPool as paused_pool;
-ghost use Rattle.np_worked.specs.PlainPath as plain_path;
-ghost use Rattle.np_worked.specs.ReadyAge as ready_age;
-ghost use Rattle.np_worked.specs.RetriesSpent as retries_spent;
-ghost use Rattle.np_worked.specs.SweptServers as swept_servers;
-ghost use Rattle.np_worked.specs.WithdrawnRequest as withdrawn_request;
+ghost use Rattle.np_worked.specs.Jobs.{crashed_requester, declined_by_all, finished_by_the_janitor, plain_path, retries_spent, withdrawn_request};
+ghost use Rattle.np_worked.specs.Nodes.{expiry_during_a_launch, freed_node, hold_age, ready_age, swept_servers};
+ghost use Rattle.np_worked.specs.Shares.{paused_pool};
 ghost use Rattle.np_worked.specs.Site.{session, node, job, request, janitor};
 
 /// The machine's replies are those of the journals that are made for these rows.

@@ -6,11 +6,8 @@ ghost use Rattle.np_event.specs.declared.event.Event.TheVariants as ev;
 ghost use Rattle.np_event.specs.declared.event.Outcome.TheVariants as outcome;
 ghost use Rattle.np_useful.specs.Useful.{IsUseful, is_maker_of};
 ghost use Rattle.np_worked.specs.Examples.{IsUseless, HasReplies, after_first, two_sessions, unoffered_site, unoffered, small_site, small, failing_site, failing, window_site, concurrency_site, two_jobs, waiting_site, waiting};
-ghost use Rattle.np_worked.specs.FailDeclined as fail_declined;
-ghost use Rattle.np_worked.specs.HalfBuiltRequests as half_built_requests;
-ghost use Rattle.np_worked.specs.PlainPath as plain_path;
-ghost use Rattle.np_worked.specs.TenantLimit as tenant_limit;
-ghost use Rattle.np_worked.specs.WithdrawnRequest as withdrawn_request;
+ghost use Rattle.np_worked.specs.Jobs.{fail_declined, plain_path, withdrawn_request};
+ghost use Rattle.np_worked.specs.Shares.{half_built_requests, tenant_limit};
 ghost use Rattle.np_worked.specs.Site.{session, node, label, request, launcher};
 
 /// The machine's replies are those of the journals that are made for these rows.

@@ -4,10 +4,8 @@ ghost use Rattle.np_text.specs.declared.word.EndAs.TheVariants as end;
 ghost use Rattle.np_event.specs.declared.event.Event.TheVariants as ev;
 ghost use Rattle.np_useful.specs.Useful.{IsUseful};
 ghost use Rattle.np_worked.specs.Examples.{IsUseless, HasReplies, after_first, window_site, moved_window};
-ghost use Rattle.np_worked.specs.PlainPath as plain_path;
-ghost use Rattle.np_worked.specs.SemaphoresAllOrNone as semaphores_all_or_none;
-ghost use Rattle.np_worked.specs.ServedJob as served_job;
-ghost use Rattle.np_worked.specs.ShortQuota as short_quota;
+ghost use Rattle.np_worked.specs.Jobs.{plain_path, served_job};
+ghost use Rattle.np_worked.specs.Shares.{semaphores_all_or_none, short_quota};
 ghost use Rattle.np_worked.specs.Site.{session, node, job, requester};
 
 /// The machine's replies are those of the journal that is made for these rows.

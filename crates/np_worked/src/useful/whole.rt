@@ -4,7 +4,7 @@ ghost use Rattle.np_machine.specs.Prelude.{after, start};
 ghost use Rattle.np_useful.specs.Settled.{IsSettled};
 ghost use Rattle.np_useful.specs.Driven.{Driven};
 ghost use Rattle.np_worked.specs.Examples.{HasReplies, expiring_site, all_kinds, first_tick, empty_site, quiet_site, quiet, moved_window, window_site};
-ghost use Rattle.np_worked.specs.PlainPath as plain_path;
+ghost use Rattle.np_worked.specs.Jobs.{plain_path};
 
 /// The machine's replies are those of the journals that are made for these examples.
 pub fn driven_journals_are_the_machines()

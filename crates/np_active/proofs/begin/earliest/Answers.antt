@@ -1,6 +1,5 @@
 use Rattle.np_active.proofs.Prelude.{IsBest, arith, subst}
-use Rattle.np_active.proofs.BestLemmas.{best-first, best-next}
-use Rattle.np_active.proofs.WaitingLemmas.{lines-fall}
+use Rattle.np_active.proofs.Searches.{best-first, best-next, lines-fall}
 use Rattle.np_active.proofs.begin.earliest.Goals as goal
 
 pub loop-next-init : goal.loop-next-init

@@ -1,5 +1,5 @@
 use Rattle.np_active.proofs.Prelude.{IsBest, Rises, is_job_before, is_member_before}
-use Rattle.np_active.proofs.WaitingLemmas.{lines_left}
+use Rattle.np_active.proofs.Searches.{lines_left}
 use Rattle.np_active.proofs.begin.earliest.Given as goal
 
 abbrev pub invariant-loop-next : goal.invariant-loop-next

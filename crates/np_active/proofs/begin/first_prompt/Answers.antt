@@ -1,5 +1,5 @@
 use Rattle.np_active.proofs.Prelude.{Group, ap, find, ids_in, may_begin_of, sym, ◌∙◌}
-use Rattle.np_active.proofs.PromptLemmas.{here-passes, next-after}
+use Rattle.np_active.proofs.KindLemmas.{here-passes, next-after}
 use Rattle.np_active.proofs.begin.first_prompt.Goals as goal
 
 pub returns-then-may_begin : goal.returns-then-may_begin

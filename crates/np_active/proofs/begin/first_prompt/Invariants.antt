@@ -1,5 +1,5 @@
 use Rattle.np_active.proofs.Prelude.{ids_in, may_begin_of}
-use Rattle.np_active.proofs.PromptLemmas.{IsAfter}
+use Rattle.np_active.proofs.KindLemmas.{IsAfter}
 use Rattle.np_active.proofs.begin.first_prompt.Given as goal
 
 abbrev pub invariant-loop-at : goal.invariant-loop-at

@@ -1,5 +1,5 @@
 use Rattle.np_active.proofs.Prelude.{JobId, arith, below-next, below-none, groups_of_job, is_job_before, jobs-in_order, length, refl, same_job, subst, sym, ◌≤◌}
-use Rattle.np_active.proofs.Rebuilt.{AreJobsBelow, jobs-all}
+use Rattle.np_active.proofs.Changes.{AreJobsBelow, jobs-all}
 use Rattle.np_active.proofs.jobs.all_jobs.Goals as goal
 
 pub loop-number-init : goal.loop-number-init

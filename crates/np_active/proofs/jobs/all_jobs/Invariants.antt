@@ -1,4 +1,4 @@
-use Rattle.np_active.proofs.Rebuilt.{AreJobsBelow}
+use Rattle.np_active.proofs.Changes.{AreJobsBelow}
 use Rattle.np_active.proofs.jobs.all_jobs.Given as goal
 
 abbrev pub invariant-loop-number : goal.invariant-loop-number

@@ -1,7 +1,7 @@
 use Rattle.np_active.proofs.Prelude.{NodeEntry, ap, arith, groups_of_node, is_node_before, length, made-next, nodes-in_order, none_there, same_node, sym, ◌<◌, ◌∙◌}
-use Rattle.np_active.proofs.GivenRebuilt.{given-made}
-use Rattle.np_active.proofs.members.all_nodes.Goals as goal
+use Rattle.np_active.proofs.Changes.{given-made}
 use Rattle.np_active.proofs.members.all_nodes.Goals.{in-Some+in_ok-add_node, in_default}
+use Rattle.np_active.proofs.members.all_nodes.Goals as goal
 
 pub loop-at-preserved : goal.loop-at-preserved
 loop-at-preserved g c =

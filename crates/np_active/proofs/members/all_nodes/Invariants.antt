@@ -1,5 +1,5 @@
 use Rattle.np_active.proofs.Prelude.{◌≡◌}
-use Rattle.np_active.proofs.GivenRebuilt.{nodes_made}
+use Rattle.np_active.proofs.Changes.{nodes_made}
 use Rattle.np_active.proofs.members.all_nodes.Given as goal
 
 abbrev pub invariant-loop-at : goal.invariant-loop-at

@@ -1,5 +1,5 @@
 use Rattle.np_active.proofs.Prelude.{arith, node_queue, sym}
-use Rattle.np_active.proofs.Queues.{list-next}
+use Rattle.np_active.proofs.KindLemmas.{list-next}
 use Rattle.np_active.proofs.past_given.list_sessions.Goals as goal
 
 pub loop-at-preserved : goal.loop-at-preserved

@@ -1,5 +1,4 @@
-use Rattle.np_active.proofs.Prelude.{arith, length, node_queue, past-end, slice_get_within, sym, ◌<◌, ◌≡◌, ◌≤◌}
-use Rattle.np_look.proofs.Seen.{queue-fits}
+use Rattle.np_active.proofs.Prelude.{arith, length, node_queue, past-end, queue-fits, slice_get_within, sym, ◌<◌, ◌≡◌, ◌≤◌}
 use Rattle.np_active.proofs.past_given.queue_length.Goals as goal
 
 pub overflow_add-count : goal.overflow_add-count

@@ -1,5 +1,5 @@
 use Rattle.np_active.proofs.Prelude.{AllByRecursion, List, NodeId, ap, length, map, node_queue, placed_node, subst, suc, ◌∙◌, ◌≤◌}
-use Rattle.np_active.proofs.Listed.{is-prepared}
+use Rattle.np_active.proofs.Changes.{is-prepared}
 use Rattle.np_active.proofs.prepare.prepared_by.Goals as goal
 
 pub returns : goal.returns

@@ -1,5 +1,5 @@
 use Rattle.np_active.proofs.Prelude.{SessionId, arith, below-next, groups_of_session, is_session_before, length, refl, same_session, sessions-in_order, subst, sym, ◌+◌, ◌<◌}
-use Rattle.np_active.proofs.Rebuilt.{AreSessionsBelow, sessions-all, sessions-none}
+use Rattle.np_active.proofs.Changes.{AreSessionsBelow, sessions-all, sessions-none}
 use Rattle.np_active.proofs.sessions.all_sessions.Goals as goal
 
 pub loop-at-init : goal.loop-at-init

@@ -1,5 +1,5 @@
 use Rattle.np_active.proofs.Prelude.{◌+◌}
-use Rattle.np_active.proofs.Rebuilt.{AreSessionsBelow}
+use Rattle.np_active.proofs.Changes.{AreSessionsBelow}
 use Rattle.np_active.proofs.sessions.all_sessions.Given as goal
 
 abbrev pub invariant-loop-at : goal.invariant-loop-at

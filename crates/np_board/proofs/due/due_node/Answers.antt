@@ -1,8 +1,6 @@
-use Rattle.std.proofs.Common.{◌<◌, length, sym, arith, below_more}
-use Rattle.np_look.specs.Readers.{queued_nodes}
-use Rattle.np_board.proofs.DueLemmas.{IsNotDueAt, not-due-at, none-left}
+use Rattle.np_board.proofs.Prelude.{arith, below_more, length, not-past, queued_nodes, sym, ◌<◌}
+use Rattle.np_board.proofs.BoardTurns.{IsNotDueAt, not-due-at, none-left}
 use Rattle.np_board.proofs.due.due_node.Goals as goal
-use Rattle.np_lists.proofs.Plain.{not-past}
 
 pub returns-in_default : goal.returns-in_default
 returns-in_default g c =

@@ -1,5 +1,5 @@
-use Rattle.std.proofs.Common.{◌<◌, ℕ}
-use Rattle.np_board.proofs.DueLemmas.{IsNotDueAt}
+use Rattle.np_board.proofs.Prelude.{ℕ, ◌<◌}
+use Rattle.np_board.proofs.BoardTurns.{IsNotDueAt}
 use Rattle.np_board.proofs.due.due_node.Given as goal
 
 abbrev pub invariant-loop-at : goal.invariant-loop-at

@@ -1,5 +1,4 @@
-use Rattle.np_changes.proofs.Sites.{sound_fits}
-use Rattle.np_rules.proofs.RunLemmas.{RunsOn-fits, RunsOn-reached}
+use Rattle.np_board.proofs.Prelude.{RunsOn-fits, RunsOn-reached, sound_fits}
 use Rattle.np_board.proofs.reading.machine_of_tree.Goals as goal
 
 pub tables_of_tree-requires-clause-reached : goal.tables_of_tree-requires-clause-reached

@@ -1,11 +1,8 @@
-use Rattle.np_rules.specs.Running.{ran_of}
--- the event that was chosen is useful
-use Rattle.std.proofs.lemmas.Result.{IfOk-weaker}
-use Rattle.np_rules.proofs.First.{Runs-first}
-use Rattle.np_rules.proofs.RunLemmas.{RunsOn-fits, RunsOn-reached}
-use Rattle.np_board.proofs.TurnLemmas.{act-taken, idle-taken}
-use Rattle.np_tree.proofs.LaterLemmas.{later-than-itself}
+use Rattle.np_board.proofs.Prelude.{IfOk-weaker, Runs-first, RunsOn-fits, RunsOn-reached, later-than-itself, ran_of}
+use Rattle.np_board.proofs.BoardTurns.{act-taken, idle-taken}
 use Rattle.np_board.proofs.turns.act.Goals as goal
+
+-- the event that was chosen is useful
 
 pub choose-requires-clause-reached : goal.choose-requires-clause-reached
 choose-requires-clause-reached c = RunsOn-reached _ _ _ _ c.know_soundness.ensures.runs

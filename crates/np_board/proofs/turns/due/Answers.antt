@@ -1,8 +1,5 @@
-use Rattle.std.proofs.Common.{refl, sym, subst}
-use Rattle.np_machine.specs.State.{State}
-use Rattle.np_worker.specs.Answers.{IsDue}
-use Rattle.np_rules.proofs.First.{Runs-first}
-use Rattle.np_board.proofs.DueLemmas.{due-is, none-due, no-node, no-janitor}
+use Rattle.np_board.proofs.Prelude.{IsDue, Runs-first, State, refl, subst, sym}
+use Rattle.np_board.proofs.BoardTurns.{due-is, none-due, no-node, no-janitor}
 use Rattle.np_board.proofs.turns.due.Goals as goal
 
 pub returns-in_default : goal.returns-in_default

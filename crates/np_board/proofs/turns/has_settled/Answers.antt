@@ -1,4 +1,4 @@
-use Rattle.np_rules.proofs.RunLemmas.{RunsOn-fits, RunsOn-reached}
+use Rattle.np_board.proofs.Prelude.{RunsOn-fits, RunsOn-reached}
 use Rattle.np_board.proofs.turns.has_settled.Goals as goal
 
 pub is_settled-requires-clause-reached : goal.is_settled-requires-clause-reached

@@ -1,9 +1,5 @@
-use Rattle.np_rules.specs.Running.{ran_of}
-use Rattle.std.proofs.Common.{◌<◌, ◌∙◌, List, length, subst, arith}
-use Rattle.np_event.specs.declared.entry.Entry.{Entry}
-use Rattle.np_rules.proofs.First.{Runs-first, answer-first, applied-first}
-use Rattle.np_board.proofs.TurnLemmas.{do-taken}
-use Rattle.np_tree.proofs.LaterLemmas.{later-than-itself}
+use Rattle.np_board.proofs.Prelude.{Entry, List, Runs-first, answer-first, applied-first, arith, later-than-itself, length, ran_of, subst, ◌<◌, ◌∙◌}
+use Rattle.np_board.proofs.BoardTurns.{do-taken}
 use Rattle.np_board.proofs.turns.record.Goals as goal
 
 pub returns-clause-turn : goal.returns-clause-turn

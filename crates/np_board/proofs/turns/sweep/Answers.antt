@@ -1,12 +1,5 @@
-use Rattle.np_rules.specs.Running.{ran_of}
-use Rattle.std.proofs.Common.{sym, inl, inr}
-use Rattle.std.proofs.lemmas.Result.{IfOk-weaker}
-use Rattle.np_text.specs.declared.id.Role.TheVariants.{Janitor}
-use Rattle.np_useful.proofs.Currents.{current-has}
-use Rattle.np_worker.specs.Answers.{IsNotKept}
-use Rattle.np_rules.proofs.First.{Runs-first}
-use Rattle.np_board.proofs.TurnLemmas.{kept-taken, swept-taken, sweep-taken}
-use Rattle.np_tree.proofs.LaterLemmas.{later-than-itself}
+use Rattle.np_board.proofs.Prelude.{IfOk-weaker, IsNotKept, Janitor, Runs-first, current-has, inl, inr, later-than-itself, ran_of, sym}
+use Rattle.np_board.proofs.BoardTurns.{kept-taken, swept-taken, sweep-taken}
 use Rattle.np_board.proofs.turns.sweep.Goals as goal
 
 pub returns-in_default-clause-turn : goal.returns-in_default-clause-turn

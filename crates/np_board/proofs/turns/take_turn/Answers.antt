@@ -1,6 +1,5 @@
-use Rattle.np_rules.specs.Running.{ran_of}
-use Rattle.np_board.proofs.TurnLemmas.{due-taken}
-use Rattle.np_tree.proofs.LaterLemmas.{later-than-itself}
+use Rattle.np_board.proofs.Prelude.{later-than-itself, ran_of}
+use Rattle.np_board.proofs.BoardTurns.{due-taken}
 use Rattle.np_board.proofs.turns.take_turn.Goals as goal
 
 pub returns-in-Due-clause-turn : goal.returns-in-Due-clause-turn

@@ -1,5 +1,4 @@
-use Rattle.np_changes.proofs.FitsRuns.{Fits-Runs}
-use Rattle.np_changes.proofs.Sites.{sound_fits}
+use Rattle.np_changes.proofs.Shapes.{Fits-Runs, sound_fits}
 use Rattle.np_board_tests.proofs.bare.know_soundness.Goals as goal
 
 pub returns-clause-fits : goal.returns-clause-fits

@@ -1,4 +1,4 @@
-use Rattle.np_worker.proofs.LegalLemmas.{Runs-legal}
+use Rattle.np_worker.proofs.Journals.{Runs-legal}
 use Rattle.np_board_tests.proofs.plan_play.goes.Goals as goal
 
 pub set_up-requires : goal.set_up-requires

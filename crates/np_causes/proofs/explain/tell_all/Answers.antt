@@ -1,7 +1,4 @@
-use Rattle.std.proofs.Common.{◌≡◌, None, Some, sym}
-use Rattle.std.specs.Prelude.{slice_get}
-use Rattle.np_lists.proofs.Plain.{past-end}
-use Rattle.np_causes.specs.declared.fact.Thing.TheVariants as thing
+use Rattle.np_causes.proofs.Prelude.{None, Some, Thing, past-end, slice_get, sym, ◌≡◌}
 use Rattle.np_causes.proofs.Growing.{all_told, told_later, told_more}
 use Rattle.np_causes.proofs.explain.tell_all.Goals as goal
 
@@ -19,7 +16,7 @@ loop-at-preserved g c =
     let stands : slice_get c.loop-at.facts.items c.loop-at.at ≡ Some c.in-Some.fact = rw c.as_slice.ensures.value at (sym c.in-Some.ensures) in
     record {
       sound = c.in_ok-tell_named.ensures.sound;
-      begun = told_later c.loop-at.facts.items c.tell_named.new.facts.items (thing.Job c.args.job) c.in_ok-tell_named.ensures.grows c.loop-at.invariant.begun;
+      begun = told_later c.loop-at.facts.items c.tell_named.new.facts.items (Thing.Job c.args.job) c.in_ok-tell_named.ensures.grows c.loop-at.invariant.begun;
       told =
           told_more (g.L.Look.site c.args.look.now) (g.L.Look.state c.args.look.now) c.loop-at.facts.items c.tell_named.new.facts.items c.loop-at.at c.in-Some.fact stands
           c.in_ok-tell_named.ensures.grows c.in_ok-tell_named.ensures.told c.loop-at.invariant.told;

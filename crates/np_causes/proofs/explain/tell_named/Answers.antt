@@ -1,4 +1,4 @@
-use Rattle.std.proofs.Common.{sym}
+use Rattle.np_causes.proofs.Prelude.{sym}
 use Rattle.np_causes.proofs.Growing.{grows_on, named_if, names_more, names_told}
 use Rattle.np_causes.proofs.explain.tell_named.Goals as goal
 

@@ -1,8 +1,4 @@
-use Rattle.std.proofs.Common.{◌≡◌, ◌<◌, ℕ, Some}
-use Rattle.std.specs.Prelude.{slice_get}
-use Rattle.np_causes.specs.Names.{named_by}
-use Rattle.np_causes.specs.Explains.{Grows, IsSound, IsTold}
-use Rattle.np_causes.specs.declared.fact.Thing.{Thing}
+use Rattle.np_causes.proofs.Prelude.{Grows, IsSound, IsTold, Some, Thing, named_by, slice_get, ℕ, ◌<◌, ◌≡◌}
 use Rattle.np_causes.proofs.explain.tell_named.Given as goal
 
 abbrev pub invariant-loop-at_place : goal.invariant-loop-at_place

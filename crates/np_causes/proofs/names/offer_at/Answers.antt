@@ -1,7 +1,4 @@
-use Rattle.std.proofs.Common.{◌≡◌, ◌≤◌, None, Some, length, sym, arith}
-use Rattle.std.specs.Prelude.{slice_get}
-use Rattle.np_text.specs.declared.limit.TheConstants.{POOLS}
-use Rattle.np_lists.proofs.Plain.{past-end}
+use Rattle.np_causes.proofs.Prelude.{None, POOLS, Some, arith, length, past-end, slice_get, sym, ◌≡◌, ◌≤◌}
 use Rattle.np_causes.proofs.Places.{no_offer, offer_there}
 use Rattle.np_causes.proofs.names.offer_at.Goals as goal
 

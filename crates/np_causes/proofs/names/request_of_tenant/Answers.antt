@@ -1,9 +1,4 @@
-use Rattle.std.proofs.Common.{Option, Some, refl, sym, ap, ◌∙◌}
-use Rattle.np_look.specs.Views.{request_seen, request_view}
-use Rattle.np_look.specs.declared.asked.RequestView.{RequestView}
-use Rattle.np_changes.specs.Prelude.{RequestEntry}
-use Rattle.np_causes.specs.Names.{if_pending_of}
-use Rattle.np_causes.specs.declared.fact.Thing.{Thing}
+use Rattle.np_causes.proofs.Prelude.{Option, RequestEntry, RequestView, Some, Thing, ap, if_pending_of, refl, request_seen, request_view, sym, ◌∙◌}
 use Rattle.np_causes.proofs.Places.{seen_at}
 use Rattle.np_causes.proofs.names.request_of_tenant.Goals as goal
 

@@ -1,8 +1,4 @@
-use Rattle.std.proofs.Common.{Option, Some, sym, ap, ◌∙◌}
-use Rattle.np_look.specs.Views.{request_seen, request_view}
-use Rattle.np_look.specs.declared.asked.RequestView.{RequestView}
-use Rattle.np_causes.specs.Names.{if_near}
-use Rattle.np_causes.specs.declared.fact.Thing.{Thing}
+use Rattle.np_causes.proofs.Prelude.{Option, RequestView, Some, Thing, ap, if_near, request_seen, request_view, sym, ◌∙◌}
 use Rattle.np_causes.proofs.NearViews.{near_named}
 use Rattle.np_causes.proofs.Places.{seen_at}
 use Rattle.np_causes.proofs.near.request_near.Goals as goal

@@ -1,8 +1,4 @@
-use Rattle.std.proofs.Common.{◌≡◌, cond, refl, sym, add-one, arith}
-use Rattle.np_look.proofs.Walks.{count_here}
-use Rattle.np_look.specs.Views.{request_seen, request_view}
-use Rattle.np_look.specs.declared.asked.RequestView.{RequestView}
-use Rattle.np_causes.specs.Names.{is_near}
+use Rattle.np_causes.proofs.Prelude.{RequestView, add-one, arith, cond, count_here, is_near, request_seen, request_view, sym, ◌≡◌}
 use Rattle.np_causes.proofs.NearViews.{near_seen}
 use Rattle.np_causes.proofs.near.requests_near.Goals as goal
 

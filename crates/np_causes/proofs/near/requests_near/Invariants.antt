@@ -1,7 +1,4 @@
-use Rattle.std.proofs.Common.{◌≡◌, ◌≤◌, ◌+◌, drop}
-use Rattle.std.specs.Prelude.{count_by}
-use Rattle.np_useful.specs.Launcher.{requests_near}
-use Rattle.np_causes.specs.Names.{is_near}
+use Rattle.np_causes.proofs.Prelude.{count_by, drop, is_near, requests_near, ◌+◌, ◌≡◌, ◌≤◌}
 use Rattle.np_causes.proofs.near.requests_near.Given as goal
 
 abbrev pub invariant-loop-at : goal.invariant-loop-at

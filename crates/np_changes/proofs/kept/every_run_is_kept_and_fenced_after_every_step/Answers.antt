@@ -1,5 +1,5 @@
-use Rattle.np_changes.proofs.Made.{kept-every_step}
-use Rattle.np_changes.proofs.Rightful.{fenced-every_step}
+use Rattle.np_changes.proofs.Records.{kept-every_step}
+use Rattle.np_changes.proofs.Runs.{fenced-every_step}
 use Rattle.np_changes.proofs.kept.every_run_is_kept_and_fenced_after_every_step.Goals as goal
 
 pub returns-clause-kept : goal.returns-clause-kept

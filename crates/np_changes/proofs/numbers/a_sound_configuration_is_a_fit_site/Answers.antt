@@ -1,4 +1,4 @@
-use Rattle.np_changes.proofs.Sites.{sound_fits}
+use Rattle.np_changes.proofs.Shapes.{sound_fits}
 use Rattle.np_changes.proofs.numbers.a_sound_configuration_is_a_fit_site.Goals as goal
 
 pub returns : goal.returns

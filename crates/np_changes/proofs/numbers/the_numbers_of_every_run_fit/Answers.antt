@@ -1,4 +1,4 @@
-use Rattle.np_changes.proofs.FitsRuns.{Fits-Runs}
+use Rattle.np_changes.proofs.Shapes.{Fits-Runs}
 use Rattle.np_changes.proofs.numbers.the_numbers_of_every_run_fit.Goals as goal
 
 pub returns : goal.returns

@@ -1,5 +1,4 @@
-use Rattle.std.proofs.Common.{◌≤◌, ap, arith, length}
-use Rattle.np_changes.proofs.Sites.{sound_fits}
+use Rattle.np_check.proofs.Prelude.{ap, arith, length, sound_fits, ◌≤◌}
 use Rattle.np_check.proofs.demand.never_fits.Goals as goal
 
 pub is_too_much-requires-clause-few : goal.is_too_much-requires-clause-few

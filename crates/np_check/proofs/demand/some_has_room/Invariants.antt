@@ -1,5 +1,4 @@
-use Rattle.std.proofs.Common.{◌≡◌}
-use Rattle.np_check.specs.Demand.{any_below, has_room, request_of}
+use Rattle.np_check.proofs.Prelude.{any_below, has_room, request_of, ◌≡◌}
 use Rattle.np_check.proofs.demand.some_has_room.Given as goal
 
 abbrev pub invariant-loop-at : goal.invariant-loop-at

@@ -1,6 +1,4 @@
-use Rattle.std.proofs.Common.{◌≡◌}
-use Rattle.np_machine.specs.First.{may_fit}
-use Rattle.np_check.specs.Demand.{any_below, request_of}
+use Rattle.np_check.proofs.Prelude.{any_below, may_fit, request_of, ◌≡◌}
 use Rattle.np_check.proofs.demand.some_may_fit.Given as goal
 
 abbrev pub invariant-loop-at : goal.invariant-loop-at

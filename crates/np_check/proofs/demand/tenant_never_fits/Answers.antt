@@ -1,5 +1,4 @@
-use Rattle.std.proofs.Common.{◌≤◌, ap, arith, length}
-use Rattle.np_changes.proofs.Sites.{sound_fits}
+use Rattle.np_check.proofs.Prelude.{ap, arith, length, sound_fits, ◌≤◌}
 use Rattle.np_check.proofs.demand.tenant_never_fits.Goals as goal
 
 pub amount_of_all-all-requires-clause-few : goal.amount_of_all-all-requires-clause-few

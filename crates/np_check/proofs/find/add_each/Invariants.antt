@@ -1,8 +1,4 @@
-use Rattle.std.proofs.Common.{◌≡◌, ◌++◌, ◌∷◌, [], drop}
-use Rattle.std.specs.Prelude.{filter}
-use Rattle.std.specs.List.{flat_map}
-use Rattle.np_check.specs.declared.finding.Finding.TheVariants.{OfferTooLarge}
-use Rattle.np_check.specs.Finding.{is_true}
+use Rattle.np_check.proofs.Prelude.{OfferTooLarge, drop, filter, flat_map, is_true, [], ◌++◌, ◌∷◌, ◌≡◌}
 use Rattle.np_check.proofs.find.add_each.Given as goal
 
 abbrev pub invariant-loop-offer : goal.invariant-loop-offer

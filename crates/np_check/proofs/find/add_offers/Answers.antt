@@ -1,10 +1,4 @@
-use Rattle.std.proofs.Common.{◌∙◌, ◌++◌, ◌∷◌, [], ap, sym}
-use Rattle.std.specs.Prelude.{filter}
-use Rattle.std.specs.List.{flat_map}
-use Rattle.std.proofs.lemmas.Result.{IfOk-equal}
-use Rattle.np_machine.specs.Count.{offers_of}
-use Rattle.np_check.specs.declared.finding.Finding.TheVariants.{OfferTooLarge}
-use Rattle.np_check.specs.Finding.{is_true}
+use Rattle.np_check.proofs.Prelude.{IfOk-equal, OfferTooLarge, ap, filter, flat_map, is_true, offers_of, sym, [], ◌++◌, ◌∙◌, ◌∷◌}
 use Rattle.np_check.proofs.Joined.{filter-flat}
 use Rattle.np_check.proofs.find.add_offers.Goals as goal
 

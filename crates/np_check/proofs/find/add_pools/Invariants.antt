@@ -1,6 +1,4 @@
-use Rattle.std.proofs.Common.{◌≡◌, ◌++◌}
-use Rattle.std.specs.Prelude.{filter}
-use Rattle.np_check.specs.Finding.{is_true, of_pool, places}
+use Rattle.np_check.proofs.Prelude.{filter, is_true, of_pool, places, ◌++◌, ◌≡◌}
 use Rattle.np_check.proofs.find.add_pools.Given as goal
 
 abbrev pub invariant-loop-at : goal.invariant-loop-at

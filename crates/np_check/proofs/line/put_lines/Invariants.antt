@@ -1,6 +1,4 @@
-use Rattle.std.proofs.Common.{◌≡◌, ◌++◌, drop}
-use Rattle.std.specs.List.{flat_map}
-use Rattle.np_check.specs.Line.{finding_line}
+use Rattle.np_check.proofs.Prelude.{drop, finding_line, flat_map, ◌++◌, ◌≡◌}
 use Rattle.np_check.proofs.line.put_lines.Given as goal
 
 abbrev pub invariant-loop-finding : goal.invariant-loop-finding

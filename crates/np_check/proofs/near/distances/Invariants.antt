@@ -1,5 +1,4 @@
-use Rattle.std.proofs.Common.{◌≡◌, map, take}
-use Rattle.np_check.specs.Near.{distance}
+use Rattle.np_check.proofs.Prelude.{distance, map, take, ◌≡◌}
 use Rattle.np_check.proofs.near.distances.Given as goal
 
 abbrev pub invariant-loop-key : goal.invariant-loop-key

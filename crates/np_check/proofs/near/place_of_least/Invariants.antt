@@ -1,4 +1,4 @@
-use Rattle.std.proofs.Common.{◌≡◌, ◌<◌, ◌≤◌, ℕ, length, get_or}
+use Rattle.np_check.proofs.Prelude.{get_or, length, ℕ, ◌<◌, ◌≡◌, ◌≤◌}
 use Rattle.np_check.proofs.near.place_of_least.Given as goal
 
 abbrev pub invariant-loop-at : goal.invariant-loop-at

@@ -1,6 +1,4 @@
-use Rattle.std.proofs.Common.{subst, sym}
-use Rattle.np_changes.specs.Fits.{AmountFits}
-use Rattle.np_changes.proofs.Sites.{sound_fits}
+use Rattle.np_check.proofs.Prelude.{AmountFits, sound_fits, subst, sym}
 use Rattle.np_check.proofs.ready.keeps_ready.Goals as goal
 
 pub many-all-requires : goal.many-all-requires

@@ -1,4 +1,4 @@
-use Rattle.std.proofs.Common.{arith}
+use Rattle.np_check.proofs.Prelude.{arith}
 use Rattle.np_check.proofs.Bounds.{times_fit}
 use Rattle.np_check.proofs.ready.many.Goals as goal
 

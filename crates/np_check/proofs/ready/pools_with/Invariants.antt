@@ -1,6 +1,4 @@
-use Rattle.std.proofs.Common.{◌≡◌, ◌≤◌}
-use Rattle.np_machine.specs.Count.{is_offered}
-use Rattle.np_check.specs.Demand.{number_below}
+use Rattle.np_check.proofs.Prelude.{is_offered, number_below, ◌≡◌, ◌≤◌}
 use Rattle.np_check.proofs.ready.pools_with.Given as goal
 
 abbrev pub invariant-loop-at : goal.invariant-loop-at

@@ -1,5 +1,4 @@
-use Rattle.std.proofs.Common.{◌≡◌}
-use Rattle.np_check.specs.Demand.{any_below, keeps_ready}
+use Rattle.np_check.proofs.Prelude.{any_below, keeps_ready, ◌≡◌}
 use Rattle.np_check.proofs.ready.some_keeps_ready.Given as goal
 
 abbrev pub invariant-loop-at : goal.invariant-loop-at

@@ -1,6 +1,4 @@
-use Rattle.std.proofs.Common.{◌≡◌, ◌≤◌, ◌+◌, take}
-use Rattle.std.specs.Prelude.{fold}
-use Rattle.np_check.specs.Spot.{behind}
+use Rattle.np_check.proofs.Prelude.{behind, fold, take, ◌+◌, ◌≡◌, ◌≤◌}
 use Rattle.np_check.proofs.spot.spot_of.Given as goal
 
 abbrev pub invariant-loop-byte : goal.invariant-loop-byte

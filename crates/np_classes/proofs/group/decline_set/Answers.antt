@@ -1,5 +1,5 @@
-use Rattle.std.proofs.Common.{◌-◌, sym, arith}
-use Rattle.np_classes.proofs.Declines.{digits-none, digits-room, digits-down}
+use Rattle.np_classes.proofs.Prelude.{arith, sym, ◌-◌}
+use Rattle.np_classes.proofs.MemberLemmas.{digits-none, digits-room, digits-down}
 use Rattle.np_classes.proofs.group.decline_set.Goals as goal
 
 pub loop-left-init : goal.loop-left-init

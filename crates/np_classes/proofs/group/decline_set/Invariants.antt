@@ -1,5 +1,4 @@
-use Rattle.std.proofs.Common.{◌≡◌, ◌≤◌, ◌-◌}
-use Rattle.np_classes.specs.Classes.{decline_digits}
+use Rattle.np_classes.proofs.Prelude.{decline_digits, ◌-◌, ◌≡◌, ◌≤◌}
 use Rattle.np_classes.proofs.group.decline_set.Given as goal
 
 abbrev pub invariant-loop-left : goal.invariant-loop-left

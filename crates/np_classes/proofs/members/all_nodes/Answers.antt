@@ -1,12 +1,7 @@
-use Rattle.std.proofs.Common.{◌∙◌, ◌<◌, length, sym, ap, arith}
-use Rattle.np_look.specs.Keys.{is_node_before, same_node}
-use Rattle.np_machine.specs.Entries.{NodeEntry}
-use Rattle.np_look.proofs.Walks.{none_there}
-use Rattle.np_classes.proofs.Grouped.{made-next, nodes-in_order}
-use Rattle.np_classes.specs.Placed.{groups_of_node}
-use Rattle.np_classes.proofs.Rebuilt.{nodes-made}
-use Rattle.np_classes.proofs.members.all_nodes.Goals as goal
+use Rattle.np_classes.proofs.Prelude.{NodeEntry, ap, arith, groups_of_node, is_node_before, length, none_there, same_node, sym, ◌<◌, ◌∙◌}
+use Rattle.np_classes.proofs.MemberLemmas.{made-next, nodes-in_order, nodes-made}
 use Rattle.np_classes.proofs.members.all_nodes.Goals.{in-Some+in_ok-add_node, in_default}
+use Rattle.np_classes.proofs.members.all_nodes.Goals as goal
 
 pub loop-at-preserved : goal.loop-at-preserved
 loop-at-preserved g c =

@@ -1,8 +1,5 @@
-use Rattle.std.proofs.Common.{◌≡◌}
-use Rattle.np_look.specs.Keys.{is_node_before, same_node}
-use Rattle.np_machine.specs.Entries.{NodeEntry}
-use Rattle.np_classes.proofs.Grouped.{made, nodes-in_order}
-use Rattle.np_classes.specs.Placed.{groups_of_node}
+use Rattle.np_classes.proofs.Prelude.{NodeEntry, groups_of_node, is_node_before, same_node, ◌≡◌}
+use Rattle.np_classes.proofs.MemberLemmas.{made, nodes-in_order}
 use Rattle.np_classes.proofs.members.all_nodes.Given as goal
 
 abbrev pub invariant-loop-at : goal.invariant-loop-at

@@ -1,12 +1,7 @@
-use Rattle.std.proofs.Common.{◌∙◌, ◌<◌, length, sym, ap, arith}
-use Rattle.np_changes.specs.Prelude.{is_id_before, same_request}
-use Rattle.np_machine.specs.Entries.{RequestEntry}
-use Rattle.np_look.proofs.Walks.{none_there}
-use Rattle.np_classes.proofs.Grouped.{made-next, requests-in_order}
-use Rattle.np_classes.specs.Placed.{groups_of_request}
-use Rattle.np_classes.proofs.Rebuilt.{requests-made}
-use Rattle.np_classes.proofs.members.all_requests.Goals as goal
+use Rattle.np_classes.proofs.Prelude.{RequestEntry, ap, arith, groups_of_request, is_id_before, length, none_there, same_request, sym, ◌<◌, ◌∙◌}
+use Rattle.np_classes.proofs.MemberLemmas.{made-next, requests-in_order, requests-made}
 use Rattle.np_classes.proofs.members.all_requests.Goals.{in-Some+in_ok-add_request, in_default}
+use Rattle.np_classes.proofs.members.all_requests.Goals as goal
 
 pub loop-at-preserved : goal.loop-at-preserved
 loop-at-preserved g c =

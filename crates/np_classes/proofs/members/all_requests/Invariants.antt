@@ -1,8 +1,5 @@
-use Rattle.std.proofs.Common.{◌≡◌}
-use Rattle.np_changes.specs.Prelude.{is_id_before, same_request}
-use Rattle.np_machine.specs.Entries.{RequestEntry}
-use Rattle.np_classes.proofs.Grouped.{made, requests-in_order}
-use Rattle.np_classes.specs.Placed.{groups_of_request}
+use Rattle.np_classes.proofs.Prelude.{RequestEntry, groups_of_request, is_id_before, same_request, ◌≡◌}
+use Rattle.np_classes.proofs.MemberLemmas.{made, requests-in_order}
 use Rattle.np_classes.proofs.members.all_requests.Given as goal
 
 abbrev pub invariant-loop-at : goal.invariant-loop-at

@@ -1,7 +1,4 @@
-use Rattle.std.proofs.Common.{◌≡◌, ◌≤◌, ◌+◌, ◌*◌, drop, map}
-use Rattle.np_look.specs.Keys.{is_node_before, same_node}
-use Rattle.np_lists.specs.Moves.{with_all_moved}
-use Rattle.np_classes.specs.Placed.{groups_of_node, node_before}
+use Rattle.np_classes.proofs.Prelude.{drop, groups_of_node, is_node_before, map, node_before, same_node, with_all_moved, ◌*◌, ◌+◌, ◌≡◌, ◌≤◌}
 use Rattle.np_classes.proofs.members.move_nodes.Given as goal
 
 abbrev pub invariant-loop-past : goal.invariant-loop-past

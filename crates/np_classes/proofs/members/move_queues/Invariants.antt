@@ -1,7 +1,4 @@
-use Rattle.std.proofs.Common.{◌≡◌, ◌≤◌, ◌+◌, drop, map}
-use Rattle.np_changes.specs.Prelude.{is_id_before, same_request}
-use Rattle.np_lists.specs.Moves.{with_all_moved}
-use Rattle.np_classes.specs.Placed.{queue_before, unheld_groups}
+use Rattle.np_classes.proofs.Prelude.{drop, is_id_before, map, queue_before, same_request, unheld_groups, with_all_moved, ◌+◌, ◌≡◌, ◌≤◌}
 use Rattle.np_classes.proofs.members.move_queues.Given as goal
 
 abbrev pub invariant-loop-past : goal.invariant-loop-past

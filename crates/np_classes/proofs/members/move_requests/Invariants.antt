@@ -1,7 +1,4 @@
-use Rattle.std.proofs.Common.{◌≡◌, ◌≤◌, ◌+◌, ◌*◌, drop, map}
-use Rattle.np_changes.specs.Prelude.{is_id_before, same_request}
-use Rattle.np_lists.specs.Moves.{with_all_moved}
-use Rattle.np_classes.specs.Placed.{groups_of_request, request_before}
+use Rattle.np_classes.proofs.Prelude.{drop, groups_of_request, is_id_before, map, request_before, same_request, with_all_moved, ◌*◌, ◌+◌, ◌≡◌, ◌≤◌}
 use Rattle.np_classes.proofs.members.move_requests.Given as goal
 
 abbrev pub invariant-loop-past : goal.invariant-loop-past

@@ -1,5 +1,4 @@
-use Rattle.std.proofs.Common.{◌≡◌, ◌++◌, drop, map}
-use Rattle.np_classes.specs.Placed.{past_node}
+use Rattle.np_classes.proofs.Prelude.{drop, map, past_node, ◌++◌, ◌≡◌}
 use Rattle.np_classes.proofs.past.past_nodes.Given as goal
 
 abbrev pub invariant-loop-node : goal.invariant-loop-node

@@ -1,5 +1,4 @@
-use Rattle.std.proofs.Common.{◌≡◌, ◌++◌, drop, map}
-use Rattle.np_classes.specs.Placed.{past_queue}
+use Rattle.np_classes.proofs.Prelude.{drop, map, past_queue, ◌++◌, ◌≡◌}
 use Rattle.np_classes.proofs.past.past_queues.Given as goal
 
 abbrev pub invariant-loop-request : goal.invariant-loop-request

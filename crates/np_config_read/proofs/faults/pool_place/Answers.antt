@@ -1,6 +1,4 @@
-use Rattle.std.proofs.Common.{◌∙◌, sym}
-use Rattle.std.specs.Str.{bytes_eq}
-use Rattle.np_json.proofs.Lists.{position-map}
+use Rattle.np_config_read.proofs.Prelude.{bytes_eq, position-map, sym, ◌∙◌}
 use Rattle.np_config_read.proofs.faults.pool_place.Goals as goal
 
 pub returns : goal.returns

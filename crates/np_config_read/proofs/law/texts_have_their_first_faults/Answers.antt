@@ -1,5 +1,5 @@
-use Rattle.std.proofs.Common.{refl}
-use Rattle.np_config_read.proofs.OnLiterals.{reading_on_literals}
+use Rattle.np_config_read.proofs.Prelude.{refl}
+use Rattle.np_config_read.proofs.Parsed.{reading_on_literals}
 use Rattle.np_config_read.proofs.law.texts_have_their_first_faults.Goals as goal
 
 pub returns-clause-labels : goal.returns-clause-labels

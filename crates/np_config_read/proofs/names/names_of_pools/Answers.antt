@@ -1,9 +1,5 @@
-use Rattle.std.proofs.Common.{◌≡◌, ◌∙◌, sym, ap, take, [], List, ℕ}
-use Rattle.std.specs.List.{list_any}
-use Rattle.std.specs.Str.{bytes_eq}
-use Rattle.np_json.proofs.Lists.{list_any-map}
-use Rattle.np_config_read.specs.Names.{pool_name, pool_names}
-use Rattle.np_config_read.proofs.FullNames.{name-unused}
+use Rattle.np_config_read.proofs.Prelude.{List, ap, bytes_eq, list_any, list_any-map, pool_name, pool_names, sym, take, ℕ, [], ◌∙◌, ◌≡◌}
+use Rattle.np_config_read.proofs.WalkTakes.{name-unused}
 use Rattle.np_config_read.proofs.names.names_of_pools.Goals as goal
 
 pub push-requires-clause-new : goal.push-requires-clause-new

@@ -1,5 +1,4 @@
-use Rattle.std.proofs.Common.{◌≡◌, map, take, length}
-use Rattle.np_config_read.specs.Names.{pool_names}
+use Rattle.np_config_read.proofs.Prelude.{length, map, pool_names, take, ◌≡◌}
 use Rattle.np_config_read.proofs.names.names_of_pools.Given as goal
 
 abbrev pub invariant-loop-pool : goal.invariant-loop-pool

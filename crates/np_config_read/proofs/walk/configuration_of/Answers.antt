@@ -1,6 +1,5 @@
-use Rattle.std.proofs.lemmas.Result.{err_from_is_err_and}
-use Rattle.serde_json.specs.View.{view}
-use Rattle.np_config_read.proofs.WalkExits.{at_tenants}
+use Rattle.np_config_read.proofs.Prelude.{err_from_is_err_and, view}
+use Rattle.np_config_read.proofs.WalkTakes.{at_tenants}
 use Rattle.np_config_read.proofs.walk.configuration_of.Goals as goal
 
 pub returns-in_err-tenants : goal.returns-in_err-tenants

@@ -1,9 +1,4 @@
-use Rattle.std.proofs.Common.{◌<◌, [], length}
-use Rattle.std.specs.Prelude.{◌^◌}
-use Rattle.serde_json.specs.View.{view}
-use Rattle.np_lists.specs.EachAfter.{EachAfter}
-use Rattle.np_config_read.specs.declared.providers.Providers.{Providers}
-use Rattle.np_config_read.specs.Names.{pool_names, IsUnused}
+use Rattle.np_config_read.proofs.Prelude.{EachAfter, IsUnused, Providers, length, pool_names, view, [], ◌<◌, ◌^◌}
 use Rattle.np_config_read.proofs.WalkTakes.{gives_ok, providers-unused, providers-few}
 use Rattle.np_config_read.proofs.walk.providers_of.Goals as goal
 

@@ -1,8 +1,6 @@
-use Rattle.serde_json.specs.View.{view}
-use Rattle.np_config.specs.Sound.{IsSound}
+use Rattle.np_config_read.proofs.Prelude.{IsSound, configuration_at, reads, view}
 use Rattle.np_config_read.proofs.Parsed.{parsed-none, parsed-some}
 use Rattle.np_config_read.proofs.WalkTakes.{configuration-takes, gives_ok}
-use Rattle.np_config_read.specs.Walk.{configuration_at, reads}
 use Rattle.np_config_read.proofs.walk.read_config.Goals as goal
 
 pub returns-in-Ok : goal.returns-in-Ok

@@ -1,7 +1,5 @@
-use Rattle.std.proofs.lemmas.Result.{err_from_is_err_and}
-use Rattle.serde_json.specs.View.{view}
-use Rattle.np_config_read.proofs.WalkTakes.{configuration-takes, providers-unused, providers-few}
-use Rattle.np_config_read.proofs.WalkExits.{at_requesters, at_faults, at_end}
+use Rattle.np_config_read.proofs.Prelude.{err_from_is_err_and, view}
+use Rattle.np_config_read.proofs.WalkTakes.{at_end, at_faults, at_requesters, configuration-takes, providers-few, providers-unused}
 use Rattle.np_config_read.proofs.walk.rest_of.Goals as goal
 
 pub returns-in_err-demand : goal.returns-in_err-demand

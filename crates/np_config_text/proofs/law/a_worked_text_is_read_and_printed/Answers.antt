@@ -1,5 +1,5 @@
-use Rattle.std.proofs.Common.{refl}
-use Rattle.np_config_text.proofs.OnLiterals.{config_on_literals}
+use Rattle.np_config_text.proofs.Prelude.{refl}
+use Rattle.np_config_text.proofs.Values.{config_on_literals}
 use Rattle.np_config_text.proofs.law.a_worked_text_is_read_and_printed.Goals as goal
 
 pub returns-clause-read : goal.returns-clause-read

@@ -1,6 +1,5 @@
-use Rattle.std.proofs.Common.{sym}
-use Rattle.std.specs.Str.{IsAscii}
-use Rattle.np_config_text.proofs.Ascii.{label-ascii}
+use Rattle.np_config_text.proofs.Prelude.{IsAscii, sym}
+use Rattle.np_config_text.proofs.Again.{label-ascii}
 use Rattle.np_config_text.proofs.names.label_name.Goals as goal
 
 pub returns-in-Some-clause-ascii : goal.returns-in-Some-clause-ascii

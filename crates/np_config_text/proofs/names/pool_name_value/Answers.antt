@@ -1,5 +1,5 @@
-use Rattle.std.proofs.Common.{sym}
-use Rattle.np_config_text.proofs.Ascii.{pool_name-ascii}
+use Rattle.np_config_text.proofs.Prelude.{sym}
+use Rattle.np_config_text.proofs.Again.{pool_name-ascii}
 use Rattle.np_config_text.proofs.names.pool_name_value.Goals as goal
 
 pub text_value-requires : goal.text_value-requires

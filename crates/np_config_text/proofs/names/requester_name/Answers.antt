@@ -1,6 +1,5 @@
-use Rattle.std.proofs.Common.{sym}
-use Rattle.std.specs.Str.{IsAscii}
-use Rattle.np_config_text.proofs.Ascii.{requester-ascii}
+use Rattle.np_config_text.proofs.Prelude.{IsAscii, sym}
+use Rattle.np_config_text.proofs.Again.{requester-ascii}
 use Rattle.np_config_text.proofs.names.requester_name.Goals as goal
 
 pub returns-in-Some-clause-ascii : goal.returns-in-Some-clause-ascii

@@ -1,10 +1,5 @@
-use Rattle.std.proofs.Common.{◌≡◌, ◌≤◌, ◌∙◌, ap, Some, subst, sym}
-use Rattle.np_config_text.specs.Canonical.{canonical, configuration_data}
-use Rattle.serde_json.specs.Data.{Data, depth}
-use Rattle.serde_json.specs.Read.{read}
-use Rattle.serde_json.specs.Written.{has_float, compact_text}
-use Rattle.serde_json.specs.View.{view}
-use Rattle.np_config_text.proofs.Shapes.{configuration-plain, configuration-depth}
+use Rattle.np_config_text.proofs.Prelude.{Data, Some, ap, canonical, compact_text, configuration_data, depth, has_float, read, subst, sym, view, ◌∙◌, ◌≡◌, ◌≤◌}
+use Rattle.np_config_text.proofs.Values.{configuration-plain, configuration-depth}
 use Rattle.np_config_text.proofs.AgainWhole.{reads-again}
 use Rattle.np_config_text.proofs.text.config_text.Goals as goal
 

@@ -1,8 +1,5 @@
-use Rattle.std.proofs.Common.{◌∙◌, ap}
-use Rattle.serde_json.proofs.Views.{view-Object}
-use Rattle.serde_json.specs.Data.{object}
-use Rattle.np_config_text.proofs.Ascii.{labels-ascii, semaphores-ascii, tenants-ascii, providers-ascii, requesters-ascii}
-use Rattle.np_config_text.proofs.Members.{top_members}
+use Rattle.np_config_text.proofs.Prelude.{ap, object, view-Object, ◌∙◌}
+use Rattle.np_config_text.proofs.Again.{labels-ascii, providers-ascii, requesters-ascii, semaphores-ascii, tenants-ascii, top_members}
 use Rattle.np_config_text.proofs.text.config_value.Goals as goal
 
 pub list_value-requires-2 : goal.list_value-requires-2

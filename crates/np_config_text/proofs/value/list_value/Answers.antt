@@ -1,7 +1,4 @@
-use Rattle.std.proofs.Common.{◌∙◌, ap, map, take_all}
-use Rattle.serde_json.proofs.Views.{view-Array}
-use Rattle.serde_json.specs.Data.{array}
-use Rattle.serde_json.specs.View.{items_of}
+use Rattle.np_config_text.proofs.Prelude.{ap, array, items_of, map, take_all, view-Array, ◌∙◌}
 use Rattle.np_config_text.proofs.Values.{values_more}
 use Rattle.np_config_text.proofs.value.list_value.Goals as goal
 

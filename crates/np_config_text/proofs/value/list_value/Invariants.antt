@@ -1,5 +1,4 @@
-use Rattle.std.proofs.Common.{◌≡◌, take, map}
-use Rattle.serde_json.specs.View.{view}
+use Rattle.np_config_text.proofs.Prelude.{map, take, view, ◌≡◌}
 use Rattle.np_config_text.proofs.value.list_value.Given as goal
 
 abbrev pub invariant-loop-row : goal.invariant-loop-row

@@ -1,6 +1,4 @@
-use Rattle.std.proofs.Common.{◌≡◌, take, map}
-use Rattle.std.specs.Prelude.{filter, ◌==◌}
-use Rattle.serde_json.specs.View.{view}
+use Rattle.np_config_text.proofs.Prelude.{filter, map, take, view, ◌==◌, ◌≡◌}
 use Rattle.np_config_text.proofs.value.owned_value.Given as goal
 
 abbrev pub invariant-loop-row : goal.invariant-loop-row

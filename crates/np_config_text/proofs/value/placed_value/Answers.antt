@@ -1,8 +1,4 @@
-use Rattle.std.proofs.Common.{◌∙◌, ap, take_all}
-use Rattle.serde_json.proofs.Views.{view-Array}
-use Rattle.serde_json.specs.Data.{array}
-use Rattle.serde_json.specs.View.{items_of}
-use Rattle.np_config_text.specs.Canonical.{placed}
+use Rattle.np_config_text.proofs.Prelude.{ap, array, items_of, placed, take_all, view-Array, ◌∙◌}
 use Rattle.np_config_text.proofs.Values.{placed_more}
 use Rattle.np_config_text.proofs.value.placed_value.Goals as goal
 

@@ -1,6 +1,4 @@
-use Rattle.std.proofs.Common.{◌≡◌, take, map}
-use Rattle.serde_json.specs.View.{view}
-use Rattle.np_config_text.specs.Canonical.{placed}
+use Rattle.np_config_text.proofs.Prelude.{map, placed, take, view, ◌≡◌}
 use Rattle.np_config_text.proofs.value.placed_value.Given as goal
 
 abbrev pub invariant-loop-place : goal.invariant-loop-place

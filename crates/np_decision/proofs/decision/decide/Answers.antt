@@ -1,5 +1,4 @@
-use Rattle.std.proofs.Common.{arith}
-use Rattle.std.proofs.lemmas.Grind.{common_steps}
+use Rattle.np_decision.proofs.Prelude.{arith, common_steps}
 use Rattle.np_decision.proofs.decision.decide.Goals as goal
 
 pub returns-in-UnlockRequest-clause-answer : goal.returns-in-UnlockRequest-clause-answer

@@ -1,6 +1,4 @@
-use Rattle.std.proofs.Common.{◌≡◌, Some, arith}
-use Rattle.np_machine.specs.Tables.{node_in}
-use Rattle.np_changes.proofs.Found.{found-is}
+use Rattle.np_decision.proofs.Prelude.{Some, arith, found-is, node_in, ◌≡◌}
 use Rattle.np_decision.proofs.Room.{since-fits}
 use Rattle.np_decision.proofs.node.decide_mark_deleting.Goals as goal
 

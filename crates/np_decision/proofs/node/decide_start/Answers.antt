@@ -1,8 +1,4 @@
-use Rattle.std.proofs.Common.{◌≡◌, Some, true, arith}
-use Rattle.std.specs.Prelude.{not, ◌&&◌}
-use Rattle.std.proofs.lemmas.Bool.Decides.{nat_tests}
-use Rattle.np_changes.specs.Prelude.{is_building, node_in}
-use Rattle.np_changes.proofs.Found.{found-is}
+use Rattle.np_decision.proofs.Prelude.{Some, arith, found-is, is_building, nat_tests, node_in, not, true, ◌&&◌, ◌≡◌}
 use Rattle.np_decision.proofs.Room.{attempts-fit}
 use Rattle.np_decision.proofs.node.decide_start.Goals as goal
 

@@ -1,5 +1,4 @@
-use Rattle.std.proofs.Common.{sym}
-use Rattle.std.proofs.lemmas.Result.{err_from_is_err_and}
+use Rattle.np_decision.proofs.Prelude.{err_from_is_err_and, sym}
 use Rattle.np_decision.proofs.Reasons.{decline-state}
 use Rattle.np_decision.proofs.request.decide_decline.Goals as goal
 

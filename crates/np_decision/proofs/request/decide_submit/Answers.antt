@@ -1,6 +1,4 @@
-use Rattle.std.proofs.Common.{◌≡◌, Some, arith}
-use Rattle.std.specs.Prelude.{slice_get}
-use Rattle.np_changes.proofs.Found.{found-is}
+use Rattle.np_decision.proofs.Prelude.{Some, arith, found-is, slice_get, ◌≡◌}
 use Rattle.np_decision.proofs.request.decide_submit.Goals as goal
 
 pub overflow_cast-result : goal.overflow_cast-result

@@ -1,4 +1,4 @@
-use Rattle.std.proofs.Common.{◌≡◌, take}
+use Rattle.np_decision.proofs.Prelude.{take, ◌≡◌}
 use Rattle.np_decision.proofs.request.row_of.Given as goal
 
 abbrev pub invariant-loop-label : goal.invariant-loop-label

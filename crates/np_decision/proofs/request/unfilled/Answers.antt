@@ -1,6 +1,4 @@
-use Rattle.std.proofs.Common.{◌≡◌, ◌<◌, length, arith, add-one}
-use Rattle.std.specs.Prelude.{slice_get}
-use Rattle.np_decision.specs.Places.{lack_at}
+use Rattle.np_decision.proofs.Prelude.{add-one, arith, lack_at, length, slice_get, ◌<◌, ◌≡◌}
 use Rattle.np_decision.proofs.PlaceLemmas.{unfilled-more}
 use Rattle.np_decision.proofs.request.unfilled.Goals as goal
 

@@ -1,5 +1,4 @@
-use Rattle.std.proofs.Common.{◌≡◌, ◌≤◌, ◌+◌, drop}
-use Rattle.np_machine.specs.Request.{unfilled}
+use Rattle.np_decision.proofs.Prelude.{drop, unfilled, ◌+◌, ◌≡◌, ◌≤◌}
 use Rattle.np_decision.proofs.request.unfilled.Given as goal
 
 abbrev pub invariant-loop-at : goal.invariant-loop-at

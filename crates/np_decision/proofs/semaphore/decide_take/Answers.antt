@@ -1,6 +1,4 @@
-use Rattle.std.proofs.Common.{◌≡◌, Some, arith}
-use Rattle.std.specs.Prelude.{slice_get}
-use Rattle.np_changes.proofs.Found.{found-is}
+use Rattle.np_decision.proofs.Prelude.{Some, arith, found-is, slice_get, ◌≡◌}
 use Rattle.np_decision.proofs.semaphore.decide_take.Goals as goal
 
 pub none_missing-requires-2 : goal.none_missing-requires-2

@@ -1,5 +1,4 @@
-use Rattle.std.proofs.Common.{◌≡◌, take, map}
-use Rattle.np_machine.specs.Semaphore.{unended}
+use Rattle.np_decision.proofs.Prelude.{map, take, unended, ◌≡◌}
 use Rattle.np_decision.proofs.semaphore.unended_marks.Given as goal
 
 abbrev pub invariant-loop-node : goal.invariant-loop-node

@@ -1,9 +1,5 @@
-use Rattle.std.proofs.Common.{◌≡◌, true, List, refl, sym, ap, ◌∙◌, subst, arith, inl, inr}
-use Rattle.std.proofs.lemmas.Result.{err_from_is_err_and}
-use Rattle.np_desk.specs.Series.{grown}
-use Rattle.np_desk.specs.Turned.{AnsweredAtOnce}
-use Rattle.np_desk.proofs.HistoryLemmas.{starts_same}
-use Rattle.np_desk.proofs.SeriesLemmas.{begins_on, none-went, went_on, took_all, took_some}
+use Rattle.np_desk.proofs.Prelude.{AnsweredAtOnce, List, ap, arith, err_from_is_err_and, grown, inl, inr, refl, subst, sym, true, ◌∙◌, ◌≡◌}
+use Rattle.np_desk.proofs.HistoryLemmas.{begins_on, none-went, starts_same, took_all, took_some, went_on}
 use Rattle.np_desk.proofs.row.take_turns.Goals as goal
 
 pub loop-turn-init : goal.loop-turn-init

@@ -1,7 +1,5 @@
-use Rattle.std.proofs.Common.{◌≡◌, ℕ, List, true}
-use Rattle.np_desk.specs.History.{StartsWith}
-use Rattle.np_desk.specs.Series.{grown}
-use Rattle.np_desk.proofs.SeriesLemmas.{WentAtOnce}
+use Rattle.np_desk.proofs.Prelude.{List, StartsWith, grown, true, ℕ, ◌≡◌}
+use Rattle.np_desk.proofs.HistoryLemmas.{WentAtOnce}
 use Rattle.np_desk.proofs.row.take_turns.Given as goal
 
 abbrev pub invariant-loop-turn : goal.invariant-loop-turn

@@ -1,5 +1,5 @@
-use Rattle.std.proofs.Common.{rules}
-use Rattle.np_desk.proofs.TurnSteps.{draws}
+use Rattle.np_desk.proofs.Prelude.{rules}
+use Rattle.np_desk.proofs.DeskRule.{draws}
 use Rattle.np_desk.proofs.step.draw.Goals as goal
 
 pub compare_exchange-found-requires : goal.compare_exchange-found-requires

@@ -1,4 +1,4 @@
-use Rattle.std.proofs.Common.{◌≡◌}
+use Rattle.np_desk.proofs.Prelude.{◌≡◌}
 use Rattle.np_desk.proofs.step.draw.Given as goal
 
 abbrev pub invariant-loop : goal.invariant-loop

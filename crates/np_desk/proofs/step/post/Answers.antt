@@ -1,6 +1,5 @@
-use Rattle.std.proofs.Common.{◌+◌, ◌∙◌, rules, arith}
-use Rattle.std.specs.Prelude.{◌%◌}
-use Rattle.np_desk.proofs.TurnSteps.{posts, rings}
+use Rattle.np_desk.proofs.Prelude.{arith, rules, ◌%◌, ◌+◌, ◌∙◌}
+use Rattle.np_desk.proofs.DeskRule.{posts, rings}
 use Rattle.np_desk.proofs.step.post.Goals as goal
 
 pub store-requires : goal.store-requires

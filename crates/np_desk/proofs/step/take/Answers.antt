@@ -1,5 +1,5 @@
-use Rattle.std.proofs.Common.{rules}
-use Rattle.np_desk.proofs.TurnSteps.{looks}
+use Rattle.np_desk.proofs.Prelude.{rules}
+use Rattle.np_desk.proofs.DeskRule.{looks}
 use Rattle.np_desk.proofs.step.take.Goals as goal
 
 pub load-found-requires : goal.load-found-requires

@@ -1,5 +1,4 @@
-use Rattle.np_event.proofs.Prelude.{arith}
-use Rattle.std.proofs.Common.{rules}
+use Rattle.np_event.proofs.Prelude.{arith, rules}
 use Rattle.np_event.proofs.field.has_word.Goals as goal
 
 pub returns-in-Pool : goal.returns-in-Pool

@@ -1,6 +1,6 @@
 use Rattle.np_event.proofs.Prelude.{BadArgument, WrongCount, event_row}
+use Rattle.np_event.proofs.Lines.{form-fault, row-count, row-word}
 use Rattle.np_event.proofs.law.a_line_is_judged_by_its_form.Goals as goal
-use Rattle.np_event.proofs.FaultLemmas.{form-fault, row-count, row-word}
 
 pub returns : goal.returns
 returns c = record {

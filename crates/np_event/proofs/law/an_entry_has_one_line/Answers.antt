@@ -1,6 +1,5 @@
+use Rattle.np_event.proofs.Lines.{entry_in-line, entry_in-told, entry_line-injective, reply_line-told}
 use Rattle.np_event.proofs.law.an_entry_has_one_line.Goals as goal
-use Rattle.np_event.proofs.EntryLemmas.{entry_in-line, entry_in-told, entry_line-injective}
-use Rattle.np_event.proofs.ReplyLemmas.{reply_line-told}
 
 pub returns : goal.returns
 returns c = record {

@@ -1,6 +1,6 @@
+use Rattle.np_event.proofs.Lines.{unheaded-unknown, unknown-unheaded}
+use Rattle.np_event.proofs.Fields.{with_field-said, with_field-unsaid}
 use Rattle.np_event.proofs.law.faults_are_told_by_the_lines.Goals as goal
-use Rattle.np_event.proofs.FaultLemmas.{unheaded-unknown, unknown-unheaded}
-use Rattle.np_event.proofs.KindLemmas.{with_field-said, with_field-unsaid}
 
 pub returns : goal.returns
 returns c = record {

@@ -1,6 +1,6 @@
-use Rattle.std.proofs.lemmas.Result.{on_err_weaker}
+use Rattle.np_event.proofs.Prelude.{on_err_weaker}
+use Rattle.np_event.proofs.Fields.{StartsWith-grown}
 use Rattle.np_event.proofs.line.put_entry_parts.Goals as goal
-use Rattle.np_event.proofs.RowLemmas.{StartsWith-grown}
 
 pub returns-clause-err : goal.returns-clause-err
 returns-clause-err c =

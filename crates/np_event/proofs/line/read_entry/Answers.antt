@@ -1,6 +1,6 @@
 use Rattle.np_event.proofs.Prelude.{sym, ◌∙◌}
+use Rattle.np_event.proofs.Lines.{HasEntryLine-read}
 use Rattle.np_event.proofs.line.read_entry.Goals as goal
-use Rattle.np_event.proofs.EntryLemmas.{HasEntryLine-read}
 
 pub returns-clause-has_line : goal.returns-clause-has_line
 returns-clause-has_line c =

@@ -1,5 +1,5 @@
+use Rattle.np_event.proofs.Lines.{HasEventLine-read}
 use Rattle.np_event.proofs.line.read_event.Goals as goal
-use Rattle.np_event.proofs.EventLemmas.{HasEventLine-read}
 
 pub returns-clause-has_line : goal.returns-clause-has_line
 returns-clause-has_line c =

@@ -1,6 +1,6 @@
 use Rattle.np_event.proofs.Prelude.{StartsWith}
+use Rattle.np_event.proofs.Fields.{HasWord-at, OnErr-from, StartsWith-grown, texts_more}
 use Rattle.np_event.proofs.row.put_kinds.Goals as goal
-use Rattle.np_event.proofs.RowLemmas.{HasWord-at, OnErr-from, StartsWith-grown, texts_more}
 
 pub returns-in_err-put_field-clause-err : goal.returns-in_err-put_field-clause-err
 returns-in_err-put_field-clause-err c =

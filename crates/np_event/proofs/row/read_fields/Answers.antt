@@ -1,6 +1,6 @@
 use Rattle.np_event.proofs.Prelude.{ap, option_copied, sym, ◌∙◌}
+use Rattle.np_event.proofs.Fields.{fields_from-no_word}
 use Rattle.np_event.proofs.row.read_fields.Goals as goal
-use Rattle.np_event.proofs.RowLemmas.{fields_from-no_word}
 
 pub returns-in_default : goal.returns-in_default
 returns-in_default c =

@@ -1,5 +1,4 @@
-use Rattle.np_event.proofs.Prelude.{ap, is_space, sym, ℕ, ◌+◌, ◌∙◌}
-use Rattle.std.proofs.lemmas.List.Splits.{length-slice_split}
+use Rattle.np_event.proofs.Prelude.{ap, is_space, length-slice_split, sym, ℕ, ◌+◌, ◌∙◌}
 use Rattle.np_event.proofs.words.count_words.Goals as goal
 
 pub returns-in-Some : goal.returns-in-Some

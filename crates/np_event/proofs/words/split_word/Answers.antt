@@ -1,6 +1,6 @@
 use Rattle.np_event.proofs.Prelude.{sym, ◌∙◌}
+use Rattle.np_event.proofs.Fields.{words_of-last, words_of-split}
 use Rattle.np_event.proofs.words.split_word.Goals as goal
-use Rattle.np_event.proofs.WordLemmas.{words_of-last, words_of-split}
 
 pub returns-in-Some : goal.returns-in-Some
 returns-in-Some c =

@@ -1,4 +1,4 @@
-use Rattle.np_rules.proofs.First.{Runs-first}
+use Rattle.np_explain.proofs.Prelude.{Runs-first}
 use Rattle.np_explain.proofs.answer.tables_of.Goals as goal
 
 pub returns : goal.returns

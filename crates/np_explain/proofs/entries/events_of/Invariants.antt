@@ -1,4 +1,4 @@
-use Rattle.std.proofs.Common.{◌≤◌, length}
+use Rattle.np_explain.proofs.Prelude.{length, ◌≤◌}
 use Rattle.np_explain.proofs.entries.events_of.Given as goal
 
 abbrev pub invariant-loop-at : goal.invariant-loop-at

@@ -1,7 +1,4 @@
-use Rattle.std.proofs.Common.{◌≡◌}
-use Rattle.std.specs.Prelude.{slice_get}
-use Rattle.np_check.specs.Finding.{places}
-use Rattle.np_explain.specs.Failed.{lines_of_job}
+use Rattle.np_explain.proofs.Prelude.{lines_of_job, places, slice_get, ◌≡◌}
 use Rattle.np_explain.proofs.fails.failures.Given as goal
 
 abbrev pub invariant-loop-at : goal.invariant-loop-at

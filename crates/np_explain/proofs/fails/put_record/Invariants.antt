@@ -1,6 +1,4 @@
-use Rattle.std.proofs.Common.{◌≡◌, ◌++◌, drop}
-use Rattle.np_changes.specs.Prelude.{flat_map}
-use Rattle.np_explain.specs.Failed.{declined_line}
+use Rattle.np_explain.proofs.Prelude.{declined_line, drop, flat_map, ◌++◌, ◌≡◌}
 use Rattle.np_explain.proofs.fails.put_record.Given as goal
 
 abbrev pub invariant-loop-declined : goal.invariant-loop-declined

@@ -1,4 +1,4 @@
-use Rattle.np_explain.specs.Run.{GoesOn, IsPlayed}
+use Rattle.np_explain.proofs.Prelude.{GoesOn, IsPlayed}
 use Rattle.np_explain.proofs.run.play.Given as goal
 
 abbrev pub invariant-loop-event : goal.invariant-loop-event

@@ -1,4 +1,4 @@
-use Rattle.np_rules.proofs.RunLemmas.{RunsOn-fits}
+use Rattle.np_explain.proofs.Prelude.{RunsOn-fits}
 use Rattle.np_explain.proofs.Goes.{GoesOn-applied, IsPlayed-applied}
 use Rattle.np_explain.proofs.run.step.Goals as goal
 

@@ -1,5 +1,4 @@
-use Rattle.std.proofs.Common.{◌≡◌, true, false, sym}
-use Rattle.np_explain.specs.Explained.{is_open}
+use Rattle.np_explain.proofs.Prelude.{false, is_open, sym, true, ◌≡◌}
 use Rattle.np_explain.proofs.Open.{any-here, any-later}
 use Rattle.np_explain.proofs.status.has_open.Goals as goal
 

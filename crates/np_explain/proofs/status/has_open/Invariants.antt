@@ -1,6 +1,4 @@
-use Rattle.std.proofs.Common.{◌≡◌, drop}
-use Rattle.np_changes.specs.Prelude.{list_any}
-use Rattle.np_explain.specs.Explained.{is_open}
+use Rattle.np_explain.proofs.Prelude.{drop, is_open, list_any, ◌≡◌}
 use Rattle.np_explain.proofs.status.has_open.Given as goal
 
 abbrev pub invariant-loop-at : goal.invariant-loop-at

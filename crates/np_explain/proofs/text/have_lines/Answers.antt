@@ -1,4 +1,4 @@
-use Rattle.std.proofs.Common.{◌<◌, length, arith, take}
+use Rattle.np_explain.proofs.Prelude.{arith, length, ◌<◌}
 use Rattle.np_explain.proofs.JournalLines.{all_next}
 use Rattle.np_explain.proofs.text.have_lines.Goals as goal
 

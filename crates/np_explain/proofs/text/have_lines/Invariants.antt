@@ -1,6 +1,4 @@
-use Rattle.std.proofs.Common.{take}
-use Rattle.np_changes.specs.Prelude.{AllByRecursion}
-use Rattle.np_event.specs.Line.{HasEventLine}
+use Rattle.np_explain.proofs.Prelude.{AllByRecursion, HasEventLine, take}
 use Rattle.np_explain.proofs.text.have_lines.Given as goal
 
 abbrev pub invariant-loop-entry : goal.invariant-loop-entry

@@ -1,5 +1,4 @@
-use Rattle.std.proofs.Common.{◌≡◌}
-use Rattle.np_rules.proofs.First.{Runs-first}
+use Rattle.np_explain.proofs.Prelude.{Runs-first, ◌≡◌}
 use Rattle.np_explain.proofs.text.text_of.Goals as goal
 
 pub text-requires-clause-runs : goal.text-requires-clause-runs

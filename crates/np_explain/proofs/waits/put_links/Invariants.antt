@@ -1,5 +1,4 @@
-use Rattle.std.proofs.Common.{◌≡◌, ◌++◌, drop}
-use Rattle.np_explain.specs.Explained.{link_lines}
+use Rattle.np_explain.proofs.Prelude.{drop, link_lines, ◌++◌, ◌≡◌}
 use Rattle.np_explain.proofs.waits.put_links.Given as goal
 
 abbrev pub invariant-loop-link : goal.invariant-loop-link

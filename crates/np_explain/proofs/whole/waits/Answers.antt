@@ -1,4 +1,4 @@
-use Rattle.np_rules.proofs.RunLemmas.{RunsOn-fits}
+use Rattle.np_explain.proofs.Prelude.{RunsOn-fits}
 use Rattle.np_explain.proofs.whole.waits.Goals as goal
 
 pub chains-requires : goal.chains-requires

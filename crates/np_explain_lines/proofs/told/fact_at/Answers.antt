@@ -1,8 +1,4 @@
-use Rattle.std.proofs.Common.{◌∙◌, ap, sym}
-use Rattle.std.proofs.lemmas.Option.{slice_get-map}
-use Rattle.np_changes.specs.Prelude.{option_map}
-use Rattle.np_causes.specs.declared.fact.Fact.{Fact}
-use Rattle.np_explain_lines.specs.declared.chain.Link.{Link}
+use Rattle.np_explain_lines.proofs.Prelude.{Link, ap, option_map, slice_get-map, sym, ◌∙◌}
 use Rattle.np_explain_lines.proofs.told.fact_at.Goals as goal
 
 pub returns-then-is_same : goal.returns-then-is_same

@@ -1,4 +1,3 @@
-use Rattle.np_explain_lines.specs.Chains.{IsOnItsWay, facts_of}
 use Rattle.np_explain_lines.proofs.Way.{begun}
 use Rattle.np_explain_lines.proofs.walk.chains.Goals as goal
 

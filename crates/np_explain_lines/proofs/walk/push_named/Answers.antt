@@ -1,5 +1,4 @@
-use Rattle.std.proofs.Common.{◌≡◌, ◌-◌, ◌∙◌, Some, inl, sym, arith}
-use Rattle.np_causes.specs.Names.{named_by}
+use Rattle.np_explain_lines.proofs.Prelude.{arith, inl, named_by, ◌-◌, ◌∙◌, ◌≡◌}
 use Rattle.np_explain_lines.proofs.Pending.{named_more, no_place_past, places_more}
 use Rattle.np_explain_lines.proofs.walk.push_named.Goals as goal
 

@@ -1,8 +1,4 @@
-use Rattle.std.proofs.Common.{◌≡◌, ◌≤◌, ℕ, Some}
-use Rattle.std.specs.Prelude.{slice_get, ◌⊎◌}
-use Rattle.np_causes.specs.Names.{named_by}
-use Rattle.np_causes.specs.declared.fact.Thing.{Thing}
-use Rattle.np_explain_lines.specs.Chains.{IsPending, Names}
+use Rattle.np_explain_lines.proofs.Prelude.{IsPending, Names, Some, Thing, named_by, slice_get, ℕ, ◌≡◌, ◌≤◌, ◌⊎◌}
 use Rattle.np_explain_lines.proofs.walk.push_named.Given as goal
 
 abbrev pub invariant-loop-left : goal.invariant-loop-left

@@ -1,5 +1,4 @@
-use Rattle.std.proofs.Common.{◌≡◌, ◌∙◌, Option, Some, ap}
-use Rattle.np_causes.specs.declared.fact.Thing.{Thing}
+use Rattle.np_explain_lines.proofs.Prelude.{Some, ◌∙◌, ◌≡◌}
 use Rattle.np_explain_lines.proofs.Pending.{named_alone, push_pending, push_stays, pushed_alone}
 use Rattle.np_explain_lines.proofs.walk.push_place.Goals as goal
 

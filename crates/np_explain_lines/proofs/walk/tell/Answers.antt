@@ -1,5 +1,4 @@
-use Rattle.std.proofs.Common.{sym}
-use Rattle.np_explain_lines.specs.Chains.{facts_of}
+use Rattle.np_explain_lines.proofs.Prelude.{facts_of}
 use Rattle.np_explain_lines.proofs.Way.{again, told_now}
 use Rattle.np_explain_lines.proofs.walk.tell.Goals as goal
 

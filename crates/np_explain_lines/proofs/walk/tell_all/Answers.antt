@@ -1,5 +1,4 @@
-use Rattle.std.proofs.Common.{◌≡◌, length, refl}
-use Rattle.np_explain_lines.specs.Chains.{IsOnItsWay, facts_of}
+use Rattle.np_explain_lines.proofs.Prelude.{facts_of, length, refl, ◌≡◌}
 use Rattle.np_explain_lines.proofs.Way.{done}
 use Rattle.np_explain_lines.proofs.walk.tell_all.Goals as goal
 

@@ -1,4 +1,4 @@
-use Rattle.np_explain_lines.specs.Chains.{IsOnItsWay, facts_of}
+use Rattle.np_explain_lines.proofs.Prelude.{IsOnItsWay, facts_of}
 use Rattle.np_explain_lines.proofs.walk.tell_all.Given as goal
 
 abbrev pub invariant-loop-round : goal.invariant-loop-round

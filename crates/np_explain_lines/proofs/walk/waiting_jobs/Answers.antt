@@ -1,4 +1,4 @@
-use Rattle.std.proofs.Common.{◌≡◌, length, refl, arith}
+use Rattle.np_explain_lines.proofs.Prelude.{arith, length, refl, ◌≡◌}
 use Rattle.np_explain_lines.proofs.Pending.{alone_more, jobs_more, none_pending, waiting_within}
 use Rattle.np_explain_lines.proofs.walk.waiting_jobs.Goals as goal
 

@@ -1,4 +1,4 @@
-use Rattle.np_gen.proofs.LargeJobs.{large_jobs}
+use Rattle.np_gen.proofs.DrillSite.{large_jobs}
 use Rattle.np_gen.proofs.law.one_job_in_ten_asks_for_nine.Goals as goal
 
 pub returns : goal.returns

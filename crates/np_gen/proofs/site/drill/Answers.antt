@@ -1,5 +1,5 @@
 use Rattle.np_gen.proofs.Prelude.{Configuration, IfOk, IsSound, subst, sym, ◌≡◌}
-use Rattle.np_gen.proofs.SoundSite.{drill_site-made, drill_site-sound}
+use Rattle.np_gen.proofs.DrillSite.{drill_site-made, drill_site-sound}
 use Rattle.np_gen.proofs.site.drill.Goals as goal
 
 pub of_parts-requires : goal.of_parts-requires

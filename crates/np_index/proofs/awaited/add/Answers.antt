@@ -1,5 +1,5 @@
 use Rattle.np_index.proofs.Prelude.{Amount, IsSmall, Option, Rest, amount_at, ap, arith, change_at-past, nothing, plus, subst, sym, with_rest, ◌∙◌}
-use Rattle.np_index.proofs.Changed.{found-changed, set-changed}
+use Rattle.np_index.proofs.AmountLemmas.{found-changed, set-changed}
 use Rattle.np_index.proofs.awaited.add.Goals as goal
 
 pub returns-then-at-len : goal.returns-then-at-len

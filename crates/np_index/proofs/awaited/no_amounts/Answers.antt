@@ -1,5 +1,4 @@
-use Rattle.np_index.proofs.Prelude.{Amount, List, [], ap, arith, length, nothing, past-end, replicate, replicate_more, slice_get_within, suc, sym, ℕ, ◌++◌, ◌∙◌, ◌∷◌, ◌≡◌}
-use Rattle.np_config.specs.Configuration.{default_tenant}
+use Rattle.np_index.proofs.Prelude.{Amount, List, ap, arith, default_tenant, length, nothing, past-end, replicate, replicate_more, slice_get_within, suc, sym, ℕ, [], ◌++◌, ◌∙◌, ◌∷◌, ◌≡◌}
 use Rattle.np_index.proofs.awaited.no_amounts.Goals as goal
 
 pub loop-amounts-preserved : goal.loop-amounts-preserved

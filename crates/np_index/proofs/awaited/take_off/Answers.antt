@@ -1,5 +1,5 @@
 use Rattle.np_index.proofs.Prelude.{Amount, Option, Rest, ap, arith, change_at-past, minus, sym, without_rest, ◌∙◌}
-use Rattle.np_index.proofs.Changed.{set-changed}
+use Rattle.np_index.proofs.AmountLemmas.{set-changed}
 use Rattle.np_index.proofs.awaited.take_off.Goals as goal
 
 pub returns-then-at-len : goal.returns-then-at-len

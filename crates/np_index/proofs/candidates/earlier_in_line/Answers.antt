@@ -1,15 +1,7 @@
-use Rattle.std.proofs.Common.{◌≡◌, ◌∙◌, ◌+◌, ◌-◌, Option, true, false, sym, ap, arith}
-use Rattle.std.specs.Prelude.{is_none}
-use Rattle.std.proofs.lemmas.Option.{slice_get_past}
-use Rattle.np_machine.specs.First.{blocking}
-use Rattle.np_lookups.specs.declared.ranks.Rank.{Rank}
-use Rattle.np_lookups.specs.Open.{IsOpenFrom, ranks_of}
-use Rattle.np_index.specs.Candidates.{may_take_up}
-use Rattle.np_index.proofs.Firsts.{beats}
-use Rattle.np_index.proofs.WalkLemmas.{open-takes, room-told, shut-fails, start_of, walk-begins, walk-blocked, walk-ends, walk-finds, walk-goes_on, walk-late}
+use Rattle.np_index.proofs.Prelude.{IsOpenFrom, Option, Rank, ap, arith, blocking, false, is_none, may_take_up, not-past, ranks_of, slice_get_past, sym, true, ◌+◌, ◌-◌, ◌∙◌, ◌≡◌}
+use Rattle.np_index.proofs.Firsts.{beats, open-takes, room-told, shut-fails, start_of, walk-begins, walk-blocked, walk-ends, walk-finds, walk-goes_on, walk-late}
 use Rattle.np_index.proofs.candidates.earlier_in_line.Goals.{in-None, in-Some, in-None-best, in-Some-best, in-Some-open_record+else-is_none+else-are_alike, in_default}
 use Rattle.np_index.proofs.candidates.earlier_in_line.Goals as goal
-use Rattle.np_lists.proofs.Plain.{not-past}
 
 pub loop-place-init : goal.loop-place-init
 loop-place-init g c =

@@ -1,5 +1,5 @@
-use Rattle.std.proofs.Common.{◌-◌}
-use Rattle.np_index.proofs.WalkLemmas.{IsWalked}
+use Rattle.np_index.proofs.Prelude.{◌-◌}
+use Rattle.np_index.proofs.Firsts.{IsWalked}
 use Rattle.np_index.proofs.candidates.earlier_in_line.Given as goal
 
 abbrev pub invariant-loop-place : goal.invariant-loop-place

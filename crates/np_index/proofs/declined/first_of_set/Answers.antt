@@ -1,5 +1,5 @@
 use Rattle.np_index.proofs.Prelude.{◌∙◌}
-use Rattle.np_index.proofs.DeclinedLemmas.{no-first, no-record, first-passes-all, first-fails}
+use Rattle.np_index.proofs.Requests.{no-first, no-record, first-passes-all, first-fails}
 use Rattle.np_index.proofs.declined.first_of_set.Goals as goal
 
 pub returns-in_err-request : goal.returns-in_err-request

@@ -1,5 +1,5 @@
 use Rattle.np_index.proofs.Prelude.{arith}
-use Rattle.np_index.proofs.DeclinedLemmas.{below-first, below-more, below-smaller}
+use Rattle.np_index.proofs.Requests.{below-first, below-more, below-smaller}
 use Rattle.np_index.proofs.declined.first_of_sets.Goals as goal
 
 pub loop-next-init : goal.loop-next-init

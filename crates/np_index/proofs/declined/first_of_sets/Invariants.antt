@@ -1,5 +1,5 @@
 use Rattle.np_index.proofs.Prelude.{option_map_or, ◌-◌, ◌≡◌}
-use Rattle.np_index.proofs.DeclinedLemmas.{first_below}
+use Rattle.np_index.proofs.Requests.{first_below}
 use Rattle.np_index.proofs.declined.first_of_sets.Given as goal
 
 abbrev pub invariant-loop-next : goal.invariant-loop-next

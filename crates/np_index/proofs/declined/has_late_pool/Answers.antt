@@ -1,4 +1,4 @@
-use Rattle.np_index.proofs.DeclinedLemmas.{late-found, late-later}
+use Rattle.np_index.proofs.Requests.{late-found, late-later}
 use Rattle.np_index.proofs.declined.has_late_pool.Goals as goal
 
 pub returns-then-row-ge-POOLS : goal.returns-then-row-ge-POOLS

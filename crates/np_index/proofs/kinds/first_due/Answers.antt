@@ -1,5 +1,5 @@
 use Rattle.np_index.proofs.Prelude.{◌∙◌}
-use Rattle.np_index.proofs.DueLemmas.{due-none, due-some}
+use Rattle.np_index.proofs.Nodes.{due-none, due-some}
 use Rattle.np_index.proofs.kinds.first_due.Goals as goal
 
 pub returns-in_err-due : goal.returns-in_err-due

@@ -1,5 +1,5 @@
 use Rattle.np_index.proofs.Prelude.{Group, ap, ids_in, slice_get, ◌∙◌}
-use Rattle.np_index.proofs.Numbers.{first-unheld}
+use Rattle.np_index.proofs.Nodes.{first-unheld}
 use Rattle.np_index.proofs.kinds.first_unheld_pending.Goals as goal
 
 pub returns : goal.returns

@@ -1,5 +1,5 @@
 use Rattle.np_index.proofs.Prelude.{Group, List, RequestId, ap, ids_in, length, ◌∙◌}
-use Rattle.np_index.proofs.Numbers.{pending-ids}
+use Rattle.np_index.proofs.Nodes.{pending-ids}
 use Rattle.np_index.proofs.kinds.pending_requests.Goals as goal
 
 pub returns : goal.returns

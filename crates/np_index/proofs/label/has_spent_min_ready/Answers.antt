@@ -1,5 +1,5 @@
 use Rattle.np_index.proofs.Prelude.{Group, ap, ids_in, length, nat_lt, ℕ, ◌∙◌}
-use Rattle.np_index.proofs.Numbers.{some-spent}
+use Rattle.np_index.proofs.Nodes.{some-spent}
 use Rattle.np_index.proofs.label.has_spent_min_ready.Goals as goal
 
 pub returns : goal.returns

@@ -1,5 +1,5 @@
 use Rattle.np_index.proofs.Prelude.{Group, ap, arith, count_by, ids_in, is_coming, is_free_ready, length, ◌∙◌, ◌≡◌, ◌≤◌}
-use Rattle.np_index.proofs.Numbers.{few-nodes, few-requests, free-number, coming-number}
+use Rattle.np_index.proofs.Nodes.{few-nodes, few-requests, free-number, coming-number}
 use Rattle.np_index.proofs.label.ready_count.Goals as goal
 
 pub overflow_add-result : goal.overflow_add-result

@@ -1,5 +1,5 @@
 use Rattle.np_index.proofs.Prelude.{Group, ap, ids_in, slice_get, ◌∙◌}
-use Rattle.np_index.proofs.Numbers.{spare-at}
+use Rattle.np_index.proofs.Nodes.{spare-at}
 use Rattle.np_index.proofs.pool.free_ready.Goals as goal
 
 pub returns : goal.returns

@@ -1,5 +1,5 @@
 use Rattle.np_index.proofs.Prelude.{RequestEntry, is_under_way_by}
-use Rattle.np_index.proofs.Waiting.{either-first, either-second}
+use Rattle.np_index.proofs.Requests.{either-first, either-second}
 use Rattle.np_index.proofs.pool.has_request_under_way.Goals as goal
 
 pub returns-then-has_under_way : goal.returns-then-has_under_way

@@ -1,5 +1,5 @@
 use Rattle.np_index.proofs.Prelude.{Group, ap, ids_in, length, nat_lt, ℕ, ◌∙◌}
-use Rattle.np_index.proofs.Numbers.{some-spare}
+use Rattle.np_index.proofs.Nodes.{some-spare}
 use Rattle.np_index.proofs.pool.has_spare.Goals as goal
 
 pub returns : goal.returns

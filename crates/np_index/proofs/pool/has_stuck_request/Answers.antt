@@ -1,5 +1,5 @@
 use Rattle.np_index.proofs.Prelude.{arith}
-use Rattle.np_index.proofs.Waiting.{left-first, left-now, left-next, left-smaller, members-stuck}
+use Rattle.np_index.proofs.Requests.{left-first, left-now, left-next, left-smaller, members-stuck}
 use Rattle.np_index.proofs.pool.has_stuck_request.Goals as goal
 
 pub loop-next-init : goal.loop-next-init

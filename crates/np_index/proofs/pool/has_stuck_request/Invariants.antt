@@ -1,5 +1,5 @@
 use Rattle.np_index.proofs.Prelude.{option_map_or, ◌-◌}
-use Rattle.np_index.proofs.Waiting.{IsLeft}
+use Rattle.np_index.proofs.Requests.{IsLeft}
 use Rattle.np_index.proofs.pool.has_stuck_request.Given as goal
 
 abbrev pub invariant-loop-next : goal.invariant-loop-next

@@ -1,5 +1,5 @@
 use Rattle.np_index.proofs.Prelude.{◌∙◌}
-use Rattle.np_index.proofs.Waiting.{under-way}
+use Rattle.np_index.proofs.Requests.{under-way}
 use Rattle.np_index.proofs.pool.has_under_way.Goals as goal
 
 pub returns : goal.returns

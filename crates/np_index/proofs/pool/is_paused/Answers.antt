@@ -1,5 +1,5 @@
 use Rattle.np_index.proofs.Prelude.{is_stuck}
-use Rattle.np_index.proofs.Waiting.{either-first, either-second}
+use Rattle.np_index.proofs.Requests.{either-first, either-second}
 use Rattle.np_index.proofs.pool.is_paused.Goals as goal
 
 pub returns-then-has_stuck_request : goal.returns-then-has_stuck_request

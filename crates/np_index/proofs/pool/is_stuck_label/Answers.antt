@@ -1,4 +1,4 @@
-use Rattle.np_index.proofs.Waiting.{bare-stuck}
+use Rattle.np_index.proofs.Requests.{bare-stuck}
 use Rattle.np_index.proofs.pool.is_stuck_label.Goals as goal
 
 pub returns-else-is_pinned : goal.returns-else-is_pinned

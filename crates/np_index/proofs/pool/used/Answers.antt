@@ -1,5 +1,5 @@
 use Rattle.np_index.proofs.Prelude.{Amount, Offer, ap, arith, get_or, refl, times, ◌+◌, ◌≡◌}
-use Rattle.np_index.proofs.Sums.{offer-part, offer-next, offers-all}
+use Rattle.np_index.proofs.Nodes.{offer-part, offer-next, offers-all}
 use Rattle.np_index.proofs.pool.used.Goals as goal
 
 -- what is past the end of the offers

@@ -1,5 +1,4 @@
-use Rattle.np_index.proofs.Prelude.{Configuration, Some, amount_of_all, ap, false, fits, limit_of_tenant, limited_tenant, new_record, not, plus, sym, true, ◌∙◌, ◌≡◌}
-use Rattle.np_look.proofs.Blocking.{blocks, has_room}
+use Rattle.np_index.proofs.Prelude.{Configuration, Some, amount_of_all, ap, blocks, false, fits, has_room, limit_of_tenant, limited_tenant, new_record, not, plus, sym, true, ◌∙◌, ◌≡◌}
 use Rattle.np_index.proofs.room.blocking.Goals as goal
 
 pub returns-then-is_short_of : goal.returns-then-is_short_of

@@ -1,5 +1,5 @@
 use Rattle.np_index.proofs.Prelude.{Amount, IsFew, subst, sym, ◌∙◌}
-use Rattle.np_index.proofs.Few.{awaited-few}
+use Rattle.np_index.proofs.AmountLemmas.{awaited-few}
 use Rattle.np_index.proofs.tenant.awaited_by.Goals as goal
 
 pub returns-clause-awaited : goal.returns-clause-awaited

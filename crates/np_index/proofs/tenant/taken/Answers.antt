@@ -1,5 +1,5 @@
 use Rattle.np_index.proofs.Prelude.{arith}
-use Rattle.np_index.proofs.TenantLemmas.{walked-all, walked-class, walked-few, walked-first, walked-next, walked-smaller}
+use Rattle.np_index.proofs.Nodes.{walked-all, walked-class, walked-few, walked-first, walked-next, walked-smaller}
 use Rattle.np_index.proofs.tenant.taken.Goals as goal
 
 pub loop-next-init : goal.loop-next-init

@@ -1,4 +1,4 @@
-use Rattle.np_index.proofs.TenantLemmas.{IsSoFar, groups_left}
+use Rattle.np_index.proofs.Nodes.{IsSoFar, groups_left}
 use Rattle.np_index.proofs.tenant.taken.Given as goal
 
 abbrev pub invariant-loop-next : goal.invariant-loop-next

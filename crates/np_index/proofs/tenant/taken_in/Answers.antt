@@ -1,5 +1,5 @@
 use Rattle.np_index.proofs.Prelude.{Amount, IsFew, arith, subst, sym, ◌∙◌}
-use Rattle.np_index.proofs.TenantLemmas.{none-in, part-in, part-few}
+use Rattle.np_index.proofs.Nodes.{none-in, part-in, part-few}
 use Rattle.np_index.proofs.tenant.taken_in.Goals as goal
 
 pub returns-in_default-clause-taken : goal.returns-in_default-clause-taken

@@ -1,7 +1,4 @@
-use Rattle.std.proofs.Common.{◌≡◌, ◌<◌, ◌≤◌, ℕ, List, length, ◌∷◌, ◌+◌, drop, sym, ◌∙◌, ap, subst, arith}
-use Rattle.std.proofs.lemmas.List.{drop_more}
-use Rattle.np_io.specs.declared.disk_calls.Call.{Call}
-use Rattle.np_io.specs.DiskCalls.{images_after, images_then, left_after, left_then}
+use Rattle.np_io.proofs.Prelude.{Call, List, ap, arith, drop, drop_more, images_after, images_then, left_after, left_then, length, subst, sym, ℕ, ◌+◌, ◌<◌, ◌∙◌, ◌∷◌, ◌≡◌, ◌≤◌}
 use Rattle.np_io.proofs.CallLemmas.{after-next}
 use Rattle.np_io.proofs.disk_calls.image_after.Goals as goal
 

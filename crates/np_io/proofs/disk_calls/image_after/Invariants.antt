@@ -1,5 +1,4 @@
-use Rattle.std.proofs.Common.{◌≡◌, ◌≤◌, List, ℕ, drop}
-use Rattle.np_io.specs.DiskCalls.{images_after, left_after}
+use Rattle.np_io.proofs.Prelude.{List, drop, images_after, left_after, ℕ, ◌≡◌, ◌≤◌}
 use Rattle.np_io.proofs.disk_calls.image_after.Given as goal
 
 abbrev pub invariant-loop-call : goal.invariant-loop-call

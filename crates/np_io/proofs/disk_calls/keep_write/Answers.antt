@@ -1,4 +1,4 @@
-use Rattle.std.proofs.Common.{◌≡◌, refl, rules}
+use Rattle.np_io.proofs.Prelude.{refl, rules, ◌≡◌}
 use Rattle.np_io.proofs.disk_calls.keep_write.Goals as goal
 
 pub returns-clause-ok : goal.returns-clause-ok

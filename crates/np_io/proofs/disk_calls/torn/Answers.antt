@@ -1,5 +1,4 @@
-use Rattle.std.proofs.Common.{◌≡◌, ℕ, List, length, sym, ◌∙◌, ap, subst, arith}
-use Rattle.np_io.specs.Disk.{TornWrite, put_at}
+use Rattle.np_io.proofs.Prelude.{List, TornWrite, ap, arith, length, put_at, subst, sym, ℕ, ◌∙◌, ◌≡◌}
 use Rattle.np_io.proofs.TornLemmas.{torn_by_part}
 use Rattle.np_io.proofs.disk_calls.torn.Goals as goal
 

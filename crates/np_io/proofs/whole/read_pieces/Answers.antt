@@ -1,4 +1,4 @@
-use Rattle.std.proofs.Common.{◌≡◌, ◌+◌, ◌++◌, arith, length, take, length-append, length-take}
+use Rattle.np_io.proofs.Prelude.{arith, length, length-append, length-take, take, ◌++◌, ◌+◌, ◌≡◌}
 use Rattle.np_io.proofs.BytesLemmas.{Takes-trans, Takes-too_long}
 use Rattle.np_io.proofs.whole.read_pieces.Goals as goal
 

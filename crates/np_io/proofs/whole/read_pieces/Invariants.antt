@@ -1,5 +1,4 @@
-use Rattle.std.proofs.Common.{◌+◌, ◌-◌, ◌≤◌, vec_len}
-use Rattle.np_io.specs.Bytes.{Takes}
+use Rattle.np_io.proofs.Prelude.{Takes, vec_len, ◌+◌, ◌-◌, ◌≤◌}
 use Rattle.np_io.proofs.whole.read_pieces.Given as goal
 
 -- the bytes so far are those that were taken

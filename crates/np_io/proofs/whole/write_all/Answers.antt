@@ -1,4 +1,4 @@
-use Rattle.std.proofs.Common.{arith, length-drop}
+use Rattle.np_io.proofs.Prelude.{arith, length-drop}
 use Rattle.np_io.proofs.BytesLemmas.{Appends-next}
 use Rattle.np_io.proofs.whole.write_all.Goals as goal
 

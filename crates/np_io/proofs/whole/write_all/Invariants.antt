@@ -1,5 +1,4 @@
-use Rattle.std.proofs.Common.{length, ◌-◌, ◌≤◌, take}
-use Rattle.np_io.specs.Bytes.{Appends}
+use Rattle.np_io.proofs.Prelude.{Appends, length, take, ◌-◌, ◌≤◌}
 use Rattle.np_io.proofs.whole.write_all.Given as goal
 
 -- the bytes before `written` are written

@@ -1,7 +1,4 @@
-use Rattle.std.proofs.Common.{rules, ◌≡◌, ◌-◌, length, arith, ◌∙◌}
-use borrow.Rule.Slice.PartMut.{put_mid}
-use Rattle.std.proofs.lemmas.Slice.{overwrites}
-use Rattle.std.proofs.lemmas.List.{length-drop}
+use Rattle.np_io.proofs.Prelude.{arith, length, length-drop, overwrites, put_mid, rules, ◌-◌, ◌∙◌, ◌≡◌}
 use Rattle.np_io.proofs.Moments.{Stays-then}
 use Rattle.np_io.proofs.ReadLemmas.{fills}
 use Rattle.np_io.proofs.whole_disk.read_full.Goals as goal

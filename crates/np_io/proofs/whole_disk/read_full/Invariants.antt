@@ -1,5 +1,4 @@
-use Rattle.std.proofs.Common.{◌≡◌, ◌≤◌, ◌-◌, length, take, drop, IfSome}
-use Rattle.np_io.specs.Disk.{Stays}
+use Rattle.np_io.proofs.Prelude.{IfSome, Stays, drop, length, take, ◌-◌, ◌≡◌, ◌≤◌}
 use Rattle.np_io.proofs.whole_disk.read_full.Given as goal
 
 -- the front of the buffer has the file's next bytes

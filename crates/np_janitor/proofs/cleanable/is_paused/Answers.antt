@@ -1,5 +1,4 @@
-use Rattle.std.proofs.Common.{◌∙◌, ℕ, sym, ap}
-use Rattle.np_machine.specs.Reasons.{is_paused}
+use Rattle.np_janitor.proofs.Prelude.{ap, is_paused, sym, ℕ, ◌∙◌}
 use Rattle.np_janitor.proofs.cleanable.is_paused.Goals as goal
 
 pub returns-then-pool-known : goal.returns-then-pool-known

@@ -1,7 +1,4 @@
-use Rattle.std.proofs.Common.{sym}
-use Rattle.np_text.specs.declared.id.Role.TheVariants.{Janitor}
-use Rattle.np_useful.proofs.Wholes.{opening-chooses}
-use Rattle.np_janitor.specs.Order.{janitor_order}
+use Rattle.np_janitor.proofs.Prelude.{Janitor, janitor_order, opening-chooses, sym}
 use Rattle.np_janitor.proofs.Janitors.{janitor-law, last-chooses}
 use Rattle.np_janitor.proofs.janitor.choose_janitor.Goals as goal
 

@@ -1,11 +1,5 @@
-use Rattle.std.proofs.Common.{◌≡◌, sym, arith, Some, false, below_more}
-use Rattle.np_changes.specs.Prelude.{Janitor, JobId}
-use Rattle.np_event.specs.declared.event.Event.TheVariants as ev
-use Rattle.np_look.specs.Readers.{jobs_from}
-use Rattle.np_look.specs.Jobs.{is_job_to_finish, job_to_finish}
-use Rattle.np_useful.specs.Passing.{passes}
-use Rattle.np_useful.proofs.Among.{below-jobs, before-end, same-there}
-use Rattle.np_janitor.proofs.FinishLemmas.{none-finished}
+use Rattle.np_janitor.proofs.Prelude.{Event, Janitor, JobId, Some, arith, before-end, below-jobs, below_more, false, is_job_to_finish, job_to_finish, jobs_from, passes, same-there, sym, ◌≡◌}
+use Rattle.np_janitor.proofs.Janitors.{none-finished}
 use Rattle.np_janitor.proofs.janitor.finish_for.Goals as goal
 
 pub returns-in_default : goal.returns-in_default
@@ -15,8 +9,8 @@ returns-in_default g c =
 
 pub loop-at-preserved : goal.loop-at-preserved
 loop-at-preserved g c =
-    below_more (λ k. (j : JobId) → job_to_finish (g.L.Look.site c.args.look.now) c.args.requester k (g.L.Look.state c.args.look.now) ≡ Some j → passes (g.L.Look.site c.args.look.now) (g.L.Look.state c.args.look.now) (Janitor c.args.rows.now.known.pool) (ev.Finish c.args.session j) ≡ false) c.loop-at.at c.loop-at.invariant
-    (λ j found. same-there (λ (x : JobId). passes (g.L.Look.site c.args.look.now) (g.L.Look.state c.args.look.now) (Janitor c.args.rows.now.known.pool) (ev.Finish c.args.session x) ≡ false) c.in-Some.job j _ (sym c.in-Some.ensures) found (sym c.if-passes.ensures))
+    below_more (λ k. (j : JobId) → job_to_finish (g.L.Look.site c.args.look.now) c.args.requester k (g.L.Look.state c.args.look.now) ≡ Some j → passes (g.L.Look.site c.args.look.now) (g.L.Look.state c.args.look.now) (Janitor c.args.rows.now.known.pool) (Event.Finish c.args.session j) ≡ false) c.loop-at.at c.loop-at.invariant
+    (λ j found. same-there (λ (x : JobId). passes (g.L.Look.site c.args.look.now) (g.L.Look.state c.args.look.now) (Janitor c.args.rows.now.known.pool) (Event.Finish c.args.session x) ≡ false) c.in-Some.job j _ (sym c.in-Some.ensures) found (sym c.if-passes.ensures))
 
 pub returns : goal.returns
 returns g c =

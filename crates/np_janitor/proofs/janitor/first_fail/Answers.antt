@@ -1,7 +1,5 @@
-use Rattle.std.proofs.Common.{◌≡◌, sym, arith, false}
-use Rattle.std.proofs.lemmas.Bool.Decides.{nat_tests}
-use Rattle.np_janitor.specs.Candidates.{lacks_registration}
-use Rattle.np_janitor.proofs.FailLemmas.{no-first, first-refused, first-useful}
+use Rattle.np_janitor.proofs.Prelude.{arith, false, lacks_registration, nat_tests, sym, ◌≡◌}
+use Rattle.np_janitor.proofs.Janitors.{no-first, first-refused, first-useful}
 use Rattle.np_janitor.proofs.Undeclined.{none-fails}
 use Rattle.np_janitor.proofs.janitor.first_fail.Goals as goal
 

@@ -1,7 +1,5 @@
-use Rattle.std.proofs.Common.{◌∙◌, ℕ, sym, subst, arith, below_more}
-use Rattle.np_changes.specs.Prelude.{Configuration, IsSound}
-use Rattle.np_janitor.specs.Finishes.{NoneFinished}
-use Rattle.np_janitor.proofs.FinishLemmas.{finish-none, found-none}
+use Rattle.np_janitor.proofs.Prelude.{Configuration, IsSound, NoneFinished, arith, below_more, subst, sym, ℕ, ◌∙◌}
+use Rattle.np_janitor.proofs.Janitors.{finish-none, found-none}
 use Rattle.np_janitor.proofs.janitor.first_finish.Goals as goal
 
 pub loop-at-preserved : goal.loop-at-preserved

@@ -1,5 +1,4 @@
-use Rattle.std.proofs.Common.{ℕ, ◌<◌}
-use Rattle.np_janitor.specs.Finishes.{NoneFinished}
+use Rattle.np_janitor.proofs.Prelude.{NoneFinished, ℕ, ◌<◌}
 use Rattle.np_janitor.proofs.janitor.first_finish.Given as goal
 
 abbrev pub invariant-loop-at : goal.invariant-loop-at

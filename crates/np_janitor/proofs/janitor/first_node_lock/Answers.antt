@@ -1,4 +1,4 @@
-use Rattle.np_janitor.proofs.NodeLocks.{due-choose}
+use Rattle.np_janitor.proofs.Nodes.{due-choose}
 use Rattle.np_janitor.proofs.janitor.first_node_lock.Goals as goal
 
 pub returns : goal.returns

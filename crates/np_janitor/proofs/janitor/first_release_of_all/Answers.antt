@@ -1,7 +1,5 @@
-use Rattle.std.proofs.Common.{◌∙◌, ℕ, sym, subst, arith, below_more}
-use Rattle.np_changes.specs.Prelude.{Configuration, IsSound, Janitor}
-use Rattle.np_useful.specs.Choices.{NoneReleased}
-use Rattle.np_janitor.proofs.ReleaseLemmas.{none-found, release-none}
+use Rattle.np_janitor.proofs.Prelude.{Configuration, IsSound, Janitor, NoneReleased, arith, below_more, subst, sym, ℕ, ◌∙◌}
+use Rattle.np_janitor.proofs.Janitors.{none-found, release-none}
 use Rattle.np_janitor.proofs.janitor.first_release_of_all.Goals as goal
 
 pub loop-at-preserved : goal.loop-at-preserved

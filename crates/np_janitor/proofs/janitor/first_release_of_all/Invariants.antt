@@ -1,6 +1,4 @@
-use Rattle.std.proofs.Common.{ℕ, ◌<◌}
-use Rattle.np_text.specs.declared.id.Role.TheVariants.{Janitor}
-use Rattle.np_useful.specs.Choices.{NoneReleased}
+use Rattle.np_janitor.proofs.Prelude.{Janitor, NoneReleased, ℕ, ◌<◌}
 use Rattle.np_janitor.proofs.janitor.first_release_of_all.Given as goal
 
 abbrev pub invariant-loop-at : goal.invariant-loop-at

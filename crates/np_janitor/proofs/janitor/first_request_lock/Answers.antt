@@ -1,5 +1,5 @@
-use Rattle.std.proofs.Common.{sym}
-use Rattle.np_janitor.proofs.RequestLocks.{lock-useful, no-unheld, unheld-refused}
+use Rattle.np_janitor.proofs.Prelude.{sym}
+use Rattle.np_janitor.proofs.Janitors.{lock-useful, no-unheld, unheld-refused}
 use Rattle.np_janitor.proofs.janitor.first_request_lock.Goals as goal
 
 pub returns-in_err-request : goal.returns-in_err-request

@@ -1,4 +1,4 @@
-use Rattle.std.proofs.Common.{sym}
+use Rattle.np_janitor.proofs.Prelude.{sym}
 use Rattle.np_janitor.proofs.Strikes.{mute-useful, strikes-choose}
 use Rattle.np_janitor.proofs.reaper.choose_reaper.Goals as goal
 

@@ -1,7 +1,4 @@
-use Rattle.std.proofs.Common.{◌≡◌, ◌∙◌, sym, ap, Some, None}
-use Rattle.std.specs.Prelude.{slice_get}
-use Rattle.np_config.specs.Configuration.{Configuration}
-use Rattle.np_useful.proofs.Among.{before-end}
+use Rattle.np_janitor.proofs.Prelude.{Configuration, None, Some, ap, before-end, slice_get, sym, ◌∙◌, ◌≡◌}
 use Rattle.np_janitor.proofs.Strikes.{found-chooses, none-strikes}
 use Rattle.np_janitor.proofs.reaper.first_strike.Goals as goal
 

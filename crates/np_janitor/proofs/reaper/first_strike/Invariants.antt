@@ -1,7 +1,4 @@
-use Rattle.std.proofs.Common.{◌≡◌, ◌<◌, ◌-◌, ℕ, length, Some, None}
-use Rattle.std.specs.Prelude.{slice_get}
-use Rattle.np_config.specs.declared.row.Fault.{Fault}
-use Rattle.np_janitor.specs.Struck.{strike_by}
+use Rattle.np_janitor.proofs.Prelude.{Fault, None, Some, length, slice_get, strike_by, ℕ, ◌-◌, ◌<◌, ◌≡◌}
 use Rattle.np_janitor.proofs.reaper.first_strike.Given as goal
 
 abbrev pub invariant-loop-fault : goal.invariant-loop-fault

@@ -1,6 +1,5 @@
-use Rattle.std.proofs.Common.{◌≡◌, false}
-use Rattle.np_useful.specs.Settled.{takes_part}
-use Rattle.np_jobs.proofs.Outside.{outside-idle}
+use Rattle.np_jobs.proofs.Prelude.{false, takes_part, ◌≡◌}
+use Rattle.np_jobs.proofs.Settles.{outside-idle}
 use Rattle.np_jobs.proofs.choice.choose.Goals as goal
 
 pub returns-then-not-takes_part : goal.returns-then-not-takes_part

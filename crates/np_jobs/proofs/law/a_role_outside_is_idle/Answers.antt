@@ -1,4 +1,4 @@
-use Rattle.np_jobs.proofs.Outside.{outside-idle}
+use Rattle.np_jobs.proofs.Settles.{outside-idle}
 use Rattle.np_jobs.proofs.law.a_role_outside_is_idle.Goals as goal
 
 pub returns : goal.returns

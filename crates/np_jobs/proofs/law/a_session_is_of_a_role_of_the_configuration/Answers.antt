@@ -1,4 +1,4 @@
-use Rattle.np_jobs.proofs.OfSite.{role-of}
+use Rattle.np_jobs.proofs.Settles.{role-of}
 use Rattle.np_jobs.proofs.law.a_session_is_of_a_role_of_the_configuration.Goals as goal
 
 pub returns : goal.returns

@@ -1,9 +1,5 @@
-use Rattle.std.proofs.Common.{◌≡◌, sym, arith, Some, below_more}
-use Rattle.np_text.specs.declared.id.NodeId.{NodeId}
-use Rattle.np_look.specs.Given.{node_to_leave}
-use Rattle.np_useful.proofs.Among.{before-end, same-there}
-use Rattle.np_jobs.specs.Steps.{NoLeave}
-use Rattle.np_jobs.proofs.LeaveLemmas.{to_leave, below-nodes, leaves-none, no-leave}
+use Rattle.np_jobs.proofs.Prelude.{NoLeave, NodeId, Some, arith, before-end, below_more, node_to_leave, same-there, sym, ◌≡◌}
+use Rattle.np_jobs.proofs.Nodes.{to_leave, below-nodes, leaves-none, no-leave}
 use Rattle.np_jobs.proofs.leave.first_step_to_leave.Goals as goal
 
 pub returns-in_default : goal.returns-in_default

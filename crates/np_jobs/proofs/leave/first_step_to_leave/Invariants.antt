@@ -1,7 +1,4 @@
-use Rattle.std.proofs.Common.{◌≡◌, ◌<◌, ℕ, Some}
-use Rattle.np_text.specs.declared.id.NodeId.{NodeId}
-use Rattle.np_look.specs.Given.{node_to_leave}
-use Rattle.np_jobs.specs.Steps.{NoLeave}
+use Rattle.np_jobs.proofs.Prelude.{NoLeave, NodeId, Some, node_to_leave, ℕ, ◌<◌, ◌≡◌}
 use Rattle.np_jobs.proofs.leave.first_step_to_leave.Given as goal
 
 abbrev pub invariant-loop-at : goal.invariant-loop-at

@@ -1,5 +1,5 @@
-use Rattle.std.proofs.Common.{◌∙◌, sym}
-use Rattle.np_jobs.proofs.ForLemmas.{for-none, for-is}
+use Rattle.np_jobs.proofs.Prelude.{sym, ◌∙◌}
+use Rattle.np_jobs.proofs.Nodes.{for-none, for-is}
 use Rattle.np_jobs.proofs.node.is_for.Goals as goal
 
 pub returns-in-None : goal.returns-in-None

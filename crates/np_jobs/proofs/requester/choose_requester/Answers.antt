@@ -1,8 +1,5 @@
-use Rattle.std.proofs.Common.{sym}
-use Rattle.np_text.specs.declared.id.Role.TheVariants.{Requester}
-use Rattle.np_useful.proofs.Wholes.{opening-chooses}
-use Rattle.np_jobs.specs.Steps.{requester_kinds}
-use Rattle.np_jobs.proofs.Made.{requester-law, all-choose}
+use Rattle.np_jobs.proofs.Prelude.{Requester, opening-chooses, requester_kinds, sym}
+use Rattle.np_jobs.proofs.Settles.{requester-law, all-choose}
 use Rattle.np_jobs.proofs.requester.choose_requester.Goals as goal
 
 pub returns-in_default : goal.returns-in_default

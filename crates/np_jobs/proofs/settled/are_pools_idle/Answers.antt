@@ -1,6 +1,4 @@
-use Rattle.std.proofs.Common.{◌≡◌, ◌<◌, ℕ, true, refl, arith, below_more}
-use Rattle.np_text.specs.declared.limit.TheConstants.{POOLS}
-use Rattle.np_jobs.specs.Idle.{IsPoolIdle}
+use Rattle.np_jobs.proofs.Prelude.{IsPoolIdle, POOLS, arith, below_more, refl, true, ℕ, ◌<◌, ◌≡◌}
 use Rattle.np_jobs.proofs.settled.are_pools_idle.Goals as goal
 
 pub returns-then-not-is_pool_idle : goal.returns-then-not-is_pool_idle

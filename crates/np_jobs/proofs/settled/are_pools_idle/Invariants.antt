@@ -1,5 +1,4 @@
-use Rattle.std.proofs.Common.{ℕ, ◌<◌}
-use Rattle.np_jobs.specs.Idle.{IsPoolIdle}
+use Rattle.np_jobs.proofs.Prelude.{IsPoolIdle, ℕ, ◌<◌}
 use Rattle.np_jobs.proofs.settled.are_pools_idle.Given as goal
 
 abbrev pub invariant-loop-at : goal.invariant-loop-at

@@ -1,6 +1,4 @@
-use Rattle.std.proofs.Common.{◌≡◌, ◌<◌, ℕ, true, refl, arith, below_more}
-use Rattle.np_changes.specs.Prelude.{REQUESTERS, Requester}
-use Rattle.np_jobs.specs.Idle.{IsIdle}
+use Rattle.np_jobs.proofs.Prelude.{IsIdle, REQUESTERS, Requester, arith, below_more, refl, true, ℕ, ◌<◌, ◌≡◌}
 use Rattle.np_jobs.proofs.settled.are_requesters_idle.Goals as goal
 
 pub returns-then-not-is_idle : goal.returns-then-not-is_idle

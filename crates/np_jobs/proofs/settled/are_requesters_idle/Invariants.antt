@@ -1,6 +1,4 @@
-use Rattle.std.proofs.Common.{ℕ, ◌<◌}
-use Rattle.np_text.specs.declared.id.Role.TheVariants.{Requester}
-use Rattle.np_jobs.specs.Idle.{IsIdle}
+use Rattle.np_jobs.proofs.Prelude.{IsIdle, Requester, ℕ, ◌<◌}
 use Rattle.np_jobs.proofs.settled.are_requesters_idle.Given as goal
 
 abbrev pub invariant-loop-at : goal.invariant-loop-at

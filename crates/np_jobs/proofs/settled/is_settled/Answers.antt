@@ -1,8 +1,7 @@
-use Rattle.std.proofs.Common.{◌≡◌, ◌∙◌, true, subst}
-use Rattle.np_changes.specs.Prelude.{Configuration, IsSound}
+use Rattle.np_jobs.proofs.Prelude.{Configuration, IsSound, subst, true, ◌∙◌, ◌≡◌}
 use Rattle.np_jobs.proofs.Settles.{all-idle, settled-pools, settled-requesters, settled-reaper}
-use Rattle.np_jobs.proofs.settled.is_settled.Goals as goal
 use Rattle.np_jobs.proofs.settled.is_settled.Goals.{then-are_pools_idle, else-are_pools_idle}
+use Rattle.np_jobs.proofs.settled.is_settled.Goals as goal
 
 pub returns-then-are_requesters_idle : goal.returns-then-are_requesters_idle
 returns-then-are_requesters_idle g c =

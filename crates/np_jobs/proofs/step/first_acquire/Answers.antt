@@ -1,5 +1,5 @@
-use Rattle.std.proofs.Common.{sym}
-use Rattle.np_jobs.proofs.StepLemmas.{acquire-useful}
+use Rattle.np_jobs.proofs.Prelude.{sym}
+use Rattle.np_jobs.proofs.Settles.{acquire-useful}
 use Rattle.np_jobs.proofs.step.first_acquire.Goals as goal
 
 pub returns-in-None : goal.returns-in-None

@@ -1,5 +1,5 @@
-use Rattle.std.proofs.Common.{sym}
-use Rattle.np_jobs.proofs.LockLemmas.{lock-none, lock-chooses}
+use Rattle.np_jobs.proofs.Prelude.{sym}
+use Rattle.np_jobs.proofs.Nodes.{lock-none, lock-chooses}
 use Rattle.np_jobs.proofs.step.first_lock.Goals as goal
 
 pub returns-in-None : goal.returns-in-None

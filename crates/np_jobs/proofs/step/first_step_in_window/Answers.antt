@@ -1,5 +1,5 @@
-use Rattle.std.proofs.Common.{sym}
-use Rattle.np_jobs.proofs.BeginLemmas.{none-begins, past-begins, first-chooses}
+use Rattle.np_jobs.proofs.Prelude.{sym}
+use Rattle.np_jobs.proofs.Settles.{none-begins, past-begins, first-chooses}
 use Rattle.np_jobs.proofs.step.first_step_in_window.Goals as goal
 
 pub returns-in_default : goal.returns-in_default

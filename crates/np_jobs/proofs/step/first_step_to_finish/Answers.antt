@@ -1,11 +1,5 @@
-use Rattle.std.proofs.Common.{◌≡◌, sym, arith, Some, false, below_more}
-use Rattle.np_changes.specs.Prelude.{JobId, Requester}
-use Rattle.np_event.specs.declared.event.Event.TheVariants as ev
-use Rattle.np_look.specs.Readers.{jobs_from}
-use Rattle.np_look.specs.Jobs.{is_job_to_finish, job_to_finish}
-use Rattle.np_useful.specs.Passing.{passes}
-use Rattle.np_useful.proofs.Among.{below-jobs, before-end, same-there}
-use Rattle.np_jobs.proofs.StepLemmas.{finishes-none, no-finish}
+use Rattle.np_jobs.proofs.Prelude.{Event, JobId, Requester, Some, arith, before-end, below-jobs, below_more, false, is_job_to_finish, job_to_finish, jobs_from, passes, same-there, sym, ◌≡◌}
+use Rattle.np_jobs.proofs.Settles.{finishes-none, no-finish}
 use Rattle.np_jobs.proofs.step.first_step_to_finish.Goals as goal
 
 pub returns-in_default : goal.returns-in_default
@@ -15,8 +9,8 @@ returns-in_default g c =
 
 pub loop-at-preserved : goal.loop-at-preserved
 loop-at-preserved g c =
-    below_more (λ k. (j : JobId) → job_to_finish (g.L.Look.site c.args.look.now) c.args.rows.now.requester k (g.L.Look.state c.args.look.now) ≡ Some j → passes (g.L.Look.site c.args.look.now) (g.L.Look.state c.args.look.now) (Requester c.args.rows.now.requester) (ev.Finish c.args.session j) ≡ false) c.loop-at.at c.loop-at.invariant
-    (λ j found. same-there (λ (x : JobId). passes (g.L.Look.site c.args.look.now) (g.L.Look.state c.args.look.now) (Requester c.args.rows.now.requester) (ev.Finish c.args.session x) ≡ false) c.in-Some.job j _ (sym c.in-Some.ensures) found
+    below_more (λ k. (j : JobId) → job_to_finish (g.L.Look.site c.args.look.now) c.args.rows.now.requester k (g.L.Look.state c.args.look.now) ≡ Some j → passes (g.L.Look.site c.args.look.now) (g.L.Look.state c.args.look.now) (Requester c.args.rows.now.requester) (Event.Finish c.args.session j) ≡ false) c.loop-at.at c.loop-at.invariant
+    (λ j found. same-there (λ (x : JobId). passes (g.L.Look.site c.args.look.now) (g.L.Look.state c.args.look.now) (Requester c.args.rows.now.requester) (Event.Finish c.args.session x) ≡ false) c.in-Some.job j _ (sym c.in-Some.ensures) found
     (no-finish (g.L.Look.site c.args.look.now) (g.L.Look.state c.args.look.now) c.args.rows.now.requester c.args.session c.in-Some.job c.step_to_finish-found.result (sym c.if-is_some.ensures) c.step_to_finish-found.ensures))
 
 pub returns : goal.returns

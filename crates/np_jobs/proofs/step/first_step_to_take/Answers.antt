@@ -1,10 +1,5 @@
-use Rattle.std.proofs.Common.{◌≡◌, sym, arith, Some, below_more}
-use Rattle.np_text.specs.declared.id.JobId.{JobId}
-use Rattle.np_look.specs.Readers.{jobs_from}
-use Rattle.np_look.specs.Jobs.{is_job_to_take, job_to_take}
-use Rattle.np_useful.proofs.Among.{below-jobs, before-end, same-there}
-use Rattle.np_jobs.specs.Steps.{NoTake}
-use Rattle.np_jobs.proofs.StepLemmas.{no-take}
+use Rattle.np_jobs.proofs.Prelude.{JobId, NoTake, Some, arith, before-end, below-jobs, below_more, is_job_to_take, job_to_take, jobs_from, same-there, sym, ◌≡◌}
+use Rattle.np_jobs.proofs.Settles.{no-take}
 use Rattle.np_jobs.proofs.step.first_step_to_take.Goals as goal
 
 pub returns-in_default : goal.returns-in_default

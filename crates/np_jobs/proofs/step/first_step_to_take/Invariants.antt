@@ -1,7 +1,4 @@
-use Rattle.std.proofs.Common.{◌≡◌, ◌<◌, ℕ, Some}
-use Rattle.np_text.specs.declared.id.JobId.{JobId}
-use Rattle.np_look.specs.Jobs.{job_to_take}
-use Rattle.np_jobs.specs.Steps.{NoTake}
+use Rattle.np_jobs.proofs.Prelude.{JobId, NoTake, Some, job_to_take, ℕ, ◌<◌, ◌≡◌}
 use Rattle.np_jobs.proofs.step.first_step_to_take.Given as goal
 
 abbrev pub invariant-loop-at : goal.invariant-loop-at

@@ -1,5 +1,5 @@
-use Rattle.std.proofs.Common.{sym}
-use Rattle.np_jobs.proofs.Made.{under-chooses}
+use Rattle.np_jobs.proofs.Prelude.{sym}
+use Rattle.np_jobs.proofs.Settles.{under-chooses}
 use Rattle.np_jobs.proofs.step.first_step_under_way.Goals as goal
 
 pub returns : goal.returns

@@ -1,11 +1,7 @@
-use Rattle.std.proofs.Common.{◌≡◌, true}
-use Rattle.np_text.specs.declared.id.Role.TheVariants.{Requester}
-use Rattle.np_event.specs.declared.event.Event.TheVariants as ev
-use Rattle.np_useful.specs.Passing.{passes}
-use Rattle.np_useful.proofs.Searches.{passes-useful}
+use Rattle.np_jobs.proofs.Prelude.{Event, Requester, passes, passes-useful, true, ◌≡◌}
 use Rattle.np_jobs.proofs.step.step_of_new.Goals as goal
 
 pub returns-then-passes : goal.returns-then-passes
 returns-then-passes g c =
-    let is : passes (g.L.Look.site c.args.look.now) (g.L.Look.state c.args.look.now) (Requester c.args.rows.now.requester) (ev.Acquire c.args.session c.args.job) ≡ true = cc in
-    passes-useful (g.L.Look.site c.args.look.now) (g.L.Look.state c.args.look.now) (Requester c.args.rows.now.requester) (ev.Acquire c.args.session c.args.job) is c.requires.current
+    let is : passes (g.L.Look.site c.args.look.now) (g.L.Look.state c.args.look.now) (Requester c.args.rows.now.requester) (Event.Acquire c.args.session c.args.job) ≡ true = cc in
+    passes-useful (g.L.Look.site c.args.look.now) (g.L.Look.state c.args.look.now) (Requester c.args.rows.now.requester) (Event.Acquire c.args.session c.args.job) is c.requires.current

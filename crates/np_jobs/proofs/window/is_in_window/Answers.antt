@@ -1,7 +1,5 @@
-use Rattle.std.proofs.Common.{◌≡◌, ◌∙◌, ◌+◌, ◌-◌, sym, ap, arith}
-use Rattle.np_config.specs.Configuration.{Configuration}
-use Rattle.np_useful.specs.Window.{window_of}
-use Rattle.np_jobs.proofs.WindowLemmas.{over-outside, last-none, last-some}
+use Rattle.np_jobs.proofs.Prelude.{Configuration, ap, arith, sym, window_of, ◌+◌, ◌-◌, ◌∙◌, ◌≡◌}
+use Rattle.np_jobs.proofs.Windows.{over-outside, last-none, last-some}
 use Rattle.np_jobs.proofs.window.is_in_window.Goals as goal
 
 pub returns-then-not-is_unfinished : goal.returns-then-not-is_unfinished

@@ -1,6 +1,4 @@
-use Rattle.std.proofs.Common.{◌≡◌, map}
-use Rattle.serde_json.specs.View.{members_view}
-use Rattle.np_json.specs.Leaf.{only_keys}
+use Rattle.np_json.proofs.Prelude.{map, members_view, only_keys, ◌≡◌}
 use Rattle.np_json.proofs.leaf.has_only.Given as goal
 
 abbrev pub invariant-loop-key : goal.invariant-loop-key

@@ -1,5 +1,4 @@
-use Rattle.std.proofs.Common.{arith}
-use Rattle.std.proofs.lemmas.Result.{err_from_is_err_and}
+use Rattle.np_json.proofs.Prelude.{arith, err_from_is_err_and}
 use Rattle.np_json.proofs.ItemLemmas.{items_more, items_fail, items_end}
 use Rattle.np_json.proofs.list.rows_of.Goals as goal
 

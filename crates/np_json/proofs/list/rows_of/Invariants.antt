@@ -1,6 +1,4 @@
-use Rattle.std.proofs.Common.{◌≡◌, ◌+◌, drop}
-use Rattle.serde_json.specs.View.{items_view}
-use Rattle.np_json.specs.Rows.{items_from}
+use Rattle.np_json.proofs.Prelude.{drop, items_from, items_view, ◌+◌, ◌≡◌}
 use Rattle.np_json.proofs.list.rows_of.Given as goal
 
 abbrev pub invariant-loop-index : goal.invariant-loop-index

@@ -1,6 +1,5 @@
-use Rattle.std.proofs.Common.{ap}
-use Rattle.np_machine.specs.Step.{reply_of}
-use Rattle.np_keeper.proofs.Laid.{reply-laid}
+use Rattle.np_keeper.proofs.Prelude.{ap, reply_of}
+use Rattle.np_keeper.proofs.Enacted.{reply-laid}
 use Rattle.np_keeper.proofs.answer.judge.Goals as goal
 
 pub returns-in-Err-clause-laid : goal.returns-in-Err-clause-laid

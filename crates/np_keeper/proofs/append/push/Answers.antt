@@ -1,8 +1,5 @@
-use Rattle.std.proofs.Common.{◌∙◌, ap, List}
-use Rattle.np_lists.specs.Change.{insert_before}
-use Rattle.np_lists.proofs.ChangeLemmas.{insert_before-end}
-use Rattle.np_lookups.proofs.Keyed.{none-later}
-use Rattle.np_keeper.proofs.Ends.{not_there}
+use Rattle.np_keeper.proofs.Prelude.{List, ap, insert_before, insert_before-end, none-later, ◌∙◌}
+use Rattle.np_keeper.proofs.Queued.{not_there}
 use Rattle.np_keeper.proofs.append.push.Goals as goal
 
 pub insert-requires-clause-none : goal.insert-requires-clause-none

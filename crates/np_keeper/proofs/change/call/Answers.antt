@@ -1,7 +1,4 @@
-use Rattle.std.proofs.Common.{◌≡◌}
-use Rattle.np_tree_nodes.specs.Multi.{after_parts}
-use Rattle.np_tree_nodes.specs.declared.refusal.MultiFault.TheVariants.{NoMemory}
-use Rattle.np_tree.proofs.SeveralLemmas.{goes-unrefused}
+use Rattle.np_keeper.proofs.Prelude.{NoMemory, after_parts, goes-unrefused, ◌≡◌}
 use Rattle.np_keeper.proofs.change.call.Goals as goal
 
 pub unreachable-requires : goal.unreachable-requires

@@ -1,15 +1,5 @@
-use Rattle.std.proofs.Common.{◌≡◌, ◌<◌, ◌∙◌, sym, subst, ap, arith}
-use Rattle.std.proofs.lemmas.Result.{on_err_weaker, on_ok_weaker}
-use Rattle.np_layout.specs.Prelude.{IsStored, TreeState, decoded}
-use Rattle.np_machine.specs.State.{State}
-use Rattle.np_layout.specs.Events.{IsReady}
-use Rattle.np_layout.specs.Parts.{parts_of}
-use Rattle.np_layout.proofs.OneState.{trees-have-one_state}
-use Rattle.np_tree_rows.specs.Rows.{SiteState}
-use Rattle.np_keeper.specs.Keeper.{IsHeld}
-use Rattle.np_keeper.proofs.Enacted.{can-make, holds-made}
-use Rattle.np_keeper.proofs.Laws.{enact}
-use Rattle.np_keeper.proofs.Spared.{either-way, err-always, held-reserved}
+use Rattle.np_keeper.proofs.Prelude.{IsHeld, IsReady, IsStored, SiteState, State, TreeState, ap, arith, decoded, on_err_weaker, on_ok_weaker, parts_of, subst, sym, trees-have-one_state, ◌<◌, ◌∙◌, ◌≡◌}
+use Rattle.np_keeper.proofs.Enacted.{can-make, either-way, enact, err-always, held-reserved, holds-made}
 use Rattle.np_keeper.proofs.change.enact_changes.Goals as goal
 
 pub returns-in_err-reserve-clause-held : goal.returns-in_err-reserve-clause-held

@@ -1,10 +1,5 @@
-use Rattle.std.proofs.Common.{◌≡◌, ◌∙◌, sym, subst, ap, ℕ}
-use Rattle.np_layout.specs.Prelude.{TreeState, after_multi, with_spare}
-use Rattle.np_layout.specs.Parts.{with_begin, with_end, writer}
-use Rattle.np_keeper.specs.Keeper.{CanEnd, made}
-use Rattle.np_keeper.proofs.Enacted.{end-spared}
-use Rattle.np_keeper.proofs.Later.{later-same, made-later}
-use Rattle.np_keeper.proofs.Spared.{own-spare}
+use Rattle.np_keeper.proofs.Prelude.{CanEnd, TreeState, after_multi, ap, made, subst, sym, with_begin, with_end, with_spare, writer, ℕ, ◌∙◌, ◌≡◌}
+use Rattle.np_keeper.proofs.Enacted.{end-spared, later-same, made-later, own-spare}
 use Rattle.np_keeper.proofs.change.make.Goals as goal
 
 pub call-requires-clause-goes : goal.call-requires-clause-goes

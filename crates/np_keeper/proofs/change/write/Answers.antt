@@ -1,13 +1,5 @@
-use Rattle.std.proofs.Common.{◌≡◌, ◌<◌, ◌∙◌, subst, ap, arith}
-use Rattle.std.proofs.lemmas.Result.{on_err_weaker, on_ok_weaker}
-use Rattle.np_layout.specs.Prelude.{IsStored, TreeState}
-use Rattle.np_tree.proofs.LaterLemmas.{later-joined}
-use Rattle.np_machine.specs.State.{State}
-use Rattle.np_layout.proofs.OneState.{trees-have-one_state}
-use Rattle.np_keeper.proofs.Enacted.{can-make, holds-made}
-use Rattle.np_keeper.proofs.Later.{later-spared}
-use Rattle.np_keeper.proofs.Laws.{enact}
-use Rattle.np_keeper.proofs.Spared.{holds-spared, own-spare}
+use Rattle.np_keeper.proofs.Prelude.{IsStored, State, TreeState, ap, arith, later-joined, on_err_weaker, on_ok_weaker, subst, trees-have-one_state, ◌<◌, ◌∙◌, ◌≡◌}
+use Rattle.np_keeper.proofs.Enacted.{can-make, enact, holds-made, holds-spared, later-spared, own-spare}
 use Rattle.np_keeper.proofs.change.write.Goals as goal
 
 pub returns-in_err-reserve-clause-later : goal.returns-in_err-reserve-clause-later

@@ -1,7 +1,5 @@
-use Rattle.std.proofs.Common.{◌<◌, [], length, ap, arith}
-use Rattle.np_changes.specs.Prelude.{Configuration, JobId}
-use Rattle.np_lists.specs.Roomy.{Roomy}
-use Rattle.np_keeper.proofs.Copying.{seen_next}
+use Rattle.np_keeper.proofs.Prelude.{Configuration, JobId, Roomy, ap, arith, length, [], ◌<◌}
+use Rattle.np_keeper.proofs.Queued.{seen_next}
 use Rattle.np_keeper.proofs.handles.all_handles.Goals as goal
 
 pub loop-number-preserved : goal.loop-number-preserved

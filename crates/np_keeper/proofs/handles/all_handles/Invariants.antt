@@ -1,5 +1,4 @@
-use Rattle.std.proofs.Common.{◌≡◌, take}
-use Rattle.np_tables.specs.Room.{rows_of}
+use Rattle.np_keeper.proofs.Prelude.{rows_of, take, ◌≡◌}
 use Rattle.np_keeper.proofs.handles.all_handles.Given as goal
 
 abbrev pub invariant-loop-number : goal.invariant-loop-number

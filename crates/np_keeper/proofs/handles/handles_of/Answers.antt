@@ -1,10 +1,7 @@
-use Rattle.std.proofs.Common.{◌∙◌, ap, arith}
-use Rattle.np_changes.specs.Prelude.{JobId, handles_of}
-use Rattle.np_lists.specs.Roomy.{Roomy}
-use Rattle.np_keeper.proofs.Copying.{copied_next, none_missing, take_whole}
-use Rattle.np_keeper.proofs.RestoreHolders.{holders_ahead}
-use Rattle.np_keeper.proofs.handles.handles_of.Goals as goal
+use Rattle.np_keeper.proofs.Prelude.{JobId, Roomy, ap, arith, handles_of, ◌∙◌}
+use Rattle.np_keeper.proofs.Queued.{copied_next, holders_ahead, none_missing, take_whole}
 use Rattle.np_keeper.proofs.handles.handles_of.Goals.{in-Some+in_ok-push, in_default}
+use Rattle.np_keeper.proofs.handles.handles_of.Goals as goal
 
 pub push-requires : goal.push-requires
 push-requires g c =

@@ -1,5 +1,4 @@
-use Rattle.std.proofs.Common.{◌≡◌, take}
-use Rattle.np_machine.specs.Tables.{handles_of}
+use Rattle.np_keeper.proofs.Prelude.{handles_of, take, ◌≡◌}
 use Rattle.np_keeper.proofs.handles.handles_of.Given as goal
 
 abbrev pub invariant-loop-at : goal.invariant-loop-at

@@ -1,7 +1,7 @@
-use Rattle.std.proofs.Common.{◌∙◌, sym, ap, arith, Vec, Global}
-use Rattle.np_keeper.proofs.Copying.{copied_next, none_missing, take_whole}
-use Rattle.np_keeper.proofs.list.list_of.Goals as goal
+use Rattle.np_keeper.proofs.Prelude.{Global, Vec, ap, arith, sym, ◌∙◌}
+use Rattle.np_keeper.proofs.Queued.{copied_next, none_missing, take_whole}
 use Rattle.np_keeper.proofs.list.list_of.Goals.{in-Some+in_ok-push, in_default}
+use Rattle.np_keeper.proofs.list.list_of.Goals as goal
 
 pub loop-at-preserved : goal.loop-at-preserved
 loop-at-preserved g c whole is reads =

@@ -1,5 +1,4 @@
-use Rattle.std.proofs.Common.{◌≡◌, ◌<◌, ℕ, List, Option, length, take}
-use Rattle.std.specs.Prelude.{slice_get}
+use Rattle.np_keeper.proofs.Prelude.{List, Option, length, slice_get, take, ℕ, ◌<◌, ◌≡◌}
 use Rattle.np_keeper.proofs.list.list_of.Given as goal
 
 abbrev pub invariant-loop-at : goal.invariant-loop-at

@@ -1,4 +1,4 @@
-use Rattle.np_look.specs.Views.{node_view}
+use Rattle.np_keeper.proofs.Prelude.{node_view}
 use Rattle.np_keeper.proofs.Queued.{none_seen, node_there}
 use Rattle.np_keeper.proofs.locked.node_entry.Goals as goal
 

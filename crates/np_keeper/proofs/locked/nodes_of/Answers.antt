@@ -1,10 +1,7 @@
-use Rattle.std.proofs.Common.{◌∙◌, sym, ap, arith}
-use Rattle.np_lists.specs.Roomy.{Roomy}
-use Rattle.np_machine.specs.Entries.{NodeEntry}
-use Rattle.np_keeper.proofs.Copying.{copied_next, none_missing}
-use Rattle.np_keeper.proofs.Queued.{nodes_ahead}
-use Rattle.np_keeper.proofs.locked.nodes_of.Goals as goal
+use Rattle.np_keeper.proofs.Prelude.{NodeEntry, Roomy, ap, arith, sym, ◌∙◌}
+use Rattle.np_keeper.proofs.Queued.{copied_next, nodes_ahead, none_missing}
 use Rattle.np_keeper.proofs.locked.nodes_of.Goals.{in-Some+in_ok-push, in_default}
+use Rattle.np_keeper.proofs.locked.nodes_of.Goals as goal
 
 pub push-requires : goal.push-requires
 push-requires g c =

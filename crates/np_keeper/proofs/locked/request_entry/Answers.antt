@@ -1,4 +1,4 @@
-use Rattle.np_look.specs.Views.{request_view}
+use Rattle.np_keeper.proofs.Prelude.{request_view}
 use Rattle.np_keeper.proofs.Queued.{none_seen, request_there}
 use Rattle.np_keeper.proofs.locked.request_entry.Goals as goal
 

@@ -1,4 +1,4 @@
-use Rattle.std.proofs.Common.{◌≡◌, take}
+use Rattle.np_keeper.proofs.Prelude.{take, ◌≡◌}
 use Rattle.np_keeper.proofs.locked.requests_of.Given as goal
 
 abbrev pub invariant-loop-at : goal.invariant-loop-at

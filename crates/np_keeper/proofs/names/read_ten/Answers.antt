@@ -1,6 +1,5 @@
-use Rattle.std.proofs.Common.{◌∙◌, ap, sym, arith}
-use Rattle.np_changes.specs.Prelude.{RequestId, option_map}
-use Rattle.np_keeper.proofs.Ten.{ten_none, ten_told}
+use Rattle.np_keeper.proofs.Prelude.{RequestId, ap, arith, option_map, sym, ◌∙◌}
+use Rattle.np_keeper.proofs.Queued.{ten_none, ten_told}
 use Rattle.np_keeper.proofs.names.read_ten.Goals as goal
 
 pub returns-in_default : goal.returns-in_default

@@ -1,8 +1,5 @@
-use Rattle.std.proofs.Common.{◌<◌, ◌∙◌, length, sym, arith}
-use Rattle.std.proofs.lemmas.Option.{slice_get_within}
-use Rattle.np_machine.specs.Tables.{node_queue}
-use Rattle.np_look.proofs.Seen.{queue-fits}
-use Rattle.np_keeper.proofs.Copying.{copied_next, take_past}
+use Rattle.np_keeper.proofs.Prelude.{arith, length, node_queue, queue-fits, slice_get_within, sym, ◌<◌, ◌∙◌}
+use Rattle.np_keeper.proofs.Queued.{copied_next, take_past}
 use Rattle.np_keeper.proofs.queue.node_queue_of.Goals as goal
 
 pub overflow_add-at : goal.overflow_add-at

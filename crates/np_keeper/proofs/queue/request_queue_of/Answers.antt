@@ -1,8 +1,5 @@
-use Rattle.std.proofs.Common.{◌<◌, ◌∙◌, length, sym, arith}
-use Rattle.std.proofs.lemmas.Option.{slice_get_within}
-use Rattle.np_machine.specs.Tables.{request_queue}
-use Rattle.np_keeper.proofs.Queued.{request_queue-fits}
-use Rattle.np_keeper.proofs.Copying.{copied_next, take_past}
+use Rattle.np_keeper.proofs.Prelude.{arith, length, request_queue, slice_get_within, sym, ◌<◌, ◌∙◌}
+use Rattle.np_keeper.proofs.Queued.{copied_next, request_queue-fits, take_past}
 use Rattle.np_keeper.proofs.queue.request_queue_of.Goals as goal
 
 pub overflow_add-at : goal.overflow_add-at

@@ -1,5 +1,4 @@
-use Rattle.std.proofs.Common.{◌≡◌, ◌≤◌, ◌-◌, take, length}
-use Rattle.np_machine.specs.Tables.{request_queue}
+use Rattle.np_keeper.proofs.Prelude.{length, request_queue, take, ◌-◌, ◌≡◌, ◌≤◌}
 use Rattle.np_keeper.proofs.queue.request_queue_of.Given as goal
 
 abbrev pub invariant-loop-session : goal.invariant-loop-session

@@ -1,5 +1,4 @@
-use Rattle.std.proofs.Common.{take}
-use Rattle.np_layout.specs.Prelude.{AllByRecursion, IsPart}
+use Rattle.np_keeper.proofs.Prelude.{AllByRecursion, IsPart, take}
 use Rattle.np_keeper.proofs.range.parts_are_proper.Given as goal
 
 abbrev pub invariant-loop-part : goal.invariant-loop-part

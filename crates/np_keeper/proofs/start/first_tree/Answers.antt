@@ -1,7 +1,5 @@
-use Rattle.std.proofs.Common.{◌≡◌, ◌∙◌, length, List, ap, sym, subst, arith}
-use Rattle.np_layout.specs.Prelude.{Goes, Op, TreeState, after_begin, after_multi, after_parts, is_numbered, list_all, new_tree, with_spare}
-use Rattle.np_layout.specs.First.{first_parts}
-use Rattle.np_keeper.proofs.FirstParts.{decoded-first, first-few, first-goes-spared, first-numbered, held-first}
+use Rattle.np_keeper.proofs.Prelude.{Goes, List, Op, TreeState, after_begin, after_multi, after_parts, ap, arith, first_parts, is_numbered, length, list_all, new_tree, subst, sym, with_spare, ◌∙◌, ◌≡◌}
+use Rattle.np_keeper.proofs.Enacted.{decoded-first, first-few, first-goes-spared, first-numbered, held-first}
 use Rattle.np_keeper.proofs.start.first_tree.Goals as goal
 
 pub call-requires-clause-few : goal.call-requires-clause-few

@@ -1,5 +1,5 @@
-use Rattle.std.proofs.Common.{◌∙◌}
-use Rattle.np_keeper.proofs.FirstParts.{first-is}
+use Rattle.np_keeper.proofs.Prelude.{◌∙◌}
+use Rattle.np_keeper.proofs.Enacted.{first-is}
 use Rattle.np_keeper.proofs.start.make_first_parts.Goals as goal
 
 pub returns : goal.returns

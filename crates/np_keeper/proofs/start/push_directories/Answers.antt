@@ -1,7 +1,5 @@
-use Rattle.std.proofs.Common.{[]}
-use Rattle.np_layout.specs.declared.place.Place.TheVariants.{Nodepool, Launchers, Nodes, Requests, RequestLocks, Poolsim, Jobs, Roles, Sessions, SweptPairs, Zuul, Semaphores}
-use Rattle.np_layout.specs.First.{make}
-use Rattle.np_keeper.proofs.Made.{twelve}
+use Rattle.np_keeper.proofs.Prelude.{Jobs, Launchers, Nodepool, Nodes, Poolsim, RequestLocks, Requests, Roles, Semaphores, Sessions, SweptPairs, Zuul, make, []}
+use Rattle.np_keeper.proofs.Enacted.{twelve}
 use Rattle.np_keeper.proofs.start.push_directories.Goals as goal
 
 pub returns : goal.returns

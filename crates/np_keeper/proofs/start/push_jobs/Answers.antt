@@ -1,6 +1,5 @@
-use Rattle.std.proofs.Common.{sym}
-use Rattle.np_layout.specs.declared.place.Place.TheVariants.{Job}
-use Rattle.np_keeper.proofs.Made.{made-all, made-next}
+use Rattle.np_keeper.proofs.Prelude.{Job, sym}
+use Rattle.np_keeper.proofs.Enacted.{made-all, made-next}
 use Rattle.np_keeper.proofs.start.push_jobs.Goals as goal
 
 pub loop-ops-preserved : goal.loop-ops-preserved

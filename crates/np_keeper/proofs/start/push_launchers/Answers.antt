@@ -1,6 +1,5 @@
-use Rattle.std.proofs.Common.{sym}
-use Rattle.np_layout.specs.declared.place.Place.TheVariants.{LauncherRole}
-use Rattle.np_keeper.proofs.Made.{made-all, made-next}
+use Rattle.np_keeper.proofs.Prelude.{LauncherRole, sym}
+use Rattle.np_keeper.proofs.Enacted.{made-all, made-next}
 use Rattle.np_keeper.proofs.start.push_launchers.Goals as goal
 
 pub loop-ops-preserved : goal.loop-ops-preserved

@@ -1,6 +1,5 @@
-use Rattle.std.proofs.Common.{◌-◌, length}
-use Rattle.np_layout.specs.declared.place.Place.TheVariants.{LauncherRole}
-use Rattle.np_keeper.proofs.Made.{IsMade}
+use Rattle.np_keeper.proofs.Prelude.{LauncherRole, length, ◌-◌}
+use Rattle.np_keeper.proofs.Enacted.{IsMade}
 use Rattle.np_keeper.proofs.start.push_launchers.Given as goal
 
 abbrev pub invariant-loop-ops : goal.invariant-loop-ops

@@ -1,14 +1,5 @@
-use Rattle.std.proofs.Common.{◌∙◌, ap, rules}
-use Rattle.std.proofs.lemmas.Result.{on_ok_weaker}
-use Rattle.np_changes.specs.Prelude.{Fits, changed}
-use Rattle.np_changes.specs.declared.changes.Changes.{Changes}
-use Rattle.np_changes.proofs.PlanLaws.{plan-next}
-use Rattle.np_changes.proofs.FitsRuns.{Fits-Runs}
-use Rattle.np_changes.proofs.Sites.{sound_fits}
-use Rattle.np_layout.specs.Ready.{IsTyped}
-use Rattle.np_layout.specs.Decoded.{decoded}
-use Rattle.np_keeper.proofs.Accepted.{may-change}
-use Rattle.np_keeper.proofs.Laid.{next-laid}
+use Rattle.np_keeper.proofs.Prelude.{Changes, Fits, Fits-Runs, IsTyped, ap, changed, decoded, on_ok_weaker, plan-next, rules, sound_fits, ◌∙◌}
+use Rattle.np_keeper.proofs.Enacted.{may-change, next-laid}
 use Rattle.np_keeper.proofs.step.enact.Goals as goal
 
 pub verdict_on-requires-clause-fits : goal.verdict_on-requires-clause-fits

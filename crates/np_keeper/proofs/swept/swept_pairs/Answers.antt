@@ -1,15 +1,7 @@
-use Rattle.std.proofs.Common.{◌∙◌, ap, arith}
-use Rattle.std.specs.Prelude.{slice_get}
-use Rattle.np_lists.specs.Roomy.{Roomy}
-use Rattle.np_machine.specs.declared.state.Swept.{Swept}
-use Rattle.np_layout.specs.declared.place.Place.TheVariants.{SweptPairs}
-use Rattle.np_layout.specs.Decoded.{swept_at}
-use Rattle.np_layout.specs.Layout.{under}
-use Rattle.np_keeper.proofs.Copying.{none_missing}
-use Rattle.np_keeper.proofs.Queued.{none_seen}
-use Rattle.np_keeper.proofs.SweptRows.{all_put, pair_in, pair_is_new, pair_put}
-use Rattle.np_keeper.proofs.swept.swept_pairs.Goals as goal
+use Rattle.np_keeper.proofs.Prelude.{Roomy, Swept, SweptPairs, ap, arith, slice_get, swept_at, under, ◌∙◌}
+use Rattle.np_keeper.proofs.Queued.{all_put, none_missing, none_seen, pair_in, pair_is_new, pair_put}
 use Rattle.np_keeper.proofs.swept.swept_pairs.Goals.{in-Some+in_ok-put, in_default}
+use Rattle.np_keeper.proofs.swept.swept_pairs.Goals as goal
 
 pub put-requires : goal.put-requires
 put-requires c =

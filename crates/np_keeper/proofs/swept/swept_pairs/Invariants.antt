@@ -1,9 +1,5 @@
-use Rattle.std.proofs.Common.{◌≡◌}
-use Rattle.np_layout.specs.declared.place.Place.TheVariants.{SweptPairs}
-use Rattle.np_layout.specs.Decoded.{swept_at}
-use Rattle.np_layout.specs.Layout.{under}
-use Rattle.np_layout.proofs.Order.{put_all}
-use Rattle.np_keeper.proofs.SweptRows.{pairs_from}
+use Rattle.np_keeper.proofs.Prelude.{SweptPairs, put_all, swept_at, under, ◌≡◌}
+use Rattle.np_keeper.proofs.Queued.{pairs_from}
 use Rattle.np_keeper.proofs.swept.swept_pairs.Given as goal
 
 abbrev pub invariant-loop-at : goal.invariant-loop-at

@@ -1,4 +1,4 @@
-use Rattle.np_keeper.proofs.Countable.{fits-countable}
+use Rattle.np_keeper.proofs.Queued.{fits-countable}
 use Rattle.np_keeper.proofs.vectors.tables_of_tree.Goals as goal
 
 pub of_vectors-requires : goal.of_vectors-requires

@@ -1,6 +1,4 @@
-use Rattle.std.proofs.Common.{◌≡◌, drop}
-use Rattle.std.specs.Prelude.{find}
-use Rattle.np_machine.specs.Reasons.{is_spent}
+use Rattle.np_launch.proofs.Prelude.{drop, find, is_spent, ◌≡◌}
 use Rattle.np_launch.proofs.computed.first_spent.Given as goal
 
 abbrev pub invariant-loop-node : goal.invariant-loop-node

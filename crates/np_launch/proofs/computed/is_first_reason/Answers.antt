@@ -1,6 +1,5 @@
-use Rattle.std.proofs.Common.{◌∙◌, sym}
-use Rattle.np_machine.specs.Tables.{request_in}
-use Rattle.np_launch.proofs.Reasons.{found-reason}
+use Rattle.np_launch.proofs.Prelude.{request_in, sym, ◌∙◌}
+use Rattle.np_launch.proofs.Launchers.{found-reason}
 use Rattle.np_launch.proofs.computed.is_first_reason.Goals as goal
 
 pub returns-in-Some : goal.returns-in-Some

@@ -1,4 +1,4 @@
-use Rattle.std.proofs.Common.{◌≤◌, ◌-◌, length}
+use Rattle.np_launch.proofs.Prelude.{length, ◌-◌, ◌≤◌}
 use Rattle.np_launch.proofs.computed.label_count.Given as goal
 
 abbrev pub invariant-loop-at : goal.invariant-loop-at

@@ -1,7 +1,5 @@
-use Rattle.std.proofs.Common.{◌∙◌, Option, sym, ap}
-use Rattle.std.specs.Prelude.{is_some}
-use Rattle.np_text.specs.declared.id.NodeId.{NodeId}
-use Rattle.np_launch.proofs.Spares.{may-take}
+use Rattle.np_launch.proofs.Prelude.{NodeId, Option, ap, is_some, sym, ◌∙◌}
+use Rattle.np_launch.proofs.Finds.{may-take}
 use Rattle.np_launch.proofs.computed.may_take_ready.Goals as goal
 
 pub returns : goal.returns

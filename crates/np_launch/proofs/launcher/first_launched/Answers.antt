@@ -1,10 +1,5 @@
-use Rattle.std.proofs.Common.{◌≡◌, ◌∙◌, ap}
-use Rattle.np_useful.specs.declared.kind.EventKind.{EventKind}
-use Rattle.np_useful.specs.declared.kind.EventKind.TheVariants.{Request}
-use Rattle.np_useful.specs.declared.kind.RequestKind.{RequestKind}
-use Rattle.np_useful.specs.declared.kind.RequestKind.TheVariants.{Lock}
-use Rattle.np_launch.specs.declared.launcher.LaunchKind.TheVariants.{Plain}
-use Rattle.np_launch.proofs.Locks.{lock-launched}
+use Rattle.np_launch.proofs.Prelude.{EventKind, Lock, Plain, Request, RequestKind, ap, ◌∙◌, ◌≡◌}
+use Rattle.np_launch.proofs.Launchers.{lock-launched}
 use Rattle.np_launch.proofs.launcher.first_launched.Goals as goal
 
 pub returns-in-Plain-Request-Lock : goal.returns-in-Plain-Request-Lock

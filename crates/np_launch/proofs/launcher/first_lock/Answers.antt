@@ -1,5 +1,5 @@
-use Rattle.std.proofs.Common.{sym}
-use Rattle.np_launch.proofs.Locks.{none-locks, first-useless, first-locks}
+use Rattle.np_launch.proofs.Prelude.{sym}
+use Rattle.np_launch.proofs.Launchers.{none-locks, first-useless, first-locks}
 use Rattle.np_launch.proofs.launcher.first_lock.Goals as goal
 
 pub returns-in_default : goal.returns-in_default

@@ -1,4 +1,4 @@
-use Rattle.np_launch.proofs.Sums.{computed-chooses}
+use Rattle.np_launch.proofs.Launchers.{computed-chooses}
 use Rattle.np_launch.proofs.launcher.first_of_computed.Goals as goal
 
 pub returns : goal.returns

@@ -1,5 +1,5 @@
-use Rattle.std.proofs.Common.{arith}
-use Rattle.np_launch.proofs.Sisters.{pending-few, unserved-few}
+use Rattle.np_launch.proofs.Prelude.{arith}
+use Rattle.np_launch.proofs.Registrants.{pending-few, unserved-few}
 use Rattle.np_launch.proofs.near.launcher_requests.Goals as goal
 
 pub overflow_add-result : goal.overflow_add-result

@@ -1,10 +1,5 @@
-use Rattle.std.proofs.Common.{◌≡◌, not, refl, sym, add-one, arith}
-use Rattle.np_text.specs.declared.id.RequestId.{RequestId}
-use Rattle.np_look.proofs.Walks.{count_here, as_it_is}
-use Rattle.np_look.specs.Readers.{queued_requests}
-use Rattle.np_useful.specs.Rows.{request_is}
-use Rattle.np_launch.specs.Sisters.{is_served_by_sister}
-use Rattle.np_launch.proofs.Counts.{one}
+use Rattle.np_launch.proofs.Prelude.{RequestId, add-one, arith, as_it_is, count_here, is_served_by_sister, not, queued_requests, refl, request_is, sym, ◌≡◌}
+use Rattle.np_launch.proofs.Finds.{one}
 use Rattle.np_launch.proofs.near.unserved_requests.Goals as goal
 
 pub loop-at-preserved : goal.loop-at-preserved

@@ -1,8 +1,4 @@
-use Rattle.std.proofs.Common.{◌≡◌, ◌≤◌, ◌+◌, drop}
-use Rattle.std.specs.Prelude.{not, count_by}
-use Rattle.np_look.specs.Readers.{queued_requests}
-use Rattle.np_useful.specs.Rows.{request_is}
-use Rattle.np_launch.specs.Sisters.{is_served_by_sister, unserved_requests}
+use Rattle.np_launch.proofs.Prelude.{count_by, drop, is_served_by_sister, not, queued_requests, request_is, unserved_requests, ◌+◌, ◌≡◌, ◌≤◌}
 use Rattle.np_launch.proofs.near.unserved_requests.Given as goal
 
 abbrev pub invariant-loop-at : goal.invariant-loop-at

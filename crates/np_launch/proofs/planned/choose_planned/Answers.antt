@@ -1,4 +1,4 @@
-use Rattle.np_launch.proofs.Planning.{none-without, plans-choose}
+use Rattle.np_launch.proofs.Launchers.{none-without, plans-choose}
 use Rattle.np_launch.proofs.planned.choose_planned.Goals as goal
 
 pub returns-in_default : goal.returns-in_default

@@ -1,4 +1,4 @@
-use Rattle.np_launch.proofs.Planning.{planned-chooses}
+use Rattle.np_launch.proofs.Launchers.{planned-chooses}
 use Rattle.np_launch.proofs.planned.first_planned.Goals as goal
 
 pub returns : goal.returns

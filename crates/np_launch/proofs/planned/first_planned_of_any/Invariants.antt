@@ -1,6 +1,4 @@
-use Rattle.std.proofs.Common.{take}
-use Rattle.std.specs.List.{AllByRecursion}
-use Rattle.np_launch.specs.Planned.{NonePlanned}
+use Rattle.np_launch.proofs.Prelude.{AllByRecursion, NonePlanned, take}
 use Rattle.np_launch.proofs.planned.first_planned_of_any.Given as goal
 
 abbrev pub invariant-loop-kind : goal.invariant-loop-kind

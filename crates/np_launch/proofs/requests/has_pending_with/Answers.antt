@@ -1,10 +1,4 @@
-use Rattle.std.proofs.Common.{◌≡◌, ◌∙◌, true, false, add-one, refl, sym}
-use Rattle.std.specs.Prelude.{◌&&◌, not}
-use Rattle.np_changes.specs.Prelude.{RequestEntry, RequestRecord, is_pending_by}
-use Rattle.np_look.specs.Views.{request_view}
-use Rattle.np_look.specs.declared.asked.RequestView.{RequestView}
-use Rattle.np_look.proofs.Walks.{any_found, any_later}
-use Rattle.np_useful.specs.Rows.{is_listed, has_failed_node}
+use Rattle.np_launch.proofs.Prelude.{RequestEntry, RequestRecord, RequestView, add-one, any_found, any_later, false, has_failed_node, is_listed, is_pending_by, not, refl, request_view, sym, true, ◌&&◌, ◌∙◌, ◌≡◌}
 use Rattle.np_launch.proofs.requests.has_pending_with.Goals as goal
 
 pub returns-then-needs_launch : goal.returns-then-needs_launch

@@ -1,8 +1,4 @@
-use Rattle.std.proofs.Common.{◌≡◌, drop}
-use Rattle.std.specs.Prelude.{◌&&◌, not}
-use Rattle.np_changes.specs.Prelude.{RequestEntry, is_pending_by, list_any}
-use Rattle.np_useful.specs.Launcher.{is_to_launch}
-use Rattle.np_useful.specs.Rows.{is_listed, has_failed_node}
+use Rattle.np_launch.proofs.Prelude.{RequestEntry, drop, has_failed_node, is_listed, is_pending_by, is_to_launch, list_any, not, ◌&&◌, ◌≡◌}
 use Rattle.np_launch.proofs.requests.has_pending_with.Given as goal
 
 abbrev pub invariant-loop-at : goal.invariant-loop-at

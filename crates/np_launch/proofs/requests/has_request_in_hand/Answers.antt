@@ -1,10 +1,6 @@
-use Rattle.std.proofs.Common.{◌∙◌, ◌<◌, ◌≤◌, length, sym, arith}
-use Rattle.np_look.specs.Readers.{queued_requests}
-use Rattle.np_launch.specs.Hands.{is_in_hand_at}
-use Rattle.np_launch.proofs.Finds.{any-found, any-later, any-past}
-use Rattle.np_launch.proofs.Named.{any-in_hand}
+use Rattle.np_launch.proofs.Prelude.{arith, is_in_hand_at, length, not-past, queued_requests, sym, ◌<◌, ◌∙◌, ◌≤◌}
+use Rattle.np_launch.proofs.Finds.{any-found, any-in_hand, any-later, any-past}
 use Rattle.np_launch.proofs.requests.has_request_in_hand.Goals as goal
-use Rattle.np_lists.proofs.Plain.{not-past}
 
 pub returns-in_default : goal.returns-in_default
 returns-in_default g c =

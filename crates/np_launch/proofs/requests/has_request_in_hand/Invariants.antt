@@ -1,7 +1,4 @@
-use Rattle.std.proofs.Common.{◌≡◌, drop}
-use Rattle.std.specs.List.{list_any}
-use Rattle.np_look.specs.Readers.{queued_requests}
-use Rattle.np_launch.specs.Hands.{is_in_hand_at}
+use Rattle.np_launch.proofs.Prelude.{drop, is_in_hand_at, list_any, queued_requests, ◌≡◌}
 use Rattle.np_launch.proofs.requests.has_request_in_hand.Given as goal
 
 abbrev pub invariant-loop-at : goal.invariant-loop-at

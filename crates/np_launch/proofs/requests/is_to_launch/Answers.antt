@@ -1,7 +1,5 @@
-use Rattle.std.proofs.Common.{◌∙◌, Option, false, not, sym, ap}
-use Rattle.np_changes.specs.Prelude.{RequestRecord, option_map_or}
-use Rattle.np_useful.specs.Rows.{has_failed_node}
-use Rattle.np_launch.proofs.Allocated.{launch-is}
+use Rattle.np_launch.proofs.Prelude.{Option, RequestRecord, ap, false, has_failed_node, not, option_map_or, sym, ◌∙◌}
+use Rattle.np_launch.proofs.Finds.{launch-is}
 use Rattle.np_launch.proofs.requests.is_to_launch.Goals as goal
 
 pub returns-in-None : goal.returns-in-None

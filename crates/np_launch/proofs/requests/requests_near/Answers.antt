@@ -1,11 +1,6 @@
-use Rattle.std.proofs.Common.{◌≡◌, ◌∙◌, length, suc, sym, ap, add-one, arith}
-use Rattle.std.proofs.lemmas.List.Sums.{count_by-le-length}
-use Rattle.std.proofs.lemmas.Option.{slice_get_within}
-use Rattle.np_config.specs.Configuration.{Configuration}
-use Rattle.np_launch.specs.Sisters.{is_near_below}
-use Rattle.np_launch.proofs.Sisters.{none-counts, pool-adds, pools-count}
+use Rattle.np_launch.proofs.Prelude.{Configuration, add-one, ap, arith, count_by-le-length, is_near_below, length, past-end, slice_get_within, suc, sym, ◌∙◌, ◌≡◌}
+use Rattle.np_launch.proofs.Registrants.{none-counts, pool-adds, pools-count}
 use Rattle.np_launch.proofs.requests.requests_near.Goals as goal
-use Rattle.np_lists.proofs.Plain.{past-end}
 
 pub loop-count-init : goal.loop-count-init
 loop-count-init g c = record { within = omega arith; all = sym (none-counts (g.L.Look.site c.args.look.now) (g.L.Look.state c.args.look.now) c.args.pool) }

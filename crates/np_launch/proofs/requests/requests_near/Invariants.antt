@@ -1,6 +1,4 @@
-use Rattle.std.proofs.Common.{◌≡◌, ◌≤◌, ◌-◌, length}
-use Rattle.std.specs.Prelude.{count_by}
-use Rattle.np_launch.specs.Sisters.{is_near_below}
+use Rattle.np_launch.proofs.Prelude.{count_by, is_near_below, length, ◌-◌, ◌≡◌, ◌≤◌}
 use Rattle.np_launch.proofs.requests.requests_near.Given as goal
 
 abbrev pub invariant-loop-count : goal.invariant-loop-count

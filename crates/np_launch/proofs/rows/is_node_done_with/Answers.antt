@@ -1,7 +1,5 @@
-use Rattle.std.proofs.Common.{◌∙◌, Option, sym, ap}
-use Rattle.std.specs.Prelude.{is_none}
-use Rattle.np_record.specs.declared.record.RequestRecord.{RequestRecord}
-use Rattle.np_launch.proofs.Allocated.{none-is, done-is}
+use Rattle.np_launch.proofs.Prelude.{Option, RequestRecord, ap, is_none, sym, ◌∙◌}
+use Rattle.np_launch.proofs.Finds.{none-is, done-is}
 use Rattle.np_launch.proofs.rows.is_node_done_with.Goals as goal
 
 pub returns : goal.returns

@@ -1,6 +1,6 @@
-use Rattle.std.proofs.Common.{◌+◌, ◌/◌, ◌%◌, ◌<◌, ◌++◌, drop, set, length, length-set, sym, ap, ◌∙◌, arith}
-use Rattle.std.specs.Fmt.{decimal}
-use Rattle.np_layout.proofs.BufferLemmas.{decimal-last, decimal-more, fits-more, place-more}
+use Rattle.np_layout.proofs.Prelude.{ap, arith, decimal, drop, length, length-set, sym, ◌%◌, ◌++◌, ◌+◌, ◌/◌, ◌<◌, ◌∙◌}
+use Rattle.std.proofs.Common.{set}
+use Rattle.np_layout.proofs.Names.{decimal-last, decimal-more, fits-more, place-more}
 use Rattle.np_layout.proofs.buffer.decimal_digits.Goals as goal
 
 pub loop-rest-preserved : goal.loop-rest-preserved

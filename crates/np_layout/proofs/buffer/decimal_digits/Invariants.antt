@@ -1,5 +1,4 @@
-use Rattle.std.proofs.Common.{◌≡◌, ◌+◌, ◌^◌, ◌<◌, ◌++◌, drop, length}
-use Rattle.std.specs.Fmt.{decimal}
+use Rattle.np_layout.proofs.Prelude.{decimal, drop, length, ◌++◌, ◌+◌, ◌<◌, ◌^◌, ◌≡◌}
 use Rattle.np_layout.proofs.buffer.decimal_digits.Given as goal
 
 abbrev pub invariant-loop-rest : goal.invariant-loop-rest

@@ -1,9 +1,6 @@
 use Rattle.np_layout.proofs.Events.{events-enact}
-use Rattle.np_layout.proofs.GrowthParts.{growths-enact}
-use Rattle.np_layout.proofs.HandleParts.{handles-enact}
-use Rattle.np_layout.proofs.NodeParts.{nodes-enact}
-use Rattle.np_layout.proofs.RecordParts.{deeds-enact, jobs-enact, sessions-enact, ticks-enact}
-use Rattle.np_layout.proofs.RequestParts.{requests-enact}
+use Rattle.np_layout.proofs.GrowthParts.{growths-enact, handles-enact}
+use Rattle.np_layout.proofs.ChangeParts.{deeds-enact, jobs-enact, nodes-enact, requests-enact, sessions-enact, ticks-enact}
 use Rattle.np_layout.proofs.enacted.events_are_enacted.Goals as goal
 
 pub returns : goal.returns

@@ -1,4 +1,4 @@
-use Rattle.np_layout.proofs.CreateHandles.{handles-lay-out}
+use Rattle.np_layout.proofs.Creates.{handles-lay-out}
 use Rattle.np_layout.proofs.laws.creates_of_handles_lay_out.Goals as goal
 
 pub returns : goal.returns

@@ -1,4 +1,4 @@
-use Rattle.np_layout.proofs.CreateLaunchers.{registrations-lay-out}
+use Rattle.np_layout.proofs.Creates.{registrations-lay-out}
 use Rattle.np_layout.proofs.laws.creates_of_registrations_lay_out.Goals as goal
 
 pub returns : goal.returns

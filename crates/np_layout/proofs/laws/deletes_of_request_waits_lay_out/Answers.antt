@@ -1,4 +1,4 @@
-use Rattle.np_layout.proofs.DeleteRequestWaits.{request_waits-lay-out}
+use Rattle.np_layout.proofs.Deletes.{request_waits-lay-out}
 use Rattle.np_layout.proofs.laws.deletes_of_request_waits_lay_out.Goals as goal
 
 pub returns : goal.returns

@@ -1,4 +1,4 @@
-use Rattle.np_layout.proofs.CreateNodes.{grown_nodes-lay-out}
+use Rattle.np_layout.proofs.Creates.{grown_nodes-lay-out}
 use Rattle.np_layout.proofs.laws.grown_nodes_lay_out.Goals as goal
 
 pub returns : goal.returns

@@ -1,4 +1,4 @@
-use Rattle.np_layout.proofs.SetJobs.{job_changes-lay-out, jobs-lay-out}
+use Rattle.np_layout.proofs.Sets.{job_changes-lay-out, jobs-lay-out}
 use Rattle.np_layout.proofs.laws.sets_of_jobs_lay_out.Goals as goal
 
 pub returns-clause-put : goal.returns-clause-put

@@ -1,4 +1,4 @@
-use Rattle.np_layout.proofs.SetRoles.{roles-lay-out}
+use Rattle.np_layout.proofs.Sets.{roles-lay-out}
 use Rattle.np_layout.proofs.laws.sets_of_roles_lay_out.Goals as goal
 
 pub returns : goal.returns

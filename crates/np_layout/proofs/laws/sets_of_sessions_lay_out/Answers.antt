@@ -1,4 +1,4 @@
-use Rattle.np_layout.proofs.SetSessions.{mutes-lay-out}
+use Rattle.np_layout.proofs.Sets.{mutes-lay-out}
 use Rattle.np_layout.proofs.laws.sets_of_sessions_lay_out.Goals as goal
 
 pub returns : goal.returns

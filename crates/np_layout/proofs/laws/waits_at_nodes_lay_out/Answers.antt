@@ -1,4 +1,4 @@
-use Rattle.np_layout.proofs.CreateNodeWaits.{node_waits-lay-out}
+use Rattle.np_layout.proofs.Creates.{node_waits-lay-out}
 use Rattle.np_layout.proofs.laws.waits_at_nodes_lay_out.Goals as goal
 
 pub returns : goal.returns

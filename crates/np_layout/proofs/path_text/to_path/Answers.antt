@@ -1,5 +1,5 @@
-use Rattle.std.proofs.Common.{◌∙◌}
-use Rattle.np_layout.proofs.FaultLemmas.{never_bad}
+use Rattle.np_layout.proofs.Prelude.{◌∙◌}
+use Rattle.np_layout.proofs.Names.{never_bad}
 use Rattle.np_layout.proofs.path_text.to_path.Goals as goal
 
 pub unreachable-requires : goal.unreachable-requires

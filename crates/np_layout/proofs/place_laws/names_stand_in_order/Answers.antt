@@ -1,4 +1,4 @@
-use Rattle.np_layout.proofs.OrderLemmas.{nodes-rise, request_locks-rise, requests-rise, sessions-rise, waits_for_nodes-rise, waits_for_requests-rise}
+use Rattle.np_layout.proofs.Names.{nodes-rise, request_locks-rise, requests-rise, sessions-rise, waits_for_nodes-rise, waits_for_requests-rise}
 use Rattle.np_layout.proofs.place_laws.names_stand_in_order.Goals as goal
 
 pub returns : goal.returns

@@ -1,4 +1,4 @@
-use Rattle.np_layout.proofs.AboveLemmas.{IsGood-above, parts-of, path_of-joined}
+use Rattle.np_layout.proofs.Names.{IsGood-above, parts-of, path_of-joined}
 use Rattle.np_layout.proofs.place_laws.places_stand_in_directories.Goals as goal
 
 pub returns : goal.returns

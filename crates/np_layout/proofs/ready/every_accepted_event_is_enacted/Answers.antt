@@ -1,13 +1,8 @@
-use Rattle.np_changes.proofs.PlanLaws.{plan-next}
-use Rattle.np_layout.proofs.Events.{events-enact}
-use Rattle.np_layout.proofs.GrowthParts.{growths-enact}
-use Rattle.np_layout.proofs.HandleParts.{handles-enact}
-use Rattle.np_layout.proofs.NodeParts.{nodes-enact}
-use Rattle.np_layout.proofs.RecordParts.{deeds-enact, jobs-enact, sessions-enact, ticks-enact}
-use Rattle.np_layout.proofs.RequestParts.{requests-enact}
+use Rattle.np_layout.proofs.Prelude.{plan-next}
+use Rattle.np_layout.proofs.Events.{events-are-enacted, events-are-ready, events-enact}
+use Rattle.np_layout.proofs.GrowthParts.{growths-enact, handles-enact}
+use Rattle.np_layout.proofs.ChangeParts.{deeds-enact, jobs-enact, nodes-enact, requests-enact, sessions-enact, ticks-enact}
 use Rattle.np_layout.proofs.Carried.{steps-are-carried}
-use Rattle.np_layout.proofs.Enacts.{events-are-enacted}
-use Rattle.np_layout.proofs.Readies.{events-are-ready}
 use Rattle.np_layout.proofs.Spelled.{records-are-spelled}
 use Rattle.np_layout.proofs.ready.every_accepted_event_is_enacted.Goals as goal
 

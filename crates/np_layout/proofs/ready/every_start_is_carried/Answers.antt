@@ -1,4 +1,4 @@
-use Rattle.np_layout.proofs.Starts.{starts-are-carried}
+use Rattle.np_layout.proofs.FirstTrees.{starts-are-carried}
 use Rattle.np_layout.proofs.ready.every_start_is_carried.Goals as goal
 
 pub returns : goal.returns

@@ -1,6 +1,5 @@
-use Rattle.std.proofs.Common.{◌≡◌, ◌∙◌, ◌<◌, ◌+◌, ◌++◌, List, ℕ, length, drop, ap}
-use Rattle.np_listing.specs.Columns.{cell_text, width_at}
-use Rattle.np_listing.proofs.Cells.{cells_text-put}
+use Rattle.np_listing.proofs.Prelude.{List, ap, cell_text, drop, length, width_at, ℕ, ◌++◌, ◌+◌, ◌<◌, ◌∙◌, ◌≡◌}
+use Rattle.np_listing.proofs.Walks.{cells_text-put}
 use Rattle.np_listing.proofs.columns.put_cells.Goals as goal
 
 pub loop-column-preserved : goal.loop-column-preserved

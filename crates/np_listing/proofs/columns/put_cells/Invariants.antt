@@ -1,5 +1,4 @@
-use Rattle.std.proofs.Common.{◌≡◌, ◌++◌, drop}
-use Rattle.np_listing.specs.Columns.{cells_text}
+use Rattle.np_listing.proofs.Prelude.{cells_text, drop, ◌++◌, ◌≡◌}
 use Rattle.np_listing.proofs.columns.put_cells.Given as goal
 
 abbrev pub invariant-loop-column : goal.invariant-loop-column

@@ -1,4 +1,4 @@
-use Rattle.std.proofs.Common.{◌≡◌, ◌++◌, replicate}
+use Rattle.np_listing.proofs.Prelude.{replicate, ◌++◌, ◌≡◌}
 use Rattle.np_listing.proofs.columns.put_spaces.Given as goal
 
 abbrev pub invariant-loop-at : goal.invariant-loop-at

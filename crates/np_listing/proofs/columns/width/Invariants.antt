@@ -1,5 +1,4 @@
-use Rattle.std.proofs.Common.{◌≡◌, max, drop}
-use Rattle.np_listing.specs.Columns.{width}
+use Rattle.np_listing.proofs.Prelude.{drop, max, width, ◌≡◌}
 use Rattle.np_listing.proofs.columns.width.Given as goal
 
 abbrev pub invariant-loop-row : goal.invariant-loop-row

@@ -1,7 +1,4 @@
-use Rattle.std.proofs.Common.{◌∙◌, ℕ, List, [], ◌∷◌, ◌++◌, ap, sym, map, arith}
-use Rattle.std.specs.List.{range_with_len}
-use Rattle.std.proofs.lemmas.List.FromFn.{map-range_with_len_more}
-use Rattle.np_listing.specs.Columns.{width}
+use Rattle.np_listing.proofs.Prelude.{List, ap, arith, map, map-range_with_len_more, range_with_len, sym, width, ℕ, [], ◌++◌, ◌∙◌, ◌∷◌}
 use Rattle.np_listing.proofs.columns.widths.Goals as goal
 
 pub loop-column-preserved : goal.loop-column-preserved

@@ -1,6 +1,4 @@
-use Rattle.std.proofs.Common.{◌≡◌, map}
-use Rattle.std.specs.List.{range_with_len}
-use Rattle.np_listing.specs.Columns.{width}
+use Rattle.np_listing.proofs.Prelude.{map, range_with_len, width, ◌≡◌}
 use Rattle.np_listing.proofs.columns.widths.Given as goal
 
 abbrev pub invariant-loop-column : goal.invariant-loop-column

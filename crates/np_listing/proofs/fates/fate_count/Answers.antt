@@ -1,8 +1,5 @@
-use Rattle.std.proofs.Common.{◌≡◌, ◌∙◌, ap, sym, arith, Bool, Some, cond}
-use Rattle.std.specs.Prelude.{slice_get}
-use Rattle.np_changes.specs.Prelude.{JobRecord}
-use Rattle.np_listing.specs.Summary.{has_fate}
-use Rattle.np_listing.proofs.Lists.{count-take}
+use Rattle.np_listing.proofs.Prelude.{Bool, JobRecord, Some, ap, arith, cond, has_fate, slice_get, sym, ◌∙◌, ◌≡◌}
+use Rattle.np_listing.proofs.Walks.{count-take}
 use Rattle.np_listing.proofs.fates.fate_count.Goals as goal
 
 pub loop-at-preserved : goal.loop-at-preserved

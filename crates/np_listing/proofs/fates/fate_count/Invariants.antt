@@ -1,6 +1,4 @@
-use Rattle.std.proofs.Common.{◌≡◌, ◌≤◌, take}
-use Rattle.std.specs.Prelude.{count_by}
-use Rattle.np_listing.specs.Summary.{has_fate}
+use Rattle.np_listing.proofs.Prelude.{count_by, has_fate, take, ◌≡◌, ◌≤◌}
 use Rattle.np_listing.proofs.fates.fate_count.Given as goal
 
 abbrev pub invariant-loop-at : goal.invariant-loop-at

@@ -1,5 +1,5 @@
-use Rattle.np_explain_lines.proofs.Parts.{then_more}
-use Rattle.np_listing.proofs.Lists.{then}
+use Rattle.np_listing.proofs.Prelude.{then_more}
+use Rattle.np_listing.proofs.Walks.{then}
 use Rattle.np_listing.proofs.fates.put_fates.Goals as goal
 
 pub returns : goal.returns

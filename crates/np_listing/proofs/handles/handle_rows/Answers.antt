@@ -1,5 +1,4 @@
-use Rattle.std.proofs.Common.{◌∙◌, ℕ, List, ◌∷◌, ◌++◌, ap, sym}
-use Rattle.np_listing.specs.Listing.{handle_head, handle_rows_of}
+use Rattle.np_listing.proofs.Prelude.{List, ap, handle_head, handle_rows_of, sym, ℕ, ◌++◌, ◌∙◌, ◌∷◌}
 use Rattle.np_listing.proofs.Walks.{more}
 use Rattle.np_listing.proofs.handles.handle_rows.Goals as goal
 

@@ -1,6 +1,4 @@
-use Rattle.std.proofs.Common.{◌≡◌, ◌∷◌}
-use Rattle.std.specs.List.{flat_map, range_with_len}
-use Rattle.np_listing.specs.Listing.{handle_head, handle_rows_of}
+use Rattle.np_listing.proofs.Prelude.{flat_map, handle_head, handle_rows_of, range_with_len, ◌∷◌, ◌≡◌}
 use Rattle.np_listing.proofs.handles.handle_rows.Given as goal
 
 abbrev pub invariant-loop-number : goal.invariant-loop-number

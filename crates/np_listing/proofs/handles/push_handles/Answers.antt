@@ -1,8 +1,4 @@
-use Rattle.std.proofs.Common.{◌≡◌, ◌∙◌, ◌++◌, Some, ap, sym}
-use Rattle.std.specs.Prelude.{slice_get}
-use Rattle.np_text.specs.declared.id.SemId.{SemId}
-use Rattle.np_changes.specs.Prelude.{Configuration, JobId, handles_of, option_map}
-use Rattle.np_listing.specs.Listing.{handle_row, handle_rows_of}
+use Rattle.np_listing.proofs.Prelude.{Configuration, JobId, SemId, Some, ap, handle_row, handle_rows_of, handles_of, option_map, slice_get, sym, ◌++◌, ◌∙◌, ◌≡◌}
 use Rattle.np_listing.proofs.Walks.{put}
 use Rattle.np_listing.proofs.handles.push_handles.Goals as goal
 

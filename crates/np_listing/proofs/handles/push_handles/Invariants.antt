@@ -1,6 +1,4 @@
-use Rattle.std.proofs.Common.{◌≡◌, ◌++◌, drop, map}
-use Rattle.np_changes.specs.Prelude.{handles_of}
-use Rattle.np_listing.specs.Listing.{handle_row, handle_rows_of}
+use Rattle.np_listing.proofs.Prelude.{drop, handle_row, handle_rows_of, handles_of, map, ◌++◌, ◌≡◌}
 use Rattle.np_listing.proofs.handles.push_handles.Given as goal
 
 abbrev pub invariant-loop-at : goal.invariant-loop-at

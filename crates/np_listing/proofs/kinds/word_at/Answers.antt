@@ -1,6 +1,5 @@
-use Rattle.std.proofs.Common.{◌∙◌, ℕ, List, [], Bor, ap, map}
-use Rattle.std.specs.Prelude.{slice_get, unwrap_or}
-use Rattle.np_listing.proofs.Lists.{text-none, text-there}
+use Rattle.np_listing.proofs.Prelude.{Bor, List, ap, map, slice_get, unwrap_or, ℕ, [], ◌∙◌}
+use Rattle.np_listing.proofs.Walks.{text-none, text-there}
 use Rattle.np_listing.proofs.kinds.word_at.Goals as goal
 
 pub returns-in-None : goal.returns-in-None

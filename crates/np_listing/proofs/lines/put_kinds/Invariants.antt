@@ -1,6 +1,4 @@
-use Rattle.std.proofs.Common.{◌≡◌, ◌++◌, drop}
-use Rattle.std.specs.List.{flat_map}
-use Rattle.np_listing.specs.Summary.{kind_text}
+use Rattle.np_listing.proofs.Prelude.{drop, flat_map, kind_text, ◌++◌, ◌≡◌}
 use Rattle.np_listing.proofs.lines.put_kinds.Given as goal
 
 abbrev pub invariant-loop-row : goal.invariant-loop-row

@@ -1,7 +1,4 @@
-use Rattle.std.proofs.Common.{◌≡◌, ◌∙◌, ℕ, ap, sym}
-use Rattle.np_changes.specs.Prelude.{Configuration}
-use Rattle.np_look.specs.Views.{node_view}
-use Rattle.np_listing.specs.Listing.{node_row, node_rows}
+use Rattle.np_listing.proofs.Prelude.{Configuration, ap, node_row, node_rows, node_view, sym, ℕ, ◌∙◌, ◌≡◌}
 use Rattle.np_listing.proofs.Walks.{put}
 use Rattle.np_listing.proofs.nodes.node_rows.Goals as goal
 

@@ -1,6 +1,4 @@
-use Rattle.std.proofs.Common.{◌≡◌, ◌++◌, drop, map}
-use Rattle.np_look.specs.Views.{node_view}
-use Rattle.np_listing.specs.Listing.{node_row, node_rows}
+use Rattle.np_listing.proofs.Prelude.{drop, map, node_row, node_rows, node_view, ◌++◌, ◌≡◌}
 use Rattle.np_listing.proofs.nodes.node_rows.Given as goal
 
 abbrev pub invariant-loop-at : goal.invariant-loop-at

@@ -1,7 +1,4 @@
-use Rattle.std.proofs.Common.{◌<◌, length, arith}
-use Rattle.std.proofs.lemmas.List.{get_or_default}
-use Rattle.std.proofs.lemmas.List.Edits.{map_over_more}
-use Rattle.np_listing.specs.Noting.{more_of_kind}
+use Rattle.np_listing.proofs.Prelude.{arith, get_or_default, length, map_over_more, more_of_kind, ◌<◌}
 use Rattle.np_listing.proofs.notes.count_kinds.Goals as goal
 
 pub loop-row-preserved : goal.loop-row-preserved

@@ -1,5 +1,4 @@
-use Rattle.std.proofs.Common.{◌≡◌, ◌++◌, take, drop, map}
-use Rattle.np_listing.specs.Noting.{more_of_kind}
+use Rattle.np_listing.proofs.Prelude.{drop, map, more_of_kind, take, ◌++◌, ◌≡◌}
 use Rattle.np_listing.proofs.notes.count_kinds.Given as goal
 
 abbrev pub invariant-loop-row : goal.invariant-loop-row

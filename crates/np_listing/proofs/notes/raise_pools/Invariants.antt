@@ -1,5 +1,4 @@
-use Rattle.std.proofs.Common.{◌≡◌, ◌++◌, take, drop, map}
-use Rattle.np_listing.specs.Noting.{raised_pool}
+use Rattle.np_listing.proofs.Prelude.{drop, map, raised_pool, take, ◌++◌, ◌≡◌}
 use Rattle.np_listing.proofs.notes.raise_pools.Given as goal
 
 abbrev pub invariant-loop-row : goal.invariant-loop-row

@@ -1,5 +1,4 @@
-use Rattle.std.proofs.Common.{◌≡◌, ◌++◌, take, drop, map}
-use Rattle.np_listing.specs.Noting.{watched}
+use Rattle.np_listing.proofs.Prelude.{drop, map, take, watched, ◌++◌, ◌≡◌}
 use Rattle.np_listing.proofs.notes.watch_semaphores.Given as goal
 
 abbrev pub invariant-loop-time : goal.invariant-loop-time

@@ -1,6 +1,4 @@
-use Rattle.std.proofs.Common.{◌≡◌, ◌++◌, drop, codes}
-use Rattle.std.specs.List.{flat_map}
-use Rattle.np_listing.specs.Listing.{decline_words}
+use Rattle.np_listing.proofs.Prelude.{codes, decline_words, drop, flat_map, ◌++◌, ◌≡◌}
 use Rattle.np_listing.proofs.requests.put_declines.Given as goal
 
 abbrev pub invariant-loop-declined : goal.invariant-loop-declined

@@ -1,6 +1,4 @@
-use Rattle.std.proofs.Common.{◌≡◌, ◌++◌, drop, codes}
-use Rattle.std.specs.List.{flat_map}
-use Rattle.np_explain_lines.specs.Words.{label_words}
+use Rattle.np_listing.proofs.Prelude.{codes, drop, flat_map, label_words, ◌++◌, ◌≡◌}
 use Rattle.np_listing.proofs.requests.put_labels.Given as goal
 
 abbrev pub invariant-loop-label : goal.invariant-loop-label

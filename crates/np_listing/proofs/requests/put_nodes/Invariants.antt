@@ -1,6 +1,4 @@
-use Rattle.std.proofs.Common.{◌≡◌, ◌++◌, drop, codes}
-use Rattle.std.specs.List.{flat_map}
-use Rattle.np_explain_lines.specs.Words.{node_words}
+use Rattle.np_listing.proofs.Prelude.{codes, drop, flat_map, node_words, ◌++◌, ◌≡◌}
 use Rattle.np_listing.proofs.requests.put_nodes.Given as goal
 
 abbrev pub invariant-loop-node : goal.invariant-loop-node

@@ -1,7 +1,4 @@
-use Rattle.std.proofs.Common.{◌≡◌, ◌∙◌, ap, sym}
-use Rattle.np_changes.specs.Prelude.{Configuration}
-use Rattle.np_look.specs.Views.{request_view}
-use Rattle.np_listing.specs.Listing.{request_row, request_rows}
+use Rattle.np_listing.proofs.Prelude.{Configuration, ap, request_row, request_rows, request_view, sym, ◌∙◌, ◌≡◌}
 use Rattle.np_listing.proofs.Walks.{put}
 use Rattle.np_listing.proofs.requests.request_rows.Goals as goal
 

@@ -1,6 +1,4 @@
-use Rattle.std.proofs.Common.{◌≡◌, ◌++◌, drop, map}
-use Rattle.np_look.specs.Views.{request_view}
-use Rattle.np_listing.specs.Listing.{request_row, request_rows}
+use Rattle.np_listing.proofs.Prelude.{drop, map, request_row, request_rows, request_view, ◌++◌, ◌≡◌}
 use Rattle.np_listing.proofs.requests.request_rows.Given as goal
 
 abbrev pub invariant-loop-at : goal.invariant-loop-at

@@ -1,4 +1,4 @@
-use Rattle.std.proofs.Common.{◌≡◌, map, take}
+use Rattle.np_listing.proofs.Prelude.{map, take, ◌≡◌}
 use Rattle.np_listing.proofs.row.head.Given as goal
 
 abbrev pub invariant-loop-word : goal.invariant-loop-word

@@ -1,6 +1,5 @@
-use Rattle.std.proofs.Common.{[]}
-use Rattle.np_listing.specs.Tally.{kind_count}
-use Rattle.np_listing.proofs.Numbered.{one-more}
+use Rattle.np_listing.proofs.Prelude.{kind_count, []}
+use Rattle.np_listing.proofs.Counting.{one-more}
 use Rattle.np_listing.proofs.rows.no_events.Goals as goal
 
 pub loop-kind-preserved : goal.loop-kind-preserved

@@ -1,6 +1,4 @@
-use Rattle.std.proofs.Common.{◌≡◌, [], map}
-use Rattle.std.specs.List.{range_with_len}
-use Rattle.np_listing.specs.Tally.{kind_count}
+use Rattle.np_listing.proofs.Prelude.{kind_count, map, range_with_len, [], ◌≡◌}
 use Rattle.np_listing.proofs.rows.no_events.Given as goal
 
 abbrev pub invariant-loop-kind : goal.invariant-loop-kind

@@ -1,6 +1,4 @@
-use Rattle.std.proofs.Common.{◌≡◌, [], map}
-use Rattle.std.specs.List.{range_with_len}
-use Rattle.np_listing.specs.Tally.{pool_row}
+use Rattle.np_listing.proofs.Prelude.{map, pool_row, range_with_len, [], ◌≡◌}
 use Rattle.np_listing.proofs.rows.no_pools.Given as goal
 
 abbrev pub invariant-loop-at : goal.invariant-loop-at

@@ -1,6 +1,4 @@
-use Rattle.std.proofs.Common.{◌≡◌, [], map}
-use Rattle.std.specs.List.{range_with_len}
-use Rattle.np_listing.specs.Tally.{tenant_row}
+use Rattle.np_listing.proofs.Prelude.{map, range_with_len, tenant_row, [], ◌≡◌}
 use Rattle.np_listing.proofs.rows.no_tenants.Given as goal
 
 abbrev pub invariant-loop-at : goal.invariant-loop-at

@@ -1,6 +1,5 @@
-use Rattle.std.proofs.Common.{[]}
-use Rattle.np_listing.specs.Tally.{semaphore_row}
-use Rattle.np_listing.proofs.Numbered.{one-more}
+use Rattle.np_listing.proofs.Prelude.{semaphore_row, []}
+use Rattle.np_listing.proofs.Counting.{one-more}
 use Rattle.np_listing.proofs.rows.no_times.Goals as goal
 
 pub loop-at-preserved : goal.loop-at-preserved

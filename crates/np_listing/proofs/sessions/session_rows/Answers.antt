@@ -1,9 +1,5 @@
-use Rattle.std.proofs.Common.{◌≡◌, ◌∙◌, ◌+◌, ℕ, Some, sym}
-use Rattle.std.specs.Prelude.{slice_get}
-use Rattle.np_machine.specs.declared.state.SessionFacts.{SessionFacts}
-use Rattle.np_listing.specs.Listing.{session_row, session_rows}
-use Rattle.np_listing.proofs.Walks.{numbered-put}
-use Rattle.np_listing.proofs.Numbers.{session_of-next}
+use Rattle.np_listing.proofs.Prelude.{SessionFacts, Some, session_row, session_rows, slice_get, sym, ℕ, ◌+◌, ◌∙◌, ◌≡◌}
+use Rattle.np_listing.proofs.Walks.{numbered-put, session_of-next}
 use Rattle.np_listing.proofs.sessions.session_rows.Goals as goal
 
 pub loop-at-preserved : goal.loop-at-preserved

@@ -1,5 +1,4 @@
-use Rattle.std.proofs.Common.{◌≡◌, ◌+◌, ◌++◌, drop}
-use Rattle.np_listing.specs.Listing.{numbered, session_row, session_rows}
+use Rattle.np_listing.proofs.Prelude.{drop, numbered, session_row, session_rows, ◌++◌, ◌+◌, ◌≡◌}
 use Rattle.np_listing.proofs.sessions.session_rows.Given as goal
 
 abbrev pub invariant-loop-at : goal.invariant-loop-at

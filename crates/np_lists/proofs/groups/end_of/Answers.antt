@@ -1,8 +1,6 @@
 -- the members of later groups come last, so a search counts the others
-use Rattle.std.proofs.Common.{not}
-use Rattle.np_lists.proofs.SplitLemmas.{IsSplit-partitioned}
-use Rattle.np_lists.specs.Groups.{is_group_before}
-use Rattle.np_lists.proofs.Search.{high-partitioned}
+use Rattle.np_lists.proofs.Prelude.{is_group_before, not}
+use Rattle.np_lists.proofs.Searches.{IsSplit-partitioned, high-partitioned}
 use Rattle.np_lists.proofs.groups.end_of.Goals as goal
 
 pub place-requires : goal.place-requires

@@ -1,11 +1,8 @@
 -- where the members before it end this one is, or there is none
-use Rattle.std.proofs.Common.{◌≡◌, ◌∙◌, sym, Some, arith}
-use Rattle.std.specs.Prelude.{slice_get}
-use Rattle.std.proofs.lemmas.Bool.{OnTrue_from, OnFalse_from}
-use Rattle.std.proofs.lemmas.Option.{get_or_from_slice_get, slice_get_within}
-use Rattle.np_lists.proofs.Search.{member-found, member-absent}
-use Rattle.np_lists.proofs.groups.is_at.Goals as goal
+use Rattle.np_lists.proofs.Prelude.{OnFalse_from, OnTrue_from, Some, arith, get_or_from_slice_get, slice_get, slice_get_within, sym, ◌∙◌, ◌≡◌}
+use Rattle.np_lists.proofs.Searches.{member-found, member-absent}
 use Rattle.np_lists.proofs.Plain.{past-end}
+use Rattle.np_lists.proofs.groups.is_at.Goals as goal
 
 pub returns-in-Some-clause-yes : goal.returns-in-Some-clause-yes
 returns-in-Some-clause-yes g c =

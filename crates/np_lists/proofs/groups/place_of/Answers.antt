@@ -1,4 +1,4 @@
-use Rattle.np_lists.proofs.Halves.{first-within}
+use Rattle.np_lists.proofs.Searches.{first-within}
 use Rattle.np_lists.proofs.groups.place_of.Goals as goal
 
 pub returns-clause-within : goal.returns-clause-within

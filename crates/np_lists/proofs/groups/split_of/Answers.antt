@@ -1,8 +1,6 @@
 -- the members before this one come first, so a search finds where they end
-use Rattle.std.proofs.lemmas.List.Sums.{prefix_len-le-length}
-use Rattle.np_lists.proofs.SplitLemmas.{IsSplit-partitioned}
-use Rattle.np_lists.specs.Groups.{is_member_before}
-use Rattle.np_lists.proofs.Search.{members-partitioned, prefix-point}
+use Rattle.np_lists.proofs.Prelude.{is_member_before, prefix_len-le-length}
+use Rattle.np_lists.proofs.Searches.{IsSplit-partitioned, members-partitioned, prefix-point}
 use Rattle.np_lists.proofs.groups.split_of.Goals as goal
 
 pub place-requires : goal.place-requires

@@ -1,7 +1,6 @@
 -- the members of earlier groups come first, so a search counts them
-use Rattle.np_lists.proofs.SplitLemmas.{IsSplit-partitioned}
-use Rattle.np_lists.specs.Groups.{is_group_before}
-use Rattle.np_lists.proofs.Search.{low-partitioned}
+use Rattle.np_lists.proofs.Prelude.{is_group_before}
+use Rattle.np_lists.proofs.Searches.{IsSplit-partitioned, low-partitioned}
 use Rattle.np_lists.proofs.groups.start_of.Goals as goal
 
 pub place-requires : goal.place-requires

@@ -1,5 +1,4 @@
-use Rattle.std.proofs.Common.{◌≡◌, ◌≤◌, ◌+◌, drop}
-use Rattle.np_lists.specs.Moves.{with_groups}
+use Rattle.np_lists.proofs.Prelude.{drop, with_groups, ◌+◌, ◌≡◌, ◌≤◌}
 use Rattle.np_lists.proofs.moves.put_all.Given as goal
 
 abbrev pub invariant-loop-group : goal.invariant-loop-group

@@ -1,5 +1,4 @@
-use Rattle.std.proofs.Common.{◌≡◌, ◌≤◌, drop}
-use Rattle.np_lists.specs.Moves.{without_groups}
+use Rattle.np_lists.proofs.Prelude.{drop, without_groups, ◌≡◌, ◌≤◌}
 use Rattle.np_lists.proofs.moves.take_all.Given as goal
 
 abbrev pub invariant-loop-group : goal.invariant-loop-group

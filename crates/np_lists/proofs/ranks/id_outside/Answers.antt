@@ -1,8 +1,8 @@
 -- the id at the last place has the rank, or none has it
-use Rattle.std.proofs.Common.{◌∙◌, sym}
-use Rattle.np_lists.proofs.MemberLemmas.{id-wanted, no_id-inner, no_id-other}
-use Rattle.np_lists.proofs.ranks.id_outside.Goals as goal
+use Rattle.np_lists.proofs.Prelude.{sym, ◌∙◌}
+use Rattle.np_lists.proofs.Members.{id-wanted, no_id-inner, no_id-other}
 use Rattle.np_lists.proofs.ranks.id_outside.Goals.{then-rank_at-at-via-then-rank_at-at, then-rank_at-at-via-else-rank_at-at+then-has}
+use Rattle.np_lists.proofs.ranks.id_outside.Goals as goal
 
 pub returns-then-rank_at-at : goal.returns-then-rank_at-at
 returns-then-rank_at-at g c = λ ranked.

@@ -1,8 +1,8 @@
 -- the ids of the inner group before the one at the place are those before the place
-use Rattle.std.proofs.Common.{◌∙◌, ℕ, arith, nat_le, sym, ap}
-use Rattle.np_lists.proofs.MemberLemmas.{outside-rank}
-use Rattle.np_lists.proofs.ranks.is_rank_at_most.Goals as goal
+use Rattle.np_lists.proofs.Prelude.{ap, arith, nat_le, sym, ℕ, ◌∙◌}
+use Rattle.np_lists.proofs.Members.{outside-rank}
 use Rattle.np_lists.proofs.Plain.{past-end}
+use Rattle.np_lists.proofs.ranks.is_rank_at_most.Goals as goal
 
 pub returns-in-Some : goal.returns-in-Some
 returns-in-Some g c = λ ranked within.

@@ -1,5 +1,4 @@
-use Rattle.std.proofs.Common.{◌<◌, ◌≤◌, ◌-◌, length, take}
-use Rattle.np_lists.specs.Ranks.{AreRanked, outside}
+use Rattle.np_lists.proofs.Prelude.{AreRanked, length, outside, take, ◌-◌, ◌<◌, ◌≤◌}
 use Rattle.np_lists.proofs.ranks.last_place.Given as goal
 
 abbrev pub invariant-loop-high : goal.invariant-loop-high

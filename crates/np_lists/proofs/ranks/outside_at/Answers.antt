@@ -1,6 +1,6 @@
 -- the ids of the group rise, and each of the inner group is among them
-use Rattle.std.proofs.Common.{◌∙◌}
-use Rattle.np_lists.proofs.IdLemmas.{ids-has, ids-rise}
+use Rattle.np_lists.proofs.Prelude.{◌∙◌}
+use Rattle.np_lists.proofs.Members.{ids-has, ids-rise}
 use Rattle.np_lists.proofs.ranks.outside_at.Goals as goal
 
 pub returns : goal.returns

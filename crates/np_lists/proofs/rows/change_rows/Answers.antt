@@ -1,5 +1,4 @@
-use Rattle.std.proofs.Common.{◌<◌, length, get_or, ap, arith}
-use Rattle.std.proofs.lemmas.List.Edits.{map_over_more}
+use Rattle.np_lists.proofs.Prelude.{ap, arith, get_or, length, map_over_more, ◌<◌}
 use Rattle.np_lists.proofs.rows.change_rows.Goals as goal
 
 pub loop-row-preserved : goal.loop-row-preserved

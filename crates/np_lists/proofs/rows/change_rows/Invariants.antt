@@ -1,4 +1,4 @@
-use Rattle.std.proofs.Common.{◌≡◌, ◌++◌, take, drop, map}
+use Rattle.np_lists.proofs.Prelude.{drop, map, take, ◌++◌, ◌≡◌}
 use Rattle.np_lists.proofs.rows.change_rows.Given as goal
 
 abbrev pub invariant-loop-row : goal.invariant-loop-row

@@ -1,6 +1,5 @@
-use Rattle.std.proofs.Common.{sym, ◌∙◌, ap, Some}
-use Rattle.std.proofs.lemmas.Option.{slice_get-get_or}
-use Rattle.np_lists.proofs.Halves.{find-first, find-none, first-within}
+use Rattle.np_lists.proofs.Prelude.{Some, ap, slice_get-get_or, sym, ◌∙◌}
+use Rattle.np_lists.proofs.Searches.{find-first, find-none, first-within}
 use Rattle.np_lists.proofs.rows.find_row.Goals as goal
 
 pub returns-in-Some : goal.returns-in-Some

@@ -1,6 +1,6 @@
-use Rattle.std.proofs.Common.{sym}
-use Rattle.np_lists.proofs.FilterLemmas.{list_any-none}
-use Rattle.np_lists.proofs.KeyLemmas.{any-first}
+use Rattle.np_lists.proofs.Prelude.{sym}
+use Rattle.np_lists.proofs.Changes.{list_any-none}
+use Rattle.np_lists.proofs.Searches.{any-first}
 use Rattle.np_lists.proofs.rows.has_row.Goals as goal
 
 pub returns-in-Some : goal.returns-in-Some

@@ -1,5 +1,5 @@
-use Rattle.std.proofs.Common.{sym, ◌∙◌}
-use Rattle.np_lists.proofs.KeyLemmas.{key_insert, key_insert-rises}
+use Rattle.np_lists.proofs.Prelude.{sym, ◌∙◌}
+use Rattle.np_lists.proofs.Searches.{key_insert, key_insert-rises}
 use Rattle.np_lists.proofs.rows.insert_row.Goals as goal
 
 pub split_of-at-requires : goal.split_of-at-requires

@@ -1,8 +1,8 @@
 -- the row where those before the key end has it, or there is none
-use Rattle.std.proofs.Common.{sym, ◌∙◌, ap, arith}
-use Rattle.np_lists.proofs.KeyLemmas.{key_found, key_absent}
-use Rattle.np_lists.proofs.rows.place_of.Goals as goal
+use Rattle.np_lists.proofs.Prelude.{ap, arith, sym, ◌∙◌}
+use Rattle.np_lists.proofs.Searches.{key_found, key_absent}
 use Rattle.np_lists.proofs.rows.place_of.Goals.{else-at-rows-via-then-at-rows+else-is_same, else-at-rows-via-else-at-rows}
+use Rattle.np_lists.proofs.rows.place_of.Goals as goal
 
 pub returns-then-is_same-clause-place : goal.returns-then-is_same-clause-place
 returns-then-is_same-clause-place g c =

@@ -1,6 +1,6 @@
-use Rattle.std.proofs.Common.{sym, ◌∙◌}
-use Rattle.np_lists.proofs.Halves.{remove_first-first, remove_first-none}
-use Rattle.np_lists.proofs.RisingLemmas.{Rises-without}
+use Rattle.np_lists.proofs.Prelude.{sym, ◌∙◌}
+use Rattle.np_lists.proofs.Searches.{remove_first-first, remove_first-none}
+use Rattle.np_lists.proofs.Changes.{Rises-without}
 use Rattle.np_lists.proofs.rows.remove_row.Goals as goal
 
 pub place_of-requires : goal.place_of-requires

@@ -1,7 +1,6 @@
 -- the rows before the key come first, so a binary search finds where they end
-use Rattle.std.proofs.Common.{rules}
-use Rattle.std.proofs.lemmas.List.Sorted.{IsPartitionPoint-from_clause}
-use Rattle.np_lists.proofs.KeyLemmas.{keys_partitioned}
+use Rattle.np_lists.proofs.Prelude.{IsPartitionPoint-from_clause, rules}
+use Rattle.np_lists.proofs.Searches.{keys_partitioned}
 use Rattle.np_lists.proofs.rows.split_of.Goals as goal
 
 pub returns-clause-point : goal.returns-clause-point

@@ -1,4 +1,4 @@
-use Rattle.std.proofs.Common.{◌≤◌, ◌-◌, max, length}
+use Rattle.np_lists.proofs.Prelude.{length, max, ◌-◌, ◌≤◌}
 use Rattle.np_lists.proofs.stock.make_pieces.Given as goal
 
 abbrev pub invariant-loop-alloc : goal.invariant-loop-alloc

@@ -1,5 +1,4 @@
-use Rattle.std.proofs.Common.{◌≤◌, length, sym}
-use Rattle.np_lock.specs.Queue.{queue_at}
+use Rattle.np_lock.proofs.Prelude.{length, queue_at, sym, ◌≤◌}
 use Rattle.np_lock.proofs.PlaceLemmas.{IsAsked-more, IsAsked-none, ahead-here, ahead-none}
 use Rattle.np_lock.proofs.lock.ahead.Goals as goal
 

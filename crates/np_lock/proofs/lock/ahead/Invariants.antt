@@ -1,4 +1,4 @@
-use Rattle.np_lock.specs.Queue.{queue_at}
+use Rattle.np_lock.proofs.Prelude.{queue_at}
 use Rattle.np_lock.proofs.PlaceLemmas.{IsAsked}
 use Rattle.np_lock.proofs.lock.ahead.Given as goal
 

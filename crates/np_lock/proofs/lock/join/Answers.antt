@@ -1,7 +1,4 @@
-use Rattle.std.proofs.Common.{◌≡◌, List, ℕ, [], ◌∷◌, ◌++◌, Ok, sym, ap, ◌∙◌}
-use Rattle.np_tree.specs.Prelude.{EphemeralSequential, after_create, create_answer}
-use Rattle.np_lock.specs.Calls.{join_answer}
-use Rattle.np_lock.specs.Queue.{wait_path}
+use Rattle.np_lock.proofs.Prelude.{EphemeralSequential, List, Ok, after_create, ap, create_answer, join_answer, sym, wait_path, ℕ, [], ◌++◌, ◌∙◌, ◌∷◌, ◌≡◌}
 use Rattle.np_lock.proofs.JoinLemmas.{Joins-accepted, queue-joined}
 use Rattle.np_lock.proofs.WaitLemmas.{IsLock-number}
 use Rattle.np_lock.proofs.lock.join.Goals as goal

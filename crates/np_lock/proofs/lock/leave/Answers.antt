@@ -1,4 +1,4 @@
-use Rattle.np_tree_nodes.specs.After.{after_delete}
+use Rattle.np_lock.proofs.Prelude.{after_delete}
 use Rattle.np_lock.proofs.LeaveLemmas.{Leaves-path, leave-refused}
 use Rattle.np_lock.proofs.WaitLemmas.{IsLock-number}
 use Rattle.np_lock.proofs.lock.leave.Goals as goal

@@ -1,5 +1,4 @@
-use Rattle.std.proofs.Common.{◌≡◌, Some, List, ℕ, sym, ap, ◌∙◌}
-use Rattle.np_tree.specs.Prelude.{below, child_name}
+use Rattle.np_lock.proofs.Prelude.{List, Some, ap, below, child_name, sym, ℕ, ◌∙◌, ◌≡◌}
 use Rattle.np_lock.proofs.LeaveLemmas.{child-makes, is_element-child, path-at, path-some}
 use Rattle.np_lock.proofs.lock.path_at.Goals as goal
 

@@ -1,7 +1,4 @@
-use Rattle.std.proofs.Common.{◌≡◌, List, ℕ, Some, None, refl, sym, ap, ◌∙◌}
-use Rattle.std.proofs.lemmas.Result.{err_from_is_err_and}
-use Rattle.np_lock.specs.Calls.{ahead_in}
-use Rattle.np_lock.specs.Queue.{queue_at}
+use Rattle.np_lock.proofs.Prelude.{List, None, Some, ahead_in, ap, err_from_is_err_and, queue_at, refl, sym, ℕ, ◌∙◌, ◌≡◌}
 use Rattle.np_lock.proofs.LeaveLemmas.{path-none}
 use Rattle.np_lock.proofs.PlaceLemmas.{leaves-answer, there-none, there-some, without-none}
 use Rattle.np_lock.proofs.lock.release.Goals as goal

@@ -1,6 +1,4 @@
-use Rattle.std.proofs.Common.{◌≡◌, List, ℕ, None, refl, sym, ap, ◌∙◌}
-use Rattle.np_lock.specs.Calls.{ahead_in}
-use Rattle.np_lock.specs.Queue.{queue_at}
+use Rattle.np_lock.proofs.Prelude.{List, None, ahead_in, ap, queue_at, refl, sym, ℕ, ◌∙◌, ◌≡◌}
 use Rattle.np_lock.proofs.LeaveLemmas.{path-none}
 use Rattle.np_lock.proofs.lock.release_op.Goals as goal
 

@@ -1,6 +1,4 @@
-use Rattle.std.proofs.Common.{◌≡◌, List, ℕ, None, sym, ap, ◌∙◌}
-use Rattle.np_lock.specs.Calls.{first_of}
-use Rattle.np_lock.specs.Queue.{queue_at}
+use Rattle.np_lock.proofs.Prelude.{List, None, ap, first_of, queue_at, sym, ℕ, ◌∙◌, ◌≡◌}
 use Rattle.np_lock.proofs.PlaceLemmas.{nobody}
 use Rattle.np_lock.proofs.lock.try_lock.Goals as goal
 

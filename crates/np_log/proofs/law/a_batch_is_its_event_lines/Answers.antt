@@ -1,4 +1,4 @@
-use Rattle.np_log.proofs.BatchLemmas.{batch_of-told, batch_of-written}
+use Rattle.np_log.proofs.Walks.{batch_of-told, batch_of-written}
 use Rattle.np_log.proofs.law.a_batch_is_its_event_lines.Goals as goal
 
 pub returns : goal.returns

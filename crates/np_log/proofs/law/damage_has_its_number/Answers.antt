@@ -1,5 +1,5 @@
 use Rattle.np_log.proofs.Prelude.{event_forms, event_in, record_in, refl, walk, walk_of}
-use Rattle.np_log.proofs.WalkLemmas.{after_record-many}
+use Rattle.np_log.proofs.Walks.{after_record-many}
 use Rattle.np_log.proofs.law.damage_has_its_number.Goals as goal
 
 pub returns : goal.returns

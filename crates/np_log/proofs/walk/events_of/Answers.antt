@@ -1,5 +1,5 @@
 use Rattle.np_log.proofs.Prelude.{List, Some, ap, arith, drop, drop_min, event_in, events_of, line_in, lines_of, lines_of-walk, sym, take, words_of, ℕ, ◌+◌, ◌-◌, ◌∙◌, ◌≡◌}
-use Rattle.np_log.proofs.BatchLemmas.{events_of-fault, events_of-read, events_then}
+use Rattle.np_log.proofs.Walks.{events_of-fault, events_of-read, events_then}
 use Rattle.np_log.proofs.walk.events_of.Goals as goal
 
 pub returns-in_default-read_event : goal.returns-in_default-read_event

@@ -1,5 +1,5 @@
 use Rattle.np_log.proofs.Prelude.{drop, events_of, length, lines_of, ◌-◌, ◌≡◌, ◌≤◌}
-use Rattle.np_log.proofs.BatchLemmas.{events_then}
+use Rattle.np_log.proofs.Walks.{events_then}
 use Rattle.np_log.proofs.walk.events_of.Given as goal
 
 -- the events so far, and then those of the lines that are left, are those of all lines

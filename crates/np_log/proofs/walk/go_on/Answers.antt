@@ -1,7 +1,5 @@
 use Rattle.np_log.proofs.Prelude.{ap, arith, err_from_is_err_and, go_on, length, length-append, sym, walk_view, ℕ, ◌++◌, ◌∙◌, ◌∷◌}
-use Rattle.np_log.proofs.RecordLemmas.{record_in-parts}
-use Rattle.np_log.proofs.WalkLemmas.{gate-open, gate-shut, go_on-closed, go_on-none, go_on-open, go_on-short}
-use Rattle.np_log.proofs.FaultLemmas.{fails_past}
+use Rattle.np_log.proofs.Walks.{fails_past, gate-open, gate-shut, go_on-closed, go_on-none, go_on-open, go_on-short, record_in-parts}
 use Rattle.np_log.proofs.walk.go_on.Goals as goal
 
 pub returns-in_default-clause-walks : goal.returns-in_default-clause-walks

@@ -1,7 +1,5 @@
-use Rattle.std.proofs.Common.{◌≡◌, ◌+◌, sym, ◌∙◌, ap, arith}
-use Rattle.np_changes.specs.Prelude.{Amount, AmountFits}
+use Rattle.np_look.proofs.Prelude.{Amount, AmountFits, ap, arith, sym, total_more, ◌+◌, ◌∙◌, ◌≡◌}
 use Rattle.np_look.proofs.count.amount_of_all.Goals as goal
-use Rattle.np_amount.proofs.Sums.{total_more}
 
 pub loop-label-preserved : goal.loop-label-preserved
 loop-label-preserved c =

@@ -1,5 +1,4 @@
-use Rattle.std.proofs.Common.{◌≡◌, ◌≤◌, ◌*◌, map, take}
-use Rattle.np_changes.specs.Prelude.{amount_of, total}
+use Rattle.np_look.proofs.Prelude.{amount_of, map, take, total, ◌*◌, ◌≡◌, ◌≤◌}
 use Rattle.np_look.proofs.count.amount_of_all.Given as goal
 
 abbrev pub invariant-loop-label : goal.invariant-loop-label

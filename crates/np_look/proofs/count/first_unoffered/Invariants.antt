@@ -1,6 +1,4 @@
-use Rattle.std.proofs.Common.{◌≡◌, drop}
-use Rattle.std.specs.Prelude.{find, not}
-use Rattle.np_machine.specs.Count.{is_offered}
+use Rattle.np_look.proofs.Prelude.{drop, find, is_offered, not, ◌≡◌}
 use Rattle.np_look.proofs.count.first_unoffered.Given as goal
 
 abbrev pub invariant-loop-label : goal.invariant-loop-label

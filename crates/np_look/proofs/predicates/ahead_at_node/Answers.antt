@@ -1,8 +1,5 @@
-use Rattle.std.proofs.Common.{◌≡◌, ◌<◌, sym, true, false, add-one, length, arith, None}
-use Rattle.std.specs.Prelude.{slice_get}
-use Rattle.std.proofs.lemmas.Option.{slice_get_within}
-use Rattle.np_machine.specs.Tables.{node_queue, is_session}
-use Rattle.np_look.proofs.Seen.{is-session, not-session, queue-fits, ahead-here, ahead-past}
+use Rattle.np_look.proofs.Prelude.{None, add-one, arith, false, is_session, length, node_queue, slice_get, slice_get_within, sym, true, ◌<◌, ◌≡◌}
+use Rattle.np_look.proofs.Looks.{is-session, not-session, queue-fits, ahead-here, ahead-past}
 use Rattle.np_look.proofs.predicates.ahead_at_node.Goals as goal
 
 pub returns-then-other-session : goal.returns-then-other-session

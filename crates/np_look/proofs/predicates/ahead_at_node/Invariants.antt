@@ -1,5 +1,4 @@
-use Rattle.std.proofs.Common.{◌≡◌, ◌≤◌, ◌+◌, ◌-◌, drop, length}
-use Rattle.np_machine.specs.Tables.{ahead_of, node_queue}
+use Rattle.np_look.proofs.Prelude.{ahead_of, drop, length, node_queue, ◌+◌, ◌-◌, ◌≡◌, ◌≤◌}
 use Rattle.np_look.proofs.predicates.ahead_at_node.Given as goal
 
 abbrev pub invariant-loop-other : goal.invariant-loop-other

@@ -1,6 +1,4 @@
-use Rattle.std.proofs.Common.{◌≡◌, drop}
-use Rattle.std.specs.Prelude.{find, not, ◌&&◌}
-use Rattle.np_changes.specs.Prelude.{first_full, has_handle, is_full}
+use Rattle.np_look.proofs.Prelude.{drop, find, first_full, has_handle, is_full, not, ◌&&◌, ◌≡◌}
 use Rattle.np_look.proofs.predicates.first_full.Given as goal
 
 abbrev pub invariant-loop-semaphore : goal.invariant-loop-semaphore

@@ -1,7 +1,5 @@
-use Rattle.std.proofs.Common.{◌≡◌, ◌∙◌, sym, refl, true, false, add-one}
-use Rattle.std.specs.Prelude.{◌||◌, ◌==◌}
-use Rattle.np_changes.specs.Prelude.{Registration, is_declined_by}
-use Rattle.np_look.proofs.Walks.{all_here}
+use Rattle.np_look.proofs.Prelude.{Registration, add-one, false, is_declined_by, refl, sym, true, ◌==◌, ◌||◌, ◌∙◌, ◌≡◌}
+use Rattle.np_look.proofs.Looks.{all_here}
 use Rattle.np_look.proofs.predicates.is_last_pool.Goals as goal
 
 pub returns-then-not-declines_or_is : goal.returns-then-not-declines_or_is

@@ -1,5 +1,4 @@
-use Rattle.std.proofs.Common.{◌≡◌, drop}
-use Rattle.np_changes.specs.Readers.{is_last_pool}
+use Rattle.np_look.proofs.Prelude.{drop, is_last_pool, ◌≡◌}
 use Rattle.np_look.proofs.predicates.is_last_pool.Given as goal
 
 abbrev pub invariant-loop-at : goal.invariant-loop-at

@@ -1,7 +1,5 @@
-use Rattle.std.proofs.Common.{◌≡◌, sym, refl, cond, add-one, arith}
-use Rattle.std.specs.Prelude.{not}
-use Rattle.np_changes.specs.Prelude.{Registration, is_declined_by}
-use Rattle.np_look.proofs.Walks.{count_here, as_it_is}
+use Rattle.np_look.proofs.Prelude.{Registration, add-one, arith, cond, is_declined_by, not, refl, sym, ◌≡◌}
+use Rattle.np_look.proofs.Looks.{count_here, as_it_is}
 use Rattle.np_look.proofs.predicates.undeclined_by.Goals as goal
 
 pub loop-at-preserved : goal.loop-at-preserved

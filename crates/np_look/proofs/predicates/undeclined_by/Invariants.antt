@@ -1,5 +1,4 @@
-use Rattle.std.proofs.Common.{◌≡◌, ◌≤◌, ◌+◌, drop}
-use Rattle.np_machine.specs.Request.{undeclined}
+use Rattle.np_look.proofs.Prelude.{drop, undeclined, ◌+◌, ◌≡◌, ◌≤◌}
 use Rattle.np_look.proofs.predicates.undeclined_by.Given as goal
 
 abbrev pub invariant-loop-at : goal.invariant-loop-at

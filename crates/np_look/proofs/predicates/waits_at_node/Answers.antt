@@ -1,9 +1,5 @@
-use Rattle.std.proofs.Common.{◌≡◌, ◌<◌, ◌∙◌, sym, refl, true, false, add-one, length, arith, None}
-use Rattle.std.specs.Prelude.{slice_get}
-use Rattle.std.proofs.lemmas.Option.{slice_get_within}
-use Rattle.np_changes.specs.Prelude.{SessionId, is_session, node_queue}
-use Rattle.np_look.proofs.Walks.{any_found, any_later, any_past, as_it_is}
-use Rattle.np_look.proofs.Seen.{is-session, not-session, queue-fits}
+use Rattle.np_look.proofs.Prelude.{None, SessionId, add-one, arith, false, is_session, length, node_queue, refl, slice_get, slice_get_within, sym, true, ◌<◌, ◌∙◌, ◌≡◌}
+use Rattle.np_look.proofs.Looks.{any_found, any_later, any_past, as_it_is, is-session, not-session, queue-fits}
 use Rattle.np_look.proofs.predicates.waits_at_node.Goals as goal
 
 pub returns-then-other-session : goal.returns-then-other-session

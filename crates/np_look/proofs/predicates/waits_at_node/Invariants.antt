@@ -1,5 +1,4 @@
-use Rattle.std.proofs.Common.{◌≡◌, ◌≤◌, ◌-◌, drop, length}
-use Rattle.np_machine.specs.Tables.{is_queued, node_queue}
+use Rattle.np_look.proofs.Prelude.{drop, is_queued, length, node_queue, ◌-◌, ◌≡◌, ◌≤◌}
 use Rattle.np_look.proofs.predicates.waits_at_node.Given as goal
 
 abbrev pub invariant-loop-other : goal.invariant-loop-other

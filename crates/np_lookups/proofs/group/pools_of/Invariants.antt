@@ -1,4 +1,4 @@
-use Rattle.np_lookups.proofs.OpenPrelude.{length, ◌≤◌}
+use Rattle.np_lookups.proofs.Prelude.{length, ◌≤◌}
 use Rattle.np_lookups.proofs.group.pools_of.Given as goal
 
 abbrev pub invariant-loop-number : goal.invariant-loop-number

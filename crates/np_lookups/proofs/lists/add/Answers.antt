@@ -1,5 +1,5 @@
 use Rattle.np_lookups.proofs.Prelude.{none-list_any, sym, ◌∙◌}
-use Rattle.np_lookups.proofs.Keyed.{row-undo}
+use Rattle.np_lookups.proofs.QueueLemmas.{row-undo}
 use Rattle.np_lookups.proofs.lists.add.Goals as goal
 
 pub insert-requires : goal.insert-requires

@@ -1,5 +1,5 @@
 use Rattle.np_lookups.proofs.Prelude.{arith, change_at-past, sym}
-use Rattle.np_lookups.proofs.Keyed.{set-back, set-changed}
+use Rattle.np_lookups.proofs.QueueLemmas.{set-back, set-changed}
 use Rattle.np_lookups.proofs.lists.add_at.Goals as goal
 
 pub returns-then-at-len-clause-ok : goal.returns-then-at-len-clause-ok

@@ -1,5 +1,5 @@
 use Rattle.np_lookups.proofs.Prelude.{insert_before-end, ◌∙◌}
-use Rattle.np_lookups.proofs.Keyed.{none-later}
+use Rattle.np_lookups.proofs.QueueLemmas.{none-later}
 use Rattle.np_lookups.proofs.lists.push.Goals as goal
 
 pub returns : goal.returns

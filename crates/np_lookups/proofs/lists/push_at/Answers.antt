@@ -1,5 +1,5 @@
 use Rattle.np_lookups.proofs.Prelude.{AllByRecursion, arith, change_at-past, sym, true, ◌≡◌}
-use Rattle.np_lookups.proofs.Keyed.{list-found, set-changed}
+use Rattle.np_lookups.proofs.QueueLemmas.{list-found, set-changed}
 use Rattle.np_lookups.proofs.lists.push_at.Goals as goal
 
 pub returns-then-at-len : goal.returns-then-at-len

@@ -1,5 +1,5 @@
 use Rattle.np_lookups.proofs.Prelude.{arith, change_at-past, sym}
-use Rattle.np_lookups.proofs.Keyed.{set-changed}
+use Rattle.np_lookups.proofs.QueueLemmas.{set-changed}
 use Rattle.np_lookups.proofs.lists.take_back_at.Goals as goal
 
 pub returns-then-at-len : goal.returns-then-at-len

@@ -1,7 +1,7 @@
 use Rattle.np_lookups.proofs.Prelude.{NodeId, ap, arith, is_node_before, length, node_equal, node_one_way, none_there, option_map, queued_nodes, same_node, sym, ◌<◌, ◌∙◌}
-use Rattle.np_lookups.proofs.Copied.{copied-other, copied-next, nodes-rise}
-use Rattle.np_lookups.proofs.lookups.list_nodes.Goals as goal
+use Rattle.np_lookups.proofs.QueueLemmas.{copied-other, copied-next, nodes-rise}
 use Rattle.np_lookups.proofs.lookups.list_nodes.Goals.{in-Some+in_ok-insert, in_default}
+use Rattle.np_lookups.proofs.lookups.list_nodes.Goals as goal
 
 pub insert-requires : goal.insert-requires
 insert-requires g c =

@@ -1,7 +1,7 @@
 use Rattle.np_lookups.proofs.Prelude.{RequestId, ap, arith, is_id_before, length, none_there, option_map, queued_requests, request_equal, request_one_way, same_request, sym, ◌<◌, ◌∙◌}
-use Rattle.np_lookups.proofs.Copied.{copied-other, copied-next, requests-rise}
-use Rattle.np_lookups.proofs.lookups.list_requests.Goals as goal
+use Rattle.np_lookups.proofs.QueueLemmas.{copied-other, copied-next, requests-rise}
 use Rattle.np_lookups.proofs.lookups.list_requests.Goals.{in-Some+in_ok-insert, in_default}
+use Rattle.np_lookups.proofs.lookups.list_requests.Goals as goal
 
 pub insert-requires : goal.insert-requires
 insert-requires g c =

@@ -1,5 +1,5 @@
 use Rattle.np_lookups.proofs.Prelude.{arith}
-use Rattle.np_lookups.proofs.BySession.{nodes-by_session}
+use Rattle.np_lookups.proofs.QueueLemmas.{nodes-by_session}
 use Rattle.np_lookups.proofs.lookups.nodes_by_session.Goals as goal
 
 pub returns : goal.returns

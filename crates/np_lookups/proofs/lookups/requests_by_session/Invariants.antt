@@ -1,5 +1,5 @@
 use Rattle.np_lookups.proofs.Prelude.{queued_requests}
-use Rattle.np_lookups.proofs.BySession.{AreBelow}
+use Rattle.np_lookups.proofs.QueueLemmas.{AreBelow}
 use Rattle.np_lookups.proofs.lookups.requests_by_session.Given as goal
 
 abbrev pub invariant-loop-number : goal.invariant-loop-number

@@ -1,5 +1,5 @@
-use Rattle.np_lookups.proofs.OpenPrelude.{AreBy, Configuration, List, Past, Some, ap, arith, length, passes_moved, slice_get, subst, take, take-all, there-at, ℕ, ◌+◌, ◌∙◌, ◌≡◌}
-use Rattle.np_lookups.proofs.NoteLemmas.{move-next, room-next}
+use Rattle.np_lookups.proofs.Prelude.{AreBy, Configuration, List, Past, Some, ap, arith, length, passes_moved, slice_get, subst, take, take-all, there-at, ℕ, ◌+◌, ◌∙◌, ◌≡◌}
+use Rattle.np_lookups.proofs.Members.{move-next, room-next}
 use Rattle.np_lookups.proofs.moves.move_all.Goals as goal
 
 pub loop-past-preserved : goal.loop-past-preserved

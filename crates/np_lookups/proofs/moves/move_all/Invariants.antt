@@ -1,4 +1,4 @@
-use Rattle.np_lookups.proofs.OpenPrelude.{AreAsKept, AreBy, Bool, Group, Rank, length, passes_moved, take, ◌*◌, ◌+◌, ◌-◌, ◌≤◌}
+use Rattle.np_lookups.proofs.Prelude.{AreAsKept, AreBy, Bool, Group, Rank, length, passes_moved, take, ◌*◌, ◌+◌, ◌-◌, ◌≤◌}
 use Rattle.np_lookups.proofs.moves.move_all.Given as goal
 
 abbrev pub invariant-loop-past : goal.invariant-loop-past

@@ -1,5 +1,5 @@
-use Rattle.np_lookups.proofs.OpenPrelude.{AreBy, ap, arith, closed_member, line_of, subst, sym, ℕ, ◌+◌, ◌∙◌, ◌≡◌}
-use Rattle.np_lookups.proofs.MoveLemmas.{all-moved, closed-moved, moved-as, none-closed-moved, none-moved, open-moved-by, passes_so_far, pool_by}
+use Rattle.np_lookups.proofs.Prelude.{AreBy, ap, arith, closed_member, line_of, subst, sym, ℕ, ◌+◌, ◌∙◌, ◌≡◌}
+use Rattle.np_lookups.proofs.Members.{all-moved, closed-moved, moved-as, none-closed-moved, none-moved, open-moved-by, passes_so_far, pool_by}
 use Rattle.np_lookups.proofs.moves.move_request.Goals as goal
 
 pub returns-then-not-is_open-2-clause-members : goal.returns-then-not-is_open-2-clause-members

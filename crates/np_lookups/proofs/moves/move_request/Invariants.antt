@@ -1,5 +1,5 @@
-use Rattle.np_lookups.proofs.OpenPrelude.{AreBy, Bool, Group, IsEither, Rank, line_of, ◌+◌, ◌≤◌}
-use Rattle.np_lookups.proofs.MoveLemmas.{passes_so_far}
+use Rattle.np_lookups.proofs.Prelude.{AreBy, Bool, Group, IsEither, Rank, line_of, ◌+◌, ◌≤◌}
+use Rattle.np_lookups.proofs.Members.{passes_so_far}
 use Rattle.np_lookups.proofs.moves.move_request.Given as goal
 
 abbrev pub invariant-loop-number : goal.invariant-loop-number

@@ -1,5 +1,5 @@
 use Rattle.np_lookups.proofs.Prelude.{NodeId, ap, arith, owner_of, ◌∙◌}
-use Rattle.np_lookups.proofs.ByNode.{owners-more, owners-all}
+use Rattle.np_lookups.proofs.OwnerLemmas.{owners-more, owners-all}
 use Rattle.np_lookups.proofs.owners.list_owners.Goals as goal
 
 pub loop-number-preserved : goal.loop-number-preserved

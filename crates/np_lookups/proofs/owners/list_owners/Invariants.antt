@@ -1,4 +1,4 @@
-use Rattle.np_lookups.proofs.ByNode.{AreOwnersBelow}
+use Rattle.np_lookups.proofs.OwnerLemmas.{AreOwnersBelow}
 use Rattle.np_lookups.proofs.owners.list_owners.Given as goal
 
 abbrev pub invariant-loop-number : goal.invariant-loop-number

@@ -1,5 +1,4 @@
-use Rattle.np_lookups.proofs.Prelude.{List, None, Some, [], ap, arith, length, node_queue, refl, slice_get, slice_get_within, suc, sym, take, take_there, zero, ℕ, ◌++◌, ◌+◌, ◌<◌, ◌∙◌, ◌∷◌, ◌≡◌}
-use Rattle.np_look.proofs.Seen.{queue-fits}
+use Rattle.np_lookups.proofs.Prelude.{List, None, Some, ap, arith, length, node_queue, queue-fits, refl, slice_get, slice_get_within, suc, sym, take, take_there, zero, ℕ, [], ◌++◌, ◌+◌, ◌<◌, ◌∙◌, ◌∷◌, ◌≡◌}
 use Rattle.np_lookups.proofs.queues.queue_of.Goals as goal
 
 -- one more is read

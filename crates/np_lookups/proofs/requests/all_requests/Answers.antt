@@ -1,7 +1,7 @@
-use Rattle.np_lookups.proofs.OpenPrelude.{Configuration, List, Member, Rank, ap, arith, length, line_of, none_there, refl, request_view, slice_get, subst, sym, ◌<◌, ◌∙◌}
-use Rattle.np_lookups.proofs.RebuildLemmas.{Adds, rows-all, rows-next}
-use Rattle.np_lookups.proofs.requests.all_requests.Goals as goal
+use Rattle.np_lookups.proofs.Prelude.{Configuration, List, Member, Rank, ap, arith, length, line_of, none_there, refl, request_view, slice_get, subst, sym, ◌<◌, ◌∙◌}
+use Rattle.np_lookups.proofs.Members.{Adds, rows-all, rows-next}
 use Rattle.np_lookups.proofs.requests.all_requests.Goals.{in-Some+in_ok-add_request, in_default}
+use Rattle.np_lookups.proofs.requests.all_requests.Goals as goal
 
 pub loop-at-preserved : goal.loop-at-preserved
 loop-at-preserved g c =

@@ -1,5 +1,5 @@
-use Rattle.np_lookups.proofs.OpenPrelude.{AreBy, length, line_of, take}
-use Rattle.np_lookups.proofs.RebuildLemmas.{is_row_in}
+use Rattle.np_lookups.proofs.Prelude.{AreBy, length, line_of, take}
+use Rattle.np_lookups.proofs.Members.{is_row_in}
 use Rattle.np_lookups.proofs.requests.all_requests.Given as goal
 
 abbrev pub invariant-loop-at : goal.invariant-loop-at

@@ -1,4 +1,4 @@
-use Rattle.np_lookups.proofs.OpenPrelude.{drop, map, past_of, ◌++◌, ◌≡◌}
+use Rattle.np_lookups.proofs.Prelude.{drop, map, past_of, ◌++◌, ◌≡◌}
 use Rattle.np_lookups.proofs.requests.records_of.Given as goal
 
 abbrev pub invariant-loop-request : goal.invariant-loop-request

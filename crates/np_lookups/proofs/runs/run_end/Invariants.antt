@@ -1,4 +1,4 @@
-use Rattle.np_lookups.proofs.OpenPrelude.{false, is_run, length, ranks_of, true, ◌+◌, ◌-◌, ◌<◌, ◌≡◌, ◌≤◌, ◌⊎◌}
+use Rattle.np_lookups.proofs.Prelude.{false, is_run, length, ranks_of, true, ◌+◌, ◌-◌, ◌<◌, ◌≡◌, ◌≤◌, ◌⊎◌}
 use Rattle.np_lookups.proofs.runs.run_end.Given as goal
 
 abbrev pub invariant-loop-low : goal.invariant-loop-low

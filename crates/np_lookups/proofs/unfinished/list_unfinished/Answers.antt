@@ -1,5 +1,5 @@
 use Rattle.np_lookups.proofs.Prelude.{Configuration, IsSound, None, Some, arith, length, slice_get, subst, sym, ◌<◌, ◌≡◌}
-use Rattle.np_lookups.proofs.Made.{made-over, made-unowned, made-before, made-more}
+use Rattle.np_lookups.proofs.LookupLemmas.{made-over, made-unowned, made-before, made-more}
 use Rattle.np_lookups.proofs.unfinished.list_unfinished.Goals as goal
 
 pub loop-number-preserved-then-has_ended : goal.loop-number-preserved-then-has_ended

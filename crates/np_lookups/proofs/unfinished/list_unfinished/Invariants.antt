@@ -1,4 +1,4 @@
-use Rattle.np_lookups.proofs.Made.{IsMadeTo}
+use Rattle.np_lookups.proofs.LookupLemmas.{IsMadeTo}
 use Rattle.np_lookups.proofs.unfinished.list_unfinished.Given as goal
 
 abbrev pub invariant-loop-number : goal.invariant-loop-number

@@ -1,4 +1,4 @@
-use Rattle.np_lookups.proofs.Prelude.{JobId, List, [], length, replicate, ◌-◌, ◌≡◌, ◌≤◌}
+use Rattle.np_lookups.proofs.Prelude.{JobId, List, length, replicate, [], ◌-◌, ◌≡◌, ◌≤◌}
 use Rattle.np_lookups.proofs.unfinished.no_jobs.Given as goal
 
 abbrev pub invariant-loop-lists : goal.invariant-loop-lists

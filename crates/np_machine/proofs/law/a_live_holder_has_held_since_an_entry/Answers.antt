@@ -1,4 +1,4 @@
-use Rattle.np_machine.specs.State.{start}
+use Rattle.np_machine.proofs.Prelude.{start}
 use Rattle.np_machine.proofs.LiveHolders.{holder-since, since-holder}
 use Rattle.np_machine.proofs.law.a_live_holder_has_held_since_an_entry.Goals as goal
 

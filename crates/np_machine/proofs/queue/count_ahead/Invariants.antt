@@ -1,5 +1,4 @@
-use Rattle.std.proofs.Common.{◌≡◌, ◌+◌, ◌≤◌, drop}
-use Rattle.np_machine.specs.Tables.{ahead_of}
+use Rattle.np_machine.proofs.Prelude.{ahead_of, drop, ◌+◌, ◌≡◌, ◌≤◌}
 use Rattle.np_machine.proofs.queue.count_ahead.Given as goal
 
 abbrev pub invariant-loop-other : goal.invariant-loop-other

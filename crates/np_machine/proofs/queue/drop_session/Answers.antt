@@ -1,5 +1,4 @@
-use Rattle.std.proofs.Common.{rules}
-use Rattle.std.proofs.lemmas.Fn.{filter_same}
+use Rattle.np_machine.proofs.Prelude.{filter_same, rules}
 use Rattle.np_machine.proofs.queue.drop_session.Goals as goal
 
 pub returns : goal.returns

@@ -1,9 +1,7 @@
-use Rattle.std.proofs.Common.{◌≡◌, ℕ, length, ap, sym, ◌∙◌, subst, arith}
-use Rattle.std.proofs.lemmas.List.{take_rest}
-use Rattle.np_path.specs.Grammar.{is_dots}
+use Rattle.np_path.proofs.Prelude.{ap, arith, is_dots, length, subst, sym, take_rest, ℕ, ◌∙◌, ◌≡◌}
 use Rattle.np_path.proofs.Walk.{IsWalked, IsWalked-slash, IsWalked-kept, fault-dots, fault-control, fault-last_dots, fault-none, IsNameAt-walked}
-use Rattle.np_path.proofs.grammar.name_place.Goals as goal
 use Rattle.np_path.proofs.grammar.name_place.Goals.{then-byte-eq47+else-is_dots, else-byte-eq47+else-is_control}
+use Rattle.np_path.proofs.grammar.name_place.Goals as goal
 
 pub returns-then-is_dots-clause-fault : goal.returns-then-is_dots-clause-fault
 returns-then-is_dots-clause-fault c =

@@ -1,8 +1,7 @@
-use Rattle.std.proofs.Common.{ℕ, ◌-◌, sym, ap, ◌∙◌, take, subst, arith}
-use Rattle.std.proofs.lemmas.List.{take-take}
+use Rattle.np_path.proofs.Prelude.{ap, arith, subst, sym, take, take-take, ℕ, ◌-◌, ◌∙◌}
 use Rattle.np_path.proofs.PartsLemmas.{AfterLast, AfterLast-passed, IsPassed, before_last-last, name_of-last, none_passed}
-use Rattle.np_path.proofs.path.halves.Goals as goal
 use Rattle.np_path.proofs.path.halves.Goals.{then-loop-at-test+else-text-at-ne47, else-loop-at-test}
+use Rattle.np_path.proofs.path.halves.Goals as goal
 
 pub returns-then-at-eq0-clause-none : goal.returns-then-at-eq0-clause-none
 returns-then-at-eq0-clause-none c =

@@ -1,5 +1,4 @@
-use Rattle.std.proofs.Common.{◌≡◌, take}
-use Rattle.np_planned.specs.Spots.{paths_at}
+use Rattle.np_planned.proofs.Prelude.{paths_at, take, ◌≡◌}
 use Rattle.np_planned.proofs.gather.paths_of.Given as goal
 
 abbrev pub invariant-loop-spot : goal.invariant-loop-spot

@@ -1,4 +1,4 @@
-use Rattle.np_spelling.proofs.RestLemmas.{pushed_row}
+use Rattle.np_planned.proofs.Prelude.{pushed_row}
 use Rattle.np_planned.proofs.gather.with.Goals as goal
 
 pub returns : goal.returns

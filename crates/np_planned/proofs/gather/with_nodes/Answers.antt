@@ -1,9 +1,5 @@
-use Rattle.std.proofs.Common.{rules, get_or, ◌≡◌, ◌∙◌, ◌<◌, ◌≤◌, ◌++◌, length, take, List, sym, ap, arith, append_assoc, length-append, length-take-le}
-use Rattle.std.proofs.lemmas.List.{take_more}
-use Rattle.np_text.specs.declared.id.NodeId.{NodeId}
-use Rattle.np_planned.specs.Spots.{of_node, of_nodes}
-use Rattle.np_planned.specs.declared.spot.Spot.{Spot}
-use Rattle.np_planned.proofs.Gathered.{length-of_nodes, of_nodes-more}
+use Rattle.np_planned.proofs.Prelude.{List, NodeId, Spot, ap, append_assoc, arith, get_or, length, length-append, length-take-le, of_node, of_nodes, rules, sym, take, take_more, ◌++◌, ◌<◌, ◌∙◌, ◌≡◌, ◌≤◌}
+use Rattle.np_planned.proofs.Fresh.{length-of_nodes, of_nodes-more}
 use Rattle.np_planned.proofs.gather.with_nodes.Goals as goal
 
 pub with_node-more-requires : goal.with_node-more-requires

@@ -1,5 +1,4 @@
-use Rattle.std.proofs.Common.{◌≡◌, ◌++◌, take}
-use Rattle.np_planned.specs.Spots.{of_nodes}
+use Rattle.np_planned.proofs.Prelude.{of_nodes, take, ◌++◌, ◌≡◌}
 use Rattle.np_planned.proofs.gather.with_nodes.Given as goal
 
 abbrev pub invariant-loop-node : goal.invariant-loop-node

@@ -1,4 +1,4 @@
-use Rattle.np_planned.proofs.Parents.{spots-have-parents, spots-have-paths}
+use Rattle.np_planned.proofs.Fresh.{spots-have-parents, spots-have-paths}
 use Rattle.np_planned.proofs.laws.spots_have_paths.Goals as goal
 
 pub returns : goal.returns

@@ -1,12 +1,6 @@
-use Rattle.std.proofs.Common.{◌≡◌, ◌<◌, ◌≤◌, true, length, List, not, ap, ◌∙◌, subst, arith, below_more}
-use Rattle.std.proofs.lemmas.Option.{slice_get_within}
-use Rattle.np_lists.proofs.Each.{all-from_at}
-use Rattle.np_watch.specs.Fresh.{IsFreshPath, is_fresh}
-use Rattle.np_watch.proofs.FreshLemmas.{test-says-fresh}
-use Rattle.np_planned.specs.Stale.{is_stale}
-use Rattle.np_planned.proofs.Firsts.{first-at, fresh-none, item-at, stale-later, stale-some}
+use Rattle.np_planned.proofs.Prelude.{IsFreshPath, List, all-from_at, ap, arith, below_more, is_fresh, is_stale, length, not, slice_get_within, subst, test-says-fresh, there-at, true, ◌<◌, ◌∙◌, ◌≡◌, ◌≤◌}
+use Rattle.np_planned.proofs.Fresh.{first-at, fresh-none, item-at, stale-later, stale-some}
 use Rattle.np_planned.proofs.stale.first_stale.Goals as goal
-use Rattle.np_lists.proofs.Plain.{there-at}
 
 pub returns-in-Some-clause-answer : goal.returns-in-Some-clause-answer
 returns-in-Some-clause-answer g c =

@@ -1,6 +1,4 @@
-use Rattle.std.proofs.Common.{◌≡◌, ℕ, ◌+◌, ◌*◌, ◌<◌, ◌≤◌, true, List, Some}
-use Rattle.std.specs.Prelude.{slice_get}
-use Rattle.np_watch.specs.Fresh.{is_fresh}
+use Rattle.np_planned.proofs.Prelude.{List, Some, is_fresh, slice_get, true, ℕ, ◌*◌, ◌+◌, ◌<◌, ◌≡◌, ◌≤◌}
 use Rattle.np_planned.proofs.stale.first_stale.Given as goal
 
 -- the paths so far are fresh, and each took two reads at most

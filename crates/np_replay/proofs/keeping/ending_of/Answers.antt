@@ -1,4 +1,4 @@
-use Rattle.np_replay.proofs.KeepStatuses.{ends-script, whole-script}
+use Rattle.np_replay.proofs.Statuses.{ends-script, whole-script}
 use Rattle.np_replay.proofs.keeping.ending_of.Goals as goal
 
 pub returns-in-Ok-Ok-clause-ends : goal.returns-in-Ok-Ok-clause-ends

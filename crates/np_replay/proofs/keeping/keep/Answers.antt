@@ -1,4 +1,4 @@
-use Rattle.np_replay.proofs.KeepStatuses.{keeps}
+use Rattle.np_replay.proofs.Statuses.{keeps}
 use Rattle.np_replay.proofs.keeping.keep.Goals as goal
 
 pub returns : goal.returns

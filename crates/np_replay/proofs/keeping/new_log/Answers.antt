@@ -1,6 +1,4 @@
-use Rattle.std.proofs.Common.{length, ap, arith, ◌∙◌, ◌≡◌}
-use Rattle.np_config_text.specs.Canonical.{canonical}
-use Rattle.np_config_text.proofs.Short.{canonical-short}
+use Rattle.np_replay.proofs.Prelude.{ap, arith, canonical, canonical-short, length, ◌∙◌, ◌≡◌}
 use Rattle.np_replay.proofs.keeping.new_log.Goals as goal
 
 pub create-requires : goal.create-requires

@@ -1,5 +1,4 @@
-use Rattle.std.proofs.Common.{refl}
-use Rattle.np_text.specs.Number.{number_of, digits_within}
+use Rattle.np_replay.proofs.Prelude.{digits_within, number_of, refl}
 use Rattle.np_replay.proofs.law.worked_commands.Goals as goal
 
 pub returns : goal.returns

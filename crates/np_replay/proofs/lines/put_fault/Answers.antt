@@ -1,5 +1,4 @@
-use Rattle.std.proofs.Common.{append_assoc}
-use Rattle.std.specs.Prelude.{codes, decimal}
+use Rattle.np_replay.proofs.Prelude.{append_assoc, codes, decimal}
 use Rattle.np_replay.proofs.lines.put_fault.Goals as goal
 
 pub returns-in_ok-put_number-in-BadArgument : goal.returns-in_ok-put_number-in-BadArgument

@@ -1,7 +1,5 @@
-use Rattle.std.proofs.Common.{subst, sym}
-use Rattle.np_report.specs.Script.{IsPlayable}
-use Rattle.np_report.specs.declared.script.Script.{Script}
-use Rattle.np_replay.proofs.GoingOn.{appended-leaves, more-few, more-lines, more-playable}
+use Rattle.np_replay.proofs.Prelude.{IsPlayable, Script, subst, sym}
+use Rattle.np_replay.proofs.ResumeStatuses.{appended-leaves, more-few, more-lines, more-playable}
 use Rattle.np_replay.proofs.resuming.text_of_resumed.Goals as goal
 
 pub append_more-requires-clause-room : goal.append_more-requires-clause-room

@@ -1,4 +1,4 @@
-use Rattle.std.proofs.Common.{◌≡◌, ◌∙◌, true, true≢false, refl, sym}
+use Rattle.np_replay.proofs.Prelude.{refl, sym, true, true≢false, ◌∙◌, ◌≡◌}
 use Rattle.np_replay.proofs.ReadingLemmas.{command_found-error, command_found-matches}
 use Rattle.np_replay.proofs.words.parse.Goals as goal
 

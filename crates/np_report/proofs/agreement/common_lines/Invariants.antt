@@ -1,5 +1,4 @@
-use Rattle.std.proofs.Common.{◌≡◌, ◌+◌, drop}
-use Rattle.np_report.specs.Agreement.{common_lines}
+use Rattle.np_report.proofs.Prelude.{common_lines, drop, ◌+◌, ◌≡◌}
 use Rattle.np_report.proofs.agreement.common_lines.Given as goal
 
 -- the lines so far, and those that are left, are all

@@ -1,4 +1,4 @@
-use Rattle.np_report.proofs.OneFinding.{one_finding}
+use Rattle.np_report.proofs.Findings.{one_finding}
 use Rattle.np_report.proofs.audit_law.bytes_have_one_finding.Goals as goal
 
 pub returns : goal.returns

@@ -1,9 +1,5 @@
-use Rattle.std.proofs.Common.{◌≡◌, ◌<◌, ◌∙◌, sym, ap, arith, add-one, length, Some, Bool, if◌then◌else◌}
-use Rattle.std.specs.Prelude.{slice_get}
-use Rattle.std.proofs.lemmas.Option.{slice_get_within}
-use Rattle.np_machine.specs.Fates.{fate_of}
-use Rattle.np_report.specs.Summary.{is_end}
-use Rattle.np_report.proofs.Counting.{count_by-next, count_by-end}
+use Rattle.np_report.proofs.Prelude.{Bool, Some, add-one, ap, arith, fate_of, if◌then◌else◌, is_end, length, slice_get, slice_get_within, sym, ◌<◌, ◌∙◌, ◌≡◌}
+use Rattle.np_report.proofs.Rows.{count_by-next, count_by-end}
 use Rattle.np_report.proofs.ends.count_ends.Goals as goal
 
 pub loop-job-preserved : goal.loop-job-preserved

@@ -1,6 +1,4 @@
-use Rattle.std.proofs.Common.{◌≡◌, ◌≤◌, ◌-◌, ◌+◌, length, drop, map, count_by}
-use Rattle.np_machine.specs.Fates.{fate_of}
-use Rattle.np_report.specs.Summary.{is_end}
+use Rattle.np_report.proofs.Prelude.{count_by, drop, fate_of, is_end, length, map, ◌+◌, ◌-◌, ◌≡◌, ◌≤◌}
 use Rattle.np_report.proofs.ends.count_ends.Given as goal
 
 abbrev pub invariant-loop-job : goal.invariant-loop-job

@@ -1,4 +1,4 @@
-use Rattle.std.proofs.Common.{◌≤◌, ◌-◌, length}
+use Rattle.np_report.proofs.Prelude.{length, ◌-◌, ◌≤◌}
 use Rattle.np_report.proofs.ends.count_jobs.Given as goal
 
 abbrev pub invariant-loop-at : goal.invariant-loop-at

@@ -1,6 +1,5 @@
-use Rattle.std.proofs.Common.{◌≡◌, ◌≤◌, ◌+◌, ◌∙◌, length, None, Some, arith}
-use Rattle.np_report.specs.Entries.{event_told}
-use Rattle.np_report.proofs.FirstEvents.{few-next, none_left, some_left, told-end, told-full, told-next, told-stop}
+use Rattle.np_report.proofs.Prelude.{None, Some, arith, event_told, length, ◌+◌, ◌∙◌, ◌≡◌, ◌≤◌}
+use Rattle.np_report.proofs.PlayedLemmas.{few-next, none_left, some_left, told-end, told-full, told-next, told-stop}
 use Rattle.np_report.proofs.entries.leading_events.Goals as goal
 
 pub returns-then-len-eq-JOURNAL_ENTRIES : goal.returns-then-len-eq-JOURNAL_ENTRIES

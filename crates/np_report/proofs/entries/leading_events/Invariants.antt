@@ -1,6 +1,4 @@
-use Rattle.std.proofs.Common.{◌≡◌, ◌≤◌, ◌++◌, length}
-use Rattle.np_text.specs.Lines.{lines_of}
-use Rattle.np_report.specs.Entries.{events_told}
+use Rattle.np_report.proofs.Prelude.{events_told, length, lines_of, ◌++◌, ◌≡◌, ◌≤◌}
 use Rattle.np_report.proofs.entries.leading_events.Given as goal
 
 -- the events so far, before those of what is left, are those of the whole text

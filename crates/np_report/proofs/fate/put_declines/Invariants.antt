@@ -1,6 +1,4 @@
-use Rattle.std.proofs.Common.{◌≡◌, ◌++◌, drop}
-use Rattle.std.specs.List.{flat_map}
-use Rattle.np_report.specs.Text.{decline_text}
+use Rattle.np_report.proofs.Prelude.{decline_text, drop, flat_map, ◌++◌, ◌≡◌}
 use Rattle.np_report.proofs.fate.put_declines.Given as goal
 
 abbrev pub invariant-loop-declined : goal.invariant-loop-declined

@@ -1,6 +1,4 @@
-use Rattle.std.proofs.Common.{◌≡◌, ◌++◌, drop, map}
-use Rattle.std.specs.List.{flat_map}
-use Rattle.np_report.specs.Text.{node_text}
+use Rattle.np_report.proofs.Prelude.{drop, flat_map, map, node_text, ◌++◌, ◌≡◌}
 use Rattle.np_report.proofs.fate.put_nodes.Given as goal
 
 abbrev pub invariant-loop-marked : goal.invariant-loop-marked

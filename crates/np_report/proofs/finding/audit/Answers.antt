@@ -1,9 +1,5 @@
-use Rattle.std.proofs.Common.{◌∙◌, ap, sym}
-use Rattle.np_config_read.specs.Walk.{reads}
-use Rattle.np_report.specs.Played.{played}
-use Rattle.np_report.specs.Entries.{later_lines, leading_events}
-use Rattle.np_report.proofs.Findings.{finding-so, unread_so}
-use Rattle.np_report.proofs.Newlines.{few_newlines}
+use Rattle.np_report.proofs.Prelude.{ap, later_lines, leading_events, played, reads, sym, ◌∙◌}
+use Rattle.np_report.proofs.Findings.{few_newlines, finding-so, unread_so}
 use Rattle.np_report.proofs.finding.audit.Goals as goal
 
 pub compare-requires : goal.compare-requires

@@ -1,6 +1,5 @@
-use Rattle.std.proofs.Common.{◌∙◌, ap}
-use Rattle.np_report.specs.Entries.{later_lines, leading_events}
-use Rattle.np_report.proofs.FirstEvents.{playable-read}
+use Rattle.np_report.proofs.Prelude.{ap, later_lines, leading_events, ◌∙◌}
+use Rattle.np_report.proofs.PlayedLemmas.{playable-read}
 use Rattle.np_report.proofs.finding.text_behind.Goals as goal
 
 pub text_of_script-requires : goal.text_of_script-requires

@@ -1,5 +1,4 @@
-use Rattle.np_config_text.specs.Worked.{worked, worked_text}
-use Rattle.np_config_read.proofs.WalkTakes.{reads-takes}
+use Rattle.np_report.proofs.Prelude.{reads-takes, worked, worked_text}
 use Rattle.np_report.proofs.Findings.{begins-nothing}
 use Rattle.np_report.proofs.finding.there_is_a_text.Goals as goal
 

@@ -1,5 +1,5 @@
-use Rattle.np_report.specs.Script.{event_said, most_lines}
-use Rattle.np_report.proofs.FirstFault.{first-told, told-is_first}
+use Rattle.np_report.proofs.Prelude.{event_said, most_lines}
+use Rattle.np_report.proofs.PlayedLemmas.{first-told, told-is_first}
 use Rattle.np_report.proofs.first_fault.the_first_line_at_fault_is_told.Goals as goal
 
 pub returns : goal.returns

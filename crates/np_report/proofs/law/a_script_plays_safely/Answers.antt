@@ -1,4 +1,4 @@
-use Rattle.np_report.proofs.SafePlay.{printed-script}
+use Rattle.np_report.proofs.PlayedLemmas.{printed-script}
 use Rattle.np_report.proofs.law.a_script_plays_safely.Goals as goal
 
 pub returns : goal.returns

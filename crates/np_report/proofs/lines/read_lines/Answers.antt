@@ -1,9 +1,5 @@
-use Rattle.std.proofs.Common.{◌≡◌, ◌≤◌, ◌+◌, ◌-◌, ◌++◌, ◌∷◌, [], ◌∙◌, sym, ap, arith, take, drop, List, ℕ, Some, Ok, Err}
-use Rattle.std.proofs.lemmas.List.{drop_min}
-use Rattle.np_text.specs.Lines.{lines_of, line_in}
-use Rattle.np_text.proofs.LineLemmas.{lines_of-walk}
-use Rattle.np_report.specs.Lines.{lines_read}
-use Rattle.np_report.proofs.LinesRead.{read_before, lines_read-said, lines_read-fault, lines_read-many}
+use Rattle.np_report.proofs.Prelude.{Err, List, Ok, Some, [], ap, arith, drop, drop_min, line_in, lines_of, lines_of-walk, lines_read, sym, take, ℕ, ◌++◌, ◌+◌, ◌-◌, ◌∙◌, ◌∷◌, ◌≡◌, ◌≤◌}
+use Rattle.np_report.proofs.PlayedLemmas.{read_before, lines_read-said, lines_read-fault, lines_read-many}
 use Rattle.np_report.proofs.lines.read_lines.Goals as goal
 
 pub returns-then-most-line : goal.returns-then-most-line

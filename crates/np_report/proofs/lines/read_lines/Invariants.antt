@@ -1,7 +1,5 @@
-use Rattle.std.proofs.Common.{◌≡◌, ◌≤◌, ◌<◌, ◌-◌, ◌+◌, ◌^◌, length, drop}
-use Rattle.np_text.specs.Lines.{lines_of}
-use Rattle.np_report.specs.Lines.{lines_read}
-use Rattle.np_report.proofs.LinesRead.{read_before}
+use Rattle.np_report.proofs.Prelude.{drop, length, lines_of, lines_read, ◌+◌, ◌-◌, ◌<◌, ◌^◌, ◌≡◌, ◌≤◌}
+use Rattle.np_report.proofs.PlayedLemmas.{read_before}
 use Rattle.np_report.proofs.lines.read_lines.Given as goal
 
 -- what the lines so far say, before what is left says, is what the whole text says

@@ -1,9 +1,5 @@
-use Rattle.std.proofs.Common.{◌<◌, ◌∙◌, ap, arith, length, get_or}
-use Rattle.np_event.specs.declared.event.Event.TheVariants.{Tick}
-use Rattle.np_rules.specs.Ran.{Ran, applied}
-use Rattle.np_rules.specs.Running.{ran_of}
-use Rattle.np_rules.proofs.First.{applied-first}
-use Rattle.np_report.proofs.Playing.{ran-next}
+use Rattle.np_report.proofs.Prelude.{Ran, Tick, ap, applied, applied-first, arith, get_or, length, ran_of, ◌<◌, ◌∙◌}
+use Rattle.np_report.proofs.PlayedLemmas.{ran-next}
 use Rattle.np_report.proofs.played.play.Goals as goal
 
 pub loop-event-preserved : goal.loop-event-preserved

@@ -1,6 +1,4 @@
-use Rattle.np_rules.specs.Running.{ran_of}
-use Rattle.std.proofs.Common.{◌≡◌, take}
-use Rattle.np_report.specs.Played.{ran}
+use Rattle.np_report.proofs.Prelude.{ran, ran_of, take, ◌≡◌}
 use Rattle.np_report.proofs.played.play.Given as goal
 
 abbrev pub invariant-loop-event : goal.invariant-loop-event

@@ -1,10 +1,5 @@
-use Rattle.std.proofs.Common.{◌∙◌, ap, sym, subst, List}
-use Rattle.np_changes.specs.Prelude.{AllByRecursion, Entry, start}
-use Rattle.np_event.specs.Line.{HasEventLine}
-use Rattle.np_rules.specs.Running.{ran_of}
-use Rattle.np_rules.specs.Ran.{Ran}
-use Rattle.np_report.proofs.Playing.{lines-played_from}
-use Rattle.np_report.proofs.SafePlay.{runs-same}
+use Rattle.np_report.proofs.Prelude.{AllByRecursion, Entry, HasEventLine, List, Ran, ap, ran_of, start, subst, sym, ◌∙◌}
+use Rattle.np_report.proofs.PlayedLemmas.{lines-played_from, runs-same}
 use Rattle.np_report.proofs.played.text_of_events.Goals as goal
 
 pub text-requires-clause-runs : goal.text-requires-clause-runs

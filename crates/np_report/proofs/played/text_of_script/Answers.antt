@@ -1,9 +1,4 @@
-use Rattle.std.proofs.Common.{ap, subst, List}
-use Rattle.std.specs.Prelude.{IfOk}
-use Rattle.np_changes.specs.Prelude.{Configuration, Event}
-use Rattle.np_rules.specs.Running.{Running}
-use Rattle.np_report.specs.Played.{played}
-use Rattle.np_report.specs.Printed.{IsPrinted}
+use Rattle.np_report.proofs.Prelude.{Configuration, Event, IfOk, IsPrinted, List, Running, ap, played, subst}
 use Rattle.np_report.proofs.played.text_of_script.Goals as goal
 
 pub returns : goal.returns

@@ -1,6 +1,5 @@
-use Rattle.std.proofs.Common.{subst}
-use Rattle.np_config.specs.Sound.{IsSound}
-use Rattle.np_report.proofs.ToldRuns.{told-Runs}
+use Rattle.np_report.proofs.Prelude.{IsSound, subst}
+use Rattle.np_report.proofs.Rows.{told-Runs}
 use Rattle.np_report.proofs.print.parts.Goals as goal
 
 pub put_entries-requires : goal.put_entries-requires

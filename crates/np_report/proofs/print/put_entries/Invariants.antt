@@ -1,7 +1,4 @@
-use Rattle.std.proofs.Common.{◌≡◌, ◌++◌, drop}
-use Rattle.std.specs.List.{AllByRecursion}
-use Rattle.np_report.specs.Told.{IsToldEntry}
-use Rattle.np_report.specs.Text.{entry_lines}
+use Rattle.np_report.proofs.Prelude.{AllByRecursion, IsToldEntry, drop, entry_lines, ◌++◌, ◌≡◌}
 use Rattle.np_report.proofs.print.put_entries.Given as goal
 
 abbrev pub invariant-loop-entry : goal.invariant-loop-entry

@@ -1,8 +1,5 @@
-use Rattle.std.proofs.Common.{◌≡◌, ◌<◌, ◌+◌, ◌++◌, ◌∙◌, sym, ap, arith, length, append-nil, List, ℕ, Some}
-use Rattle.std.specs.Prelude.{slice_get}
-use Rattle.np_changes.specs.Prelude.{Configuration, option_copied}
-use Rattle.std.proofs.lemmas.Option.{slice_get_within}
-use Rattle.np_report.proofs.FateLines.{lines_from, lines_from-put, lines_from-end, lines_from-short}
+use Rattle.np_report.proofs.Prelude.{Configuration, List, Some, ap, append-nil, arith, length, option_copied, slice_get, slice_get_within, sym, ℕ, ◌++◌, ◌+◌, ◌<◌, ◌∙◌, ◌≡◌}
+use Rattle.np_report.proofs.Rows.{lines_from, lines_from-put, lines_from-end, lines_from-short}
 use Rattle.np_report.proofs.print.put_fates.Goals as goal
 
 pub loop-job-smaller : goal.loop-job-smaller

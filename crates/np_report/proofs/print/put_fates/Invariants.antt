@@ -1,5 +1,5 @@
-use Rattle.std.proofs.Common.{◌≡◌, ◌≤◌, ◌-◌, ◌++◌, length, drop}
-use Rattle.np_report.proofs.FateLines.{lines_from}
+use Rattle.np_report.proofs.Prelude.{drop, length, ◌++◌, ◌-◌, ◌≡◌, ◌≤◌}
+use Rattle.np_report.proofs.Rows.{lines_from}
 use Rattle.np_report.proofs.print.put_fates.Given as goal
 
 abbrev pub invariant-loop-job : goal.invariant-loop-job

@@ -1,4 +1,4 @@
-use Rattle.np_report.proofs.SafePlay.{printed-Runs}
+use Rattle.np_report.proofs.PlayedLemmas.{printed-Runs}
 use Rattle.np_report.proofs.print.text.Goals as goal
 
 pub returns-in-Ok : goal.returns-in-Ok

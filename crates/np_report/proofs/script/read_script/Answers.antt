@@ -1,5 +1,5 @@
-use Rattle.std.proofs.Common.{◌∙◌, sym}
-use Rattle.np_report.proofs.Playable.{playable-parts}
+use Rattle.np_report.proofs.Prelude.{sym, ◌∙◌}
+use Rattle.np_report.proofs.PlayedLemmas.{playable-parts}
 use Rattle.np_report.proofs.script.read_script.Goals as goal
 
 pub returns-in-Ok-3-clause-playable : goal.returns-in-Ok-3-clause-playable

@@ -1,4 +1,4 @@
-use Rattle.np_report.proofs.ToldRuns.{jobs-Runs}
+use Rattle.np_report.proofs.Rows.{jobs-Runs}
 use Rattle.np_report.proofs.told.a_run_has_a_record_for_each_job.Goals as goal
 
 pub returns : goal.returns

@@ -1,5 +1,4 @@
-use Rattle.std.proofs.Common.{[], ◌∷◌, ◌++◌, List, map, ap, ◌∙◌}
-use Rattle.np_worker.specs.Drive.{Driving, driving}
+use Rattle.np_rounds.proofs.Prelude.{Driving, List, ap, driving, map, [], ◌++◌, ◌∙◌, ◌∷◌}
 use Rattle.np_rounds.proofs.Players.{released, without, no_driver}
 use Rattle.np_rounds.proofs.crew.drivers_of.Goals as goal
 

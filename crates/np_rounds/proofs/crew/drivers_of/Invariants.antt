@@ -1,7 +1,4 @@
-use Rattle.std.proofs.Common.{◌≡◌, ◌++◌, length, map}
-use Rattle.np_worker.specs.Drive.{driving}
-use Rattle.np_worker.specs.Players.{drivings_of}
-use Rattle.np_rounds.specs.Crews.{players_of}
+use Rattle.np_rounds.proofs.Prelude.{driving, drivings_of, length, map, players_of, ◌++◌, ◌≡◌}
 use Rattle.np_rounds.proofs.crew.drivers_of.Given as goal
 
 abbrev pub invariant-loop-worker : goal.invariant-loop-worker

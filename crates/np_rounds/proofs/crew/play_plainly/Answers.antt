@@ -1,7 +1,5 @@
-use Rattle.std.proofs.Common.{false, rules}
-use Rattle.np_worker.specs.Prelude.{first_phase, sight_of}
-use Rattle.np_worker.specs.Round.{EndsAs, work_of, driving_of}
-use Rattle.np_rounds.proofs.Seats.{allowed_part}
+use Rattle.np_rounds.proofs.Prelude.{EndsAs, driving_of, false, first_phase, rules, sight_of, work_of}
+use Rattle.np_rounds.proofs.OneRound.{allowed_part}
 use Rattle.np_rounds.proofs.crew.play_plainly.Goals as goal
 
 pub returns : goal.returns

@@ -1,4 +1,4 @@
-use Rattle.std.proofs.Common.{rules}
+use Rattle.np_rounds.proofs.Prelude.{rules}
 use Rattle.np_rounds.proofs.crew.play_planned.Goals as goal
 
 pub returns : goal.returns

@@ -1,4 +1,4 @@
-use Rattle.std.proofs.Common.{◌≡◌, [], ◌∷◌, rules, length, length-append, ap, ◌∙◌, arith}
+use Rattle.np_rounds.proofs.Prelude.{ap, arith, length, length-append, rules, [], ◌∙◌, ◌∷◌, ◌≡◌}
 use Rattle.np_rounds.proofs.Players.{requester_more, placed, numbered}
 use Rattle.np_rounds.proofs.crew.workers_of.Goals as goal
 

@@ -1,7 +1,4 @@
-use Rattle.std.proofs.Common.{◌≡◌, ◌≤◌, ◌++◌, length, map}
-use Rattle.np_worker.specs.Drive.{driving}
-use Rattle.np_worker.specs.Players.{drivings_of, AreNumbered}
-use Rattle.np_rounds.specs.Crews.{players_of}
+use Rattle.np_rounds.proofs.Prelude.{AreNumbered, driving, drivings_of, length, map, players_of, ◌++◌, ◌≡◌, ◌≤◌}
 use Rattle.np_rounds.proofs.Players.{NoPools}
 use Rattle.np_rounds.proofs.crew.workers_of.Given as goal
 

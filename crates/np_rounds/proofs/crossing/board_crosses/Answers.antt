@@ -1,14 +1,7 @@
 -- A machine crosses since each of its parts does: a search would have to go too deep.
-use Rattle.std.proofs.Common.{rules}
-use Prim.Native.Nat.{◌+◌}
-use mir.Syntax.{of_param}
-use denote.Exit.{unseen}
-use denote.Enum.Enum.{Enum}
+use Rattle.np_rounds.proofs.Prelude.{Enum, IsSend, IsSync, Quiet-if, Vec-send, Vec-sync, enum_send, enum_sync, of_param, recorded_send, recorded_sync, rules, unseen, ◌+◌}
 use denote.Enum.Declared as enum
-use denote.Param.Send.{Quiet-if, enum_send, enum_sync, recorded_send, recorded_sync}
-use Rattle.std.proofs.Crossing.{Vec-send, Vec-sync}
 use Rattle.std.specs.contracts.option.Option as Option
-use Rattle.std.specs.Thread.{IsSend, IsSync}
 use Rattle.np_board.specs.contracts.board.plan.Watched as watched
 use Rattle.np_board.specs.contracts.board.plans.Plans as plans
 use Rattle.np_rounds.proofs.crossing.board_crosses.Goals as goal

@@ -1,8 +1,5 @@
 -- An index crosses since each of its six parts does: a search would have to go too deep.
-use Prim.Native.Nat.{◌+◌}
-use mir.Syntax.{of_param}
-use denote.Exit.{unseen}
-use denote.Param.Send.{Quiet-if}
+use Rattle.np_rounds.proofs.Prelude.{Quiet-if, of_param, unseen, ◌+◌}
 use Rattle.np_rounds.proofs.crossing.index_crosses.Goals as goal
 
 pub crosses-requires-send-T : goal.crosses-requires-send-T

@@ -1,11 +1,5 @@
-use Rattle.std.proofs.Common.{◌≡◌, ℕ, [], ◌∷◌, ◌++◌, suc, length, length-append, ap, ◌∙◌, sym, subst, arith}
-use Rattle.np_changes.specs.Prelude.{Configuration, Entry}
-use Rattle.np_desk.specs.Part.{first_half, second_half}
-use Rattle.np_desk.specs.Pass.{PassView}
-use Rattle.np_rounds.specs.declared.crew.Crew.{Crew}
-use Rattle.np_rounds.specs.Crews.{Seat, split_pass, given_pass, AreGiven}
-use Rattle.np_rounds.proofs.Lists.{given_more}
-use Rattle.np_rounds.proofs.Players.{handed}
+use Rattle.np_rounds.proofs.Prelude.{AreGiven, Configuration, Crew, Entry, PassView, Seat, ap, arith, first_half, given_pass, length, length-append, second_half, split_pass, subst, suc, sym, ℕ, [], ◌++◌, ◌∙◌, ◌∷◌, ◌≡◌}
+use Rattle.np_rounds.proofs.Players.{given_more, handed}
 use Rattle.np_rounds.proofs.round.hand_out.Goals as goal
 
 pub loop-worker-preserved : goal.loop-worker-preserved

@@ -1,6 +1,4 @@
-use Rattle.std.proofs.Common.{◌≡◌, ◌++◌, length}
-use Rattle.np_desk.specs.Pass.{IsOf}
-use Rattle.np_rounds.specs.Crews.{split_pass, AreGiven, players_of, crew_players}
+use Rattle.np_rounds.proofs.Prelude.{AreGiven, IsOf, crew_players, length, players_of, split_pass, ◌++◌, ◌≡◌}
 use Rattle.np_rounds.proofs.round.hand_out.Given as goal
 
 abbrev pub invariant-loop-worker : goal.invariant-loop-worker

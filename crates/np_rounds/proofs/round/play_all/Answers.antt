@@ -1,7 +1,5 @@
-use Rattle.std.proofs.Common.{◌≡◌, length, rules, subst, sym}
-use Rattle.std.specs.Prelude.{slice_index_or}
-use Rattle.np_rounds.specs.Plays.{CrewPlays}
-use Rattle.np_rounds.proofs.Lists.{pairwise_from}
+use Rattle.np_rounds.proofs.Prelude.{CrewPlays, length, rules, slice_index_or, subst, sym, ◌≡◌}
+use Rattle.np_rounds.proofs.Players.{pairwise_from}
 use Rattle.np_rounds.proofs.round.play_all.Goals as goal
 
 pub returns : goal.returns

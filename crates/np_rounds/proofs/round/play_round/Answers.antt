@@ -1,11 +1,6 @@
-use Rattle.std.proofs.Common.{◌≡◌, ◌<◌, ℕ, true, [], ◌∷◌, length, ap, ◌∙◌, sym, subst}
-use Rattle.np_changes.specs.Prelude.{Configuration, Entry}
-use Rattle.np_worker.specs.Prelude.{PassView, is_legal}
-use Rattle.np_rounds.specs.Crews.{zeros}
-use Rattle.np_rounds.specs.Plays.{CrewPlays}
-use Rattle.np_rounds.proofs.Backs.{are_back}
-use Rattle.np_rounds.proofs.OneRound.{round_knows, of_desk, is_round, still_seen, moved_on}
-use Rattle.np_rounds.proofs.Lists.{given_own, pairwise_len}
+use Rattle.np_rounds.proofs.Prelude.{Configuration, CrewPlays, Entry, PassView, ap, is_legal, length, subst, sym, true, zeros, ℕ, [], ◌<◌, ◌∙◌, ◌∷◌, ◌≡◌}
+use Rattle.np_rounds.proofs.OneRound.{are_back, is_round, moved_on, of_desk, round_knows, still_seen}
+use Rattle.np_rounds.proofs.Players.{given_own, pairwise_len}
 use Rattle.np_rounds.proofs.round.play_round.Goals as goal
 
 pub play_all-requires-clause-own : goal.play_all-requires-clause-own

@@ -1,10 +1,6 @@
-use Rattle.std.proofs.Common.{◌≡◌, ℕ, List, [], ◌∷◌, ◌++◌, suc, ◌+◌, length, length-append, ap, ◌∙◌, subst, sym, arith, append-nil, append_assoc}
-use Rattle.np_desk.specs.Part.{second_half}
-use Rattle.np_rounds.specs.declared.crew.CrewEnd.{CrewEnd}
-use Rattle.np_rounds.specs.Crews.{Seat, zeros}
-use Rattle.np_rounds.specs.Backs.{AreBack}
-use Rattle.np_rounds.proofs.Lists.{back_less}
-use Rattle.np_rounds.proofs.Taken.{took_none, took_more}
+use Rattle.np_rounds.proofs.Prelude.{AreBack, CrewEnd, List, Seat, ap, append-nil, append_assoc, arith, length, length-append, second_half, subst, suc, sym, zeros, ℕ, [], ◌++◌, ◌+◌, ◌∙◌, ◌∷◌, ◌≡◌}
+use Rattle.np_rounds.proofs.Players.{back_less}
+use Rattle.np_rounds.proofs.OneRound.{took_none, took_more}
 use Rattle.np_rounds.proofs.round.take_back.Goals as goal
 
 pub loop-last-init : goal.loop-last-init

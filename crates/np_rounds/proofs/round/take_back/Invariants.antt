@@ -1,8 +1,4 @@
-use Rattle.std.proofs.Common.{◌≡◌, List, [], ◌∷◌, ◌++◌, length}
-use Rattle.np_desk.specs.Pass.{IsOf}
-use Rattle.np_rounds.specs.declared.crew.CrewEnd.{CrewEnd}
-use Rattle.np_rounds.specs.Crews.{Seat, zeros}
-use Rattle.np_rounds.specs.Backs.{AreBack, TookBack}
+use Rattle.np_rounds.proofs.Prelude.{AreBack, CrewEnd, IsOf, List, Seat, TookBack, length, zeros, [], ◌++◌, ◌∷◌, ◌≡◌}
 use Rattle.np_rounds.proofs.round.take_back.Given as goal
 
 abbrev pub invariant-loop-last : goal.invariant-loop-last

@@ -1,10 +1,5 @@
-use Rattle.std.proofs.Common.{◌∙◌, true, false, subst}
-use Rattle.std.proofs.lemmas.Bool.{not-false, not-true}
-use Rattle.np_rounds.specs.Crews.{players_of}
-use Rattle.np_rounds.specs.Laps.{IsTick}
-use Rattle.np_rounds.specs.Played.{Stops}
-use Rattle.np_rounds.proofs.Hosted.{workers_sound}
-use Rattle.np_rounds.proofs.Laps.{laps_full, laps_none, laps_still, laps_tick}
+use Rattle.np_rounds.proofs.Prelude.{IsTick, Stops, false, not-false, not-true, players_of, subst, true, ◌∙◌}
+use Rattle.np_rounds.proofs.Players.{laps_full, laps_none, laps_still, laps_tick, workers_sound}
 use Rattle.np_rounds.proofs.rounds.play_at.Goals as goal
 
 pub loop-init : goal.loop-init

@@ -1,9 +1,4 @@
-use Rattle.std.proofs.Common.{List, ap, subst, sym}
-use Rattle.np_changes.specs.Prelude.{Configuration, Entry}
-use Rattle.np_worker.proofs.LegalLemmas.{Runs-legal}
-use Rattle.np_rounds.specs.Crews.{players_of}
-use Rattle.np_rounds.specs.Laps.{HasLaps}
-use Rattle.np_rounds.specs.Played.{Stops}
+use Rattle.np_rounds.proofs.Prelude.{Configuration, Entry, HasLaps, List, Runs-legal, Stops, ap, players_of, subst, sym}
 use Rattle.np_rounds.proofs.OneRound.{closed_seen}
 use Rattle.np_rounds.proofs.rounds.play_board.Goals as goal
 

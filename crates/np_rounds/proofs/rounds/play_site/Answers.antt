@@ -1,11 +1,7 @@
-use Rattle.std.proofs.Common.{◌∙◌, refl, false, subst}
-use Rattle.np_changes.specs.Prelude.{Configuration}
-use Rattle.np_rounds.specs.Crews.{players_of}
-use Rattle.np_rounds.specs.Laps.{HasLaps}
-use Rattle.np_rounds.specs.Played.{Stops}
-use Rattle.np_rounds.proofs.Laps.{laps_none, laps_on}
-use Rattle.np_rounds.proofs.rounds.play_site.Goals as goal
+use Rattle.np_rounds.proofs.Prelude.{Configuration, HasLaps, Stops, false, players_of, refl, subst, ◌∙◌}
+use Rattle.np_rounds.proofs.Players.{laps_none, laps_on}
 use Rattle.np_rounds.proofs.rounds.play_site.Goals.{then-full-via-then-full, then-full-via-else-full+then-settled}
+use Rattle.np_rounds.proofs.rounds.play_site.Goals as goal
 
 pub loop-init : goal.loop-init
 loop-init g c = record {

@@ -1,7 +1,4 @@
-use Rattle.std.proofs.Common.{◌≡◌, false}
-use Rattle.np_rounds.specs.Crews.{players_of}
-use Rattle.np_rounds.specs.Laps.{HasLaps}
-use Rattle.np_rounds.specs.Played.{IsRested}
+use Rattle.np_rounds.proofs.Prelude.{HasLaps, IsRested, false, players_of, ◌≡◌}
 use Rattle.np_rounds.proofs.rounds.play_site.Given as goal
 
 abbrev pub invariant-loop : goal.invariant-loop

@@ -1,7 +1,5 @@
-use Rattle.std.proofs.Common.{◌∙◌, inl, true, false}
-use Rattle.np_rounds.proofs.Endings.{ended_carried, ended_count, ended_driven, ended_failed, ended_plans, ended_played, ended_rooms, ended_sounds}
-use Rattle.np_rounds.proofs.Laps.{ended_runs}
-use Rattle.np_rounds.proofs.Starts.{ended_settled}
+use Rattle.np_rounds.proofs.Prelude.{false, inl, true, ◌∙◌}
+use Rattle.np_rounds.proofs.Players.{ended_carried, ended_count, ended_driven, ended_failed, ended_plans, ended_played, ended_rooms, ended_runs, ended_settled, ended_sounds}
 use Rattle.np_rounds.proofs.rounds.run_rounds.Goals as goal
 
 pub play_site-requires-clause-rested : goal.play_site-requires-clause-rested

@@ -1,10 +1,5 @@
-use Rattle.std.proofs.Common.{◌≡◌, ◌∙◌, sym, ap, true, Result}
-use Rattle.std.specs.Prelude.{is_ok}
-use Rattle.np_changes.specs.Prelude.{Refusal, changed, judge, plan}
-use Rattle.np_changes.specs.declared.changes.Changes.{Changes}
-use Rattle.np_changes.proofs.PlanLaws.{plan-next}
+use Rattle.np_rules.proofs.Prelude.{Changes, Refusal, Result, Verdict, ap, changed, is_ok, judge, plan, plan-next, sym, true, ◌∙◌, ◌≡◌}
 use Rattle.np_decision.specs.Verdicts.{answer_of}
-use Rattle.np_decision.specs.declared.verdict.Verdict.{Verdict}
 use Rattle.np_rules.proofs.change.step.Goals as goal
 
 pub returns-in_ok-change-in-Ok-clause-ok : goal.returns-in_ok-change-in-Ok-clause-ok

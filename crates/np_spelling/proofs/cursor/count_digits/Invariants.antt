@@ -1,5 +1,4 @@
-use Rattle.std.specs.Prelude.{◌≡◌, ◌≤◌, drop}
-use Rattle.np_spelling.specs.Reading.{digits}
+use Rattle.np_spelling.proofs.Prelude.{digits, drop, ◌≡◌, ◌≤◌}
 use Rattle.np_spelling.proofs.cursor.count_digits.Given as goal
 
 abbrev pub invariant-loop-at : goal.invariant-loop-at

@@ -1,5 +1,5 @@
-use Rattle.std.proofs.Common.{arith}
-use Rattle.np_spelling.proofs.CursorLemmas.{priority_most}
+use Rattle.np_spelling.proofs.Prelude.{arith}
+use Rattle.np_spelling.proofs.Readers.{priority_most}
 use Rattle.np_spelling.proofs.id.priority.Goals as goal
 
 pub overflow_cast-result : goal.overflow_cast-result

@@ -1,5 +1,5 @@
-use Rattle.std.proofs.Common.{arith}
-use Rattle.np_spelling.proofs.CursorLemmas.{sequence_most}
+use Rattle.np_spelling.proofs.Prelude.{arith}
+use Rattle.np_spelling.proofs.Readers.{sequence_most}
 use Rattle.np_spelling.proofs.id.sequence.Goals as goal
 
 pub overflow_cast-result : goal.overflow_cast-result

@@ -1,4 +1,4 @@
-use Rattle.std.proofs.Common.{append_assoc, refl}
+use Rattle.np_spelling.proofs.Prelude.{append_assoc, refl}
 use Rattle.np_spelling.proofs.job.put_pool_and_request.Goals as goal
 
 pub returns : goal.returns

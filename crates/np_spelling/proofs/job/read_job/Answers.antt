@@ -1,5 +1,5 @@
-use Rattle.std.proofs.Common.{ap, arith, length}
-use Rattle.np_spelling.proofs.JobForm.{job_left}
+use Rattle.np_spelling.proofs.Prelude.{ap, arith, length}
+use Rattle.np_spelling.proofs.Records.{job_left}
 use Rattle.np_spelling.proofs.job.read_job.Goals as goal
 
 pub answer-requires : goal.answer-requires

@@ -1,10 +1,7 @@
-use Rattle.np_spelling.specs.Spelling.{SpellsJob, SpellsNode, SpellsRequest, SpellsRole, SpellsSession}
-use Rattle.np_spelling.proofs.Exact.{one_value}
-use Rattle.np_spelling.proofs.JobForm.{job_means, job_read}
-use Rattle.np_spelling.proofs.NodeForm.{node_means, node_read}
+use Rattle.np_spelling.proofs.Prelude.{SpellsJob, SpellsNode, SpellsRequest, SpellsRole, SpellsSession}
+use Rattle.np_spelling.proofs.Readers.{one_value}
+use Rattle.np_spelling.proofs.Records.{job_means, job_read, node_means, node_read, role, role_means, session, session_means}
 use Rattle.np_spelling.proofs.RequestForm.{request_means, request_read}
-use Rattle.np_spelling.proofs.RoleForm.{role, role_means}
-use Rattle.np_spelling.proofs.SessionForm.{session, session_means}
 use Rattle.np_spelling.proofs.law.a_spelling_has_one_value.Goals as goal
 
 pub returns : goal.returns

@@ -1,4 +1,4 @@
-use Rattle.std.proofs.Common.{inl, refl}
+use Rattle.np_spelling.proofs.Prelude.{inl, refl}
 use Rattle.np_spelling.proofs.law.what_is_written_is_a_spelling.Goals as goal
 
 pub returns : goal.returns

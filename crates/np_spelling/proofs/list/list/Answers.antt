@@ -1,7 +1,5 @@
-use Rattle.std.proofs.Common.{◌∙◌, ◌-◌, ◌<◌, ◌++◌, [], ◌∷◌, ap, arith, length, sym}
-use Rattle.std.specs.Option.{option_map}
-use Rattle.np_spelling.specs.Reading.{rest_in, with_front}
-use Rattle.np_spelling.proofs.RestLemmas.{list_items, list_no_item, list_not_open, list_shut, pushed_row}
+use Rattle.np_spelling.proofs.Prelude.{ap, arith, length, option_map, rest_in, sym, with_front, [], ◌++◌, ◌-◌, ◌<◌, ◌∙◌, ◌∷◌}
+use Rattle.np_spelling.proofs.Readers.{list_items, list_no_item, list_not_open, list_shut, pushed_row}
 use Rattle.np_spelling.proofs.list.list.Goals as goal
 
 pub returns-in_err-lead : goal.returns-in_err-lead

@@ -1,5 +1,4 @@
-use Rattle.std.specs.Prelude.{◌≡◌, ◌++◌, drop}
-use Rattle.np_spelling.specs.Spelling.{rest_text}
+use Rattle.np_spelling.proofs.Prelude.{drop, rest_text, ◌++◌, ◌≡◌}
 use Rattle.np_spelling.proofs.list.put_rest.Given as goal
 
 abbrev pub invariant-loop-item : goal.invariant-loop-item

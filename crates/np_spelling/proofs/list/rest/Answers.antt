@@ -1,7 +1,5 @@
-use Rattle.std.proofs.Common.{◌≡◌, ◌∙◌, suc, ◌+◌, ◌-◌, ◌<◌, [], ◌∷◌, ap, arith, length, length-append, sym}
-use Rattle.std.specs.Option.{option_map}
-use Rattle.np_spelling.specs.Reading.{rest_in, with_front}
-use Rattle.np_spelling.proofs.RestLemmas.{pushed_row, rest_item, rest_last, rest_no_comma, rest_no_item, rest_shut}
+use Rattle.np_spelling.proofs.Prelude.{ap, arith, length, length-append, option_map, rest_in, suc, sym, with_front, [], ◌+◌, ◌-◌, ◌<◌, ◌∙◌, ◌∷◌, ◌≡◌}
+use Rattle.np_spelling.proofs.Readers.{pushed_row, rest_item, rest_last, rest_no_comma, rest_no_item, rest_shut}
 use Rattle.np_spelling.proofs.list.rest.Goals as goal
 
 pub returns-then-begins : goal.returns-then-begins

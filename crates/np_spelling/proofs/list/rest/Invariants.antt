@@ -1,5 +1,4 @@
-use Rattle.std.specs.Prelude.{◌≡◌, ◌+◌, ◌-◌, ◌≤◌, length}
-use Rattle.np_spelling.specs.Reading.{rest_in, with_front}
+use Rattle.np_spelling.proofs.Prelude.{length, rest_in, with_front, ◌+◌, ◌-◌, ◌≡◌, ◌≤◌}
 use Rattle.np_spelling.proofs.list.rest.Given as goal
 
 abbrev pub invariant-loop-at : goal.invariant-loop-at

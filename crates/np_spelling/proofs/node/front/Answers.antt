@@ -1,5 +1,4 @@
-use Rattle.std.proofs.Common.{◌∙◌, refl, ap, sym}
-use Rattle.np_spelling.specs.Reading.{node_front_in}
+use Rattle.np_spelling.proofs.Prelude.{ap, node_front_in, refl, sym, ◌∙◌}
 use Rattle.np_spelling.proofs.node.front.Goals as goal
 
 pub returns-in_err-lead-3 : goal.returns-in_err-lead-3

@@ -1,5 +1,4 @@
-use Rattle.std.proofs.Common.{append_assoc, refl}
-use Rattle.std.proofs.lemmas.List.{append-nil}
+use Rattle.np_spelling.proofs.Prelude.{append-nil, append_assoc, refl}
 use Rattle.np_spelling.proofs.node.put_head.Goals as goal
 
 pub returns : goal.returns

@@ -1,8 +1,5 @@
-use Rattle.std.specs.Prelude.{codes}
-use Rattle.std.specs.Fmt.{decimal}
-use Rattle.np_text.specs.Word.{node_state_word}
-use Rattle.np_spelling.specs.Spelling.{flag_text, node_front, node_server, node_tenant}
-use Rattle.np_spelling.proofs.NodeForm.{regroup}
+use Rattle.np_spelling.proofs.Prelude.{codes, decimal, flag_text, node_front, node_server, node_state_word, node_tenant}
+use Rattle.np_spelling.proofs.Records.{regroup}
 use Rattle.np_spelling.proofs.node.put_node.Goals as goal
 
 pub returns : goal.returns

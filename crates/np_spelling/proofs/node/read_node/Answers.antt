@@ -1,5 +1,5 @@
-use Rattle.std.proofs.Common.{ap, arith, length}
-use Rattle.np_spelling.proofs.NodeForm.{node_left}
+use Rattle.np_spelling.proofs.Prelude.{ap, arith, length}
+use Rattle.np_spelling.proofs.Records.{node_left}
 use Rattle.np_spelling.proofs.node.read_node.Goals as goal
 
 pub answer-requires : goal.answer-requires

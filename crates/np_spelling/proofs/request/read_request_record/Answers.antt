@@ -1,4 +1,4 @@
-use Rattle.std.proofs.Common.{ap, arith, length}
+use Rattle.np_spelling.proofs.Prelude.{ap, arith, length}
 use Rattle.np_spelling.proofs.RequestForm.{request_left}
 use Rattle.np_spelling.proofs.request.read_request_record.Goals as goal
 

@@ -1,5 +1,4 @@
-use Rattle.std.proofs.Common.{refl, ap, sym}
-use Rattle.np_spelling.specs.Reading.{request_record_in}
+use Rattle.np_spelling.proofs.Prelude.{ap, refl, request_record_in, sym}
 use Rattle.np_spelling.proofs.request.request.Goals as goal
 
 pub returns-in_err-labels : goal.returns-in_err-labels

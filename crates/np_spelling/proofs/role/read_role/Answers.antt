@@ -1,5 +1,5 @@
-use Rattle.std.proofs.Common.{ap, arith, length}
-use Rattle.np_spelling.proofs.RoleForm.{role_left}
+use Rattle.np_spelling.proofs.Prelude.{ap, arith, length}
+use Rattle.np_spelling.proofs.Records.{role_left}
 use Rattle.np_spelling.proofs.role.read_role.Goals as goal
 
 pub answer-requires : goal.answer-requires

@@ -1,5 +1,4 @@
-use Rattle.std.proofs.Common.{refl, ap, sym}
-use Rattle.np_spelling.specs.Reading.{role_in}
+use Rattle.np_spelling.proofs.Prelude.{ap, refl, role_in, sym}
 use Rattle.np_spelling.proofs.role.role.Goals as goal
 
 pub returns-in_err-lead : goal.returns-in_err-lead

@@ -1,4 +1,4 @@
-use Rattle.std.proofs.Common.{append_assoc, refl}
+use Rattle.np_spelling.proofs.Prelude.{append_assoc, refl}
 use Rattle.np_spelling.proofs.session.put_session.Goals as goal
 
 pub returns : goal.returns

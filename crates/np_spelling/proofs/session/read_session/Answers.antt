@@ -1,5 +1,5 @@
-use Rattle.std.proofs.Common.{ap, arith, length}
-use Rattle.np_spelling.proofs.SessionForm.{session_left}
+use Rattle.np_spelling.proofs.Prelude.{ap, arith, length}
+use Rattle.np_spelling.proofs.Records.{session_left}
 use Rattle.np_spelling.proofs.session.read_session.Goals as goal
 
 pub answer-requires : goal.answer-requires

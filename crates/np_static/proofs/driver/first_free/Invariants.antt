@@ -1,5 +1,4 @@
-use Rattle.std.proofs.Common.{◌≤◌, ◌<◌, ◌-◌, ℕ, length}
-use Rattle.std.specs.Prelude.{slice_index}
+use Rattle.np_static.proofs.Prelude.{length, slice_index, ℕ, ◌-◌, ◌<◌, ◌≤◌}
 use Rattle.np_static.proofs.driver.first_free.Given as goal
 
 abbrev pub invariant-loop-host : goal.invariant-loop-host

@@ -1,5 +1,4 @@
-use Rattle.np_static.proofs.First.{launch-fails, launch-full}
-use Rattle.np_static.proofs.Launched.{outcome-many}
+use Rattle.np_static.proofs.Loads.{launch-fails, launch-full, outcome-many}
 use Rattle.np_static.proofs.law.a_launch_fails_where_all_hosts_are_full.Goals as goal
 
 pub returns-clause-cause : goal.returns-clause-cause

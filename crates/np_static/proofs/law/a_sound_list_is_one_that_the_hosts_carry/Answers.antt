@@ -1,4 +1,4 @@
-use Rattle.np_static.proofs.Sound.{sound-carried, sound-known, sound-each}
+use Rattle.np_static.proofs.Loads.{sound-carried, sound-known, sound-each}
 use Rattle.np_static.proofs.law.a_sound_list_is_one_that_the_hosts_carry.Goals as goal
 
 pub returns-clause-carried : goal.returns-clause-carried

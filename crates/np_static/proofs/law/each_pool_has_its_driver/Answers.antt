@@ -1,7 +1,5 @@
-use Rattle.std.proofs.Common.{◌≡◌, ◌∙◌, sym, subst, length, List, Ok}
-use Rattle.np_static.specs.declared.line.HostLine.{HostLine}
-use Rattle.np_static.specs.Read.{hosts_read, sites_from}
-use Rattle.np_static.proofs.Drivers.{read-of, sites-count, sites-fresh, sites-at}
+use Rattle.np_static.proofs.Prelude.{HostLine, List, Ok, hosts_read, length, sites_from, subst, sym, ◌∙◌, ◌≡◌}
+use Rattle.np_static.proofs.Sites.{read-of, sites-count, sites-fresh, sites-at}
 use Rattle.np_static.proofs.law.each_pool_has_its_driver.Goals as goal
 
 pub returns-clause-count : goal.returns-clause-count

@@ -1,4 +1,4 @@
-use Rattle.np_static.proofs.Numbers.{launched-distinct}
+use Rattle.np_static.proofs.Loads.{launched-distinct}
 use Rattle.np_static.proofs.law.hosts_answer_no_number_twice.Goals as goal
 
 pub returns : goal.returns

@@ -1,6 +1,5 @@
-use Rattle.std.proofs.Common.{sym, ap}
-use Rattle.std.specs.Option.{option_copied}
-use Rattle.np_static.proofs.Words.{more-after}
+use Rattle.np_static.proofs.Prelude.{ap, option_copied, sym}
+use Rattle.np_static.proofs.Sites.{more-after}
 use Rattle.np_static.proofs.line.read_words.Goals as goal
 
 pub returns-in-Some-rest-2 : goal.returns-in-Some-rest-2

@@ -1,5 +1,4 @@
-use Rattle.std.proofs.Common.{◌∙◌, sym}
-use Rattle.np_event.proofs.WordLemmas.{words_of-split, words_of-last}
+use Rattle.np_static.proofs.Prelude.{sym, words_of-last, words_of-split, ◌∙◌}
 use Rattle.np_static.proofs.line.split_word.Goals as goal
 
 pub returns-in-Some : goal.returns-in-Some

@@ -1,5 +1,4 @@
-use Rattle.std.proofs.Common.{◌≡◌, ◌++◌, drop}
-use Rattle.np_static.specs.Read.{hosts_in}
+use Rattle.np_static.proofs.Prelude.{drop, hosts_in, ◌++◌, ◌≡◌}
 use Rattle.np_static.proofs.read.hosts_in.Given as goal
 
 abbrev pub invariant-loop-line : goal.invariant-loop-line

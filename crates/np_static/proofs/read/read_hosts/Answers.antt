@@ -1,6 +1,4 @@
-use Rattle.std.proofs.Common.{◌≡◌, ◌≤◌, ◌∙◌, List, sym, subst, length, Ok}
-use Rattle.np_static.specs.declared.line.HostLine.{HostLine}
-use Rattle.np_static.specs.Read.{hosts_read}
+use Rattle.np_static.proofs.Prelude.{HostLine, List, Ok, hosts_read, length, subst, sym, ◌∙◌, ◌≡◌, ◌≤◌}
 use Rattle.np_static.proofs.Sites.{lines-few}
 use Rattle.np_static.proofs.read.read_hosts.Goals as goal
 

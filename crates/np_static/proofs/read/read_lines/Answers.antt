@@ -1,10 +1,4 @@
-use Rattle.std.proofs.Common.{◌≡◌, ◌≤◌, ◌+◌, ◌-◌, ◌++◌, ◌∷◌, [], ◌∙◌, sym, ap, arith, take, drop, List, ℕ, Some, Ok, Err}
-use Rattle.std.proofs.lemmas.List.{drop_min}
-use Rattle.np_text.specs.Lines.{lines_of, line_in}
-use Rattle.np_text.proofs.LineLemmas.{lines_of-walk}
-use Rattle.np_report.specs.Lines.{lines_read}
-use Rattle.np_report.proofs.LinesRead.{read_before, lines_read-said, lines_read-fault, lines_read-many}
-use Rattle.np_static.specs.Read.{host_said}
+use Rattle.np_static.proofs.Prelude.{Err, List, Ok, Some, [], ap, arith, drop, drop_min, host_said, line_in, lines_of, lines_of-walk, lines_read, lines_read-fault, lines_read-many, lines_read-said, read_before, sym, take, ℕ, ◌++◌, ◌+◌, ◌-◌, ◌∙◌, ◌∷◌, ◌≡◌, ◌≤◌}
 use Rattle.np_static.proofs.read.read_lines.Goals as goal
 
 pub returns-then-from-gt-HOSTS : goal.returns-then-from-gt-HOSTS

@@ -1,8 +1,4 @@
-use Rattle.std.proofs.Common.{◌≡◌, ◌≤◌, ◌-◌, length, drop}
-use Rattle.np_text.specs.Lines.{lines_of}
-use Rattle.np_report.specs.Lines.{lines_read}
-use Rattle.np_report.proofs.LinesRead.{read_before}
-use Rattle.np_static.specs.Read.{host_said}
+use Rattle.np_static.proofs.Prelude.{drop, host_said, length, lines_of, lines_read, read_before, ◌-◌, ◌≡◌, ◌≤◌}
 use Rattle.np_static.proofs.read.read_lines.Given as goal
 
 -- what the lines so far say, before what is left says, is what the whole text says

@@ -1,10 +1,4 @@
-use Rattle.std.proofs.Common.{◌≡◌, ◌<◌, ◌∙◌, ℕ, List, sym, ap, subst, arith, length, Some, Ok}
-use Rattle.std.proofs.lemmas.Option.{slice_get_within}
-use Rattle.std.proofs.lemmas.Result.{err_from_is_err_and}
-use Rattle.np_machine.specs.Prelude.{PoolId, option_copied}
-use Rattle.std.specs.Prelude.{slice_get}
-use Rattle.np_static.specs.Read.{Tells, hosts_in, site_with, sites_from}
-use Rattle.np_static.specs.Site.{site_of}
+use Rattle.np_static.proofs.Prelude.{List, Ok, PoolId, Some, Tells, ap, arith, err_from_is_err_and, hosts_in, length, option_copied, site_of, site_with, sites_from, slice_get, slice_get_within, subst, sym, ℕ, ◌<◌, ◌∙◌, ◌≡◌}
 use Rattle.np_static.proofs.Sites.{hosts_in-few, said_at, sites-push, sites-tell, sites-end}
 use Rattle.np_static.proofs.read.site_drivers.Goals as goal
 

@@ -1,7 +1,4 @@
-use Rattle.std.proofs.Common.{◌≡◌, ◌≤◌, ◌-◌, length, drop, map}
-use Rattle.np_static.specs.Read.{sites_from}
-use Rattle.np_static.specs.Site.{site_of}
-use Rattle.np_static.specs.declared.limit.TheConstants.{HOSTS}
+use Rattle.np_static.proofs.Prelude.{HOSTS, drop, length, map, site_of, sites_from, ◌-◌, ◌≡◌, ◌≤◌}
 use Rattle.np_static.proofs.Sites.{sites_before}
 use Rattle.np_static.proofs.read.site_drivers.Given as goal
 

@@ -1,7 +1,5 @@
-use Rattle.std.proofs.Common.{◌++◌, List, ap, ◌∙◌}
-use Rattle.np_layout.specs.Prelude.{Op, is_numbered, list_all}
-use Rattle.np_layout.specs.Parts.{grown_parts, settled_parts}
-use Rattle.np_steps.proofs.NumberedParts.{parts-numbered}
+use Rattle.np_steps.proofs.Prelude.{List, Op, ap, grown_parts, is_numbered, list_all, settled_parts, ◌++◌, ◌∙◌}
+use Rattle.np_steps.proofs.ReadyTables.{parts-numbered}
 use Rattle.np_steps.proofs.call.parts.Goals as goal
 
 pub returns-clause-numbered : goal.returns-clause-numbered

@@ -1,7 +1,5 @@
-use Rattle.std.proofs.Common.{◌∙◌, Some, sym, ap}
-use Rattle.np_record.specs.declared.record.NodeRecord.{NodeRecord}
-use Rattle.np_spelling.specs.Spelling.{node_text}
-use Rattle.np_steps.proofs.Growing.{allocation-none, allocation-pushed, node-away, node-there, on-ok}
+use Rattle.np_steps.proofs.Prelude.{NodeRecord, Some, ap, node_text, sym, ◌∙◌}
+use Rattle.np_steps.proofs.RecordRows.{allocation-none, allocation-pushed, node-away, node-there, on-ok}
 use Rattle.np_steps.proofs.grow.push_allocation.Goals as goal
 
 pub returns : goal.returns

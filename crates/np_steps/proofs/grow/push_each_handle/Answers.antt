@@ -1,8 +1,5 @@
-use Rattle.std.proofs.Common.{◌∙◌, ◌++◌, ◌<◌, ◌≤◌, List, drop, get_or, length, refl, suc, sym, ap, add-one, drop-cons, arith}
-use Rattle.std.proofs.lemmas.List.{append-nil, drop_all}
-use Rattle.np_changes.specs.Prelude.{SemId, has_handle}
-use Rattle.np_tree_nodes.specs.declared.op.Op.{Op}
-use Rattle.np_steps.proofs.Growing.{handle_parts, handles-step}
+use Rattle.np_steps.proofs.Prelude.{List, Op, SemId, add-one, ap, append-nil, arith, drop, drop-cons, drop_all, get_or, has_handle, length, refl, suc, sym, ◌++◌, ◌<◌, ◌∙◌, ◌≤◌}
+use Rattle.np_steps.proofs.RecordRows.{handle_parts, handles-step}
 use Rattle.np_steps.proofs.grow.push_each_handle.Goals as goal
 
 pub loop-semaphore-preserved : goal.loop-semaphore-preserved

@@ -1,5 +1,5 @@
-use Rattle.std.proofs.Common.{◌≡◌, ◌++◌, drop}
-use Rattle.np_steps.proofs.Growing.{handle_parts}
+use Rattle.np_steps.proofs.Prelude.{drop, ◌++◌, ◌≡◌}
+use Rattle.np_steps.proofs.RecordRows.{handle_parts}
 use Rattle.np_steps.proofs.grow.push_each_handle.Given as goal
 
 abbrev pub invariant-loop-semaphore : goal.invariant-loop-semaphore

@@ -1,11 +1,5 @@
-use Rattle.std.proofs.Common.{◌≡◌, ◌∙◌, ◌+◌, ◌++◌, ◌∷◌, [], ℕ, Option, length, false, sym, ap, subst, arith}
-use Rattle.np_changes.specs.Prelude.{NodeEntry, RequestEntry, RequestRecord, option_map_or}
-use Rattle.np_layout.specs.Prelude.{make, node_parts, node_text, request_parts, request_record_text, session_text}
-use Rattle.np_changes.specs.declared.changes.Growth.{Growth}
-use Rattle.np_layout.specs.declared.place.Place.TheVariants.{NodeLock, RequestLock, Session}
-use Rattle.np_layout.specs.Parts.{by_session, grown_parts, join_parts}
-use Rattle.np_layout.specs.Ways.{GrowthReady}
-use Rattle.np_steps.proofs.Growing.{on-ok, request-text}
+use Rattle.np_steps.proofs.Prelude.{Growth, GrowthReady, NodeEntry, NodeLock, Option, RequestEntry, RequestLock, RequestRecord, Session, ap, arith, by_session, false, grown_parts, join_parts, length, make, node_parts, node_text, option_map_or, request_parts, request_record_text, session_text, subst, sym, ℕ, [], ◌++◌, ◌+◌, ◌∙◌, ◌∷◌, ◌≡◌}
+use Rattle.np_steps.proofs.RecordRows.{on-ok, grown-request-text}
 use Rattle.np_steps.proofs.grow.push_growth.Goals as goal
 
 pub overflow_add-session : goal.overflow_add-session
@@ -19,7 +13,7 @@ pub push_request_wait-requires : goal.push_request_wait-requires
 push_request_wait-requires g c =
     let s = g.R.Rows.state c.args.rows.now in
     let ready = subst (λ (grows : Growth). GrowthReady (g.R.Rows.site c.args.rows.now) c.args.maker grows s) c.in-JoinRequest.is c.requires.ready in
-    request-text (g.R.Rows.site c.args.rows.now) s c.args.tree.now c.requires.stored c.in-JoinRequest.request ready.0 ready.1
+    grown-request-text (g.R.Rows.site c.args.rows.now) s c.args.tree.now c.requires.stored c.in-JoinRequest.request ready.0 ready.1
 
 pub returns-in-Session : goal.returns-in-Session
 returns-in-Session g c =

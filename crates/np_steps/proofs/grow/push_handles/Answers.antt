@@ -1,9 +1,5 @@
-use Rattle.std.proofs.Common.{◌∙◌, ◌++◌, [], List, Option, subst, sym, ap}
-use Rattle.np_changes.specs.Prelude.{Configuration, IsSound, Job, SemId, option_map_or}
-use Rattle.std.specs.Prelude.{slice_get}
-use Rattle.np_tree_nodes.specs.declared.op.Op.{Op}
-use Rattle.np_layout.specs.Parts.{acquire_parts}
-use Rattle.np_steps.proofs.Growing.{acquire-job, handle_parts, on-ok}
+use Rattle.np_steps.proofs.Prelude.{Configuration, IsSound, Job, List, Op, Option, SemId, acquire_parts, ap, option_map_or, slice_get, subst, sym, [], ◌++◌, ◌∙◌}
+use Rattle.np_steps.proofs.RecordRows.{acquire-job, handle_parts, on-ok}
 use Rattle.np_steps.proofs.grow.push_handles.Goals as goal
 
 pub returns-in-Some : goal.returns-in-Some

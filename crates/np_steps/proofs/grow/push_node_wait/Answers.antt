@@ -1,9 +1,5 @@
-use Rattle.std.proofs.Common.{◌∙◌, ◌++◌, ◌∷◌, [], Bool, Option, cond, sym, ap}
-use Rattle.np_changes.specs.declared.changes.Maker.{Maker}
-use Rattle.np_layout.specs.declared.place.Place.TheVariants.{NodeLock}
-use Rattle.np_layout.specs.Creates.{wait_at}
-use Rattle.np_layout.specs.Parts.{by_session, join_parts}
-use Rattle.np_steps.proofs.Growing.{node-waits, on-ok}
+use Rattle.np_steps.proofs.Prelude.{Bool, Maker, NodeLock, Option, ap, by_session, cond, join_parts, sym, wait_at, [], ◌++◌, ◌∙◌, ◌∷◌}
+use Rattle.np_steps.proofs.RecordRows.{node-waits, on-ok}
 use Rattle.np_steps.proofs.grow.push_node_wait.Goals as goal
 
 pub returns-in-Some : goal.returns-in-Some

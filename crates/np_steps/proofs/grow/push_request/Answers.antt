@@ -1,6 +1,5 @@
-use Rattle.std.proofs.Common.{◌∙◌}
-use Rattle.np_spelling.specs.Spelling.{request_record_text}
-use Rattle.np_steps.proofs.Growing.{on-ok, request-pushed}
+use Rattle.np_steps.proofs.Prelude.{request_record_text, ◌∙◌}
+use Rattle.np_steps.proofs.RecordRows.{on-ok, request-pushed}
 use Rattle.np_steps.proofs.grow.push_request.Goals as goal
 
 pub returns : goal.returns

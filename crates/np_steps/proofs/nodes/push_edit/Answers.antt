@@ -1,11 +1,5 @@
-use Rattle.std.proofs.Common.{◌≡◌, ◌++◌, ◌∷◌, [], List, OnOk, subst, sym}
-use Rattle.np_layout.specs.Prelude.{IsNode, Op, node_text, set}
-use Rattle.np_changes.specs.Prelude.{NodeEntry, NodeRecord, node_entry}
-use Rattle.np_layout.specs.declared.place.Place.TheVariants.{Node}
-use Rattle.np_layout.specs.Parts.{change_parts}
-use Rattle.np_steps.specs.NodeEdits.{edited_entry}
-use Rattle.np_steps.proofs.Found.{row-none}
-use Rattle.np_steps.proofs.NodeEdits.{edit-parts, edit-sound}
+use Rattle.np_steps.proofs.Prelude.{IsNode, List, Node, NodeEntry, NodeRecord, OnOk, Op, change_parts, edited_entry, node_entry, node_text, set, subst, sym, [], ◌++◌, ◌∷◌, ◌≡◌}
+use Rattle.np_steps.proofs.RecordRows.{edit-parts, edit-sound, row-none}
 use Rattle.np_steps.proofs.nodes.push_edit.Goals as goal
 
 pub returns-in_default : goal.returns-in_default

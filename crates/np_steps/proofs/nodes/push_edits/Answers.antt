@@ -1,9 +1,5 @@
-use Rattle.std.proofs.Common.{◌<◌, ◌+◌, ◌++◌, List, ap, arith, drop, get_or, length, sym, ◌∙◌}
-use Rattle.std.proofs.lemmas.List.{drop_more}
-use Rattle.np_layout.specs.Prelude.{NodeId, Op}
-use Rattle.np_layout.specs.Parts.{each_changed}
-use Rattle.np_steps.specs.NodeEdits.{edited_entry}
-use Rattle.np_steps.proofs.NodeEdits.{each-behind}
+use Rattle.np_steps.proofs.Prelude.{List, NodeId, Op, ap, arith, drop, drop_more, each_changed, edited_entry, get_or, length, sym, ◌++◌, ◌+◌, ◌<◌, ◌∙◌}
+use Rattle.np_steps.proofs.RecordRows.{each-behind}
 use Rattle.np_steps.proofs.nodes.push_edits.Goals as goal
 
 pub loop-node-preserved : goal.loop-node-preserved

@@ -1,6 +1,4 @@
-use Rattle.std.proofs.Common.{◌≡◌, ◌++◌, drop}
-use Rattle.np_layout.specs.Parts.{each_changed}
-use Rattle.np_steps.specs.NodeEdits.{edited_entry}
+use Rattle.np_steps.proofs.Prelude.{drop, each_changed, edited_entry, ◌++◌, ◌≡◌}
 use Rattle.np_steps.proofs.nodes.push_edits.Given as goal
 
 abbrev pub invariant-loop-node : goal.invariant-loop-node

@@ -1,6 +1,4 @@
-use Rattle.std.proofs.Common.{◌≡◌, ◌++◌, [], append-nil, Option, OnOk, List, ap, sym, subst, ◌∙◌}
-use Rattle.np_changes.specs.Prelude.{NodeId, RequestRecord, freed_from, option_map_or}
-use Rattle.np_layout.specs.Parts.{each_changed}
+use Rattle.np_steps.proofs.Prelude.{List, NodeId, OnOk, Option, RequestRecord, ap, append-nil, each_changed, freed_from, option_map_or, subst, sym, [], ◌++◌, ◌∙◌, ◌≡◌}
 use Rattle.np_steps.proofs.nodes.push_freed.Goals as goal
 
 pub returns-in_default : goal.returns-in_default

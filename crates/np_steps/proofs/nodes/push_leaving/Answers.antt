@@ -1,9 +1,5 @@
-use Rattle.std.proofs.Common.{◌≡◌, ◌++◌, List, OnOk, subst}
-use Rattle.np_tree_nodes.specs.declared.op.Op.{Op}
-use Rattle.np_changes.specs.Prelude.{NodeEntry, node_entry}
-use Rattle.np_layout.specs.declared.place.Place.TheVariants.{NodeLock}
-use Rattle.np_layout.specs.Parts.{leave_parts}
-use Rattle.np_steps.proofs.Found.{row-none, row-some}
+use Rattle.np_steps.proofs.Prelude.{List, NodeEntry, NodeLock, OnOk, Op, leave_parts, node_entry, subst, ◌++◌, ◌≡◌}
+use Rattle.np_steps.proofs.RecordRows.{row-none, row-some}
 use Rattle.np_steps.proofs.nodes.push_leaving.Goals as goal
 
 pub returns-in_default : goal.returns-in_default

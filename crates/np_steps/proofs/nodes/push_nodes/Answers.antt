@@ -1,7 +1,4 @@
-use Rattle.std.proofs.Common.{◌≡◌, ◌++◌, ℕ, List, OnOk, subst, sym}
-use Rattle.np_changes.specs.Prelude.{NodeId, in_use}
-use Rattle.np_changes.specs.declared.changes.NodesChange.{NodesChange}
-use Rattle.np_layout.specs.Parts.{each_changed, nodes_parts}
+use Rattle.np_steps.proofs.Prelude.{List, NodeId, NodesChange, OnOk, each_changed, in_use, nodes_parts, subst, sym, ℕ, ◌++◌, ◌≡◌}
 use Rattle.np_steps.proofs.nodes.push_nodes.Goals as goal
 
 pub returns-in-TakeOver : goal.returns-in-TakeOver

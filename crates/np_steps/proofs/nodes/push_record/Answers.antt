@@ -1,7 +1,5 @@
-use Rattle.std.proofs.Common.{◌≡◌, ◌++◌, List, OnOk, subst}
-use Rattle.np_tree_nodes.specs.declared.op.Op.{Op}
-use Rattle.np_changes.specs.Prelude.{NodeEntry, node_entry}
-use Rattle.np_steps.proofs.Found.{node-put, row-none, row-some}
+use Rattle.np_steps.proofs.Prelude.{List, NodeEntry, OnOk, Op, node_entry, subst, ◌++◌, ◌≡◌}
+use Rattle.np_steps.proofs.RecordRows.{node-put, row-none, row-some}
 use Rattle.np_steps.proofs.nodes.push_record.Goals as goal
 
 pub returns-in_default : goal.returns-in_default

@@ -1,9 +1,5 @@
-use Rattle.std.proofs.Common.{◌≡◌, List, OnOk, subst}
-use Rattle.np_layout.specs.Prelude.{Op, delete, delete_parts, node_deletes, path_of, under}
-use Rattle.np_changes.specs.Prelude.{NodeEntry, node_entry}
-use Rattle.np_layout.specs.declared.place.Place.TheVariants.{Node, NodeLock}
-use Rattle.np_layout.specs.Parts.{where_there}
-use Rattle.np_steps.proofs.Found.{parts-behind, row-none, row-some}
+use Rattle.np_steps.proofs.Prelude.{List, Node, NodeEntry, NodeLock, OnOk, Op, delete, delete_parts, node_deletes, node_entry, path_of, subst, under, where_there, ◌≡◌}
+use Rattle.np_steps.proofs.RecordRows.{parts-behind, row-none, row-some}
 use Rattle.np_steps.proofs.nodes.push_removal.Goals as goal
 
 pub returns-in_default : goal.returns-in_default

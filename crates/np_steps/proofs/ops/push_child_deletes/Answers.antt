@@ -1,6 +1,5 @@
-use Rattle.std.proofs.Common.{◌≡◌, ◌∙◌, ◌++◌, ap, ℕ, List, Some, add-one, drop, suc}
-use Rattle.np_layout.specs.Prelude.{Op, child_name, delete_parts, rows_at}
-use Rattle.np_steps.proofs.ChildRows.{deletes-step}
+use Rattle.np_steps.proofs.Prelude.{List, Op, Some, add-one, ap, child_name, delete_parts, drop, rows_at, suc, ℕ, ◌++◌, ◌∙◌, ◌≡◌}
+use Rattle.np_steps.proofs.RecordRows.{deletes-step}
 use Rattle.np_steps.proofs.ops.push_child_deletes.Goals as goal
 
 pub loop-at-preserved : goal.loop-at-preserved

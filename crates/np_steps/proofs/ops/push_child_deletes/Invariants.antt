@@ -1,5 +1,4 @@
-use Rattle.std.proofs.Common.{◌≡◌, ◌++◌, drop}
-use Rattle.np_layout.specs.Prelude.{delete_parts, rows_at}
+use Rattle.np_steps.proofs.Prelude.{delete_parts, drop, rows_at, ◌++◌, ◌≡◌}
 use Rattle.np_steps.proofs.ops.push_child_deletes.Given as goal
 
 abbrev pub invariant-loop-at : goal.invariant-loop-at

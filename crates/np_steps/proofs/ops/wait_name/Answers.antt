@@ -1,9 +1,5 @@
-use Rattle.std.proofs.Common.{◌≡◌, ◌∙◌, sym, ap, Bool, true, false, cond, drop, suc, add-one}
-use Rattle.std.specs.Prelude.{find, slice_get}
-use Rattle.np_layout.specs.Prelude.{Row, option_map, option_map_or, rows_at}
-use Rattle.np_tree_rows.proofs.QueueRows.{is_waiting}
-use Rattle.np_tree_rows.proofs.Shown.{name-at}
-use Rattle.np_steps.proofs.ChildRows.{find-step}
+use Rattle.np_steps.proofs.Prelude.{Bool, Row, add-one, ap, cond, drop, false, find, is_waiting, name-at, option_map, option_map_or, rows_at, slice_get, suc, sym, true, ◌∙◌, ◌≡◌}
+use Rattle.np_steps.proofs.RecordRows.{find-step}
 use Rattle.np_steps.proofs.ops.wait_name.Goals as goal
 
 pub returns-then-waits_at : goal.returns-then-waits_at

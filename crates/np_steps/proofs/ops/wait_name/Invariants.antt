@@ -1,7 +1,4 @@
-use Rattle.std.proofs.Common.{◌≡◌, drop}
-use Rattle.std.specs.Prelude.{find}
-use Rattle.np_tree.specs.Views.{rows_at}
-use Rattle.np_tree_rows.proofs.QueueRows.{is_waiting}
+use Rattle.np_steps.proofs.Prelude.{drop, find, is_waiting, rows_at, ◌≡◌}
 use Rattle.np_steps.proofs.ops.wait_name.Given as goal
 
 abbrev pub invariant-loop-at : goal.invariant-loop-at

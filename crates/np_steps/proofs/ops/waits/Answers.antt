@@ -1,8 +1,5 @@
-use Rattle.std.proofs.Common.{◌∙◌, ap, List, ℕ}
-use Rattle.np_layout.specs.Prelude.{Row, is_some, option_map, rows_at, under}
-use Rattle.std.specs.Prelude.{find}
-use Rattle.np_tree_rows.proofs.QueueRows.{is_waiting}
-use Rattle.np_steps.proofs.ChildRows.{found-any, mapped-some}
+use Rattle.np_steps.proofs.Prelude.{List, Row, ap, find, is_some, is_waiting, option_map, rows_at, under, ℕ, ◌∙◌}
+use Rattle.np_steps.proofs.RecordRows.{found-any, mapped-some}
 use Rattle.np_steps.proofs.ops.waits.Goals as goal
 
 pub returns : goal.returns

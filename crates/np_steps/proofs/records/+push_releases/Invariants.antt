@@ -1,4 +1,4 @@
-use Rattle.std.proofs.Common.{length}
+use Rattle.np_steps.proofs.Prelude.{length}
 use Rattle.np_steps.proofs.records.+push_releases.Given as goal
 
 abbrev pub decreases-push_releases : goal.decreases-push_releases

@@ -1,5 +1,4 @@
-use Rattle.std.proofs.Common.{◌≡◌, take, map}
-use Rattle.np_machine.specs.Node.{marked}
+use Rattle.np_steps.proofs.Prelude.{map, marked, take, ◌≡◌}
 use Rattle.np_steps.proofs.records.marks_with.Given as goal
 
 abbrev pub invariant-loop-mark : goal.invariant-loop-mark

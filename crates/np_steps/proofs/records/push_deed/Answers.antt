@@ -1,4 +1,4 @@
-use Rattle.std.proofs.Common.{◌∙◌, ap, Some}
+use Rattle.np_steps.proofs.Prelude.{Some, ap, ◌∙◌}
 use Rattle.np_steps.proofs.RecordRows.{acts-fit, starts-fit, strikes-fit}
 use Rattle.np_steps.proofs.records.push_deed.Goals as goal
 

@@ -1,9 +1,4 @@
-use Rattle.std.proofs.Common.{◌≡◌, ◌∙◌, ◌++◌, List, ap, subst, sym}
-use Rattle.std.specs.Prelude.{OnOk, slice_get}
-use Rattle.np_tree_nodes.specs.declared.op.Op.{Op}
-use Rattle.np_changes.specs.Prelude.{Configuration, IsSound}
-use Rattle.np_changes.specs.declared.changes.HandlesChange.{HandlesChange}
-use Rattle.np_layout.specs.Parts.{handles_parts}
+use Rattle.np_steps.proofs.Prelude.{Configuration, HandlesChange, IsSound, List, OnOk, Op, ap, handles_parts, slice_get, subst, sym, ◌++◌, ◌∙◌, ◌≡◌}
 use Rattle.np_steps.proofs.RecordRows.{handles-read}
 use Rattle.np_steps.proofs.records.push_handles.Goals as goal
 

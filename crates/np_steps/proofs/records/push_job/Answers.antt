@@ -1,6 +1,4 @@
-use Rattle.std.proofs.Common.{[], ◌∷◌}
-use Rattle.np_record.specs.declared.record.JobRecord.{JobRecord}
-use Rattle.np_layout.specs.Prelude.{IsJob, job_text, set}
+use Rattle.np_steps.proofs.Prelude.{IsJob, JobRecord, job_text, set, [], ◌∷◌}
 use Rattle.np_layout.specs.declared.place.Place.TheVariants.{Job}
 use Rattle.np_steps.proofs.RecordRows.{none-parts, put-sound, there-parts}
 use Rattle.np_steps.proofs.records.push_job.Goals as goal

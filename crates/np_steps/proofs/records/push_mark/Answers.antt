@@ -1,7 +1,4 @@
-use Rattle.std.proofs.Common.{◌≡◌, ◌++◌, [], ◌∷◌, subst, sym}
-use Rattle.std.specs.Prelude.{OnOk}
-use Rattle.np_changes.specs.Prelude.{JobRecord, with_mark}
-use Rattle.np_layout.specs.Prelude.{IsJob, job_text, set}
+use Rattle.np_steps.proofs.Prelude.{IsJob, JobRecord, OnOk, job_text, set, subst, sym, with_mark, [], ◌++◌, ◌∷◌, ◌≡◌}
 use Rattle.np_layout.specs.declared.place.Place.TheVariants.{Job}
 use Rattle.np_steps.proofs.RecordRows.{changed-sound, none-parts, there-parts}
 use Rattle.np_steps.proofs.records.push_mark.Goals as goal

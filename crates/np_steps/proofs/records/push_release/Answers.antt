@@ -1,5 +1,4 @@
-use Rattle.std.proofs.Common.{true, false, sym, append-nil}
-use Rattle.std.specs.Prelude.{Ok}
+use Rattle.np_steps.proofs.Prelude.{Ok, append-nil, false, sym, true}
 use Rattle.np_steps.proofs.RecordRows.{released-by}
 use Rattle.np_steps.proofs.records.push_release.Goals as goal
 

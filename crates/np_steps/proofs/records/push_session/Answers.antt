@@ -1,10 +1,4 @@
-use Rattle.std.proofs.Common.{◌≡◌, ◌++◌, [], ◌∷◌, true, subst, sym}
-use Rattle.std.specs.Prelude.{OnOk}
-use Rattle.np_layout.specs.Prelude.{session_text, set}
-use Rattle.np_changes.specs.Prelude.{SessionFacts, session_of}
-use Rattle.np_changes.specs.declared.changes.SessionsChange.{SessionsChange}
-use Rattle.np_layout.specs.declared.place.Place.TheVariants.{Session}
-use Rattle.np_layout.specs.Parts.{session_parts}
+use Rattle.np_steps.proofs.Prelude.{OnOk, Session, SessionFacts, SessionsChange, session_of, session_parts, session_text, set, subst, sym, true, [], ◌++◌, ◌∷◌, ◌≡◌}
 use Rattle.np_steps.proofs.RecordRows.{none-parts, session-role, there-parts}
 use Rattle.np_steps.proofs.records.push_session.Goals as goal
 

@@ -1,4 +1,4 @@
-use Rattle.np_machine.specs.Session.{struck_unless}
+use Rattle.np_steps.proofs.Prelude.{struck_unless}
 use Rattle.np_steps.proofs.RecordRows.{role-there}
 use Rattle.np_steps.proofs.records.push_strike.Goals as goal
 

@@ -1,9 +1,4 @@
-use Rattle.std.proofs.Common.{◌≡◌, ◌++◌, ◌+◌, [], ◌∷◌, ℕ, Bool, arith, subst, sym}
-use Rattle.std.specs.Prelude.{OnOk}
-use Rattle.std.specs.Fmt.{decimal}
-use Rattle.np_layout.specs.declared.place.Place.TheVariants.{Tick}
-use Rattle.np_layout.specs.Sets.{set}
-use Rattle.np_layout.specs.Parts.{tick_parts}
+use Rattle.np_steps.proofs.Prelude.{Bool, OnOk, Tick, arith, decimal, set, subst, sym, tick_parts, ℕ, [], ◌++◌, ◌+◌, ◌∷◌, ◌≡◌}
 use Rattle.np_steps.proofs.records.push_tick.Goals as goal
 
 pub overflow_add-tick : goal.overflow_add-tick

@@ -1,9 +1,5 @@
-use Rattle.std.proofs.Common.{◌≡◌, ◌++◌, ◌∷◌, [], Option, OnOk, subst, sym}
-use Rattle.np_changes.specs.Prelude.{RequestRecord, edited, request_in}
-use Rattle.np_layout.specs.Prelude.{IsRequest, request_record_text, set}
-use Rattle.np_layout.specs.declared.place.Place.TheVariants.{Request}
-use Rattle.np_layout.specs.Parts.{where_there}
-use Rattle.np_steps.proofs.Found.{parts-none, request-edited, request-text}
+use Rattle.np_steps.proofs.Prelude.{IsRequest, OnOk, Option, Request, RequestRecord, edited, request_in, request_record_text, set, subst, sym, where_there, [], ◌++◌, ◌∷◌, ◌≡◌}
+use Rattle.np_steps.proofs.RecordRows.{parts-none, request-edited, request-text}
 use Rattle.np_steps.proofs.requests.push_edit.Goals as goal
 
 pub returns-in_default : goal.returns-in_default

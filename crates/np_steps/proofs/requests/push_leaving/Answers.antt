@@ -1,8 +1,5 @@
-use Rattle.std.proofs.Common.{◌≡◌, ◌++◌, Option, OnOk, subst}
-use Rattle.np_changes.specs.Prelude.{RequestRecord, request_in}
-use Rattle.np_layout.specs.declared.place.Place.TheVariants.{RequestLock}
-use Rattle.np_layout.specs.Parts.{leave_parts, where_there}
-use Rattle.np_steps.proofs.Found.{parts-none, request-text}
+use Rattle.np_steps.proofs.Prelude.{OnOk, Option, RequestLock, RequestRecord, leave_parts, request_in, subst, where_there, ◌++◌, ◌≡◌}
+use Rattle.np_steps.proofs.RecordRows.{parts-none, request-text}
 use Rattle.np_steps.proofs.requests.push_leaving.Goals as goal
 
 pub returns-in_default : goal.returns-in_default

@@ -1,9 +1,5 @@
-use Rattle.std.proofs.Common.{◌≡◌, List, Option, OnOk, ap, subst}
-use Rattle.np_layout.specs.Prelude.{Op, delete, delete_parts, path_of, request_deletes, under}
-use Rattle.np_changes.specs.Prelude.{RequestRecord, request_in}
-use Rattle.np_layout.specs.declared.place.Place.TheVariants.{Request, RequestLock}
-use Rattle.np_layout.specs.Parts.{where_there}
-use Rattle.np_steps.proofs.Found.{parts-behind, parts-none, request-text}
+use Rattle.np_steps.proofs.Prelude.{List, OnOk, Op, Option, Request, RequestLock, RequestRecord, ap, delete, delete_parts, path_of, request_deletes, request_in, subst, under, where_there, ◌≡◌}
+use Rattle.np_steps.proofs.RecordRows.{parts-behind, parts-none, request-text}
 use Rattle.np_steps.proofs.requests.push_removal.Goals as goal
 
 pub returns-in_default : goal.returns-in_default

@@ -1,8 +1,5 @@
-use Rattle.std.proofs.Common.{◌≡◌, ◌∙◌, List, drop, sym, ap}
-use Rattle.std.proofs.lemmas.List.{at_drop_all}
-use Rattle.np_text.specs.declared.id.NodeId.{NodeId}
-use Rattle.np_look.specs.Keys.{same_node}
-use Rattle.np_tables.proofs.LeaveLemmas.{each_left, nodes-left}
+use Rattle.np_tables.proofs.Prelude.{List, NodeId, ap, at_drop_all, drop, same_node, sym, ◌∙◌, ◌≡◌}
+use Rattle.np_tables.proofs.TableLemmas.{each_left, nodes-left}
 use Rattle.np_tables.proofs.ends.leave_nodes.Goals as goal
 
 pub returns : goal.returns

@@ -1,6 +1,5 @@
-use Rattle.std.proofs.Common.{◌≡◌, drop}
-use Rattle.np_look.specs.Keys.{same_node}
-use Rattle.np_tables.proofs.LeaveLemmas.{each_left}
+use Rattle.np_tables.proofs.Prelude.{drop, same_node, ◌≡◌}
+use Rattle.np_tables.proofs.TableLemmas.{each_left}
 use Rattle.np_tables.proofs.ends.leave_nodes.Given as goal
 
 abbrev pub invariant-loop-node : goal.invariant-loop-node

@@ -1,7 +1,5 @@
-use Rattle.std.proofs.Common.{◌≡◌, ◌∙◌, List, drop, sym, ap}
-use Rattle.std.proofs.lemmas.List.{at_drop_all}
-use Rattle.np_changes.specs.Prelude.{RequestId, same_request}
-use Rattle.np_tables.proofs.LeaveLemmas.{each_left, requests-left}
+use Rattle.np_tables.proofs.Prelude.{List, RequestId, ap, at_drop_all, drop, same_request, sym, ◌∙◌, ◌≡◌}
+use Rattle.np_tables.proofs.TableLemmas.{each_left, requests-left}
 use Rattle.np_tables.proofs.ends.leave_requests.Goals as goal
 
 pub returns : goal.returns

@@ -1,6 +1,5 @@
-use Rattle.std.proofs.Common.{◌≡◌, drop}
-use Rattle.np_machine.specs.Tables.{same_request}
-use Rattle.np_tables.proofs.LeaveLemmas.{each_left}
+use Rattle.np_tables.proofs.Prelude.{drop, same_request, ◌≡◌}
+use Rattle.np_tables.proofs.TableLemmas.{each_left}
 use Rattle.np_tables.proofs.ends.leave_requests.Given as goal
 
 abbrev pub invariant-loop-request : goal.invariant-loop-request

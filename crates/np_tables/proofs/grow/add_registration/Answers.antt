@@ -1,9 +1,5 @@
-use Rattle.std.proofs.Common.{◌≡◌, sym, ◌∙◌, Some, None}
-use Rattle.std.specs.Prelude.{nat_lt}
-use Rattle.std.specs.List.{insert, position}
-use Rattle.std.proofs.lemmas.List.Quantifiers.{position-Some}
-use Rattle.np_machine.specs.declared.state.Registration.{Registration}
-use Rattle.np_tables.proofs.Inserting.{insert_before-nowhere, insert_before-position}
+use Rattle.np_tables.proofs.Prelude.{None, Registration, Some, insert, nat_lt, position, position-Some, sym, ◌∙◌, ◌≡◌}
+use Rattle.np_tables.proofs.TableLemmas.{insert_before-nowhere, insert_before-position}
 use Rattle.np_tables.proofs.grow.add_registration.Goals as goal
 
 pub returns-in_default : goal.returns-in_default

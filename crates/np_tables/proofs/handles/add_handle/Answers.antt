@@ -1,9 +1,5 @@
-use Rattle.std.proofs.Common.{◌≡◌, ◌<◌, true, arith, length}
-use Rattle.np_changes.specs.Prelude.{JobId, with_handle}
-use Rattle.np_lists.specs.Roomy.{Roomy}
-use Rattle.np_lists.proofs.Each.{all-get_or, all-set}
-use Rattle.np_tables.specs.Room.{has_place}
-use Rattle.np_tables.proofs.HandleLemmas.{rows_of-past, rows_of-set}
+use Rattle.np_tables.proofs.Prelude.{JobId, Roomy, all-get_or, all-set, arith, has_place, length, true, with_handle, ◌<◌, ◌≡◌}
+use Rattle.np_tables.proofs.TableLemmas.{rows_of-past, rows_of-set}
 use Rattle.np_tables.proofs.handles.add_handle.Goals as goal
 
 pub returns-then-at-len-clause-rows : goal.returns-then-at-len-clause-rows

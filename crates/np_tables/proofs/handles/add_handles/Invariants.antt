@@ -1,6 +1,4 @@
-use Rattle.std.proofs.Common.{◌≡◌, true, drop}
-use Rattle.np_changes.specs.Prelude.{AllByRecursion, all_with_handle}
-use Rattle.np_tables.specs.Room.{has_place, rows_of}
+use Rattle.np_tables.proofs.Prelude.{AllByRecursion, all_with_handle, drop, has_place, rows_of, true, ◌≡◌}
 use Rattle.np_tables.proofs.handles.add_handles.Given as goal
 
 abbrev pub invariant-loop-semaphore : goal.invariant-loop-semaphore

@@ -1,7 +1,5 @@
-use Rattle.std.proofs.Common.{◌≡◌, false, refl, sym, ◌∙◌}
-use Rattle.np_lists.proofs.FilterLemmas.{none-list_any}
-use Rattle.np_machine.specs.Tables.{is_among}
-use Rattle.np_tables.proofs.HandleLemmas.{is_among-inserted, room-place, with_handle-there}
+use Rattle.np_tables.proofs.Prelude.{false, is_among, none-list_any, refl, sym, ◌∙◌, ◌≡◌}
+use Rattle.np_tables.proofs.TableLemmas.{is_among-inserted, room-place, with_handle-there}
 use Rattle.np_tables.proofs.handles.add_job.Goals as goal
 
 pub returns-then-has-clause-rows : goal.returns-then-has-clause-rows

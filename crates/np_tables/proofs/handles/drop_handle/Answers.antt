@@ -1,6 +1,5 @@
-use Rattle.std.proofs.Common.{◌<◌, arith, length}
-use Rattle.np_machine.specs.Semaphore.{without_handle}
-use Rattle.np_tables.proofs.HandleLemmas.{rows_of-past, rows_of-set}
+use Rattle.np_tables.proofs.Prelude.{arith, length, without_handle, ◌<◌}
+use Rattle.np_tables.proofs.TableLemmas.{rows_of-past, rows_of-set}
 use Rattle.np_tables.proofs.handles.drop_handle.Goals as goal
 
 pub returns-then-at-len : goal.returns-then-at-len

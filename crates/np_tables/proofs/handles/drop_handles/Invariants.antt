@@ -1,6 +1,4 @@
-use Rattle.std.proofs.Common.{◌≡◌, drop}
-use Rattle.np_machine.specs.Semaphore.{all_without_handle}
-use Rattle.np_tables.specs.Room.{rows_of}
+use Rattle.np_tables.proofs.Prelude.{all_without_handle, drop, rows_of, ◌≡◌}
 use Rattle.np_tables.proofs.handles.drop_handles.Given as goal
 
 abbrev pub invariant-loop-semaphore : goal.invariant-loop-semaphore

@@ -1,5 +1,5 @@
-use Rattle.std.proofs.Common.{sym, ◌∙◌}
-use Rattle.np_tables.proofs.HandleLemmas.{fewer, without_handle-first, without_handle-none}
+use Rattle.np_tables.proofs.Prelude.{sym, ◌∙◌}
+use Rattle.np_tables.proofs.TableLemmas.{fewer, without_handle-first, without_handle-none}
 use Rattle.np_tables.proofs.handles.drop_job.Goals as goal
 
 pub loop-job-preserved : goal.loop-job-preserved

@@ -1,5 +1,4 @@
-use Rattle.std.proofs.Common.{◌≡◌, length}
-use Rattle.np_machine.specs.Semaphore.{without_handle}
+use Rattle.np_tables.proofs.Prelude.{length, without_handle, ◌≡◌}
 use Rattle.np_tables.proofs.handles.drop_job.Given as goal
 
 abbrev pub invariant-loop-job : goal.invariant-loop-job

@@ -1,9 +1,5 @@
-use Rattle.std.proofs.Common.{◌∙◌, ◌<◌, ◌≤◌, List, length, arith, add-one, subst}
-use Rattle.np_changes.specs.Prelude.{AllByRecursion, JobId}
-use Rattle.std.proofs.lemmas.List.{length-set, take_all}
-use Rattle.np_lists.proofs.Each.{all-mapped}
-use Rattle.np_lists.specs.Roomy.{Roomy}
-use Rattle.np_tables.proofs.HandleLemmas.{IsRoomy, roomy-more, rows_of-same}
+use Rattle.np_tables.proofs.Prelude.{AllByRecursion, JobId, List, Roomy, add-one, all-mapped, arith, length, length-set, subst, take_all, ◌<◌, ◌∙◌, ◌≤◌}
+use Rattle.np_tables.proofs.TableLemmas.{IsRoomy, roomy-more, rows_of-same}
 use Rattle.np_tables.proofs.handles.reserve_handles.Goals as goal
 
 pub returns-in_err-reserve-clause-rows : goal.returns-in_err-reserve-clause-rows

@@ -1,7 +1,5 @@
-use Rattle.std.proofs.Common.{◌≡◌, length, take}
-use Rattle.std.specs.List.{AllByRecursion}
-use Rattle.np_tables.specs.Room.{rows_of}
-use Rattle.np_tables.proofs.HandleLemmas.{IsRoomy}
+use Rattle.np_tables.proofs.Prelude.{AllByRecursion, length, rows_of, take, ◌≡◌}
+use Rattle.np_tables.proofs.TableLemmas.{IsRoomy}
 use Rattle.np_tables.proofs.handles.reserve_handles.Given as goal
 
 abbrev pub invariant-loop-at : goal.invariant-loop-at

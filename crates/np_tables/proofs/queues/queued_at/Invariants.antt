@@ -1,6 +1,4 @@
-use Rattle.std.proofs.Common.{◌≡◌, drop}
-use Rattle.std.specs.Prelude.{filter, map, slice_get}
-use Rattle.np_machine.specs.Tables.{is_queued}
+use Rattle.np_tables.proofs.Prelude.{drop, filter, is_queued, map, slice_get, ◌≡◌}
 use Rattle.np_tables.proofs.queues.queued_at.Given as goal
 
 abbrev pub invariant-loop-row : goal.invariant-loop-row

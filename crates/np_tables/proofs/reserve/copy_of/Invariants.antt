@@ -1,4 +1,4 @@
-use Rattle.std.proofs.Common.{◌≡◌, take}
+use Rattle.np_tables.proofs.Prelude.{take, ◌≡◌}
 use Rattle.np_tables.proofs.reserve.copy_of.Given as goal
 
 abbrev pub invariant-loop-session : goal.invariant-loop-session

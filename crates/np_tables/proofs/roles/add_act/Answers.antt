@@ -1,9 +1,4 @@
-use Rattle.std.proofs.Common.{◌≡◌, ◌<◌, sym, ◌∙◌, ap, arith, length, Some}
-use Rattle.std.specs.Prelude.{slice_get, slice_set}
-use Rattle.std.proofs.lemmas.Option.{slice_get-get_or}
-use Rattle.np_changes.specs.Prelude.{RoleFits, RoleRecord, one_more_act}
-use Rattle.np_lists.proofs.ChangeLemmas.{change_at-set, change_at-past}
-use Rattle.np_lists.proofs.Each.{all-at}
+use Rattle.np_tables.proofs.Prelude.{RoleFits, RoleRecord, Some, all-at, ap, arith, change_at-past, change_at-set, length, one_more_act, slice_get, slice_get-get_or, slice_set, sym, ◌<◌, ◌∙◌, ◌≡◌}
 use Rattle.np_tables.proofs.roles.add_act.Goals as goal
 
 pub returns-then-at-len : goal.returns-then-at-len

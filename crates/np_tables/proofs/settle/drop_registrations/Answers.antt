@@ -1,5 +1,4 @@
-use Rattle.std.proofs.Common.{rules}
-use Rattle.std.proofs.lemmas.Fn.{filter_same}
+use Rattle.np_tables.proofs.Prelude.{filter_same, rules}
 use Rattle.np_tables.proofs.settle.drop_registrations.Goals as goal
 
 pub returns : goal.returns

@@ -1,7 +1,4 @@
-use Rattle.std.proofs.Common.{◌∙◌, refl}
-use Rattle.np_lists.proofs.ChangeLemmas.{change_first-same}
-use Rattle.np_changes.specs.Prelude.{RequestEntry, edited, same_request}
-use Rattle.np_tables.specs.CanChange.{edited_in_room}
+use Rattle.np_tables.proofs.Prelude.{RequestEntry, change_first-same, edited, edited_in_room, refl, same_request, ◌∙◌}
 use Rattle.np_tables.proofs.settle.edit_request.Goals as goal
 
 pub returns : goal.returns

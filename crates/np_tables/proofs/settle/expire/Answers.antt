@@ -1,7 +1,4 @@
-use Rattle.std.proofs.Common.{◌<◌, ◌-◌, sym, ◌∙◌, ap, arith, length}
-use Rattle.std.specs.Prelude.{slice_set}
-use Rattle.np_changes.specs.Prelude.{SessionFacts, ended}
-use Rattle.np_lists.proofs.ChangeLemmas.{change_at-set, change_at-past}
+use Rattle.np_tables.proofs.Prelude.{SessionFacts, ap, arith, change_at-past, change_at-set, ended, length, slice_set, sym, ◌-◌, ◌<◌, ◌∙◌}
 use Rattle.np_tables.proofs.settle.expire.Goals as goal
 
 pub returns-then-at-len : goal.returns-then-at-len

@@ -1,6 +1,5 @@
-use Rattle.std.proofs.Common.{refl}
-use Rattle.np_machine.specs.Tables.{left}
-use Rattle.np_tables.proofs.Changing.{node-queued}
+use Rattle.np_tables.proofs.Prelude.{left, refl}
+use Rattle.np_tables.proofs.TableLemmas.{node-queued}
 use Rattle.np_tables.proofs.settle.leave_node.Goals as goal
 
 pub returns-in-Some : goal.returns-in-Some

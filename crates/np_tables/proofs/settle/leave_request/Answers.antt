@@ -1,6 +1,5 @@
-use Rattle.std.proofs.Common.{refl}
-use Rattle.np_machine.specs.Tables.{left}
-use Rattle.np_tables.proofs.Changing.{request-queued}
+use Rattle.np_tables.proofs.Prelude.{left, refl}
+use Rattle.np_tables.proofs.TableLemmas.{request-queued}
 use Rattle.np_tables.proofs.settle.leave_request.Goals as goal
 
 pub returns-in-Some : goal.returns-in-Some

@@ -1,5 +1,5 @@
-use Rattle.std.proofs.Common.{sym, arith}
-use Rattle.np_tables.proofs.Inserting.{slice_set-past}
+use Rattle.np_tables.proofs.Prelude.{arith, sym}
+use Rattle.np_tables.proofs.TableLemmas.{slice_set-past}
 use Rattle.np_tables.proofs.settle.put_job.Goals as goal
 
 pub returns-then-at-len : goal.returns-then-at-len

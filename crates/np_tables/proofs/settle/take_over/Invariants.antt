@@ -1,5 +1,4 @@
-use Rattle.std.proofs.Common.{◌≡◌, drop}
-use Rattle.np_machine.specs.Semaphore.{all_in_use}
+use Rattle.np_tables.proofs.Prelude.{all_in_use, drop, ◌≡◌}
 use Rattle.np_tables.proofs.settle.take_over.Given as goal
 
 abbrev pub invariant-loop-node : goal.invariant-loop-node

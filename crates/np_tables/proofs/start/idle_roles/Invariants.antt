@@ -1,6 +1,4 @@
-use Rattle.std.proofs.Common.{◌≡◌}
-use Rattle.std.specs.Prelude.{replicate}
-use Rattle.np_machine.specs.State.{no_deeds}
+use Rattle.np_tables.proofs.Prelude.{no_deeds, replicate, ◌≡◌}
 use Rattle.np_tables.proofs.start.idle_roles.Given as goal
 
 abbrev pub invariant-loop-at : goal.invariant-loop-at

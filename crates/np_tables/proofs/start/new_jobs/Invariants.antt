@@ -1,6 +1,4 @@
-use Rattle.std.proofs.Common.{◌≡◌}
-use Rattle.std.specs.Prelude.{replicate}
-use Rattle.np_machine.specs.State.{new_job}
+use Rattle.np_tables.proofs.Prelude.{new_job, replicate, ◌≡◌}
 use Rattle.np_tables.proofs.start.new_jobs.Given as goal
 
 abbrev pub invariant-loop-at : goal.invariant-loop-at

@@ -1,4 +1,4 @@
-use Rattle.std.proofs.lemmas.Fmt.{decimal_injective}
+use Rattle.np_text.proofs.Prelude.{decimal_injective}
 use Rattle.np_text.proofs.SpellingLemmas.{number_of-decimal, number_of-spelled}
 use Rattle.np_text.proofs.law.a_number_has_one_spelling.Goals as goal
 

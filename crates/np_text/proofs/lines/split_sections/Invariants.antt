@@ -1,5 +1,4 @@
-use Rattle.std.proofs.Common.{◌≡◌, take, drop}
-use Rattle.np_text.specs.Sections.{behind, sections_from, sections_of}
+use Rattle.np_text.proofs.Prelude.{behind, drop, sections_from, sections_of, take, ◌≡◌}
 use Rattle.np_text.proofs.lines.split_sections.Given as goal
 
 abbrev pub invariant-loop-index : goal.invariant-loop-index

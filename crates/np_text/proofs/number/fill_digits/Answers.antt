@@ -1,4 +1,4 @@
-use Rattle.std.proofs.Common.{◌∙◌, arith}
+use Rattle.np_text.proofs.Prelude.{arith, ◌∙◌}
 use Rattle.np_text.proofs.NumberLemmas.{last_digits-end, padded-filled}
 use Rattle.np_text.proofs.number.fill_digits.Goals as goal
 

@@ -1,4 +1,4 @@
-use Rattle.std.proofs.Common.{◌≡◌, ◌++◌, drop, length}
+use Rattle.np_text.proofs.Prelude.{drop, length, ◌++◌, ◌≡◌}
 use Rattle.np_text.proofs.NumberLemmas.{last_digits}
 use Rattle.np_text.proofs.number.fill_digits.Given as goal
 

@@ -1,5 +1,4 @@
-use Rattle.std.proofs.Common.{◌∙◌, ◌++◌, ap}
-use Rattle.np_text.specs.Number.{without_zeros}
+use Rattle.np_text.proofs.Prelude.{ap, without_zeros, ◌++◌, ◌∙◌}
 use Rattle.np_text.proofs.SpellingLemmas.{without_zeros-padded}
 use Rattle.np_text.proofs.number.put_number.Goals as goal
 

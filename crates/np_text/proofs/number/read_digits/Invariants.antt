@@ -1,5 +1,4 @@
-use Rattle.std.proofs.Common.{◌≡◌, drop}
-use Rattle.np_text.specs.Number.{digits_within}
+use Rattle.np_text.proofs.Prelude.{digits_within, drop, ◌≡◌}
 use Rattle.np_text.proofs.NumberLemmas.{digits_from}
 use Rattle.np_text.proofs.number.read_digits.Given as goal
 

@@ -1,5 +1,4 @@
-use Rattle.std.proofs.Common.{◌∙◌, ap}
-use Rattle.np_text.specs.Number.{padded}
+use Rattle.np_text.proofs.Prelude.{ap, padded, ◌∙◌}
 use Rattle.np_text.proofs.RequestLemmas.{request_written}
 use Rattle.np_text.proofs.request.request_text.Goals as goal
 

@@ -1,4 +1,4 @@
-use Rattle.np_top.proofs.AuditStatuses.{audits}
+use Rattle.np_top.proofs.Statuses.{audits}
 use Rattle.np_top.proofs.auditing.audit.Goals as goal
 
 pub returns : goal.returns

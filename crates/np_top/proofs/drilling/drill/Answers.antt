@@ -1,4 +1,4 @@
-use Rattle.np_top.proofs.DrillStatuses.{drills}
+use Rattle.np_top.proofs.Statuses.{drills}
 use Rattle.np_top.proofs.drilling.drill.Goals as goal
 
 pub returns : goal.returns

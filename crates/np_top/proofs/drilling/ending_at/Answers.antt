@@ -1,11 +1,5 @@
-use Rattle.std.proofs.Common.{◌∙◌, refl, ap, true, false}
-use Rattle.np_changes.specs.Prelude.{State, fates}
-use Rattle.np_rules.specs.Running.{ran_of}
-use Rattle.np_board.specs.Outstanding.{ran_of as planning_ran}
-use Rattle.np_report.specs.Summary.{summary_of}
-use Rattle.np_report.proofs.ToldRuns.{jobs-Runs}
-use Rattle.np_top.proofs.Drills.{drill_shown}
-use Rattle.np_top.proofs.Sites.{ended_is, rows_jobs, rows_state}
+use Rattle.np_top.proofs.Prelude.{State, ap, false, fates, jobs-Runs, planning_ran, ran_of, refl, summary_of, true, ◌∙◌}
+use Rattle.np_top.proofs.Sites.{drill_shown, ended_is, rows_jobs, rows_state}
 use Rattle.np_top.proofs.drilling.ending_at.Goals as goal
 
 pub summary-requires : goal.summary-requires

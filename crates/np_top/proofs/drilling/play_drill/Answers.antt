@@ -1,9 +1,4 @@
-use Rattle.std.proofs.Common.{◌∙◌, false, sym, subst}
-use Rattle.std.specs.Prelude.{IfOk}
-use Rattle.np_changes.specs.Prelude.{Configuration, IsSound}
-use Rattle.np_useful.specs.Driven.{Driven}
-use Rattle.np_top.specs.Drill.{EndsDrill}
-use Rattle.np_top.specs.Play.{HasEnded}
+use Rattle.np_top.proofs.Prelude.{Configuration, Driven, EndsDrill, HasEnded, IfOk, IsSound, false, subst, sym, ◌∙◌}
 use Rattle.np_top.proofs.drilling.play_drill.Goals as goal
 
 pub ending_at-ending-requires-clause-sound : goal.ending_at-ending-requires-clause-sound

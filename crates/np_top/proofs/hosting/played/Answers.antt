@@ -1,14 +1,5 @@
-use Rattle.std.proofs.Common.{false}
-use Rattle.std.specs.Prelude.{IfOk, List}
-use Rattle.np_changes.specs.Prelude.{AllByRecursion, Configuration, Entry}
-use Rattle.np_event.specs.Line.{HasEventLine}
-use Rattle.np_rules.specs.Running.{ran_of}
-use Rattle.np_board.specs.Outstanding.{ran_of as planning_ran}
-use Rattle.np_static.specs.Hosted.{hosted_view}
-use Rattle.np_top.specs.Play.{EndsPlay, HasEnded}
-use Rattle.np_top.specs.RunHosts.{hosted_run}
-use Rattle.np_top.proofs.Endings.{ends_site}
-use Rattle.np_top.proofs.Sites.{from_machine, to_machine}
+use Rattle.np_top.proofs.Prelude.{AllByRecursion, Configuration, EndsPlay, Entry, HasEnded, HasEventLine, IfOk, List, false, hosted_run, hosted_view, planning_ran, ran_of}
+use Rattle.np_top.proofs.Sites.{ends_site, from_machine, to_machine}
 use Rattle.np_top.proofs.hosting.played.Goals as goal
 
 pub ending_at-ending-requires-clause-lines : goal.ending_at-ending-requires-clause-lines

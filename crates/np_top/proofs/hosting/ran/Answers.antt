@@ -1,11 +1,5 @@
-use Rattle.std.proofs.Common.{Result, subst}
-use Rattle.np_static.specs.declared.fault.HostedFault.{HostedFault}
-use Rattle.np_static.specs.declared.hosted.HostedSite.{HostedSite}
-use Rattle.np_static.specs.Hosted.{hosted_read, hosted_view}
-use Rattle.np_top.specs.Run.{HasCome}
-use Rattle.np_top.specs.RunHosts.{hosted_run}
-use Rattle.np_top.proofs.Endings.{run_ends}
-use Rattle.np_top.proofs.Hosts.{come_lines}
+use Rattle.np_top.proofs.Prelude.{HasCome, HostedFault, HostedSite, Result, hosted_read, hosted_run, hosted_view, subst}
+use Rattle.np_top.proofs.Sites.{come_lines, run_ends}
 use Rattle.np_top.proofs.hosting.ran.Goals as goal
 
 pub played-requires-after_bounds : goal.played-requires-after_bounds

@@ -1,5 +1,5 @@
-use Rattle.np_top.specs.RunHosts.{hosted_run}
-use Rattle.np_top.proofs.RunStatuses.{faults-hosted, runs_site}
+use Rattle.np_top.proofs.Prelude.{hosted_run}
+use Rattle.np_top.proofs.Statuses.{faults-hosted, runs_site}
 use Rattle.np_top.proofs.hosting.run_hosts.Goals as goal
 
 pub returns : goal.returns

@@ -1,6 +1,5 @@
-use Rattle.std.proofs.Common.{refl}
-use Rattle.np_static.specs.Hosted.{hosted_view}
-use Rattle.np_top.proofs.Hosts.{drivers_count, drivers_new, hosts_driven}
+use Rattle.np_top.proofs.Prelude.{hosted_view, refl}
+use Rattle.np_top.proofs.Sites.{drivers_count, drivers_new, hosts_driven}
 use Rattle.np_top.proofs.playing.play_hosts.Goals as goal
 
 pub play_over-requires-clause-count : goal.play_over-requires-clause-count

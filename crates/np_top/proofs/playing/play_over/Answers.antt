@@ -1,10 +1,5 @@
-use Rattle.std.proofs.Common.{map, subst}
-use Rattle.np_changes.specs.Prelude.{AllByRecursion, Entry}
-use Rattle.np_worker.specs.Drive.{driving}
-use Rattle.np_worker.specs.Players.{WasAnswered}
-use Rattle.np_top.specs.Typed.{IsTyped}
-use Rattle.np_top.proofs.DrivenLines.{lines_as}
-use Rattle.np_top.proofs.Sites.{driven_either, ended_so, new_empty, new_servers, played_by}
+use Rattle.np_top.proofs.Prelude.{AllByRecursion, Entry, IsTyped, WasAnswered, driving, map, subst}
+use Rattle.np_top.proofs.Sites.{driven_either, ended_so, lines_as, new_empty, new_servers, played_by}
 use Rattle.np_top.proofs.playing.play_over.Goals as goal
 
 pub returns-clause-lines : goal.returns-clause-lines

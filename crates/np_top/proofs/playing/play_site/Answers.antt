@@ -1,4 +1,4 @@
-use Rattle.np_cloud.specs.Sound.{every_list}
+use Rattle.np_top.proofs.Prelude.{every_list}
 use Rattle.np_top.proofs.Sites.{driven_by_clouds, new_clouds}
 use Rattle.np_top.proofs.playing.play_site.Goals as goal
 

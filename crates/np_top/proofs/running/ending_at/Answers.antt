@@ -1,9 +1,4 @@
-use Rattle.std.proofs.Common.{◌∙◌, refl, ap, true, false}
-use Rattle.np_changes.specs.Prelude.{State, fates}
-use Rattle.np_rules.specs.Running.{ran_of}
-use Rattle.np_rules.proofs.First.{Runs-first}
-use Rattle.np_report.proofs.ToldRuns.{jobs-Runs}
-use Rattle.np_top.specs.Play.{status_of_fates}
+use Rattle.np_top.proofs.Prelude.{Runs-first, State, ap, false, fates, jobs-Runs, ran_of, refl, status_of_fates, true, ◌∙◌}
 use Rattle.np_top.proofs.Sites.{played_to, status_then, ended_is, rows_runs, rows_printed, rows_jobs, rows_state}
 use Rattle.np_top.proofs.running.ending_at.Goals as goal
 

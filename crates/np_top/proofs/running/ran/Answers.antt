@@ -1,6 +1,5 @@
-use Rattle.std.proofs.Common.{subst, rules}
-use Rattle.np_top.specs.Run.{HasCome, site_run}
-use Rattle.np_top.proofs.Endings.{run_ends}
+use Rattle.np_top.proofs.Prelude.{HasCome, rules, site_run, subst}
+use Rattle.np_top.proofs.Sites.{run_ends}
 use Rattle.np_top.proofs.running.ran.Goals as goal
 
 pub returns-in_ok-played-in-Ok-clause-ok : goal.returns-in_ok-played-in-Ok-clause-ok

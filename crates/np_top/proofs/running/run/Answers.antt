@@ -1,5 +1,5 @@
-use Rattle.np_top.specs.Run.{site_run}
-use Rattle.np_top.proofs.RunStatuses.{faults-run, runs_site}
+use Rattle.np_top.proofs.Prelude.{site_run}
+use Rattle.np_top.proofs.Statuses.{faults-run, runs_site}
 use Rattle.np_top.proofs.running.run.Goals as goal
 
 pub returns : goal.returns

@@ -1,9 +1,5 @@
-use Rattle.std.proofs.Common.{◌≡◌, ◌<◌, ◌∙◌, sym, ap, add-one, arith, length, Some, Bool, if◌then◌else◌}
-use Rattle.std.specs.Prelude.{slice_get}
-use Rattle.std.proofs.lemmas.Option.{slice_get_within}
-use Rattle.np_machine.specs.Fates.{fate_of}
-use Rattle.np_top.specs.Play.{is_waiting}
-use Rattle.np_top.proofs.Waiting.{any-end, any-next, such-first, such-later}
+use Rattle.np_top.proofs.Prelude.{Bool, Some, add-one, ap, arith, fate_of, if◌then◌else◌, is_waiting, length, slice_get, slice_get_within, sym, ◌<◌, ◌∙◌, ◌≡◌}
+use Rattle.np_top.proofs.Sites.{any-end, any-next, such-first, such-later}
 use Rattle.np_top.proofs.running.status_of.Goals as goal
 
 pub loop-job-preserved : goal.loop-job-preserved

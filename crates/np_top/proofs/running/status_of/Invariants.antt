@@ -1,6 +1,4 @@
-use Rattle.std.proofs.Common.{◌≡◌, ◌≤◌, ◌-◌, length, map, drop}
-use Rattle.np_machine.specs.Fates.{fate_of}
-use Rattle.np_top.specs.Play.{some_waits}
+use Rattle.np_top.proofs.Prelude.{drop, fate_of, length, map, some_waits, ◌-◌, ◌≡◌, ◌≤◌}
 use Rattle.np_top.proofs.running.status_of.Given as goal
 
 -- if a fate is waiting, it is one of those that were not looked at

@@ -1,6 +1,4 @@
-use Rattle.std.proofs.Common.{take}
-use Rattle.np_changes.specs.Prelude.{AllByRecursion, Entry}
-use Rattle.np_top.specs.Typed.{IsTyped}
+use Rattle.np_top.proofs.Prelude.{AllByRecursion, Entry, IsTyped, take}
 use Rattle.np_top.proofs.typed.numbers_are_within_their_types.Given as goal
 
 abbrev pub invariant-loop-entry : goal.invariant-loop-entry

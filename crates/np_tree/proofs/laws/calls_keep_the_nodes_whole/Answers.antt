@@ -1,4 +1,4 @@
-use Rattle.np_tree_nodes.specs.After.{next_change}
+use Rattle.np_tree.proofs.Prelude.{next_change}
 use Rattle.np_tree.proofs.WholeLemmas.{IsWhole-after_end, IsWhole-after_multi, IsWhole-after_part, IsWhole-after_raise, IsWhole-new_tree}
 use Rattle.np_tree.proofs.laws.calls_keep_the_nodes_whole.Goals as goal
 

@@ -1,4 +1,4 @@
-use Rattle.np_tree.proofs.TreeLemmas.{IsTree-after_begin, IsTree-after_end, IsTree-after_multi, IsTree-after_raise, IsTree-new_tree, IsTreeUpTo-after_part}
+use Rattle.np_tree.proofs.CallLemmas.{IsTree-after_begin, IsTree-after_end, IsTree-after_multi, IsTree-after_raise, IsTree-new_tree, IsTreeUpTo-after_part}
 use Rattle.np_tree.proofs.laws.calls_keep_the_tree.Goals as goal
 
 pub returns : goal.returns

@@ -1,4 +1,4 @@
-use Rattle.np_tree.proofs.StandingLemmas.{children_of-ephemeral}
+use Rattle.np_tree.proofs.WholeLemmas.{children_of-ephemeral}
 use Rattle.np_tree.proofs.laws.ephemerals_have_no_children.Goals as goal
 
 pub returns : goal.returns

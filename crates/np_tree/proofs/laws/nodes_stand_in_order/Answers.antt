@@ -1,4 +1,4 @@
-use Rattle.np_tree.proofs.ChildOrder.{children-by-name, parents-first}
+use Rattle.np_tree.proofs.RowLemmas.{children-by-name, parents-first}
 use Rattle.np_tree.proofs.laws.nodes_stand_in_order.Goals as goal
 
 pub returns : goal.returns

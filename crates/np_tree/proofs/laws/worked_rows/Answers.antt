@@ -1,6 +1,4 @@
-use Rattle.std.proofs.Common.{refl}
-use Rattle.std.specs.Fmt.{digits}
-use Rattle.np_text.specs.Number.{ten_digits_of}
+use Rattle.np_tree.proofs.Prelude.{digits, refl, ten_digits_of}
 use Rattle.np_tree.proofs.laws.worked_rows.Goals as goal
 
 pub returns-clause-sequence : goal.returns-clause-sequence

@@ -1,4 +1,4 @@
-use Rattle.np_tree.proofs.GoesLemmas.{checks-go}
+use Rattle.np_tree.proofs.RelationLemmas.{checks-go}
 use Rattle.np_tree.proofs.views.check_goes.Goals as goal
 
 pub returns : goal.returns

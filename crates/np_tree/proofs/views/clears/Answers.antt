@@ -1,4 +1,4 @@
-use Rattle.np_tree.proofs.ClearLemmas.{clears-empty, clears-go}
+use Rattle.np_tree.proofs.RelationLemmas.{clears-empty, clears-go}
 use Rattle.np_tree.proofs.views.clears.Goals as goal
 
 pub returns : goal.returns

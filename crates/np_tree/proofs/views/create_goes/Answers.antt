@@ -1,4 +1,4 @@
-use Rattle.np_tree.proofs.GoesLemmas.{creates-go, creates-under-go}
+use Rattle.np_tree.proofs.RelationLemmas.{creates-go, creates-under-go}
 use Rattle.np_tree.proofs.views.create_goes.Goals as goal
 
 pub returns : goal.returns

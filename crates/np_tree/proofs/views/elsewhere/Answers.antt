@@ -1,4 +1,4 @@
-use Rattle.np_tree.proofs.ElsewhereLemmas.{elsewhere, goes-whole}
+use Rattle.np_tree.proofs.LaterLemmas.{elsewhere, goes-whole}
 use Rattle.np_tree.proofs.views.elsewhere.Goals as goal
 
 pub returns : goal.returns

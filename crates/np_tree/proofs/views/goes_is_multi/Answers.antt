@@ -1,4 +1,4 @@
-use Rattle.np_tree.proofs.SeveralLemmas.{answered-goes, checks-leave-the-tree, goes-after, goes-answered, goes-under-one-number, goes-unrefused}
+use Rattle.np_tree.proofs.CallLemmas.{answered-goes, checks-leave-the-tree, goes-after, goes-answered, goes-under-one-number, goes-unrefused}
 use Rattle.np_tree.proofs.views.goes_is_multi.Goals as goal
 
 pub returns : goal.returns

@@ -1,4 +1,4 @@
-use Rattle.np_tree.proofs.SeveralLemmas.{goes-empty, goes-front, goes-joined}
+use Rattle.np_tree.proofs.CallLemmas.{goes-empty, goes-front, goes-joined}
 use Rattle.np_tree.proofs.views.goes_joined.Goals as goal
 
 pub returns : goal.returns

@@ -1,4 +1,4 @@
-use Rattle.np_tree.proofs.SeveralLemmas.{paths-are-their-parts}
+use Rattle.np_tree.proofs.CallLemmas.{paths-are-their-parts}
 use Rattle.np_tree.proofs.views.paths_are_their_parts.Goals as goal
 
 pub returns : goal.returns

@@ -1,4 +1,4 @@
-use Rattle.np_tree.proofs.FreshLemmas.{undated-bytes-are-not-later, undated-loss-is-not-later}
+use Rattle.np_tree.proofs.RelationLemmas.{undated-bytes-are-not-later, undated-loss-is-not-later}
 use Rattle.np_tree.proofs.views.undated_changes_are_not_later.Goals as goal
 
 pub returns : goal.returns

@@ -1,5 +1,5 @@
-use Rattle.std.proofs.Common.{sym, ◌∙◌}
-use Rattle.np_tree_nodes.proofs.AppendCmpLemmas.{slice_cmp-shorter, slice_cmp-append}
+use Rattle.np_tree_nodes.proofs.Prelude.{sym, ◌∙◌}
+use Rattle.np_tree_nodes.proofs.PlaceLemmas.{slice_cmp-shorter, slice_cmp-append}
 use Rattle.np_tree_nodes.proofs.find.name_cmp.Goals as goal
 
 pub returns-then-name-front : goal.returns-then-name-front

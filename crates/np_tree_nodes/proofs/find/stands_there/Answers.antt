@@ -1,8 +1,4 @@
-use Rattle.std.proofs.Common.{◌≡◌, ◌++◌, true, sym}
-use Rattle.std.specs.Str.{bytes_eq}
-use Rattle.std.proofs.lemmas.Map.Text.{is_eq-slice_cmp}
-use Rattle.np_path.specs.Parts.{name_of}
-use Rattle.np_tree_nodes.specs.Nodes.{before_of}
+use Rattle.np_tree_nodes.proofs.Prelude.{before_of, bytes_eq, is_eq-slice_cmp, name_of, sym, true, ◌++◌, ◌≡◌}
 use Rattle.np_tree_nodes.proofs.find.stands_there.Goals as goal
 
 pub returns-then-eq : goal.returns-then-eq

@@ -1,6 +1,5 @@
-use Rattle.np_lists.proofs.ChangeLemmas.{length-change_at}
-use Rattle.np_tree_nodes.specs.Edits.{with_swap}
-use Rattle.np_tree_nodes.proofs.UndoLemmas.{with_touch-back}
+use Rattle.np_tree_nodes.proofs.Prelude.{length-change_at, with_swap}
+use Rattle.np_tree_nodes.proofs.PlanLemmas.{with_touch-back}
 use Rattle.np_tree_nodes.proofs.lists.touch.Goals as goal
 
 pub returns-in-Some-clause-back : goal.returns-in-Some-clause-back

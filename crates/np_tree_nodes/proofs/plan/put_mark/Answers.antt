@@ -1,4 +1,4 @@
-use Rattle.np_tree_nodes.proofs.MarkLemmas.{IsSplit-mark}
+use Rattle.np_tree_nodes.proofs.KeptLemmas.{IsSplit-mark}
 use Rattle.np_tree_nodes.proofs.plan.put_mark.Goals as goal
 
 pub place-place-requires : goal.place-place-requires

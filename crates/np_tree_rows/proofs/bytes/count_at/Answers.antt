@@ -1,5 +1,4 @@
-use Rattle.std.proofs.Common.{◌∙◌, ap, List, ℕ, length}
-use Rattle.np_tree.specs.Views.{rows_at}
+use Rattle.np_tree_rows.proofs.Prelude.{List, ap, length, rows_at, ℕ, ◌∙◌}
 use Rattle.np_tree_rows.proofs.bytes.count_at.Goals as goal
 
 pub returns : goal.returns

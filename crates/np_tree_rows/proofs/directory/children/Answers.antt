@@ -1,4 +1,4 @@
-use Rattle.std.proofs.Common.{length, sym, ap}
+use Rattle.np_tree_rows.proofs.Prelude.{ap, length, sym}
 use Rattle.np_tree_rows.proofs.Shown.{rows-counted, rows-none}
 use Rattle.np_tree_rows.proofs.directory.children.Goals as goal
 

@@ -1,6 +1,4 @@
-use Rattle.std.proofs.Common.{◌∙◌, arith}
-use Rattle.std.specs.Prelude.{slice_get}
-use Rattle.np_spelling.specs.Spelling.{IsJob, job_text}
+use Rattle.np_tree_rows.proofs.Prelude.{IsJob, arith, job_text, slice_get, ◌∙◌}
 use Rattle.np_tree_rows.proofs.Stored.{job-bytes, job-sound, read-none, read-some, text-none, text-some}
 use Rattle.np_tree_rows.proofs.job_table.job.Goals as goal
 

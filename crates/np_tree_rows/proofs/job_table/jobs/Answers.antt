@@ -1,4 +1,4 @@
-use Rattle.std.proofs.Common.{◌∙◌}
+use Rattle.np_tree_rows.proofs.Prelude.{◌∙◌}
 use Rattle.np_tree_rows.proofs.Stored.{jobs-counted}
 use Rattle.np_tree_rows.proofs.job_table.jobs.Goals as goal
 

@@ -1,6 +1,4 @@
-use Rattle.std.proofs.Common.{◌∙◌, rules}
-use Rattle.np_spelling.specs.Spelling.{IsRole, role_text}
-use Rattle.np_machine.specs.Tables.{role_in}
+use Rattle.np_tree_rows.proofs.Prelude.{IsRole, role_in, role_text, rules, ◌∙◌}
 use Rattle.np_tree_rows.proofs.Stored.{read-none, read-some, role-bytes, role-sound, text-none, text-some}
 use Rattle.np_tree_rows.proofs.job_table.role.Goals as goal
 

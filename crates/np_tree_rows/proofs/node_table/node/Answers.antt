@@ -1,6 +1,6 @@
-use Rattle.std.proofs.Common.{◌<◌, ◌^◌, Result, Ok, ◌∙◌, rules}
+use Rattle.np_tree_rows.proofs.Prelude.{Ok, Result, rules, ◌<◌, ◌^◌, ◌∙◌}
 use Rattle.np_tree_rows.proofs.NodeReads.{node-read, node-unread}
-use Rattle.np_tree_rows.proofs.RequestReads.{read-none, read-some}
+use Rattle.np_tree_rows.proofs.Shown.{read-none, read-some}
 use Rattle.np_tree_rows.proofs.node_table.node.Goals as goal
 
 pub returns-in_err-bytes : goal.returns-in_err-bytes

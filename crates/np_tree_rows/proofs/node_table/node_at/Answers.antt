@@ -1,4 +1,4 @@
-use Rattle.std.proofs.Common.{◌∙◌}
+use Rattle.np_tree_rows.proofs.Prelude.{◌∙◌}
 use Rattle.np_tree_rows.proofs.NodeReads.{node-named, node-unnamed, spelled-none, spelled-some}
 use Rattle.np_tree_rows.proofs.node_table.node_at.Goals as goal
 

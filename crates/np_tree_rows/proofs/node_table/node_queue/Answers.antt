@@ -1,5 +1,4 @@
-use Rattle.std.proofs.Common.{◌<◌, ◌^◌, rules}
-use Rattle.np_machine.specs.Tables.{node_queue}
+use Rattle.np_tree_rows.proofs.Prelude.{node_queue, rules, ◌<◌, ◌^◌}
 use Rattle.np_tree_rows.proofs.NodeReads.{node-waits}
 use Rattle.np_tree_rows.proofs.node_table.node_queue.Goals as goal
 

@@ -1,4 +1,4 @@
-use Rattle.std.proofs.Common.{◌∙◌}
+use Rattle.np_tree_rows.proofs.Prelude.{◌∙◌}
 use Rattle.np_tree_rows.proofs.NodeReads.{node-kept, node-unviewed, node-viewed}
 use Rattle.np_tree_rows.proofs.node_table.node_view.Goals as goal
 

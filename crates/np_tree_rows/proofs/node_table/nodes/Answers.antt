@@ -1,4 +1,4 @@
-use Rattle.std.proofs.Common.{◌∙◌}
+use Rattle.np_tree_rows.proofs.Prelude.{◌∙◌}
 use Rattle.np_tree_rows.proofs.NodeReads.{nodes-counted}
 use Rattle.np_tree_rows.proofs.node_table.nodes.Goals as goal
 

@@ -1,8 +1,5 @@
-use Rattle.std.proofs.Common.{◌≡◌, ◌∙◌, ◌≤◌, ap, List, ℕ, Some, None, length, arith}
-use Rattle.np_tree.specs.Views.{rows_at}
-use Rattle.np_changes.specs.Prelude.{NodeEntry, is_queued}
-use Rattle.np_tree_rows.proofs.QueueRows.{nodes-counted}
-use Rattle.np_tree_rows.proofs.Steps.{count-step, passing-past}
+use Rattle.np_tree_rows.proofs.Prelude.{List, NodeEntry, None, Some, ap, arith, is_queued, length, rows_at, ℕ, ◌∙◌, ◌≡◌, ◌≤◌}
+use Rattle.np_tree_rows.proofs.Registered.{count-step, nodes-counted, passing-past}
 use Rattle.np_tree_rows.proofs.queues.queued_nodes.Goals as goal
 
 pub loop-at-preserved-in_default : goal.loop-at-preserved-in_default

@@ -1,8 +1,5 @@
-use Rattle.std.proofs.Common.{◌≡◌, ◌≤◌, ◌+◌, length}
-use Rattle.np_changes.specs.Prelude.{Configuration, State}
-use Rattle.np_look.specs.Readers.{queued_nodes}
-use Rattle.np_layout.specs.Carried.{IsStored}
-use Rattle.np_tree_rows.proofs.QueueRows.{nodes_from}
+use Rattle.np_tree_rows.proofs.Prelude.{Configuration, IsStored, State, length, queued_nodes, ◌+◌, ◌≡◌, ◌≤◌}
+use Rattle.np_tree_rows.proofs.Registered.{nodes_from}
 use Rattle.np_tree_rows.proofs.queues.queued_nodes.Given as goal
 
 abbrev pub invariant-loop-at : goal.invariant-loop-at

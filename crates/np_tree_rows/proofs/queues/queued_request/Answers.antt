@@ -1,7 +1,5 @@
-use Rattle.std.proofs.Common.{◌≡◌, ◌∙◌, sym, ap, true, false, List, ℕ}
-use Rattle.np_layout.specs.Prelude.{list_any, path_of, rows_at}
-use Rattle.np_layout.specs.declared.place.Place.TheVariants.{RequestLock}
-use Rattle.np_tree_rows.proofs.QueueRows.{is_waiting, request-queued}
+use Rattle.np_tree_rows.proofs.Prelude.{List, RequestLock, ap, false, list_any, path_of, rows_at, sym, true, ℕ, ◌∙◌, ◌≡◌}
+use Rattle.np_tree_rows.proofs.Registered.{is_waiting, request-queued}
 use Rattle.np_tree_rows.proofs.queues.queued_request.Goals as goal
 
 pub returns-then-waits : goal.returns-then-waits

@@ -1,9 +1,5 @@
-use Rattle.std.proofs.Common.{◌≡◌, ◌∙◌, ◌≤◌, sym, ap, List, ℕ, length, add-one, arith}
-use Rattle.std.specs.Prelude.{slice_get}
-use Rattle.np_changes.specs.Prelude.{RequestEntry, RequestId, is_queued}
-use Rattle.np_tree.specs.Views.{rows_at}
-use Rattle.np_tree_rows.proofs.QueueRows.{requests-counted}
-use Rattle.np_tree_rows.proofs.Steps.{first-here, first-later, first-over, passing-past}
+use Rattle.np_tree_rows.proofs.Prelude.{List, RequestEntry, RequestId, add-one, ap, arith, is_queued, length, rows_at, slice_get, sym, ℕ, ◌∙◌, ◌≡◌, ◌≤◌}
+use Rattle.np_tree_rows.proofs.Registered.{first-here, first-later, first-over, passing-past, requests-counted}
 use Rattle.np_tree_rows.proofs.queues.queued_request_at.Goals as goal
 
 pub loop-place-preserved-in_default : goal.loop-place-preserved-in_default

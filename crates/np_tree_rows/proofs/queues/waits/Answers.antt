@@ -1,7 +1,5 @@
-use Rattle.std.proofs.Common.{◌≡◌, ◌∙◌, sym, ap, Bool, true, false, ◌||◌, drop, suc, add-one}
-use Rattle.std.specs.Prelude.{slice_get}
-use Rattle.np_layout.specs.Prelude.{list_any, option_map_or, rows_at}
-use Rattle.np_tree_rows.proofs.QueueRows.{any-step, is_waiting}
+use Rattle.np_tree_rows.proofs.Prelude.{Bool, add-one, ap, drop, false, list_any, option_map_or, rows_at, slice_get, suc, sym, true, ◌||◌, ◌∙◌, ◌≡◌}
+use Rattle.np_tree_rows.proofs.Registered.{any-step, is_waiting}
 use Rattle.np_tree_rows.proofs.queues.waits.Goals as goal
 
 pub returns-then-waits_at : goal.returns-then-waits_at

@@ -1,6 +1,5 @@
-use Rattle.std.proofs.Common.{◌≡◌, drop}
-use Rattle.np_layout.specs.Prelude.{list_any, rows_at}
-use Rattle.np_tree_rows.proofs.QueueRows.{is_waiting}
+use Rattle.np_tree_rows.proofs.Prelude.{drop, list_any, rows_at, ◌≡◌}
+use Rattle.np_tree_rows.proofs.Registered.{is_waiting}
 use Rattle.np_tree_rows.proofs.queues.waits.Given as goal
 
 abbrev pub invariant-loop-at : goal.invariant-loop-at

@@ -1,5 +1,5 @@
-use Rattle.std.proofs.Common.{Result, Ok, ◌∙◌}
-use Rattle.np_tree_rows.proofs.RequestReads.{read-none, read-some, request-none, request-read, request-unread}
+use Rattle.np_tree_rows.proofs.Prelude.{Ok, Result, ◌∙◌}
+use Rattle.np_tree_rows.proofs.Shown.{read-none, read-some, request-none, request-read, request-unread}
 use Rattle.np_tree_rows.proofs.request_table.request.Goals as goal
 
 pub returns-then-not-has_text : goal.returns-then-not-has_text

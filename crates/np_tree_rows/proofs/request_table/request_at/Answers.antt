@@ -1,7 +1,6 @@
-use Rattle.std.proofs.Common.{ap, ◌∙◌}
-use Rattle.np_text.specs.Request.{request_of}
-use Rattle.np_tree_rows.proofs.QueueRows.{has-text}
-use Rattle.np_tree_rows.proofs.RequestReads.{request-named, request-unnamed}
+use Rattle.np_tree_rows.proofs.Prelude.{ap, request_of, ◌∙◌}
+use Rattle.np_tree_rows.proofs.Registered.{has-text}
+use Rattle.np_tree_rows.proofs.Shown.{request-named, request-unnamed}
 use Rattle.np_tree_rows.proofs.request_table.request_at.Goals as goal
 
 pub returns-in_err-name-clause-request : goal.returns-in_err-name-clause-request

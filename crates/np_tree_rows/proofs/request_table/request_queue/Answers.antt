@@ -1,5 +1,5 @@
-use Rattle.np_machine.specs.Tables.{request_queue}
-use Rattle.np_tree_rows.proofs.RequestReads.{request-unqueued, request-waits}
+use Rattle.np_tree_rows.proofs.Prelude.{request_queue}
+use Rattle.np_tree_rows.proofs.Shown.{request-unqueued, request-waits}
 use Rattle.np_tree_rows.proofs.request_table.request_queue.Goals as goal
 
 pub returns-then-not-has_text : goal.returns-then-not-has_text

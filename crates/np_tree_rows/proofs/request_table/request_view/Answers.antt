@@ -1,5 +1,5 @@
-use Rattle.std.proofs.Common.{◌∙◌}
-use Rattle.np_tree_rows.proofs.RequestReads.{request-kept, request-unviewed, request-viewed}
+use Rattle.np_tree_rows.proofs.Prelude.{◌∙◌}
+use Rattle.np_tree_rows.proofs.Shown.{request-kept, request-unviewed, request-viewed}
 use Rattle.np_tree_rows.proofs.request_table.request_view.Goals as goal
 
 pub returns-in_err-id : goal.returns-in_err-id

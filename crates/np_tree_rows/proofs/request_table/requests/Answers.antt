@@ -1,5 +1,5 @@
-use Rattle.std.proofs.Common.{◌∙◌}
-use Rattle.np_tree_rows.proofs.RequestReads.{requests-counted}
+use Rattle.np_tree_rows.proofs.Prelude.{◌∙◌}
+use Rattle.np_tree_rows.proofs.Shown.{requests-counted}
 use Rattle.np_tree_rows.proofs.request_table.requests.Goals as goal
 
 pub returns : goal.returns

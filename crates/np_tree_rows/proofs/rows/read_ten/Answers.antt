@@ -1,6 +1,5 @@
-use Rattle.std.proofs.Common.{ℕ, List, Result, subst}
-use Rattle.std.specs.Str.Parse.{ParsesUnsigned}
-use Rattle.np_tree_rows.proofs.Ten.{ten-parsed, ten-read}
+use Rattle.np_tree_rows.proofs.Prelude.{List, ParsesUnsigned, Result, subst, ℕ}
+use Rattle.np_tree_rows.proofs.Stored.{ten-parsed, ten-read}
 use Rattle.np_tree_rows.proofs.rows.read_ten.Goals as goal
 
 pub returns-in-Ok : goal.returns-in-Ok

@@ -1,5 +1,5 @@
-use Rattle.std.proofs.Common.{◌∙◌}
-use Rattle.np_tree_rows.proofs.Waits.{waits-none, waits-number, waits-owned, waits-positive, waits-some}
+use Rattle.np_tree_rows.proofs.Prelude.{◌∙◌}
+use Rattle.np_tree_rows.proofs.Shown.{waits-none, waits-number, waits-owned, waits-positive, waits-some}
 use Rattle.np_tree_rows.proofs.rows.waiting_at.Goals as goal
 
 pub returns-in_err-stat : goal.returns-in_err-stat

@@ -1,10 +1,6 @@
-use Rattle.std.proofs.Common.{◌≡◌, ◌∙◌, ◌<◌, sym, ap, List, Some, None, true, false, length, add-one, arith}
-use Rattle.std.specs.Prelude.{slice_get}
-use Rattle.np_changes.specs.Prelude.{JobId, handles_of, has_handle, option_copied}
-use Rattle.std.proofs.lemmas.Option.{slice_get_within}
-use Rattle.np_tree_rows.proofs.Holders.{are-holders, from-end, from-over, from-zero, holder-here, holder-later}
+use Rattle.np_tree_rows.proofs.Prelude.{JobId, List, None, Some, add-one, ap, arith, false, handles_of, has_handle, length, option_copied, past-end, slice_get, slice_get_within, sym, true, ◌<◌, ◌∙◌, ◌≡◌}
+use Rattle.np_tree_rows.proofs.Registered.{are-holders, from-end, from-over, from-zero, holder-here, holder-later}
 use Rattle.np_tree_rows.proofs.semaphores.handle_at.Goals as goal
-use Rattle.np_lists.proofs.Plain.{past-end}
 
 pub loop-job-init : goal.loop-job-init
 loop-job-init c = record {

@@ -1,8 +1,5 @@
-use Rattle.std.proofs.Common.{◌≡◌, ◌≤◌, ◌-◌, length}
-use Rattle.std.specs.Prelude.{slice_get}
-use Rattle.np_changes.specs.Prelude.{State, handles_of}
-use Rattle.np_layout.specs.Carried.{IsStored}
-use Rattle.np_tree_rows.proofs.Holders.{jobs_from}
+use Rattle.np_tree_rows.proofs.Prelude.{IsStored, State, handles_of, length, slice_get, ◌-◌, ◌≡◌, ◌≤◌}
+use Rattle.np_tree_rows.proofs.Registered.{jobs_from}
 use Rattle.np_tree_rows.proofs.semaphores.handle_at.Given as goal
 
 abbrev pub invariant-loop-job : goal.invariant-loop-job

@@ -1,7 +1,5 @@
-use Rattle.std.proofs.Common.{◌∙◌, rules}
-use Rattle.np_layout.specs.Place.{IsGood}
-use Rattle.np_layout.specs.declared.place.Place.TheVariants.{Semaphore}
-use Rattle.np_tree_rows.proofs.HandleRows.{handles-counted}
+use Rattle.np_tree_rows.proofs.Prelude.{IsGood, Semaphore, rules, ◌∙◌}
+use Rattle.np_tree_rows.proofs.Registered.{handles-counted}
 use Rattle.np_tree_rows.proofs.semaphores.handles.Goals as goal
 
 pub returns : goal.returns

@@ -1,7 +1,5 @@
-use Rattle.std.proofs.Common.{◌∙◌, ap, List, ℕ, rules}
-use Rattle.np_layout.specs.Prelude.{IsGood, is_some, stat_at}
-use Rattle.np_layout.specs.declared.place.Place.TheVariants.{Handle}
-use Rattle.np_tree_rows.proofs.HandleRows.{handle-there}
+use Rattle.np_tree_rows.proofs.Prelude.{Handle, IsGood, List, ap, is_some, rules, stat_at, ℕ, ◌∙◌}
+use Rattle.np_tree_rows.proofs.Registered.{handle-there}
 use Rattle.np_tree_rows.proofs.semaphores.has_handle.Goals as goal
 
 pub returns : goal.returns

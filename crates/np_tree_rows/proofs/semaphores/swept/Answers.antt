@@ -1,7 +1,5 @@
-use Rattle.std.proofs.Common.{◌∙◌, ap, List, ℕ, rules}
-use Rattle.np_layout.specs.Prelude.{IsGood, is_some, stat_at}
-use Rattle.np_layout.specs.declared.place.Place.TheVariants.{Swept}
-use Rattle.np_tree_rows.proofs.HandleRows.{swept-there}
+use Rattle.np_tree_rows.proofs.Prelude.{IsGood, List, Swept, ap, is_some, rules, stat_at, ℕ, ◌∙◌}
+use Rattle.np_tree_rows.proofs.Registered.{swept-there}
 use Rattle.np_tree_rows.proofs.semaphores.swept.Goals as goal
 
 pub returns : goal.returns

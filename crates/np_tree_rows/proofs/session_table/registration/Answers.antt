@@ -1,6 +1,4 @@
-use Rattle.std.proofs.Common.{◌∙◌, arith}
-use Rattle.std.specs.Prelude.{find, ◌==◌}
-use Rattle.np_machine.specs.declared.state.Registration.{Registration}
+use Rattle.np_tree_rows.proofs.Prelude.{Registration, arith, find, ◌==◌, ◌∙◌}
 use Rattle.np_tree_rows.proofs.Registered.{nobody-owns, owner-nothing, owner-session, registered-owner}
 use Rattle.np_tree_rows.proofs.session_table.registration.Goals as goal
 

@@ -1,6 +1,4 @@
-use Rattle.std.proofs.Common.{ap, arith}
-use Rattle.std.specs.Prelude.{List, slice_get}
-use Rattle.np_machine.specs.declared.state.Registration.{Registration}
+use Rattle.np_tree_rows.proofs.Prelude.{List, Registration, ap, arith, slice_get}
 use Rattle.np_tree_rows.proofs.Registered.{from_pool-first, past-end, walk-here, walk-later, walk-next, walk-over}
 use Rattle.np_tree_rows.proofs.session_table.registration_at.Goals as goal
 

@@ -1,7 +1,4 @@
-use Rattle.std.proofs.Common.{◌≡◌}
-use Rattle.std.specs.Prelude.{slice_get}
-use Rattle.np_machine.specs.State.{State}
-use Rattle.np_layout.specs.Carried.{IsStored}
+use Rattle.np_tree_rows.proofs.Prelude.{IsStored, State, slice_get, ◌≡◌}
 use Rattle.np_tree_rows.proofs.Registered.{from_pool}
 use Rattle.np_tree_rows.proofs.session_table.registration_at.Given as goal
 

@@ -1,4 +1,4 @@
-use Rattle.std.proofs.Common.{◌∙◌}
+use Rattle.np_tree_rows.proofs.Prelude.{◌∙◌}
 use Rattle.np_tree_rows.proofs.Stored.{registrations-counted}
 use Rattle.np_tree_rows.proofs.session_table.registrations.Goals as goal
 

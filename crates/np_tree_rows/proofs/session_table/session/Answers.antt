@@ -1,6 +1,4 @@
-use Rattle.std.proofs.Common.{◌∙◌, arith}
-use Rattle.np_changes.specs.Prelude.{option_map, session_of}
-use Rattle.np_spelling.specs.Spelling.{IsSession, session_text}
+use Rattle.np_tree_rows.proofs.Prelude.{IsSession, arith, option_map, session_of, session_text, ◌∙◌}
 use Rattle.np_tree_rows.proofs.Stored.{kept_of, read-none, read-some, session-bytes, session-known, session-none, session-sound, text-none, text-some}
 use Rattle.np_tree_rows.proofs.session_table.session.Goals as goal
 

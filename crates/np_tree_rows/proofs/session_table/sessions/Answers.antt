@@ -1,4 +1,4 @@
-use Rattle.std.proofs.Common.{◌∙◌}
+use Rattle.np_tree_rows.proofs.Prelude.{◌∙◌}
 use Rattle.np_tree_rows.proofs.Stored.{sessions-counted}
 use Rattle.np_tree_rows.proofs.session_table.sessions.Goals as goal
 

@@ -1,5 +1,4 @@
-use Rattle.std.proofs.Common.{◌≡◌, ℕ, Some, None, ap, ◌∙◌}
-use Rattle.np_text.specs.Number.{number_of}
+use Rattle.np_tree_rows.proofs.Prelude.{None, Some, ap, number_of, ℕ, ◌∙◌, ◌≡◌}
 use Rattle.np_tree_rows.proofs.Stored.{tick-reads, tick-there}
 use Rattle.np_tree_rows.proofs.session_table.tick.Goals as goal
 

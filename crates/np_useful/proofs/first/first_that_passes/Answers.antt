@@ -1,6 +1,5 @@
-use Rattle.std.proofs.Common.{◌≡◌, ◌∙◌, sym, ap, below_more, None}
-use Rattle.np_useful.specs.Passing.{passing}
-use Rattle.np_useful.proofs.Places.{none-is}
+use Rattle.np_useful.proofs.Prelude.{None, ap, below_more, passing, sym, ◌∙◌, ◌≡◌}
+use Rattle.np_useful.proofs.Useful.{none-is}
 use Rattle.np_useful.proofs.first.first_that_passes.Goals as goal
 
 pub loop-at-preserved : goal.loop-at-preserved

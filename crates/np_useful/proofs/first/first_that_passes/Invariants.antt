@@ -1,5 +1,4 @@
-use Rattle.std.proofs.Common.{◌≡◌, ◌<◌, ℕ, None}
-use Rattle.np_useful.specs.Passing.{passing}
+use Rattle.np_useful.proofs.Prelude.{None, passing, ℕ, ◌<◌, ◌≡◌}
 use Rattle.np_useful.proofs.first.first_that_passes.Given as goal
 
 abbrev pub invariant-loop-at : goal.invariant-loop-at

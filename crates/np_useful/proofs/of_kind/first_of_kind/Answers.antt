@@ -1,4 +1,4 @@
-use Rattle.np_useful.proofs.Searches.{first-chooses}
+use Rattle.np_useful.proofs.Useful.{first-chooses}
 use Rattle.np_useful.proofs.of_kind.first_of_kind.Goals as goal
 
 pub returns : goal.returns

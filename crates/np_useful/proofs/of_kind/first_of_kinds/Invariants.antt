@@ -1,6 +1,4 @@
-use Rattle.std.proofs.Common.{take}
-use Rattle.std.specs.List.{AllByRecursion}
-use Rattle.np_useful.specs.Choices.{NoneOf}
+use Rattle.np_useful.proofs.Prelude.{AllByRecursion, NoneOf, take}
 use Rattle.np_useful.proofs.of_kind.first_of_kinds.Given as goal
 
 abbrev pub invariant-loop-kind : goal.invariant-loop-kind

@@ -1,11 +1,5 @@
-use Rattle.std.proofs.Common.{◌≡◌, sym, arith, Some, false, below_more}
-use Rattle.np_text.specs.declared.id.JobId.{JobId}
-use Rattle.np_event.specs.declared.event.Event.TheVariants as ev
-use Rattle.np_look.specs.Readers.{jobs_from}
-use Rattle.np_look.specs.Jobs.{is_job_to_release, job_to_release}
-use Rattle.np_useful.specs.Passing.{passes}
-use Rattle.np_useful.proofs.Among.{below-jobs, before-end, same-there}
-use Rattle.np_useful.proofs.Releases.{none-released}
+use Rattle.np_useful.proofs.Prelude.{Event, JobId, Some, arith, below_more, false, is_job_to_release, job_to_release, jobs_from, passes, sym, ◌≡◌}
+use Rattle.np_useful.proofs.Useful.{before-end, below-jobs, none-released, same-there}
 use Rattle.np_useful.proofs.release.first_release.Goals as goal
 
 pub returns-in_default : goal.returns-in_default
@@ -15,8 +9,8 @@ returns-in_default g c =
 
 pub loop-at-preserved : goal.loop-at-preserved
 loop-at-preserved g c =
-    below_more (λ k. (j : JobId) → job_to_release (g.L.Look.site c.args.look.now) c.args.requester k (g.L.Look.state c.args.look.now) ≡ Some j → passes (g.L.Look.site c.args.look.now) (g.L.Look.state c.args.look.now) (g.R.RoleRows.role c.args.rows.now) (ev.Release c.args.session j) ≡ false) c.loop-at.at c.loop-at.invariant
-    (λ j found. same-there (λ (x : JobId). passes (g.L.Look.site c.args.look.now) (g.L.Look.state c.args.look.now) (g.R.RoleRows.role c.args.rows.now) (ev.Release c.args.session x) ≡ false) c.in-Some.job j _ (sym c.in-Some.ensures) found (sym c.if-passes.ensures))
+    below_more (λ k. (j : JobId) → job_to_release (g.L.Look.site c.args.look.now) c.args.requester k (g.L.Look.state c.args.look.now) ≡ Some j → passes (g.L.Look.site c.args.look.now) (g.L.Look.state c.args.look.now) (g.R.RoleRows.role c.args.rows.now) (Event.Release c.args.session j) ≡ false) c.loop-at.at c.loop-at.invariant
+    (λ j found. same-there (λ (x : JobId). passes (g.L.Look.site c.args.look.now) (g.L.Look.state c.args.look.now) (g.R.RoleRows.role c.args.rows.now) (Event.Release c.args.session x) ≡ false) c.in-Some.job j _ (sym c.in-Some.ensures) found (sym c.if-passes.ensures))
 
 pub returns : goal.returns
 returns g c =

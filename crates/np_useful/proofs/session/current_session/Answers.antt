@@ -1,6 +1,5 @@
-use Rattle.std.proofs.Common.{sym, subst}
-use Rattle.np_useful.specs.Choices.{NamesCurrent}
-use Rattle.np_useful.proofs.Currents.{current-names}
+use Rattle.np_useful.proofs.Prelude.{NamesCurrent, subst, sym}
+use Rattle.np_useful.proofs.Useful.{current-names}
 use Rattle.np_useful.proofs.session.current_session.Goals as goal
 
 pub returns : goal.returns

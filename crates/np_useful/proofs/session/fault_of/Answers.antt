@@ -1,10 +1,6 @@
-use Rattle.std.proofs.Common.{◌≡◌, ◌∙◌, ◌+◌, ◌-◌, ℕ, Bool, true, false, cond, drop, sym, ap, Some, None, arith}
-use Rattle.std.proofs.lemmas.Option.{slice_get_within}
-use Rattle.std.specs.Prelude.{slice_get, filter, ◌&&◌, ◌==◌}
-use Rattle.np_changes.specs.Prelude.{Fault, same_role}
-use Rattle.np_useful.proofs.Places.{filter-first, filter-later, next-parts}
+use Rattle.np_useful.proofs.Prelude.{Bool, Fault, None, Some, ap, arith, cond, drop, drop-past, false, filter, same_role, slice_get, slice_get_within, sym, true, ℕ, ◌&&◌, ◌+◌, ◌-◌, ◌==◌, ◌∙◌, ◌≡◌}
+use Rattle.np_useful.proofs.Useful.{filter-first, filter-later, next-parts}
 use Rattle.np_useful.proofs.session.fault_of.Goals as goal
-use Rattle.np_lists.proofs.Plain.{drop-past}
 
 pub returns-then-is_next : goal.returns-then-is_next
 returns-then-is_next c =

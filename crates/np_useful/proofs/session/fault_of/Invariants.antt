@@ -1,6 +1,4 @@
-use Rattle.std.proofs.Common.{◌≡◌, ◌≤◌, ◌-◌, length, drop}
-use Rattle.std.specs.Prelude.{slice_get, filter}
-use Rattle.np_machine.specs.Laws.{same_role}
+use Rattle.np_useful.proofs.Prelude.{drop, filter, length, same_role, slice_get, ◌-◌, ◌≡◌, ◌≤◌}
 use Rattle.np_useful.proofs.session.fault_of.Given as goal
 
 abbrev pub invariant-loop-fault : goal.invariant-loop-fault

@@ -1,5 +1,5 @@
-use Rattle.std.proofs.Common.{◌∙◌}
-use Rattle.np_useful.proofs.Currents.{has-some}
+use Rattle.np_useful.proofs.Prelude.{◌∙◌}
+use Rattle.np_useful.proofs.Useful.{has-some}
 use Rattle.np_useful.proofs.session.may_open.Goals as goal
 
 pub returns-else-is_none : goal.returns-else-is_none

@@ -1,7 +1,4 @@
-use Rattle.std.proofs.Common.{◌<◌, not, filter, length, sym, ap, ◌∙◌, arith}
-use Rattle.np_lists.proofs.FilterLemmas.{filter-not_none}
-use Rattle.np_lists.proofs.Halves.{none-find}
-use Rattle.np_watch.specs.Watching.{is_between}
+use Rattle.np_watch.proofs.Prelude.{ap, arith, filter, filter-not_none, is_between, length, none-find, not, sym, ◌<◌, ◌∙◌}
 use Rattle.np_watch.proofs.WatchLemmas.{none-found, rest-same, shorter, taken, watches-without}
 use Rattle.np_watch.proofs.watches.drop_between.Goals as goal
 

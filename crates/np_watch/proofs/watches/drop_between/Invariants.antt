@@ -1,5 +1,4 @@
-use Rattle.std.proofs.Common.{◌≡◌, not, filter, length}
-use Rattle.np_watch.specs.Watching.{AreWatches, is_between}
+use Rattle.np_watch.proofs.Prelude.{AreWatches, filter, is_between, length, not, ◌≡◌}
 use Rattle.np_watch.proofs.watches.drop_between.Given as goal
 
 -- the watches that are to stay are there, and no others stay

@@ -1,6 +1,4 @@
-use Rattle.std.proofs.Common.{◌∙◌, ◌<◌, length, sym, arith}
-use Rattle.np_lists.proofs.FilterLemmas.{none-list_any}
-use Rattle.np_watch.specs.Watching.{has_key, watch_of}
+use Rattle.np_watch.proofs.Prelude.{arith, has_key, length, none-list_any, sym, watch_of, ◌<◌, ◌∙◌}
 use Rattle.np_watch.proofs.WatchLemmas.{watches-with}
 use Rattle.np_watch.proofs.watches.set_watch.Goals as goal
 

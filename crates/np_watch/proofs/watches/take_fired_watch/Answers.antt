@@ -1,6 +1,4 @@
-use Rattle.std.proofs.Common.{sym, ◌∙◌}
-use Rattle.np_lists.proofs.ChangeLemmas.{remove_first-absent}
-use Rattle.np_watch.specs.Watching.{is_fired}
+use Rattle.np_watch.proofs.Prelude.{is_fired, remove_first-absent, sym, ◌∙◌}
 use Rattle.np_watch.proofs.WatchLemmas.{none-found, taken, watches-without}
 use Rattle.np_watch.proofs.watches.take_fired_watch.Goals as goal
 

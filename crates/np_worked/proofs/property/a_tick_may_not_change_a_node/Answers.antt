@@ -1,19 +1,5 @@
-use Rattle.std.proofs.Common.{◌≡◌, refl, ap, true, false, Some, inl, inr}
-use Rattle.std.specs.Prelude.{◌⊎◌}
-use Rattle.np_machine.specs.Prelude.{ByHolder, NodeRecord, is_deleting, option_map_or}
-use Rattle.np_text.specs.declared.word.NodeState.TheVariants as node_state
-use Rattle.np_worked.specs.MadeUp.{held_node, deleting_tick}
-use Rattle.np_worked.specs.Site.{node}
+use Rattle.np_worked.proofs.Prelude.{NodeState, arith, held_node, node, refl}
 use Rattle.np_worked.proofs.property.a_tick_may_not_change_a_node.Goals as goal
 
-abbrev was : NodeRecord
-was = (held_node node_state.Ready).kept
-
-none : (Some (held_node node_state.Deleting).kept ≡ Some was) ⊎ ByHolder deleting_tick (node 0) → ⊥
-none (inl same) =
-    let alike : true ≡ false = ap (λ o. option_map_or (λ (k : NodeRecord). is_deleting k.state) o false) same in
-    absurd cc
-none (inr by) = let makes = by.makes in absurd cc
-
 pub returns : goal.returns
-returns c = λ fenced. none (fenced (node 0) was refl)
+returns c = λ fenced. grind (arith, fenced (node 0) (held_node NodeState.Ready).kept refl)

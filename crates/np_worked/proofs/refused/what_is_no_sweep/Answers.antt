@@ -1,5 +1,4 @@
-use Rattle.std.proofs.Common.{refl, inl}
-use Rattle.np_worked.specs.Parts.{session, node}
+use Rattle.np_worked.proofs.Prelude.{inl, node, refl, session}
 use Rattle.np_worked.proofs.refused.what_is_no_sweep.Goals as goal
 
 pub returns-clause-named : goal.returns-clause-named

@@ -1,12 +1,5 @@
-use Rattle.std.proofs.Common.{refl, Bool, true, false, List, [], ◌∷◌, codes, Option, Some, None, ℕ, ◌==◌, not, sym}
-use Rattle.np_tree.specs.Prelude.{Row, list_any}
-use Rattle.std.specs.Str.{bytes_eq}
-use Rattle.std.specs.Fmt.{digits}
-use Rattle.np_layout.specs.Place.{path_of}
-use Rattle.np_layout.proofs.Refute.{refute}
+use Rattle.np_worked.proofs.Prelude.{Bool, List, None, Option, Row, Some, bytes_eq, codes, digits, false, list_any, not, path_of, refl, refute, request_text_of, sym, ten_digits_of, true, ℕ, [], ◌==◌, ◌∷◌}
 use Rattle.np_worked.proofs.trees.other_trees_do_not.Goals as goal
-use Rattle.np_text.specs.Request.{request_text_of}
-use Rattle.np_text.specs.Number.{ten_digits_of}
 
 abbrev is_named_owner : ℕ → Option ℕ → Bool
 is_named_owner session None = false

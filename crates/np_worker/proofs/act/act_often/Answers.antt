@@ -1,9 +1,7 @@
 use Rattle.np_worker.proofs.Prelude.{Goes, IsOfWork, Phase, WentFar, acting, ap, err_from_is_err_and, phase_of, player, refl, rests, subst, sym, ◌∙◌, ◌≡◌}
+use Rattle.np_worker.proofs.Walks.{at_err, of_part, same_from}
+use Rattle.np_worker.proofs.Steps.{lone_rests, work_acting}
 use Rattle.np_worker.proofs.act.act_often.Goals as goal
-use Rattle.np_worker.proofs.Onward.{same_from}
-use Rattle.np_worker.proofs.Parts.{of_part, at_err}
-use Rattle.np_worker.proofs.Stages.{lone_rests}
-use Rattle.np_worker.proofs.Works.{work_acting}
 
 pub returns-in_err-take_turns-clause-part : goal.returns-in_err-take_turns-clause-part
 returns-in_err-take_turns-clause-part g c = λ d.

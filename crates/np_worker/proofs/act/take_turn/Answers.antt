@@ -1,6 +1,6 @@
-use Rattle.np_worker.proofs.Prelude.{Came, Ok, [], after_turn, asked, err_from_is_err_and, refl, ◌∷◌}
+use Rattle.np_worker.proofs.Prelude.{Came, Ok, after_turn, asked, err_from_is_err_and, refl, [], ◌∷◌}
+use Rattle.np_worker.proofs.Walks.{one_turn, no_turn, with_recorded, counts_turn, at_err}
 use Rattle.np_worker.proofs.act.take_turn.Goals as goal
-use Rattle.np_worker.proofs.Parts.{one_turn, no_turn, with_recorded, counts_turn, at_err}
 
 pub returns-in_err-turn-clause-part : goal.returns-in_err-turn-clause-part
 returns-in_err-turn-clause-part g c = λ p d may of. let e = err_from_is_err_and c.from_residual.result c.from_residual.ensures.1 in no_turn p (g.T.Turns.sight c.args.turns.now) (g.T.Turns.sight c.turn.new.self) d c.in_err-turn.ensures.turn (at_err (λ r. Came p c.args.ask r [] p) e.1 tt)

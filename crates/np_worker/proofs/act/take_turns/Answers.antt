@@ -1,7 +1,6 @@
 use Rattle.np_worker.proofs.Prelude.{Ok, Playing, Reaches, arith, err_from_is_err_and, ◌<◌, ◌^◌}
+use Rattle.np_worker.proofs.Walks.{at_err, of_part, took_counts, took_far, took_part, took_work, with_recorded_series}
 use Rattle.np_worker.proofs.act.take_turns.Goals as goal
-use Rattle.np_worker.proofs.Parts.{of_part, at_err}
-use Rattle.np_worker.proofs.Series.{took_part, took_counts, took_far, took_work, with_recorded_series}
 
 pub returns-in_err-turns-clause-part : goal.returns-in_err-turns-clause-part
 returns-in_err-turns-clause-part g c = λ d.

@@ -1,5 +1,5 @@
-use Rattle.np_worker.specs.Drive.{driving}
-use Rattle.np_worker.proofs.Drives.{drives_removed, drives_kept}
+use Rattle.np_worker.proofs.Prelude.{driving}
+use Rattle.np_worker.proofs.Walks.{drives_removed, drives_kept}
 use Rattle.np_worker.proofs.driver.remove_server.Goals as goal
 
 pub returns-in-Ok : goal.returns-in-Ok

@@ -1,4 +1,4 @@
-use Rattle.np_worker.proofs.LegalLemmas.{legal-at, legal-between}
+use Rattle.np_worker.proofs.Journals.{legal-at, legal-between}
 use Rattle.np_worker.proofs.legal.a_legal_journal_has_the_machines_replies.Goals as goal
 
 pub returns-clause-at_place : goal.returns-clause-at_place

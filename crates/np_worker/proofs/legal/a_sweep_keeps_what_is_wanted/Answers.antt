@@ -1,4 +1,4 @@
-use Rattle.np_worker.proofs.SweepLemmas.{sweep-judged}
+use Rattle.np_worker.proofs.Leaving.{sweep-judged}
 use Rattle.np_worker.proofs.legal.a_sweep_keeps_what_is_wanted.Goals as goal
 
 pub returns : goal.returns

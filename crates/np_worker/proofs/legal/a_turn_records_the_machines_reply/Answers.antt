@@ -1,4 +1,4 @@
-use Rattle.np_worker.proofs.Recorded.{turn-replied}
+use Rattle.np_worker.proofs.Walks.{turn-replied}
 use Rattle.np_worker.proofs.legal.a_turn_records_the_machines_reply.Goals as goal
 
 pub returns : goal.returns

@@ -1,4 +1,4 @@
-use Rattle.np_worker.proofs.RoundEnds.{ends_full, is_at_end, ends_where_full}
+use Rattle.np_worker.proofs.Steps.{ends_full, is_at_end, ends_where_full}
 use Rattle.np_worker.proofs.moves.a_full_journal_ends_the_round.Goals as goal
 
 pub returns : goal.returns

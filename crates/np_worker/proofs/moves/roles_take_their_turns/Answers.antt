@@ -1,4 +1,4 @@
-use Rattle.np_worker.proofs.Taken.{launcher_took, janitor_took, requester_took, reaper_took}
+use Rattle.np_worker.proofs.Steps.{launcher_took, janitor_took, requester_took, reaper_took}
 use Rattle.np_worker.proofs.moves.roles_take_their_turns.Goals as goal
 
 pub returns : goal.returns

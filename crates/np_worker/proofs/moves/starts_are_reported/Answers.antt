@@ -1,4 +1,4 @@
-use Rattle.np_worker.proofs.Launching.{are_reported}
+use Rattle.np_worker.proofs.Steps.{are_reported}
 use Rattle.np_worker.proofs.moves.starts_are_reported.Goals as goal
 
 pub returns : goal.returns

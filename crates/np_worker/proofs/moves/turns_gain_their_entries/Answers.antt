@@ -1,5 +1,5 @@
-use Rattle.np_worker.specs.Move.{entries_of}
-use Rattle.np_worker.proofs.Gained.{walk_gains, gains_counted}
+use Rattle.np_worker.proofs.Prelude.{entries_of}
+use Rattle.np_worker.proofs.Walks.{walk_gains, gains_counted}
 use Rattle.np_worker.proofs.moves.turns_gain_their_entries.Goals as goal
 
 pub returns : goal.returns

@@ -1,9 +1,6 @@
-use Rattle.np_worker.proofs.Prelude.{Comes, Ok, Part, Some, acts, ap, driving, err_from_is_err_and, owes_due, owes_launch, owes_report, phase_of, refl, ◌++◌, ◌∙◌, ◌≡◌}
-use Rattle.np_text.specs.declared.id.Role.TheVariants as role
+use Rattle.np_worker.proofs.Prelude.{Comes, Ok, Part, Role, Some, acts, ap, driving, err_from_is_err_and, owes_due, owes_launch, owes_report, phase_of, refl, ◌++◌, ◌∙◌, ◌≡◌}
+use Rattle.np_worker.proofs.Walks.{at_err, comes_from, drove_same, follow, no_move, of_part, one_launch, removal, work_at}
 use Rattle.np_worker.proofs.roles.play_on.Goals as goal
-use Rattle.np_worker.proofs.Drives.{drove_same}
-use Rattle.np_worker.proofs.Onward.{work_at}
-use Rattle.np_worker.proofs.Parts.{follow, of_part, no_move, one_launch, removal, comes_from, at_err}
 
 pub returns-in_err-reached-clause-part : goal.returns-in_err-reached-clause-part
 returns-in_err-reached-clause-part g c =
@@ -41,7 +38,7 @@ returns-in-Removes-clause-part g c =
     let x = driving g.D.Driver.facts g.D.Driver.plan g.D.Driver.sound g.D.Driver.room c.remove_server.new.driver in
     let p = c.in_ok-reached.ensures.part (Some d) in
     let owed = owes_due c.in-Removes.pool c.in-Removes.left c.in-Removes.number in
-    let now = acts (role.Janitor c.in-Removes.pool) c.in-Removes.left in
+    let now = acts (Role.Janitor c.in-Removes.pool) c.in-Removes.left in
     let q : Part g.T.Turns.answers (g.T.Turns.fixed c.args.turns.now) owed (g.T.Turns.sight c.take_turns.new.turns) (g.T.Turns.sight c.take_turns.new.turns) (Some d) (Some x) (Comes now now (Some d) (Some x) (Ok c.remove_server.result)) = removal owed now now (g.T.Turns.sight c.take_turns.new.turns) d x c.in-Removes.number c.remove_server.result refl tt refl c.remove_server.ensures in
     follow p (p.holds ∙ ap phase_of c.in-Removes.is) q (comes_from now now (Some d) (Some x) (Ok c.remove_server.result) q.trace (p.trace ++ q.trace) q.to q.holds)
 

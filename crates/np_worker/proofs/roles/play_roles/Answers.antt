@@ -1,19 +1,16 @@
-use Rattle.np_worker.proofs.Prelude.{Comes, IsOfWork, Some, acting, ap, arith, driving, err_from_is_err_and, of_pool, phase_of, refl, steps_left, subst, sweeps, sym, ◌++◌, ◌∙◌}
-use Rattle.np_text.specs.declared.id.Role.TheVariants as role
-use Rattle.np_worker.specs.declared.next.Next.TheVariants as next
+use Rattle.np_worker.proofs.Prelude.{Comes, IsOfWork, Next, Role, Some, acting, ap, arith, driving, err_from_is_err_and, of_pool, phase_of, refl, steps_left, subst, sweeps, sym, ◌++◌, ◌∙◌}
+use Rattle.np_worker.proofs.Walks.{at_err, comes_at, counts_on, follow, no_turn, roles_end, same_fixed, unturned_same, went_go}
+use Rattle.np_worker.proofs.Steps.{work_acting}
 use Rattle.np_worker.proofs.roles.play_roles.Goals as goal
-use Rattle.np_worker.proofs.Onward.{roles_end, went_go}
-use Rattle.np_worker.proofs.Parts.{no_turn, unturned_same, follow, same_fixed, comes_at, counts_on, at_err}
-use Rattle.np_worker.proofs.Works.{work_acting}
 
 pub loop-step-init : goal.loop-step-init
 loop-step-init g c = record {
   ready = c.requires.ready;
   fixed = refl;
   place = refl;
-  part = no_turn (acting (role.Launcher c.args.pool) 16) (g.T.Turns.sight c.args.turns.now) (g.T.Turns.sight c.args.turns.now) (Some (driving g.D.Driver.facts g.D.Driver.plan g.D.Driver.sound g.D.Driver.room c.args.driver.now)) (unturned_same (g.T.Turns.sight c.args.turns.now)) (sym c.acting-stage.ensures);
+  part = no_turn (acting (Role.Launcher c.args.pool) 16) (g.T.Turns.sight c.args.turns.now) (g.T.Turns.sight c.args.turns.now) (Some (driving g.D.Driver.facts g.D.Driver.plan g.D.Driver.sound g.D.Driver.room c.args.driver.now)) (unturned_same (g.T.Turns.sight c.args.turns.now)) (sym c.acting-stage.ensures);
   left = omega (arith, ap steps_left c.acting-stage.ensures);
-  work = subst (IsOfWork (of_pool c.args.pool)) (sym c.acting-stage.ensures) (work_acting (of_pool c.args.pool) (role.Launcher c.args.pool) 16 refl);
+  work = subst (IsOfWork (of_pool c.args.pool)) (sym c.acting-stage.ensures) (work_acting (of_pool c.args.pool) (Role.Launcher c.args.pool) 16 refl);
   count = refl;
 }
 
@@ -29,7 +26,7 @@ loop-step-preserved g c =
       ready = c.in_ok-next.ensures.ready;
       fixed = c.in_ok-next.ensures.fixed ∙ i.fixed;
       place = c.in_ok-next.ensures.place ∙ i.place;
-      part = follow p p.holds q (comes_at now now b x _ next.Go q.trace q.to c.in-Go.is q.holds);
+      part = follow p p.holds q (comes_at now now b x _ Next.Go q.trace q.to c.in-Go.is q.holds);
       left = omega (arith, i.left, went_go c.in_ok-next.next (phase_of c.loop-step.stage) now c.in-Go.is c.in_ok-next.ensures.on);
       work = c.in_ok-next.ensures.work (of_pool c.args.pool) i.work;
       count = counts_on c.args.entries.now c.loop-step.entries c.play_on.new.entries (g.T.Turns.sight c.args.turns.now) (g.T.Turns.sight c.loop-step.turns) (g.T.Turns.sight c.play_on.new.turns) i.count c.in_ok-next.ensures.count;

@@ -1,8 +1,6 @@
-use Rattle.np_worker.proofs.Prelude.{Some, SweepsAll, [], arith, driving, err_from_is_err_and, refl, subst, suc, sweeps, ◌++◌, ◌-◌, ◌<◌, ◌∙◌, ◌≡◌}
-use Rattle.np_worker.specs.declared.next.Next.TheVariants as next
+use Rattle.np_worker.proofs.Prelude.{Next, Some, SweepsAll, arith, driving, err_from_is_err_and, refl, subst, suc, sweeps, [], ◌++◌, ◌-◌, ◌<◌, ◌∙◌, ◌≡◌}
+use Rattle.np_worker.proofs.Walks.{KeptFrom, at_err, counts_on, follow, kept_end, kept_none, kept_one, kept_start, no_turn, of_part, same_fixed, sweeps_one_all, sweeps_one_at, unturned_same}
 use Rattle.np_worker.proofs.sweep.sweep.Goals as goal
-use Rattle.np_worker.proofs.Sweeps.{KeptFrom, kept_start, kept_end, kept_none, kept_one}
-use Rattle.np_worker.proofs.Parts.{no_turn, unturned_same, follow, of_part, same_fixed, sweeps_one_all, sweeps_one_at, counts_on, at_err}
 
 pub returns-in_err-count-clause-part : goal.returns-in_err-count-clause-part
 returns-in_err-count-clause-part g c =
@@ -41,7 +39,7 @@ loop-at-preserved-in-Go g c =
     let h : c.loop-at.at ≡ suc (c.loop-at.at - 1) = omega arith in
     let p = i.part in
     let q = same_fixed i.fixed c.in_ok-next.ensures.part in
-    let k = sweeps_one_at c.args.pool c.in-Some.server b x _ next.Go q.trace q.to c.in-Go.is q.holds in
+    let k = sweeps_one_at c.args.pool c.in-Some.server b x _ Next.Go q.trace q.to c.in-Go.is q.holds in
     let from : KeptFrom c.args.pool p.trace (suc (c.loop-at.at - 1)) b.facts.servers = subst (λ n. KeptFrom c.args.pool p.trace n (g.D.Driver.facts c.loop-at.driver).servers) h p.holds.1 in
     record {
       ready = c.in_ok-next.ensures.ready;

@@ -1,6 +1,6 @@
 use Rattle.np_worker.proofs.Prelude.{Counts, Part, Some, driving, sweeps, ◌≡◌}
+use Rattle.np_worker.proofs.Walks.{KeptFrom}
 use Rattle.np_worker.proofs.sweep.sweep.Given as goal
-use Rattle.np_worker.proofs.Sweeps.{KeptFrom}
 
 abbrev pub invariant-loop-at : goal.invariant-loop-at
 invariant-loop-at g l = record {

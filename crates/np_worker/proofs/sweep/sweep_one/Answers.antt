@@ -1,6 +1,6 @@
 use Rattle.np_worker.proofs.Prelude.{Bool, Ok, Part, Some, SweepsOne, after_sweep, ap, cond, driving, err_from_is_err_and, inl, owes_swept, refl, sweeps, sym, ◌++◌, ◌∙◌}
+use Rattle.np_worker.proofs.Walks.{follow, of_part, swept_removal, sweeps_one_on, removed_deals, after_sweep_turn, of_kept_server, was_kept_now, at_err}
 use Rattle.np_worker.proofs.sweep.sweep_one.Goals as goal
-use Rattle.np_worker.proofs.Parts.{follow, of_part, swept_removal, sweeps_one_on, removed_deals, after_sweep_turn, of_kept_server, was_kept_now, at_err}
 
 pub returns-in_err-turn-clause-part : goal.returns-in_err-turn-clause-part
 returns-in_err-turn-clause-part g c =

@@ -1,5 +1,5 @@
 use Rattle.np_active.proofs.Prelude.{ap, sym, ◌∙◌}
-use Rattle.np_active.proofs.Readers.{current-at, current-none}
+use Rattle.np_active.proofs.KindLemmas.{current-at, current-none}
 use Rattle.np_active.proofs.active.Active.current_session.Goals as goal
 
 pub returns-then-count-eq0 : goal.returns-then-count-eq0

@@ -1,5 +1,5 @@
 use Rattle.np_active.proofs.Prelude.{ap, ◌∙◌}
-use Rattle.np_active.proofs.Readers.{mute-at}
+use Rattle.np_active.proofs.KindLemmas.{mute-at}
 use Rattle.np_active.proofs.active.Active.first_mute.Goals as goal
 
 pub returns : goal.returns

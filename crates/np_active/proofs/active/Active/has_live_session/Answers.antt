@@ -1,5 +1,5 @@
 use Rattle.np_active.proofs.Prelude.{Option, SessionId, ap, is_some, ◌∙◌}
-use Rattle.np_active.proofs.Readers.{live-at}
+use Rattle.np_active.proofs.KindLemmas.{live-at}
 use Rattle.np_active.proofs.active.Active.has_live_session.Goals as goal
 
 pub returns : goal.returns

@@ -1,5 +1,5 @@
 use Rattle.np_active.proofs.Prelude.{AreActive, Group, IsBest, None, subst, sym}
-use Rattle.np_active.proofs.BeginLemmas.{first-begins}
+use Rattle.np_active.proofs.Searches.{first-begins}
 use Rattle.np_active.proofs.active.Active.job_to_begin.Goals as goal
 
 pub returns : goal.returns

@@ -1,5 +1,5 @@
 use Rattle.np_active.proofs.Prelude.{ap, supplied_ones, ◌∙◌}
-use Rattle.np_active.proofs.Readers.{job-at}
+use Rattle.np_active.proofs.KindLemmas.{job-at}
 use Rattle.np_active.proofs.active.Active.job_to_take.Goals as goal
 
 pub returns : goal.returns

@@ -1,5 +1,5 @@
 use Rattle.np_active.proofs.Prelude.{JobId, List, ap, groups_of_job, groups_of_session, is_job_before, is_session_before, job_before, map, moved-by, same_job, same_session, session_before, with_all_moved, ◌∙◌}
-use Rattle.np_active.proofs.Noted.{active-noted}
+use Rattle.np_active.proofs.Changes.{active-noted}
 use Rattle.np_active.proofs.active.Active.note.Goals as goal
 
 pub returns : goal.returns

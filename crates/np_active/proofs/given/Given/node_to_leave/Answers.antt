@@ -1,5 +1,5 @@
 use Rattle.np_active.proofs.Prelude.{AreGivenGroups, subst, sym}
-use Rattle.np_active.proofs.Outside.{leaves-by}
+use Rattle.np_active.proofs.KindLemmas.{leaves-by}
 use Rattle.np_active.proofs.given.Given.node_to_leave.Goals as goal
 
 pub returns : goal.returns

@@ -1,5 +1,5 @@
 use Rattle.np_active.proofs.Prelude.{AreGivenGroups, subst, sym}
-use Rattle.np_active.proofs.Outside.{locks-by}
+use Rattle.np_active.proofs.KindLemmas.{locks-by}
 use Rattle.np_active.proofs.given.Given.node_to_lock.Goals as goal
 
 pub returns : goal.returns

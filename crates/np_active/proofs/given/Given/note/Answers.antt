@@ -1,5 +1,5 @@
 use Rattle.np_active.proofs.Prelude.{ap, ◌∙◌}
-use Rattle.np_active.proofs.GivenNoted.{given-noted}
+use Rattle.np_active.proofs.Changes.{given-noted}
 use Rattle.np_active.proofs.given.Given.note.Goals as goal
 
 pub returns : goal.returns

@@ -1,6 +1,5 @@
-use Rattle.std.proofs.Common.{None}
-use Rattle.np_board.specs.Outstanding.{planning_of}
-use Rattle.np_board.proofs.PlanLemmas.{planning-with}
+use Rattle.np_board.proofs.Prelude.{None, planning_of}
+use Rattle.np_board.proofs.BoardTurns.{planning-with}
 use Rattle.np_board.proofs.board.Board.drop_plan.Goals as goal
 
 pub invariant_of-self : goal.invariant_of-self

@@ -1,10 +1,5 @@
-use Rattle.std.proofs.Common.{subst}
-use Rattle.np_tree_nodes.specs.TreeState.{TreeState}
-use Rattle.np_machine.specs.History.{Runs}
-use Rattle.np_keeper.specs.Keeper.{Holds}
-use Rattle.np_rules.proofs.First.{Runs-first}
-use Rattle.np_board.specs.Outstanding.{FreshAreAccepted, IsPlanning, Planning, planning_of}
-use Rattle.np_board.proofs.PlanLemmas.{fresh-accepted}
+use Rattle.np_board.proofs.Prelude.{FreshAreAccepted, Holds, IsPlanning, Planning, Runs, Runs-first, TreeState, planning_of, subst}
+use Rattle.np_board.proofs.BoardTurns.{fresh-accepted}
 use Rattle.np_board.proofs.board.Board.know_soundness.Goals as goal
 
 pub returns-clause-plans : goal.returns-clause-plans

@@ -1,9 +1,5 @@
-use Rattle.std.proofs.Common.{◌∙◌, length, List, refl, ap, sym}
-use Rattle.np_tree_nodes.specs.TreeState.{TreeState}
-use Rattle.np_config.specs.declared.row.Pool.{Pool}
-use Rattle.np_rules.specs.Running.{Running}
-use Rattle.np_board.specs.Outstanding.{planning_of}
-use Rattle.np_board.proofs.PlanLemmas.{start-planning}
+use Rattle.np_board.proofs.Prelude.{List, Pool, Running, TreeState, ap, length, planning_of, refl, sym, ◌∙◌}
+use Rattle.np_board.proofs.BoardTurns.{start-planning}
 use Rattle.np_board.proofs.board.Board.new.Goals as goal
 
 pub invariant_of-result : goal.invariant_of-result

@@ -1,11 +1,5 @@
-use Rattle.std.proofs.Common.{◌≡◌, ◌∙◌, None, Some, sym, ap, subst, List, Option}
-use Rattle.np_layout.specs.Prelude.{TreeState, remove_first}
-use Rattle.np_watch.specs.Watching.{is_fired}
-use Rattle.np_board.specs.Outstanding.{IsPlanning, Outstanding, Planning, plan_of, planning_of, with_plan}
-use Rattle.np_board.specs.PlanTaken.{HasNoNews, TakenNews}
-use Rattle.np_board.specs.PlanTested.{fired_spot, told_by}
-use Rattle.np_board.proofs.CommitLemmas.{news-taken, no-plan-news}
-use Rattle.np_board.proofs.PlanLemmas.{planning-news, planning-with, plan-out, with-twice}
+use Rattle.np_board.proofs.Prelude.{HasNoNews, IsPlanning, List, None, Option, Outstanding, Planning, Some, TakenNews, TreeState, ap, fired_spot, is_fired, plan_of, planning_of, remove_first, subst, sym, told_by, with_plan, ◌∙◌, ◌≡◌}
+use Rattle.np_board.proofs.BoardTurns.{news-taken, no-plan-news, plan-out, planning-news, planning-with, with-twice}
 use Rattle.np_board.proofs.board.Board.news.Goals.{After-told_by}
 use Rattle.np_board.proofs.board.Board.news.Goals as goal
 

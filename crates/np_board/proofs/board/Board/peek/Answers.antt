@@ -1,9 +1,5 @@
-use Rattle.std.proofs.Common.{◌≡◌, Some, sym, subst}
-use Rattle.np_tree_nodes.specs.TreeState.{TreeState}
-use Rattle.np_machine.specs.History.{Runs}
-use Rattle.np_keeper.specs.Keeper.{Holds}
-use Rattle.np_board.specs.Outstanding.{IsOutstanding, Outstanding, Planning, planning_of}
-use Rattle.np_board.proofs.PlanLemmas.{new-outstanding, planning-with}
+use Rattle.np_board.proofs.Prelude.{Holds, IsOutstanding, Outstanding, Planning, Runs, Some, TreeState, planning_of, subst, sym, ◌≡◌}
+use Rattle.np_board.proofs.BoardTurns.{new-outstanding, planning-with}
 use Rattle.np_board.proofs.board.Board.peek.Goals as goal
 
 pub invariant_of-self : goal.invariant_of-self

@@ -1,6 +1,5 @@
-use Rattle.std.proofs.Common.{◌∙◌, refl}
-use Rattle.np_board.specs.Outstanding.{planning_of}
-use Rattle.np_board.proofs.PlanLemmas.{planning-same, planning-taken}
+use Rattle.np_board.proofs.Prelude.{planning_of, refl, ◌∙◌}
+use Rattle.np_board.proofs.BoardTurns.{planning-same, planning-taken}
 use Rattle.np_board.proofs.board.Board.plain.Goals as goal
 
 pub invariant_of-self : goal.invariant_of-self

@@ -1,11 +1,6 @@
-use Rattle.std.proofs.Common.{◌∙◌, ◌+◌, refl, sym, subst}
-use Rattle.np_changes.specs.Prelude.{Entry, Runs}
-use Rattle.np_board.specs.Outstanding.{FreshAreAccepted, Planning, planning_of, ran_of}
-use Rattle.np_rules.proofs.First.{answer-first, applied-first}
-use Rattle.np_board.specs.PlanTaken.{IsCommitted}
-use Rattle.np_board.specs.PlanTested.{IsMayDo}
-use Rattle.np_board.proofs.CommitLemmas.{committed}
-use Rattle.np_board.proofs.PlanLemmas.{planning-committed, planning-same}
+use Rattle.np_board.proofs.Prelude.{Entry, FreshAreAccepted, IsCommitted, IsMayDo, Planning, Runs, answer-first, applied-first, planning_of, refl, subst, sym, ◌+◌, ◌∙◌}
+use Rattle.np_board.specs.Outstanding.{ran_of}
+use Rattle.np_board.proofs.BoardTurns.{committed, planning-committed, planning-same}
 use Rattle.np_board.proofs.board.Board.record.Goals.{After-put}
 use Rattle.np_board.proofs.board.Board.record.Goals as goal
 

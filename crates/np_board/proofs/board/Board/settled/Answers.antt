@@ -1,7 +1,4 @@
-use Rattle.std.proofs.Common.{◌≡◌, subst, true}
-use Rattle.std.specs.Prelude.{◌↔◌}
-use Rattle.np_useful.specs.Settled.{IsSettled}
-use Rattle.np_board.specs.Outstanding.{Planning}
+use Rattle.np_board.proofs.Prelude.{IsSettled, Planning, subst, true, ◌↔◌, ◌≡◌}
 use Rattle.np_board.proofs.board.Board.settled.Goals as goal
 
 pub returns : goal.returns

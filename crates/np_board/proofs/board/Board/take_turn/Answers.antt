@@ -1,4 +1,4 @@
-use Rattle.np_board.proofs.CommitLemmas.{err-before}
+use Rattle.np_board.proofs.BoardTurns.{err-before}
 use Rattle.np_board.proofs.board.Board.take_turn.Goals as goal
 
 pub returns-in-Peek-clause-err : goal.returns-in-Peek-clause-err

@@ -1,11 +1,5 @@
-use Rattle.std.proofs.Common.{◌∙◌, ◌≤◌, List, length, sym, subst, arith}
-use Rattle.np_tree_nodes.specs.TreeState.{TreeState}
-use Rattle.np_changes.specs.Prelude.{Entry, Runs}
-use Rattle.np_keeper.specs.Keeper.{Holds}
-use Rattle.np_planned.specs.Stale.{StaleHasParent}
-use Rattle.np_board.specs.Outstanding.{Planning, planning_of}
-use Rattle.np_board.specs.PlanTaken.{IsBarred}
-use Rattle.np_board.proofs.PlanLemmas.{plan-few, plan-out, plan-parent}
+use Rattle.np_board.proofs.Prelude.{Entry, Holds, IsBarred, List, Planning, Runs, StaleHasParent, TreeState, arith, length, planning_of, subst, sym, ◌∙◌, ◌≤◌}
+use Rattle.np_board.proofs.BoardTurns.{plan-few, plan-out, plan-parent}
 use Rattle.np_board.proofs.board.Board.test.Goals as goal
 
 pub stale_spot-requires-clause-few : goal.stale_spot-requires-clause-few

@@ -1,8 +1,4 @@
-use Rattle.std.proofs.Common.{◌≡◌, false}
-use Rattle.np_rules.proofs.RunLemmas.{RunsOn-fits, RunsOn-reached}
-use Rattle.np_text.specs.declared.id.Role.TheVariants.{Launcher}
-use Rattle.np_useful.specs.Settled.{takes_part}
-use Rattle.np_jobs.proofs.Outside.{outside-idle}
+use Rattle.np_board.proofs.Prelude.{Launcher, RunsOn-fits, RunsOn-reached, false, outside-idle, takes_part, ◌≡◌}
 use Rattle.np_board.proofs.board.peek.chosen.Goals as goal
 
 pub choose_planned-requires-clause-reached : goal.choose_planned-requires-clause-reached

@@ -1,7 +1,6 @@
-use Rattle.std.proofs.Common.{◌<◌, length, arith}
-use Rattle.np_board.proofs.WatchLemmas.{set-next}
+use Rattle.np_board.proofs.Prelude.{arith, length, there-at, ◌<◌}
+use Rattle.np_board.proofs.BoardTurns.{set-next}
 use Rattle.np_board.proofs.board.peek.watch_all.Goals as goal
-use Rattle.np_lists.proofs.Plain.{there-at}
 
 pub loop-place-preserved : goal.loop-place-preserved
 loop-place-preserved c =

@@ -1,7 +1,5 @@
-use Rattle.std.proofs.Common.{◌++◌, subst}
-use Rattle.np_tree_nodes.specs.TreeState.{TreeState}
-use Rattle.np_keeper.specs.Keeper.{Holds}
-use Rattle.np_board.proofs.PlanLemmas.{stored-of}
+use Rattle.np_board.proofs.Prelude.{Holds, TreeState, subst, ◌++◌}
+use Rattle.np_board.proofs.BoardTurns.{stored-of}
 use Rattle.np_board.proofs.board.peek.watched.Goals as goal
 
 pub paths_of-requires : goal.paths_of-requires

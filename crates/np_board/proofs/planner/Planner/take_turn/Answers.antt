@@ -1,5 +1,5 @@
-use Rattle.np_worker.specs.Prelude.{sight_of}
-use Rattle.np_board.proofs.TicketLemmas.{has-heard, never-heard, once-heard}
+use Rattle.np_board.proofs.Prelude.{sight_of}
+use Rattle.np_board.proofs.SeriesTurns.{has-heard, never-heard, once-heard}
 use Rattle.np_board.proofs.planner.Planner.take_turn.Goals as goal
 
 pub unreachable-requires : goal.unreachable-requires

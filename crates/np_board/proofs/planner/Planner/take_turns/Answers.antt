@@ -1,5 +1,5 @@
-use Rattle.np_worker.specs.Prelude.{sight_of}
-use Rattle.np_board.proofs.TicketLemmas.{any-tickets}
+use Rattle.np_board.proofs.Prelude.{sight_of}
+use Rattle.np_board.proofs.SeriesTurns.{any-tickets}
 use Rattle.np_board.proofs.planner.Planner.take_turns.Goals as goal
 
 pub returns-clause-turns : goal.returns-clause-turns

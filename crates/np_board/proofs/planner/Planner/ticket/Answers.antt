@@ -1,5 +1,5 @@
-use Rattle.np_desk.specs.Pass.{sight_of}
-use Rattle.np_board.proofs.BatchLemmas.{after-ticket}
+use Rattle.np_board.proofs.Prelude.{sight_of}
+use Rattle.np_board.proofs.SeriesTurns.{after-ticket}
 use Rattle.np_board.proofs.planner.Planner.ticket.Goals as goal
 
 pub returns-clause-turns : goal.returns-clause-turns

@@ -1,6 +1,5 @@
-use Rattle.std.proofs.Common.{◌∙◌, refl, sym}
-use Rattle.np_worker.specs.Prelude.{sight_of}
-use Rattle.np_board.proofs.TicketLemmas.{next-ticket, no-ticket}
+use Rattle.np_board.proofs.Prelude.{refl, sight_of, sym, ◌∙◌}
+use Rattle.np_board.proofs.SeriesTurns.{next-ticket, no-ticket}
 use Rattle.np_board.proofs.planner.Planner.tickets.Goals as goal
 
 pub loop-init : goal.loop-init

@@ -1,6 +1,4 @@
-use Rattle.std.proofs.Common.{◌≡◌}
-use Rattle.np_worker.specs.Prelude.{IsOf, sight_of}
-use Rattle.np_board.specs.Planner.{TookWithTickets}
+use Rattle.np_board.proofs.Prelude.{IsOf, TookWithTickets, sight_of, ◌≡◌}
 use Rattle.np_board.proofs.planner.Planner.tickets.Given as goal
 
 abbrev pub invariant-loop : goal.invariant-loop

@@ -1,5 +1,5 @@
-use Rattle.np_desk.specs.Pass.{sight_of}
-use Rattle.np_board.proofs.PlannerLemmas.{turned-wider}
+use Rattle.np_board.proofs.Prelude.{sight_of}
+use Rattle.np_board.proofs.SeriesTurns.{turned-wider}
 use Rattle.np_board.proofs.planner.PlannerTurns.turn.Goals as goal
 
 pub returns-clause-turn : goal.returns-clause-turn

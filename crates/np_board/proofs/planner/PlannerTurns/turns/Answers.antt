@@ -1,5 +1,5 @@
-use Rattle.np_desk.specs.Pass.{sight_of}
-use Rattle.np_board.proofs.TicketLemmas.{took-wider}
+use Rattle.np_board.proofs.Prelude.{sight_of}
+use Rattle.np_board.proofs.SeriesTurns.{took-wider}
 use Rattle.np_board.proofs.planner.PlannerTurns.turns.Goals as goal
 
 pub returns-clause-turns : goal.returns-clause-turns

@@ -1,7 +1,7 @@
 use Rattle.std.proofs.Common.{◌≡◌, ◌<◌, ◌++◌, ◌∷◌, [], ◌∙◌, List, length, ap, arith}
 use Rattle.np_event.specs.declared.entry.Entry.{Entry}
 use Rattle.np_layout.specs.Decoded.{decoded}
-use Rattle.np_changes.proofs.RunSteps.{Runs-next}
+use Rattle.np_changes.proofs.Runs.{Runs-next}
 use Rattle.np_board_tests.proofs.bare.Bare.apply.Goals as goal
 
 pub invariant_of-self-2 : goal.invariant_of-self-2

@@ -1,9 +1,5 @@
-use Rattle.std.proofs.Common.{ap}
-use Rattle.np_look.specs.Keys.{is_node_before, same_node}
-use Rattle.np_changes.specs.Prelude.{is_id_before, same_request}
-use Rattle.np_classes.specs.Placed.{groups_of_node, groups_of_request, node_before, queue_before, request_before, unheld_groups}
-use Rattle.np_classes.proofs.Grouped.{moved-by}
-use Rattle.np_classes.proofs.Noted.{classes-noted}
+use Rattle.np_classes.proofs.Prelude.{ap, groups_of_node, groups_of_request, is_id_before, is_node_before, node_before, queue_before, request_before, same_node, same_request, unheld_groups}
+use Rattle.np_classes.proofs.MemberLemmas.{classes-noted, moved-by}
 use Rattle.np_classes.proofs.classes.Classes.note.Goals as goal
 
 pub returns : goal.returns

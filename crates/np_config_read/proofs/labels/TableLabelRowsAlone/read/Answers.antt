@@ -1,17 +1,4 @@
-use Rattle.std.proofs.Common.{◌≡◌, ◌∙◌, ap, sym, ℕ, List, [], ◌∷◌, ◌++◌, Result, Ok, refl}
-use Rattle.std.proofs.lemmas.Result.{err_from_is_err_and}
-use Rattle.serde_json.specs.Data.{Data}
-use Rattle.serde_json.specs.View.{view}
-use Rattle.np_json.specs.declared.fault.ConfigFault.{ConfigFault}
-use Rattle.np_json.specs.declared.fault.ConfigRead.{ConfigRead}
-use Rattle.np_json.specs.Reading.{Fails, fault_of, pointer_to}
-use Rattle.np_json.specs.Leaf.{named_at}
-use Rattle.np_json.proofs.Binds.{binds}
-use Rattle.np_json.proofs.Takes.{ok}
-use Rattle.np_lists.specs.Refusals.{◌>>=◌}
-use Rattle.np_config.specs.declared.row.Label.{Label}
-use Rattle.np_config_read.specs.Keys.{label_keys}
-use Rattle.np_config_read.specs.Labels.{label_row, label_at}
+use Rattle.np_config_read.proofs.Prelude.{ConfigFault, ConfigRead, Data, Fails, Label, List, Ok, Result, ap, binds, err_from_is_err_and, fault_of, label_at, label_keys, label_row, named_at, ok, pointer_to, refl, sym, view, ℕ, [], ◌++◌, ◌>>=◌, ◌∙◌, ◌∷◌, ◌≡◌}
 use Rattle.np_config_read.proofs.labels.TableLabelRowsAlone.read.Goals as goal
 
 module _ (at : List ℕ) (s : List Label) (d : Data) where

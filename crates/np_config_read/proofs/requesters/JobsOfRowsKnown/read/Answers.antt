@@ -1,22 +1,4 @@
-use Rattle.std.proofs.Common.{◌≡◌, ◌∙◌, ap, sym, ℕ, List, [], ◌∷◌, ◌++◌, Result, Ok, refl}
-use Rattle.std.proofs.lemmas.Result.{err_from_is_err_and}
-use Rattle.serde_json.specs.Data.{Data}
-use Rattle.serde_json.specs.View.{view}
-use Rattle.np_json.specs.declared.fault.ConfigFault.{ConfigFault}
-use Rattle.np_json.specs.declared.fault.ConfigRead.{ConfigRead}
-use Rattle.np_json.specs.Reading.{Fails, fault_of, pointer_to}
-use Rattle.np_json.specs.Leaf.{named_at}
-use Rattle.np_json.proofs.Binds.{binds}
-use Rattle.np_json.proofs.Takes.{ok}
-use Rattle.np_lists.specs.Refusals.{◌>>=◌}
-use Rattle.np_config.specs.declared.row.Label.{Label}
-use Rattle.np_config.specs.declared.row.Sem.{Sem}
-use Rattle.np_config.specs.declared.row.Tenant.{Tenant}
-use Rattle.np_config.specs.declared.row.Job.{Job}
-use Rattle.np_config_read.specs.declared.requesters.Demand.{Demand}
-use Rattle.np_config_read.specs.declared.requesters.JobsOf.{JobsOf}
-use Rattle.np_config_read.specs.Keys.{job_keys}
-use Rattle.np_config_read.specs.Requesters.{demand_at, job_row, job_at}
+use Rattle.np_config_read.proofs.Prelude.{ConfigFault, ConfigRead, Data, Demand, Fails, Job, JobsOf, Label, List, Ok, Result, Sem, Tenant, ap, binds, demand_at, err_from_is_err_and, fault_of, job_at, job_keys, job_row, named_at, ok, pointer_to, refl, sym, view, ℕ, [], ◌++◌, ◌>>=◌, ◌∙◌, ◌∷◌, ◌≡◌}
 use Rattle.np_config_read.proofs.requesters.JobsOfRowsKnown.read.Goals as goal
 
 module _ (labels : List Label) (semaphores : List Sem) (tenants : List Tenant) (at : List ℕ) (s : JobsOf) (d : Data) where

@@ -1,7 +1,5 @@
-use Rattle.std.proofs.Common.{◌∙◌, ap}
-use Rattle.serde_json.proofs.Views.{view-Object}
-use Rattle.serde_json.specs.Data.{object}
-use Rattle.np_config_text.proofs.Members.{job_members}
+use Rattle.np_config_text.proofs.Prelude.{ap, object, view-Object, ◌∙◌}
+use Rattle.np_config_text.proofs.Again.{job_members}
 use Rattle.np_config_text.proofs.rows.JobShown.value.Goals as goal
 
 pub returns : goal.returns

@@ -1,4 +1,4 @@
-use Rattle.np_config_text.proofs.Ascii.{pools-ascii}
+use Rattle.np_config_text.proofs.Again.{pools-ascii}
 use Rattle.np_config_text.proofs.rows.ProviderPlaced.value_at.Goals as goal
 
 pub owned_value-requires : goal.owned_value-requires

@@ -1,4 +1,4 @@
-use Rattle.np_config_text.proofs.Ascii.{jobs-ascii}
+use Rattle.np_config_text.proofs.Again.{jobs-ascii}
 use Rattle.np_config_text.proofs.rows.RequesterPlaced.value_at.Goals as goal
 
 pub owned_value-requires : goal.owned_value-requires

@@ -1,9 +1,5 @@
-use Rattle.std.proofs.Common.{subst}
-use Rattle.np_desk.specs.History.{places}
-use Rattle.np_desk.specs.Pass.{Sight, whole_sight}
-use Rattle.np_desk.specs.Series.{TookAtOnce, grown}
-use Rattle.np_desk.proofs.HistoryLemmas.{starts_same}
-use Rattle.np_desk.proofs.SeriesLemmas.{grown_whole, took-loosely, took_later, unturned_grown}
+use Rattle.np_desk.proofs.Prelude.{Sight, TookAtOnce, grown, places, subst, whole_sight}
+use Rattle.np_desk.proofs.HistoryLemmas.{grown_whole, starts_same, took-loosely, took_later, unturned_grown}
 use Rattle.np_desk.proofs.alone.AloneTurns.turns.Goals as goal
 
 pub returns-clause-turns : goal.returns-clause-turns

@@ -1,5 +1,5 @@
-use Rattle.std.proofs.Common.{ap}
-use Rattle.np_desk.proofs.DeskSteps.{leaves}
+use Rattle.np_desk.proofs.Prelude.{ap}
+use Rattle.np_desk.proofs.DeskRule.{leaves}
 use Rattle.np_desk.proofs.desk.Desk.close.Goals as goal
 
 pub returns-clause-fixed : goal.returns-clause-fixed

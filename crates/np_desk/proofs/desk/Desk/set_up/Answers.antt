@@ -1,5 +1,5 @@
-use Rattle.std.proofs.Common.{rules}
-use Rattle.np_desk.proofs.DeskSteps.{starts_at, first_pass}
+use Rattle.np_desk.proofs.Prelude.{rules}
+use Rattle.np_desk.proofs.DeskRule.{starts_at, first_pass}
 use Rattle.np_desk.proofs.desk.Desk.set_up.Goals as goal
 
 pub new-requires : goal.new-requires

@@ -1,4 +1,4 @@
-use Rattle.np_desk.proofs.SeriesLemmas.{took-loosely}
+use Rattle.np_desk.proofs.HistoryLemmas.{took-loosely}
 use Rattle.np_desk.proofs.on_desk.OnDeskTurns.turns.Goals as goal
 
 pub returns-clause-turns : goal.returns-clause-turns

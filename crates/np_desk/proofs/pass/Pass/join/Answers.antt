@@ -1,6 +1,5 @@
-use Rattle.std.proofs.Common.{rules, ap, ◌∙◌}
-use Rattle.np_desk.proofs.PartLemmas.{joined_back}
-use Rattle.np_desk.proofs.PassSteps.{joins, learns, rests}
+use Rattle.np_desk.proofs.Prelude.{ap, rules, ◌∙◌}
+use Rattle.np_desk.proofs.DeskRule.{joined_back, joins, learns, rests}
 use Rattle.np_desk.proofs.pass.Pass.join.Goals as goal
 
 pub join_seat-requires : goal.join_seat-requires

@@ -1,5 +1,5 @@
-use Rattle.std.proofs.Common.{rules}
-use Rattle.np_desk.proofs.PassSteps.{splits, left_rests, right_rests}
+use Rattle.np_desk.proofs.Prelude.{rules}
+use Rattle.np_desk.proofs.DeskRule.{splits, left_rests, right_rests}
 use Rattle.np_desk.proofs.pass.Pass.split.Goals as goal
 
 pub split_seat-seat-requires : goal.split_seat-seat-requires

@@ -1,5 +1,5 @@
 use Rattle.np_index.proofs.Prelude.{IsSound, subst}
-use Rattle.np_index.proofs.Noted.{amounts-after}
+use Rattle.np_index.proofs.AmountLemmas.{amounts-after}
 use Rattle.np_index.proofs.awaited.Awaited.note.Goals as goal
 
 pub returns : goal.returns

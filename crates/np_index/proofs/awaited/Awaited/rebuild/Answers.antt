@@ -1,7 +1,7 @@
 use Rattle.np_index.proofs.Prelude.{Amount, Configuration, Global, IsSound, Vec, ap, arith, length, none_there, nothing, replicate, request_view, rest_by, subst, suc, sym, ◌<◌, ◌∙◌, ◌≡◌}
-use Rattle.np_index.proofs.Made.{up-to-all, up-to-next, up-to-none}
-use Rattle.np_index.proofs.awaited.Awaited.rebuild.Goals as goal
+use Rattle.np_index.proofs.AmountLemmas.{up-to-all, up-to-next, up-to-none}
 use Rattle.np_index.proofs.awaited.Awaited.rebuild.Goals.{in-Some, in_default}
+use Rattle.np_index.proofs.awaited.Awaited.rebuild.Goals as goal
 
 pub loop-at-init : goal.loop-at-init
 loop-at-init g c =

@@ -1,4 +1,4 @@
-use Rattle.np_index.proofs.Made.{AreUpTo}
+use Rattle.np_index.proofs.AmountLemmas.{AreUpTo}
 use Rattle.np_index.proofs.awaited.Awaited.rebuild.Given as goal
 
 abbrev pub invariant-loop-at : goal.invariant-loop-at

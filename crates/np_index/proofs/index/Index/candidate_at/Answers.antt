@@ -1,11 +1,5 @@
-use Rattle.std.proofs.Common.{◌≡◌, ◌∙◌, ◌+◌, ◌-◌, sym, ap, subst, arith}
-use Rattle.std.specs.Prelude.{slice_get}
-use Rattle.std.specs.Option.{option_map}
-use Rattle.np_lookups.specs.declared.ranks.Rank.{Rank}
-use Rattle.np_lookups.specs.Open.{AreOpen}
-use Rattle.np_index.specs.Candidates.{candidate_ranks}
-use Rattle.np_index.proofs.CandidateLemmas.{candidate-rank}
-use Rattle.np_index.proofs.BestLemmas.{best-at, best-begins, best-next, lines-fall, none-on}
+use Rattle.np_index.proofs.Prelude.{AreOpen, Rank, ap, arith, candidate_ranks, option_map, slice_get, subst, sym, ◌+◌, ◌-◌, ◌∙◌, ◌≡◌}
+use Rattle.np_index.proofs.CandidateLemmas.{best-at, best-begins, best-next, candidate-rank, lines-fall, none-on}
 use Rattle.np_index.proofs.index.Index.candidate_at.Goals.{else-loop-place-test, then-loop-place-test+in_default+in_ok-found+else-place-at}
 use Rattle.np_index.proofs.index.Index.candidate_at.Goals as goal
 

@@ -1,5 +1,4 @@
-use Rattle.std.proofs.Common.{subst, sym}
-use Rattle.np_active.specs.Active.{AreActive}
+use Rattle.np_index.proofs.Prelude.{AreActive, subst, sym}
 use Rattle.np_index.proofs.index.Index.first_mute.Goals as goal
 
 pub returns : goal.returns

@@ -1,4 +1,4 @@
-use Rattle.std.proofs.Common.{◌∙◌}
+use Rattle.np_index.proofs.Prelude.{◌∙◌}
 use Rattle.np_index.proofs.CandidateLemmas.{candidate-first}
 use Rattle.np_index.proofs.index.Index.first_of.Goals as goal
 

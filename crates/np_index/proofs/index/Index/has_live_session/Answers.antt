@@ -1,5 +1,4 @@
-use Rattle.std.proofs.Common.{subst, sym}
-use Rattle.np_active.specs.Active.{AreActive}
+use Rattle.np_index.proofs.Prelude.{AreActive, subst, sym}
 use Rattle.np_index.proofs.index.Index.has_live_session.Goals as goal
 
 pub returns : goal.returns

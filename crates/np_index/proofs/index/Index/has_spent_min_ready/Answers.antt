@@ -1,5 +1,4 @@
-use Rattle.std.proofs.Common.{subst, sym}
-use Rattle.np_classes.specs.Classes.{AreClasses}
+use Rattle.np_index.proofs.Prelude.{AreClasses, subst, sym}
 use Rattle.np_index.proofs.index.Index.has_spent_min_ready.Goals as goal
 
 pub returns : goal.returns

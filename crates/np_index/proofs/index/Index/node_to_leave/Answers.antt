@@ -1,6 +1,4 @@
-use Rattle.std.proofs.Common.{subst, sym}
-use Rattle.np_active.specs.Given.{AreGiven}
-use Rattle.np_lookups.specs.Lookups.{AreLookupsOf}
+use Rattle.np_index.proofs.Prelude.{AreGiven, AreLookupsOf, subst, sym}
 use Rattle.np_index.proofs.index.Index.node_to_leave.Goals as goal
 
 pub returns : goal.returns

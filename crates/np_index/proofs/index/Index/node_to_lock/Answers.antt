@@ -1,5 +1,4 @@
-use Rattle.std.proofs.Common.{subst, sym}
-use Rattle.np_active.specs.Given.{AreGiven}
+use Rattle.np_index.proofs.Prelude.{AreGiven, subst, sym}
 use Rattle.np_index.proofs.index.Index.node_to_lock.Goals as goal
 
 pub returns : goal.returns

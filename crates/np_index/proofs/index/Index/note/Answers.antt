@@ -1,9 +1,4 @@
-use Rattle.std.proofs.Common.{◌∙◌, ap, subst, sym}
-use Rattle.np_changes.specs.Changes.{changed}
-use Rattle.np_index.specs.Awaited.{OthersStay, first_rest}
-use Rattle.np_lookups.specs.Lookups.{AreLookupsOf}
-use Rattle.np_lookups.specs.Prepared.{lookups_made}
-use Rattle.np_index.specs.Prepared.{IsPreparedFor}
+use Rattle.np_index.proofs.Prelude.{AreLookupsOf, IsPreparedFor, OthersStay, ap, changed, first_rest, lookups_made, subst, sym, ◌∙◌}
 use Rattle.np_index.proofs.Kept.{others-stay}
 use Rattle.np_index.proofs.index.Index.note.Goals as goal
 

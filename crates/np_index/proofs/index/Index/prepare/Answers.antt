@@ -1,9 +1,4 @@
-use Rattle.std.proofs.Common.{◌∙◌, ap, subst, sym}
-use Rattle.np_index.specs.Awaited.{first_rest}
-use Rattle.np_lookups.specs.Pasts.{AreListed}
-use Rattle.np_classes.proofs.Noted.{classes-same}
-use Rattle.np_active.specs.Given.{AreGivenGroups}
-use Rattle.np_index.specs.Index.{IsIndexOf}
+use Rattle.np_index.proofs.Prelude.{AreGivenGroups, AreListed, IsIndexOf, ap, classes-same, first_rest, subst, sym, ◌∙◌}
 use Rattle.np_index.proofs.Kept.{active-same, open-same, placed-same}
 use Rattle.np_index.proofs.index.Index.prepare.Goals as goal
 

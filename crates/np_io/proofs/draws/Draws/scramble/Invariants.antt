@@ -1,4 +1,4 @@
-use Rattle.std.proofs.Common.{◌≡◌}
+use Rattle.np_io.proofs.Prelude.{◌≡◌}
 use Rattle.np_io.proofs.draws.Draws.scramble.Given as goal
 
 abbrev pub invariant-loop-byte : goal.invariant-loop-byte

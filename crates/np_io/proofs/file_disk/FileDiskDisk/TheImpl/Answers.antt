@@ -1,4 +1,4 @@
-use Rattle.std.proofs.Common.{refl}
+use Rattle.np_io.proofs.Prelude.{refl}
 use Rattle.np_io.proofs.FileLemmas.{always_if, always_on, rose_by_count, unknown_stays, unknown_tears, unknown_settles}
 use Rattle.np_io.proofs.file_disk.FileDiskDisk.TheImpl.Goals as goal
 

@@ -1,6 +1,4 @@
-use Rattle.std.proofs.Common.{◌≡◌, ℕ, List, subst}
-use Rattle.np_io.specs.declared.disk_calls.Call.{Call}
-use Rattle.np_io.specs.DiskCalls.{images_after}
+use Rattle.np_io.proofs.Prelude.{Call, List, images_after, subst, ℕ, ◌≡◌}
 use Rattle.np_io.proofs.CallLemmas.{image-now}
 use Rattle.np_io.proofs.mem_disk.MemDisk.image.Goals as goal
 

@@ -1,5 +1,4 @@
-use Rattle.std.proofs.Common.{◌≡◌, length, sym, ◌∙◌, ap, subst, arith}
-use Rattle.np_io.specs.Disk.{TornWrite, put_at}
+use Rattle.np_io.proofs.Prelude.{TornWrite, ap, arith, length, put_at, subst, sym, ◌∙◌, ◌≡◌}
 use Rattle.np_io.proofs.Moments.{torn_same}
 use Rattle.np_io.proofs.TornLemmas.{torn_by_part}
 use Rattle.np_io.proofs.CallLemmas.{tears_kept}

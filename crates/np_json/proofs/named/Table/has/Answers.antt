@@ -1,6 +1,4 @@
-use Rattle.std.proofs.Common.{◌∙◌, sym, ap}
-use Rattle.std.specs.List.{list_any}
-use Rattle.std.specs.Str.{bytes_eq}
+use Rattle.np_json.proofs.Prelude.{ap, bytes_eq, list_any, sym, ◌∙◌}
 use Rattle.np_json.proofs.Lists.{list_any-map}
 use Rattle.np_json.proofs.named.Table.has.Goals as goal
 

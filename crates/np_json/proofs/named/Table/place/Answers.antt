@@ -1,6 +1,4 @@
-use Rattle.std.proofs.Common.{◌∙◌, sym, ap}
-use Rattle.std.specs.Prelude.{position}
-use Rattle.std.specs.Str.{bytes_eq}
+use Rattle.np_json.proofs.Prelude.{ap, bytes_eq, position, sym, ◌∙◌}
 use Rattle.np_json.proofs.Lists.{position-map}
 use Rattle.np_json.proofs.named.Table.place.Goals as goal
 

@@ -1,7 +1,4 @@
-use Rattle.std.proofs.Common.{length, length-append, ◌+◌, arith, ◌≡◌, ◌∙◌, sym, ap, map, false}
-use Rattle.std.specs.List.{list_any}
-use Rattle.std.specs.Str.{bytes_eq}
-use Rattle.std.proofs.lemmas.List.{map-append}
+use Rattle.np_json.proofs.Prelude.{ap, arith, bytes_eq, false, length, length-append, list_any, map, map-append, sym, ◌+◌, ◌∙◌, ◌≡◌}
 use Rattle.np_json.proofs.Lists.{list_any-map}
 use Rattle.np_json.proofs.named.Table.push.Goals as goal
 

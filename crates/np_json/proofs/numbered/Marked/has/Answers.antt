@@ -1,5 +1,4 @@
-use Rattle.std.proofs.Common.{◌∙◌, ap, nat_eq}
-use Rattle.std.specs.List.{list_any}
+use Rattle.np_json.proofs.Prelude.{ap, list_any, nat_eq, ◌∙◌}
 use Rattle.np_json.proofs.Lists.{list_any-map}
 use Rattle.np_json.proofs.numbered.Marked.has.Goals as goal
 

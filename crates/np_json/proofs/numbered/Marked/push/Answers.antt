@@ -1,6 +1,4 @@
-use Rattle.std.proofs.Common.{◌≡◌, ◌∙◌, ap, false, nat_eq}
-use Rattle.std.specs.List.{list_any}
-use Rattle.std.proofs.lemmas.List.{map-append}
+use Rattle.np_json.proofs.Prelude.{ap, false, list_any, map-append, nat_eq, ◌∙◌, ◌≡◌}
 use Rattle.np_json.proofs.Lists.{list_any-map}
 use Rattle.np_json.proofs.numbered.Marked.push.Goals as goal
 

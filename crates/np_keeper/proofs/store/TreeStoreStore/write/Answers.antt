@@ -1,10 +1,5 @@
-use Rattle.std.proofs.Common.{subst, sym}
-use Rattle.std.proofs.lemmas.Result.{on_err_weaker}
-use Rattle.np_config.specs.Sound.{IsSound}
-use Rattle.np_layout.specs.Carried.{IsCarried}
-use Rattle.np_keeper.specs.Keeper.{Holds}
-use Rattle.np_keeper.proofs.Accepted.{may-change}
-use Rattle.np_keeper.proofs.Spared.{holds-spared}
+use Rattle.np_keeper.proofs.Prelude.{Holds, IsCarried, IsSound, on_err_weaker, subst, sym}
+use Rattle.np_keeper.proofs.Enacted.{holds-spared, may-change}
 use Rattle.np_keeper.proofs.store.TreeStoreStore.write.Goals as goal
 
 pub write-requires-clause-ready : goal.write-requires-clause-ready

@@ -1,6 +1,5 @@
-use Rattle.std.proofs.Common.{sym, subst}
-use Rattle.std.specs.Str.{IsAscii}
-use Rattle.np_layout.proofs.AboveLemmas.{IsAscii-of}
+use Rattle.np_layout.proofs.Prelude.{IsAscii, subst, sym}
+use Rattle.np_layout.proofs.Names.{IsAscii-of}
 use Rattle.np_layout.proofs.path_text.PathText.of.Goals as goal
 
 pub invariant_of-result : goal.invariant_of-result

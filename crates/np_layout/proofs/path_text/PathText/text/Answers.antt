@@ -1,6 +1,4 @@
-use Rattle.std.proofs.Common.{sym, subst}
-use Rattle.std.proofs.lemmas.Str.{IsUtf8-from_ascii}
-use Rattle.std.specs.Str.{IsUtf8}
+use Rattle.np_layout.proofs.Prelude.{IsUtf8, IsUtf8-from_ascii, subst, sym}
 use Rattle.np_layout.proofs.path_text.PathText.text.Goals as goal
 
 pub unreachable-requires : goal.unreachable-requires

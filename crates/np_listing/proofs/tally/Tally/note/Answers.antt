@@ -1,5 +1,4 @@
-use Rattle.std.proofs.Common.{◌∙◌, ap}
-use Rattle.np_listing.specs.Noting.{noted}
+use Rattle.np_listing.proofs.Prelude.{ap, noted, ◌∙◌}
 use Rattle.np_listing.proofs.Counting.{noted-counted}
 use Rattle.np_listing.proofs.tally.Tally.note.Goals as goal
 

@@ -1,6 +1,4 @@
-use Rattle.std.proofs.Common.{◌∙◌, ap, sym}
-use Rattle.np_changes.specs.Prelude.{State, after}
-use Rattle.np_listing.specs.Summary.{text_of}
+use Rattle.np_listing.proofs.Prelude.{State, after, ap, sym, text_of, ◌∙◌}
 use Rattle.np_listing.proofs.tally.Tally.summary.Goals as goal
 
 pub returns : goal.returns

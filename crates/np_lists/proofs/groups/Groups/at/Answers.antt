@@ -1,8 +1,5 @@
-use Rattle.std.proofs.Common.{◌∙◌, ap, arith}
-use Rattle.std.specs.Prelude.{slice_get}
-use Rattle.std.proofs.lemmas.List.Sums.{prefix_len-le-length}
-use Rattle.np_lists.specs.Groups.{ids_in, is_group_before}
-use Rattle.np_lists.proofs.Search.{id-past, id-there}
+use Rattle.np_lists.proofs.Prelude.{ap, arith, ids_in, is_group_before, prefix_len-le-length, slice_get, ◌∙◌}
+use Rattle.np_lists.proofs.Searches.{id-past, id-there}
 use Rattle.np_lists.proofs.groups.Groups.at.Goals as goal
 
 pub overflow_sub-len : goal.overflow_sub-len

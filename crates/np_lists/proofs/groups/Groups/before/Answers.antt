@@ -1,7 +1,5 @@
-use Rattle.std.proofs.Common.{◌∙◌, ap}
-use Rattle.std.specs.List.{prefix_len}
-use Rattle.np_lists.specs.Groups.{ids_in}
-use Rattle.np_lists.proofs.Search.{length-before, start-le-before}
+use Rattle.np_lists.proofs.Prelude.{ap, ids_in, prefix_len, ◌∙◌}
+use Rattle.np_lists.proofs.Searches.{length-before, start-le-before}
 use Rattle.np_lists.proofs.groups.Groups.before.Goals as goal
 
 pub overflow_sub-result : goal.overflow_sub-result

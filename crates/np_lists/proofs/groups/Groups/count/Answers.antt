@@ -1,6 +1,5 @@
-use Rattle.std.proofs.Common.{◌∙◌, ap, length}
-use Rattle.np_lists.specs.Groups.{ids_in}
-use Rattle.np_lists.proofs.Search.{start-le-end, length-ids}
+use Rattle.np_lists.proofs.Prelude.{ap, ids_in, length, ◌∙◌}
+use Rattle.np_lists.proofs.Searches.{start-le-end, length-ids}
 use Rattle.np_lists.proofs.groups.Groups.count.Goals as goal
 
 pub overflow_sub-result : goal.overflow_sub-result

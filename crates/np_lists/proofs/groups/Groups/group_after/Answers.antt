@@ -1,7 +1,5 @@
-use Rattle.std.proofs.Common.{◌∙◌, sym, ap}
-use Rattle.std.specs.Option.{option_map}
-use Rattle.np_lists.specs.Groups.{group_after}
-use Rattle.np_lists.proofs.Walk.{after-there}
+use Rattle.np_lists.proofs.Prelude.{ap, group_after, option_map, sym, ◌∙◌}
+use Rattle.np_lists.proofs.Members.{after-there}
 use Rattle.np_lists.proofs.groups.Groups.group_after.Goals as goal
 
 pub returns-in_err-at : goal.returns-in_err-at

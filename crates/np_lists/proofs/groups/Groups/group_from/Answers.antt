@@ -1,7 +1,5 @@
-use Rattle.std.proofs.Common.{◌∙◌, sym, ap}
-use Rattle.std.specs.Option.{option_map}
-use Rattle.np_lists.specs.Groups.{group_from}
-use Rattle.np_lists.proofs.Walk.{from-there}
+use Rattle.np_lists.proofs.Prelude.{ap, group_from, option_map, sym, ◌∙◌}
+use Rattle.np_lists.proofs.Members.{from-there}
 use Rattle.np_lists.proofs.groups.Groups.group_from.Goals as goal
 
 pub returns-in_err-at : goal.returns-in_err-at

@@ -1,7 +1,6 @@
-use Rattle.std.proofs.Common.{sym, ◌∙◌, ap}
-use Rattle.np_lists.proofs.FilterLemmas.{list_any-none}
-use Rattle.np_lists.proofs.KeyLemmas.{any-first}
-use Rattle.np_lists.specs.Groups.{has_member}
+use Rattle.np_lists.proofs.Prelude.{ap, has_member, sym, ◌∙◌}
+use Rattle.np_lists.proofs.Changes.{list_any-none}
+use Rattle.np_lists.proofs.Searches.{any-first}
 use Rattle.np_lists.proofs.groups.Groups.has.Goals as goal
 
 pub returns-in-Some : goal.returns-in-Some

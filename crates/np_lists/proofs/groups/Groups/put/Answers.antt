@@ -1,6 +1,5 @@
-use Rattle.std.proofs.Common.{sym, ◌∙◌, ap}
-use Rattle.np_lists.specs.Groups.{with_member}
-use Rattle.np_lists.proofs.Search.{member-there, member-insert, member-insert-rises}
+use Rattle.np_lists.proofs.Prelude.{ap, sym, with_member, ◌∙◌}
+use Rattle.np_lists.proofs.Searches.{member-there, member-insert, member-insert-rises}
 use Rattle.np_lists.proofs.groups.Groups.put.Goals as goal
 
 pub returns-then-is_at-clause-members : goal.returns-then-is_at-clause-members

@@ -1,7 +1,6 @@
-use Rattle.std.proofs.Common.{sym, ◌∙◌, ap}
-use Rattle.np_lists.proofs.Halves.{remove_first-first, remove_first-none}
-use Rattle.np_lists.proofs.RisingLemmas.{Rises-remove}
-use Rattle.np_lists.specs.Groups.{is_member_before, without_member}
+use Rattle.np_lists.proofs.Prelude.{ap, is_member_before, sym, without_member, ◌∙◌}
+use Rattle.np_lists.proofs.Searches.{remove_first-first, remove_first-none}
+use Rattle.np_lists.proofs.Changes.{Rises-remove}
 use Rattle.np_lists.proofs.groups.Groups.remove.Goals as goal
 
 pub returns-in_default-clause-members : goal.returns-in_default-clause-members

@@ -1,4 +1,4 @@
-use Rattle.np_lists.proofs.RisingLemmas.{Rises-keys, map-keys}
+use Rattle.np_lists.proofs.Changes.{Rises-keys, map-keys}
 use Rattle.np_lists.proofs.roomy.RoomyTable.change_all.Goals as goal
 
 pub invariant_of-self : goal.invariant_of-self

@@ -1,7 +1,6 @@
-use Rattle.std.proofs.Common.{sym, ◌∙◌, ap}
-use Rattle.std.specs.Prelude.{slice_set}
-use Rattle.np_lists.proofs.Halves.{change_first-first, change_first-none, first-within}
-use Rattle.np_lists.proofs.RisingLemmas.{Rises-keys, keys-set}
+use Rattle.np_lists.proofs.Prelude.{ap, slice_set, sym, ◌∙◌}
+use Rattle.np_lists.proofs.Searches.{change_first-first, change_first-none, first-within}
+use Rattle.np_lists.proofs.Changes.{Rises-keys, keys-set}
 use Rattle.np_lists.proofs.roomy.RoomyTable.edit.Goals as goal
 
 pub place_of-requires : goal.place_of-requires

@@ -1,8 +1,8 @@
-use Rattle.std.proofs.Common.{◌≡◌, ◌-◌, length, refl, arith}
-use Rattle.np_lists.proofs.ChangeLemmas.{length-change_at}
-use Rattle.np_lists.proofs.Places.{change_at-left, change_at-middle, change_at-right, slice_get-left, slice_get-middle, slice_get-right}
-use Rattle.np_lists.proofs.shelf.Shelf.+change.Goals as goal
+use Rattle.np_lists.proofs.Prelude.{arith, length, refl, ◌-◌, ◌≡◌}
+use Rattle.np_lists.proofs.Changes.{length-change_at}
+use Rattle.np_lists.proofs.Searches.{change_at-left, change_at-middle, change_at-right, slice_get-left, slice_get-middle, slice_get-right}
 use Rattle.np_lists.proofs.shelf.Shelf.+change.Goals.{then-place-left, else-place-left+then-place-left-2, else-place-left+else-place-left-2}
+use Rattle.np_lists.proofs.shelf.Shelf.+change.Goals as goal
 
 pub invariant_of-self : goal.invariant_of-self
 invariant_of-self g t c =

@@ -1,7 +1,7 @@
-use Rattle.std.proofs.Common.{◌≡◌, ◌-◌, length, arith}
-use Rattle.np_lists.proofs.Places.{insert-left, insert-right}
-use Rattle.np_lists.proofs.shelf.Shelf.+insert.Goals as goal
+use Rattle.np_lists.proofs.Prelude.{arith, length, ◌-◌, ◌≡◌}
+use Rattle.np_lists.proofs.Searches.{insert-left, insert-right}
 use Rattle.np_lists.proofs.shelf.Shelf.+insert.Goals.{then-place-left, else-place-left}
+use Rattle.np_lists.proofs.shelf.Shelf.+insert.Goals as goal
 
 pub returns : goal.returns
 returns g t c =

@@ -1,6 +1,5 @@
-use Rattle.std.proofs.Common.{◌≡◌, ◌∷◌, length, true, false, sym, ap, arith, length-append}
-use Rattle.std.proofs.lemmas.List.Sums.{prefix_len-le-length}
-use Rattle.np_lists.proofs.Splits.{prefix_len-passed, prefix_len-stopped, IsSplit-left, IsSplit-right}
+use Rattle.np_lists.proofs.Prelude.{ap, arith, false, length, length-append, prefix_len-le-length, sym, true, ◌∷◌, ◌≡◌}
+use Rattle.np_lists.proofs.Searches.{prefix_len-passed, prefix_len-stopped, IsSplit-left, IsSplit-right}
 use Rattle.np_lists.proofs.shelf.Shelf.+place.Goals as goal
 
 pub place-requires : goal.place-requires

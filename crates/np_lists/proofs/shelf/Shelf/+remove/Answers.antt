@@ -1,7 +1,7 @@
-use Rattle.std.proofs.Common.{◌≡◌, ◌-◌, length, arith}
-use Rattle.np_lists.proofs.Places.{remove-left, remove-right, remove-first_up}
-use Rattle.np_lists.proofs.shelf.Shelf.+remove.Goals as goal
+use Rattle.np_lists.proofs.Prelude.{arith, length, ◌-◌, ◌≡◌}
+use Rattle.np_lists.proofs.Searches.{remove-left, remove-right, remove-first_up}
 use Rattle.np_lists.proofs.shelf.Shelf.+remove.Goals.{then-place-left, else-place-left+then-place-left-2, else-place-left+else-place-left-2+else-is_empty}
+use Rattle.np_lists.proofs.shelf.Shelf.+remove.Goals as goal
 
 pub returns-clause-rest : goal.returns-clause-rest
 returns-clause-rest g t c =

@@ -1,6 +1,5 @@
-use Rattle.std.proofs.Common.{◌≡◌, ◌∙◌, sym, ap, slice_get, Some, None}
-use Rattle.std.specs.Option.{option_copied}
-use Rattle.np_lists.proofs.RowLemmas.{row-at, no_row-at}
+use Rattle.np_lists.proofs.Prelude.{None, Some, ap, option_copied, slice_get, sym, ◌∙◌, ◌≡◌}
+use Rattle.np_lists.proofs.Searches.{row-at, no_row-at}
 use Rattle.np_lists.proofs.stock.Stock.at.Goals as goal
 
 pub returns-in_err-at : goal.returns-in_err-at

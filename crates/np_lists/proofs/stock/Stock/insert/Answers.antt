@@ -1,9 +1,6 @@
-use Rattle.std.proofs.Common.{◌≤◌, ◌<◌, ◌∙◌, sym, ap, subst, insert, length, Some, arith}
-use Rattle.std.proofs.lemmas.List.{length-drop}
-use Rattle.std.proofs.lemmas.List.Edits.{length-insert}
-use Rattle.np_lists.proofs.ChangeLemmas.{length-change_at}
-use Rattle.np_lists.specs.Rows.{StockOf, items_of}
-use Rattle.np_lists.proofs.RowLemmas.{length-items_of, insert-items_of, filled-insert}
+use Rattle.np_lists.proofs.Prelude.{Some, StockOf, ap, arith, insert, items_of, length, length-drop, length-insert, subst, sym, ◌<◌, ◌∙◌, ◌≤◌}
+use Rattle.np_lists.proofs.Changes.{length-change_at}
+use Rattle.np_lists.proofs.Searches.{length-items_of, insert-items_of, filled-insert}
 use Rattle.np_lists.proofs.stock.Stock.insert.Goals as goal
 
 pub insert-requires-clause-within : goal.insert-requires-clause-within

@@ -1,5 +1,5 @@
-use Rattle.std.proofs.Common.{◌∙◌, sym, ap, length}
-use Rattle.np_lists.proofs.RowLemmas.{length-items_of}
+use Rattle.np_lists.proofs.Prelude.{ap, length, sym, ◌∙◌}
+use Rattle.np_lists.proofs.Searches.{length-items_of}
 use Rattle.np_lists.proofs.stock.Stock.len.Goals as goal
 
 pub returns : goal.returns

@@ -1,8 +1,5 @@
-use Rattle.std.proofs.Common.{◌∙◌, sym, ap, subst}
-use Rattle.std.specs.List.{prefix_len}
-use Rattle.np_lists.specs.Rising.{IsSplit}
-use Rattle.np_lists.specs.Rows.{StockOf}
-use Rattle.np_lists.proofs.RowLemmas.{prefix_len-items_of, IsSplit-items_of}
+use Rattle.np_lists.proofs.Prelude.{IsSplit, StockOf, ap, prefix_len, subst, sym, ◌∙◌}
+use Rattle.np_lists.proofs.Searches.{prefix_len-items_of, IsSplit-items_of}
 use Rattle.np_lists.proofs.stock.Stock.place.Goals as goal
 
 pub place-requires : goal.place-requires

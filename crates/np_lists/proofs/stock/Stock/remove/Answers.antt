@@ -1,7 +1,5 @@
-use Rattle.std.proofs.Common.{◌<◌, ◌∙◌, sym, ap, subst, remove, length, arith}
-use Rattle.std.proofs.lemmas.List.Edits.{length-remove}
-use Rattle.np_lists.specs.Rows.{StockOf, items_of}
-use Rattle.np_lists.proofs.RowLemmas.{length-items_of, remove-items_of, filled-remove}
+use Rattle.np_lists.proofs.Prelude.{StockOf, ap, arith, items_of, length, length-remove, remove, subst, sym, ◌<◌, ◌∙◌}
+use Rattle.np_lists.proofs.Searches.{length-items_of, remove-items_of, filled-remove}
 use Rattle.np_lists.proofs.stock.Stock.remove.Goals as goal
 
 pub remove-piece-requires : goal.remove-piece-requires

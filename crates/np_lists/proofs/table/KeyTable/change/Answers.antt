@@ -1,8 +1,6 @@
-use Rattle.std.proofs.Common.{sym, ◌∙◌, ap}
-use Rattle.std.specs.Prelude.{slice_set}
-use Rattle.np_lists.specs.Change.{change_first}
-use Rattle.np_lists.proofs.Halves.{change_first-first, change_first-none, first-within}
-use Rattle.np_lists.proofs.RisingLemmas.{Rises-keys, keys-set}
+use Rattle.np_lists.proofs.Prelude.{ap, change_first, slice_set, sym, ◌∙◌}
+use Rattle.np_lists.proofs.Searches.{change_first-first, change_first-none, first-within}
+use Rattle.np_lists.proofs.Changes.{Rises-keys, keys-set}
 use Rattle.np_lists.proofs.table.KeyTable.change.Goals as goal
 
 pub returns-in_default-clause-ok : goal.returns-in_default-clause-ok

@@ -1,5 +1,5 @@
 use Rattle.np_log.proofs.Prelude.{IsSettled, LeavesOnly, List, Place, TornBehindOrAt, ap, arith, batch_text, behind_open_gate, length, option_map, record_and_gate, subst, sym, ℕ, ◌+◌, ◌∙◌, ◌≡◌}
-use Rattle.np_log.proofs.AppendLemmas.{adds_of, every_moment, fits, then_content, then_settled}
+use Rattle.np_log.proofs.Writes.{adds_of, every_moment, fits, then_content, then_settled}
 use Rattle.np_log.proofs.log.Log.append.Goals as goal
 
 pub write_behind-requires-clause-within : goal.write_behind-requires-clause-within

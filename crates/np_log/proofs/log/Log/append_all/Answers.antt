@@ -1,5 +1,5 @@
 use Rattle.np_log.proofs.Prelude.{Event, IfSome, LeavesOnly, List, SaysAllOrNone, ap, arith, content_of, content_with, length, length-drop, option_map, subst, take, ◌+◌, ◌∙◌, ◌≡◌, ◌≤◌}
-use Rattle.np_log.proofs.PartLemmas.{content_more, run_more}
+use Rattle.np_log.proofs.Writes.{content_more, run_more}
 use Rattle.np_log.proofs.log.Log.append_all.Goals as goal
 
 pub returns-in_err-log-clause-any_moment : goal.returns-in_err-log-clause-any_moment

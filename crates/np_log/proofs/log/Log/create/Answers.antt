@@ -1,5 +1,5 @@
 use Rattle.np_log.proofs.Prelude.{◌∙◌}
-use Rattle.np_log.proofs.CreateLemmas.{create_content, create_moment, create_settled, create_walk}
+use Rattle.np_log.proofs.Writes.{create_content, create_moment, create_settled, create_walk}
 use Rattle.np_log.proofs.log.Log.create.Goals as goal
 
 pub returns-in_err-write_first-clause-any_moment : goal.returns-in_err-write_first-clause-any_moment

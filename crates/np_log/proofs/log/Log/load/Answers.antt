@@ -1,6 +1,5 @@
 use Rattle.np_log.proofs.Prelude.{IsSettled, ap, length, subst, sym, walk_of, walk_view, ℕ, ◌∙◌, ◌≡◌}
-use Rattle.np_log.proofs.LoadLemmas.{load_settled}
-use Rattle.np_log.proofs.WalkLemmas.{walk_of-EndsAt}
+use Rattle.np_log.proofs.Walks.{load_settled, walk_of-EndsAt}
 use Rattle.np_log.proofs.log.Log.load.Goals as goal
 
 pub returns-clause-settled : goal.returns-clause-settled

@@ -1,8 +1,5 @@
-use Rattle.std.proofs.Common.{◌≡◌, ◌∙◌, sym, ap, true, false, Some}
-use Rattle.std.specs.Prelude.{not}
-use Rattle.np_changes.specs.Prelude.{Configuration, amount_of_all, fits, limit_of_tenant, new_record, plus}
-use Rattle.np_look.specs.Readers.{limited_tenant}
-use Rattle.np_look.proofs.Blocking.{blocks, has_room}
+use Rattle.np_look.proofs.Prelude.{Configuration, Some, amount_of_all, ap, false, fits, limit_of_tenant, limited_tenant, new_record, not, plus, sym, true, ◌∙◌, ◌≡◌}
+use Rattle.np_look.proofs.Looks.{blocks, has_room}
 use Rattle.np_look.proofs.scan.ScanLook.blocking.Goals as goal
 
 pub returns-then-is_short_of : goal.returns-then-is_short_of

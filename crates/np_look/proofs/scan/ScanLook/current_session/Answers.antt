@@ -1,7 +1,5 @@
-use Rattle.std.proofs.Common.{◌≡◌, ◌-◌, sym, Some, arith}
-use Rattle.std.specs.Prelude.{slice_get}
-use Rattle.np_look.proofs.Seen.{session-at}
-use Rattle.np_look.proofs.Speakers.{speaker-here, speaker-not}
+use Rattle.np_look.proofs.Prelude.{Some, arith, slice_get, sym, ◌-◌, ◌≡◌}
+use Rattle.np_look.proofs.Looks.{session-at, speaker-here, speaker-not}
 use Rattle.np_look.proofs.scan.ScanLook.current_session.Goals as goal
 
 pub returns-then-speaks_for : goal.returns-then-speaks_for

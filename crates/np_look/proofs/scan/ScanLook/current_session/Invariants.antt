@@ -1,5 +1,4 @@
-use Rattle.std.proofs.Common.{◌≡◌, ◌≤◌, suc, length, drop, None}
-use Rattle.np_look.specs.Readers.{speaker_from}
+use Rattle.np_look.proofs.Prelude.{None, drop, length, speaker_from, suc, ◌≡◌, ◌≤◌}
 use Rattle.np_look.proofs.scan.ScanLook.current_session.Given as goal
 
 abbrev pub invariant-loop-left : goal.invariant-loop-left

@@ -1,14 +1,6 @@
-use Rattle.std.proofs.Common.{◌≡◌, ◌∙◌, ◌≤◌, sym, refl, ap, true, false, add-one, length, arith, None}
-use Rattle.std.specs.Prelude.{◌==◌, find, drop}
-use Rattle.np_changes.specs.Prelude.{RequestEntry, option_map}
-use Rattle.std.proofs.lemmas.Bool.Decides.{nat_tests}
-use Rattle.std.proofs.lemmas.Option.{slice_get_past}
-use Rattle.np_look.specs.Readers.{is_declined_by_all}
-use Rattle.np_look.specs.Views.{request_view}
-use Rattle.np_look.specs.declared.asked.RequestView.{RequestView}
-use Rattle.np_look.proofs.Walks.{found_here, found_later}
+use Rattle.np_look.proofs.Prelude.{None, RequestEntry, RequestView, add-one, ap, arith, drop, drop-past, false, find, is_declined_by_all, length, nat_tests, option_map, refl, request_view, slice_get_past, sym, true, ◌==◌, ◌∙◌, ◌≡◌, ◌≤◌}
+use Rattle.np_look.proofs.Looks.{found_here, found_later}
 use Rattle.np_look.proofs.scan.ScanLook.first_declined_by_all.Goals as goal
-use Rattle.np_lists.proofs.Plain.{drop-past}
 
 pub returns-then-is_declined_by_all : goal.returns-then-is_declined_by_all
 returns-then-is_declined_by_all g c =

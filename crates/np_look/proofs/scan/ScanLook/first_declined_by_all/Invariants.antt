@@ -1,7 +1,4 @@
-use Rattle.std.proofs.Common.{◌≡◌, drop}
-use Rattle.std.specs.Prelude.{find}
-use Rattle.np_machine.specs.Entries.{RequestEntry}
-use Rattle.np_look.specs.Readers.{is_declined_by_all}
+use Rattle.np_look.proofs.Prelude.{RequestEntry, drop, find, is_declined_by_all, ◌≡◌}
 use Rattle.np_look.proofs.scan.ScanLook.first_declined_by_all.Given as goal
 
 abbrev pub invariant-loop-at : goal.invariant-loop-at

@@ -1,5 +1,5 @@
-use Rattle.std.proofs.Common.{sym}
-use Rattle.np_look.proofs.Due.{soonest-stays, soonest-found}
+use Rattle.np_look.proofs.Prelude.{sym}
+use Rattle.np_look.proofs.Looks.{soonest-stays, soonest-found}
 use Rattle.np_look.proofs.scan.ScanLook.first_due.Goals as goal
 
 pub loop-at-preserved-then-not-is_sooner_unheld : goal.loop-at-preserved-then-not-is_sooner_unheld

@@ -1,5 +1,5 @@
-use Rattle.std.proofs.Common.{◌≡◌, take}
-use Rattle.np_look.proofs.Due.{soonest_of}
+use Rattle.np_look.proofs.Prelude.{take, ◌≡◌}
+use Rattle.np_look.proofs.Looks.{soonest_of}
 use Rattle.np_look.proofs.scan.ScanLook.first_due.Given as goal
 
 abbrev pub invariant-loop-at : goal.invariant-loop-at

@@ -1,7 +1,5 @@
-use Rattle.std.proofs.Common.{◌≡◌, ◌∙◌, sym, true, false, add-one, Some}
-use Rattle.std.specs.Prelude.{◌&&◌, slice_get}
-use Rattle.np_look.proofs.Seen.{session-there}
-use Rattle.np_look.proofs.Speakers.{mute-here, mute-later}
+use Rattle.np_look.proofs.Prelude.{Some, add-one, false, slice_get, sym, true, ◌&&◌, ◌∙◌, ◌≡◌}
+use Rattle.np_look.proofs.Looks.{mute-here, mute-later, session-there}
 use Rattle.np_look.proofs.scan.ScanLook.first_mute.Goals as goal
 
 pub returns-then-is_mute : goal.returns-then-is_mute

@@ -1,5 +1,4 @@
-use Rattle.std.proofs.Common.{◌≡◌, suc, drop}
-use Rattle.np_look.specs.Readers.{mute_from, first_mute}
+use Rattle.np_look.proofs.Prelude.{drop, first_mute, mute_from, suc, ◌≡◌}
 use Rattle.np_look.proofs.scan.ScanLook.first_mute.Given as goal
 
 abbrev pub invariant-loop-at : goal.invariant-loop-at

@@ -1,8 +1,5 @@
-use Rattle.std.proofs.Common.{◌≡◌, ◌∙◌, sym, ap, true, false, Option}
-use Rattle.std.specs.Prelude.{is_some}
-use Rattle.np_changes.specs.Prelude.{TenantId, blocking, new_record}
-use Rattle.np_changes.specs.declared.asked.Asked.{Asked}
-use Rattle.np_look.proofs.Seen.{best-later, best-blocked, best-found}
+use Rattle.np_look.proofs.Prelude.{Asked, Option, TenantId, ap, blocking, false, is_some, new_record, sym, true, ◌∙◌, ◌≡◌}
+use Rattle.np_look.proofs.Looks.{best-later, best-blocked, best-found}
 use Rattle.np_look.proofs.scan.ScanLook.first_of.Goals as goal
 
 pub loop-at-preserved-then-not-is_better : goal.loop-at-preserved-then-not-is_better

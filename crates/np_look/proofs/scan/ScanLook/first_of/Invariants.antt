@@ -1,5 +1,5 @@
-use Rattle.std.proofs.Common.{◌≡◌, take}
-use Rattle.np_look.proofs.Seen.{best_of}
+use Rattle.np_look.proofs.Prelude.{take, ◌≡◌}
+use Rattle.np_look.proofs.Looks.{best_of}
 use Rattle.np_look.proofs.scan.ScanLook.first_of.Given as goal
 
 abbrev pub invariant-loop-at : goal.invariant-loop-at

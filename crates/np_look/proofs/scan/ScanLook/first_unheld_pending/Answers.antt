@@ -1,14 +1,6 @@
-use Rattle.std.proofs.Common.{◌≡◌, ◌∙◌, ◌≤◌, sym, refl, ap, true, false, add-one, length, arith, None}
-use Rattle.std.specs.Prelude.{find, drop}
-use Rattle.np_changes.specs.Prelude.{RequestEntry, option_map}
-use Rattle.std.proofs.lemmas.Option.{slice_get_past}
-use Rattle.np_look.specs.Readers.{is_unheld_pending}
-use Rattle.np_look.specs.Views.{request_view, request_seen}
-use Rattle.np_look.specs.declared.asked.RequestView.{RequestView}
-use Rattle.np_look.proofs.Walks.{found_here, found_later}
-use Rattle.np_look.proofs.Seen.{unheld-pending-seen}
+use Rattle.np_look.proofs.Prelude.{None, RequestEntry, RequestView, add-one, ap, arith, drop, drop-past, false, find, is_unheld_pending, length, option_map, refl, request_seen, request_view, slice_get_past, sym, true, ◌∙◌, ◌≡◌, ◌≤◌}
+use Rattle.np_look.proofs.Looks.{found_here, found_later, unheld-pending-seen}
 use Rattle.np_look.proofs.scan.ScanLook.first_unheld_pending.Goals as goal
-use Rattle.np_lists.proofs.Plain.{drop-past}
 
 pub returns-then-is_unheld_pending : goal.returns-then-is_unheld_pending
 returns-then-is_unheld_pending g c =

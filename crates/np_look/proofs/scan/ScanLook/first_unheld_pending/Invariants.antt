@@ -1,6 +1,4 @@
-use Rattle.std.proofs.Common.{◌≡◌, drop}
-use Rattle.std.specs.Prelude.{find}
-use Rattle.np_look.specs.Readers.{is_unheld_pending}
+use Rattle.np_look.proofs.Prelude.{drop, find, is_unheld_pending, ◌≡◌}
 use Rattle.np_look.proofs.scan.ScanLook.first_unheld_pending.Given as goal
 
 abbrev pub invariant-loop-at : goal.invariant-loop-at

@@ -1,9 +1,5 @@
-use Rattle.std.proofs.Common.{◌≡◌, ◌∙◌, ap, sym, refl, true, false, Option, Some, None, add-one}
-use Rattle.np_changes.specs.Prelude.{NodeEntry, is_spare, option_map}
-use Rattle.np_look.specs.Views.{node_view, node_seen}
-use Rattle.np_look.specs.declared.asked.NodeView.{NodeView}
-use Rattle.np_look.proofs.Seen.{spare-seen}
-use Rattle.np_look.proofs.Walks.{passed_here, passed_later, passed_over}
+use Rattle.np_look.proofs.Prelude.{NodeEntry, NodeView, None, Option, Some, add-one, ap, false, is_spare, node_seen, node_view, option_map, refl, sym, true, ◌∙◌, ◌≡◌}
+use Rattle.np_look.proofs.Looks.{passed_here, passed_later, passed_over, spare-seen}
 use Rattle.np_look.proofs.scan.ScanLook.free_ready.Goals as goal
 
 pub returns-then-left-eq0 : goal.returns-then-left-eq0

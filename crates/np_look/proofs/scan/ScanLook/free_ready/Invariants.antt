@@ -1,6 +1,4 @@
-use Rattle.std.proofs.Common.{◌≡◌, drop}
-use Rattle.std.specs.Prelude.{filter, slice_get}
-use Rattle.np_machine.specs.Reasons.{is_spare}
+use Rattle.np_look.proofs.Prelude.{drop, filter, is_spare, slice_get, ◌≡◌}
 use Rattle.np_look.proofs.scan.ScanLook.free_ready.Given as goal
 
 abbrev pub invariant-loop-place : goal.invariant-loop-place

@@ -1,8 +1,5 @@
-use Rattle.std.proofs.Common.{◌≡◌, ◌∙◌, sym, true, false, add-one, refl, Some}
-use Rattle.std.specs.Prelude.{◌&&◌, slice_get}
-use Rattle.np_changes.specs.Prelude.{SessionFacts, is_requesters}
-use Rattle.np_look.proofs.Seen.{session-there}
-use Rattle.np_look.proofs.Walks.{any_found, any_later, as_it_is}
+use Rattle.np_look.proofs.Prelude.{SessionFacts, Some, add-one, false, is_requesters, refl, slice_get, sym, true, ◌&&◌, ◌∙◌, ◌≡◌}
+use Rattle.np_look.proofs.Looks.{any_found, any_later, as_it_is, session-there}
 use Rattle.np_look.proofs.scan.ScanLook.has_live_session.Goals as goal
 
 pub returns-then-is_live_of : goal.returns-then-is_live_of

@@ -1,7 +1,4 @@
-use Rattle.std.proofs.Common.{◌≡◌, drop}
-use Rattle.np_changes.specs.Prelude.{is_requesters, list_any}
-use Rattle.std.proofs.Common.{Some}
-use Rattle.std.specs.Prelude.{◌&&◌}
+use Rattle.np_look.proofs.Prelude.{Some, drop, is_requesters, list_any, ◌&&◌, ◌≡◌}
 use Rattle.np_look.proofs.scan.ScanLook.has_live_session.Given as goal
 
 abbrev pub invariant-loop-at : goal.invariant-loop-at

@@ -1,9 +1,5 @@
-use Rattle.std.proofs.Common.{◌≡◌, ◌∙◌, sym, true, false, add-one, refl}
-use Rattle.np_machine.specs.Entries.{RequestEntry}
-use Rattle.np_look.specs.Readers.{is_under_way_by}
-use Rattle.np_look.specs.Views.{request_view}
-use Rattle.np_look.specs.declared.asked.RequestView.{RequestView}
-use Rattle.np_look.proofs.Walks.{any_found, any_later}
+use Rattle.np_look.proofs.Prelude.{RequestEntry, RequestView, add-one, false, is_under_way_by, refl, request_view, sym, true, ◌∙◌, ◌≡◌}
+use Rattle.np_look.proofs.Looks.{any_found, any_later}
 use Rattle.np_look.proofs.scan.ScanLook.has_request_under_way.Goals as goal
 
 pub returns-then-is_under_way_by : goal.returns-then-is_under_way_by

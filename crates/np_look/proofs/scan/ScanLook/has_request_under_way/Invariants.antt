@@ -1,6 +1,4 @@
-use Rattle.std.proofs.Common.{◌≡◌, drop}
-use Rattle.np_changes.specs.Prelude.{RequestEntry, list_any}
-use Rattle.np_look.specs.Readers.{is_under_way_by, has_request_under_way}
+use Rattle.np_look.proofs.Prelude.{RequestEntry, drop, has_request_under_way, is_under_way_by, list_any, ◌≡◌}
 use Rattle.np_look.proofs.scan.ScanLook.has_request_under_way.Given as goal
 
 abbrev pub invariant-loop-at : goal.invariant-loop-at

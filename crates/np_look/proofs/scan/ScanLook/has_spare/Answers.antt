@@ -1,8 +1,5 @@
-use Rattle.std.proofs.Common.{◌≡◌, ◌∙◌, sym, true, false, add-one}
-use Rattle.np_machine.specs.Reasons.{is_spare}
-use Rattle.np_look.specs.Views.{node_view, node_seen}
-use Rattle.np_look.proofs.Seen.{spare-seen}
-use Rattle.np_look.proofs.Walks.{any_found, any_later}
+use Rattle.np_look.proofs.Prelude.{add-one, false, is_spare, node_seen, node_view, sym, true, ◌∙◌, ◌≡◌}
+use Rattle.np_look.proofs.Looks.{any_found, any_later, spare-seen}
 use Rattle.np_look.proofs.scan.ScanLook.has_spare.Goals as goal
 
 pub returns-then-is_spare : goal.returns-then-is_spare

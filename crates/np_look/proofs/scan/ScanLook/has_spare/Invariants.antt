@@ -1,5 +1,4 @@
-use Rattle.std.proofs.Common.{◌≡◌, drop}
-use Rattle.np_changes.specs.Prelude.{is_spare, list_any}
+use Rattle.np_look.proofs.Prelude.{drop, is_spare, list_any, ◌≡◌}
 use Rattle.np_look.proofs.scan.ScanLook.has_spare.Given as goal
 
 abbrev pub invariant-loop-at : goal.invariant-loop-at

@@ -1,7 +1,5 @@
-use Rattle.std.proofs.Common.{◌≡◌, ◌∙◌, sym, true, false, add-one, refl}
-use Rattle.np_machine.specs.Request.{is_spent_min_ready}
-use Rattle.np_look.specs.Views.{request_view, request_seen}
-use Rattle.np_look.proofs.Walks.{any_found, any_later}
+use Rattle.np_look.proofs.Prelude.{add-one, false, is_spent_min_ready, refl, request_seen, request_view, sym, true, ◌∙◌, ◌≡◌}
+use Rattle.np_look.proofs.Looks.{any_found, any_later}
 use Rattle.np_look.proofs.scan.ScanLook.has_spent_min_ready.Goals as goal
 
 pub returns-then-is_spent_min_ready : goal.returns-then-is_spent_min_ready

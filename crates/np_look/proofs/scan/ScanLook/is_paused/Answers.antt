@@ -1,9 +1,5 @@
-use Rattle.std.proofs.Common.{◌≡◌, ◌∙◌, sym, refl, add-one, Some, None}
-use Rattle.np_machine.specs.Reasons.{is_stuck}
-use Rattle.np_look.specs.Views.{request_view, request_seen}
-use Rattle.np_look.specs.Readers.{short_label}
-use Rattle.np_look.proofs.Walks.{any_found, any_later}
-use Rattle.np_look.proofs.Seen.{stuck-none, stuck-pinned, stuck-bare, stuck-spared}
+use Rattle.np_look.proofs.Prelude.{None, Some, add-one, is_stuck, refl, request_seen, request_view, short_label, sym, ◌∙◌, ◌≡◌}
+use Rattle.np_look.proofs.Looks.{any_found, any_later, stuck-bare, stuck-none, stuck-pinned, stuck-spared}
 use Rattle.np_look.proofs.scan.ScanLook.is_paused.Goals as goal
 
 pub loop-at-preserved-in_default-short_label : goal.loop-at-preserved-in_default-short_label

@@ -1,7 +1,4 @@
-use Rattle.std.proofs.Common.{◌≡◌, drop}
-use Rattle.std.specs.Prelude.{slice_get}
-use Rattle.np_look.specs.Jobs.{is_job_to_finish}
-use Rattle.np_look.specs.Readers.{jobs_from}
+use Rattle.np_look.proofs.Prelude.{drop, is_job_to_finish, jobs_from, slice_get, ◌≡◌}
 use Rattle.np_look.proofs.scan.ScanLook.job_to_finish.Given as goal
 
 abbrev pub invariant-loop-number : goal.invariant-loop-number

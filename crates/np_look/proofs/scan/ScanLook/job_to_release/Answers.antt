@@ -1,6 +1,5 @@
-use Rattle.std.proofs.Common.{◌≡◌, ◌∙◌, sym, true, false, add-one}
-use Rattle.np_look.specs.Jobs.{is_job_to_release}
-use Rattle.np_look.proofs.Placed.{job-here, job-later, job-over}
+use Rattle.np_look.proofs.Prelude.{add-one, false, is_job_to_release, sym, true, ◌∙◌, ◌≡◌}
+use Rattle.np_look.proofs.Looks.{job-here, job-later, job-over}
 use Rattle.np_look.proofs.scan.ScanLook.job_to_release.Goals as goal
 
 pub returns-then-left-eq0 : goal.returns-then-left-eq0

@@ -1,12 +1,7 @@
-use Rattle.std.proofs.Common.{◌≡◌, ◌∙◌, ◌≤◌, sym, refl, Bool, true, false, add-one, length, arith}
-use Rattle.std.specs.Prelude.{◌&&◌}
-use Rattle.np_changes.specs.Prelude.{NodeEntry, is_queued, node_queue}
-use Rattle.np_look.specs.Given.{is_given_to, is_to_leave}
-use Rattle.np_look.specs.Views.{node_view, node_seen}
-use Rattle.np_look.specs.declared.asked.NodeView.{NodeView}
-use Rattle.np_look.proofs.Walks.{listed_here, listed_past, passed_later, passed_over}
-use Rattle.np_look.proofs.scan.ScanLook.node_to_leave.Goals as goal
+use Rattle.np_look.proofs.Prelude.{NodeEntry, NodeView, add-one, arith, false, is_given_to, is_queued, is_to_leave, length, node_queue, node_seen, node_view, refl, sym, true, ◌&&◌, ◌∙◌, ◌≡◌, ◌≤◌}
+use Rattle.np_look.proofs.Looks.{listed_here, listed_past, passed_later, passed_over}
 use Rattle.np_look.proofs.scan.ScanLook.node_to_leave.Goals.{then-not-waits_at_node-via-then-not-waits_at_node, then-not-waits_at_node-via-else-not-waits_at_node+then-is_given_to}
+use Rattle.np_look.proofs.scan.ScanLook.node_to_leave.Goals as goal
 
 pub loop-place-preserved-then-not-waits_at_node : goal.loop-place-preserved-then-not-waits_at_node
 loop-place-preserved-then-not-waits_at_node g c =

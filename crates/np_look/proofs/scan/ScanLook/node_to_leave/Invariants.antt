@@ -1,6 +1,4 @@
-use Rattle.std.proofs.Common.{◌≡◌, drop}
-use Rattle.std.specs.Prelude.{filter, slice_get}
-use Rattle.np_look.specs.Given.{is_to_leave}
+use Rattle.np_look.proofs.Prelude.{drop, filter, is_to_leave, slice_get, ◌≡◌}
 use Rattle.np_look.proofs.scan.ScanLook.node_to_leave.Given as goal
 
 abbrev pub invariant-loop-place : goal.invariant-loop-place

@@ -1,14 +1,7 @@
-use Rattle.std.proofs.Common.{◌≡◌, ◌∙◌, ◌≤◌, sym, refl, ap, Bool, true, false, add-one, length, arith, None}
-use Rattle.std.specs.Prelude.{◌&&◌, find, drop}
-use Rattle.np_changes.specs.Prelude.{NodeEntry, is_queued, node_queue, option_map}
-use Rattle.std.proofs.lemmas.Option.{slice_get_past}
-use Rattle.np_look.specs.Given.{is_given_to, is_to_lock}
-use Rattle.np_look.specs.Views.{node_view, node_seen}
-use Rattle.np_look.specs.declared.asked.NodeView.{NodeView}
-use Rattle.np_look.proofs.Walks.{found_here, found_later}
-use Rattle.np_look.proofs.scan.ScanLook.node_to_lock.Goals as goal
+use Rattle.np_look.proofs.Prelude.{NodeEntry, NodeView, None, add-one, ap, arith, drop, drop-past, false, find, is_given_to, is_queued, is_to_lock, length, node_queue, node_seen, node_view, option_map, refl, slice_get_past, sym, true, ◌&&◌, ◌∙◌, ◌≡◌, ◌≤◌}
+use Rattle.np_look.proofs.Looks.{found_here, found_later}
 use Rattle.np_look.proofs.scan.ScanLook.node_to_lock.Goals.{else-is_given_to-via-then-is_given_to+else-not-waits_at_node, else-is_given_to-via-else-is_given_to}
-use Rattle.np_lists.proofs.Plain.{drop-past}
+use Rattle.np_look.proofs.scan.ScanLook.node_to_lock.Goals as goal
 
 pub returns-then-not-waits_at_node : goal.returns-then-not-waits_at_node
 returns-then-not-waits_at_node g c =

@@ -1,6 +1,4 @@
-use Rattle.std.proofs.Common.{◌≡◌, drop}
-use Rattle.std.specs.Prelude.{find}
-use Rattle.np_look.specs.Given.{is_to_lock}
+use Rattle.np_look.proofs.Prelude.{drop, find, is_to_lock, ◌≡◌}
 use Rattle.np_look.proofs.scan.ScanLook.node_to_lock.Given as goal
 
 abbrev pub invariant-loop-at : goal.invariant-loop-at

@@ -1,7 +1,5 @@
-use Rattle.std.proofs.Common.{◌≡◌, ◌∙◌, ℕ, sym, ap, true, false, get_or, arith, below_more, Option}
-use Rattle.np_changes.specs.Prelude.{is_marked, new_job, option_map}
-use Rattle.std.proofs.lemmas.Option.{slice_get_within, get_or_from_slice_get}
-use Rattle.np_look.proofs.OwnerLemmas.{position-at, position-nowhere}
+use Rattle.np_look.proofs.Prelude.{Option, ap, arith, below_more, false, get_or, get_or_from_slice_get, is_marked, new_job, option_map, slice_get_within, sym, true, ℕ, ◌∙◌, ◌≡◌}
+use Rattle.np_look.proofs.Looks.{position-at, position-nowhere}
 use Rattle.np_look.proofs.scan.ScanLook.owner.Goals as goal
 
 pub returns-then-is_marked : goal.returns-then-is_marked

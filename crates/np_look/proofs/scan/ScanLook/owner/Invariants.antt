@@ -1,5 +1,4 @@
-use Rattle.std.proofs.Common.{◌≡◌, ◌<◌, ℕ, false, get_or}
-use Rattle.np_changes.specs.Prelude.{is_marked, new_job}
+use Rattle.np_look.proofs.Prelude.{false, get_or, is_marked, new_job, ℕ, ◌<◌, ◌≡◌}
 use Rattle.np_look.proofs.scan.ScanLook.owner.Given as goal
 
 abbrev pub invariant-loop-at : goal.invariant-loop-at

@@ -1,8 +1,5 @@
-use Rattle.std.proofs.Common.{◌≡◌, ◌<◌, ◌≤◌, sym, refl, cond, add-one, length, arith}
-use Rattle.np_changes.specs.Prelude.{RequestEntry, is_pending_by}
-use Rattle.np_look.specs.Views.{request_view}
-use Rattle.np_look.specs.declared.asked.RequestView.{RequestView}
-use Rattle.np_look.proofs.Walks.{count_here, none_there, counted}
+use Rattle.np_look.proofs.Prelude.{RequestEntry, RequestView, add-one, arith, cond, is_pending_by, length, refl, request_view, sym, ◌<◌, ◌≡◌, ◌≤◌}
+use Rattle.np_look.proofs.Looks.{count_here, none_there, counted}
 use Rattle.np_look.proofs.scan.ScanLook.pending_requests.Goals as goal
 
 pub returns-in_default : goal.returns-in_default

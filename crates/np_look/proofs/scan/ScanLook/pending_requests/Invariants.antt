@@ -1,6 +1,4 @@
-use Rattle.std.proofs.Common.{◌≡◌, ◌≤◌, ◌+◌, drop}
-use Rattle.std.specs.Prelude.{count_by}
-use Rattle.np_changes.specs.Prelude.{RequestEntry, is_pending_by}
+use Rattle.np_look.proofs.Prelude.{RequestEntry, count_by, drop, is_pending_by, ◌+◌, ◌≡◌, ◌≤◌}
 use Rattle.np_look.proofs.scan.ScanLook.pending_requests.Given as goal
 
 abbrev pub invariant-loop-at : goal.invariant-loop-at

@@ -1,7 +1,5 @@
-use Rattle.std.proofs.Common.{◌≡◌, ◌<◌, sym, refl, cond, add-one, length, arith}
-use Rattle.np_machine.specs.Request.{is_free_ready, is_coming}
-use Rattle.np_look.specs.Views.{request_view, node_view, request_seen, node_seen}
-use Rattle.np_look.proofs.Walks.{count_here, none_there}
+use Rattle.np_look.proofs.Prelude.{add-one, arith, cond, is_coming, is_free_ready, length, node_seen, node_view, refl, request_seen, request_view, sym, ◌<◌, ◌≡◌}
+use Rattle.np_look.proofs.Looks.{count_here, none_there}
 use Rattle.np_look.proofs.scan.ScanLook.ready_count.Goals as goal
 
 pub loop-at-preserved : goal.loop-at-preserved

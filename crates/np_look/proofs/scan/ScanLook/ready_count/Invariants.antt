@@ -1,6 +1,4 @@
-use Rattle.std.proofs.Common.{◌≡◌, ◌≤◌, ◌+◌, drop}
-use Rattle.std.specs.Prelude.{count_by}
-use Rattle.np_machine.specs.Request.{is_free_ready, is_coming, ready_count}
+use Rattle.np_look.proofs.Prelude.{count_by, drop, is_coming, is_free_ready, ready_count, ◌+◌, ◌≡◌, ◌≤◌}
 use Rattle.np_look.proofs.scan.ScanLook.ready_count.Given as goal
 
 abbrev pub invariant-loop-at : goal.invariant-loop-at

@@ -1,6 +1,5 @@
-use Rattle.std.proofs.Common.{◌≡◌, ◌∙◌, sym, true, false, add-one}
-use Rattle.np_look.specs.Readers.{is_unfinished_job}
-use Rattle.np_look.proofs.Placed.{job-here, job-later, job-over}
+use Rattle.np_look.proofs.Prelude.{add-one, false, is_unfinished_job, sym, true, ◌∙◌, ◌≡◌}
+use Rattle.np_look.proofs.Looks.{job-here, job-later, job-over}
 use Rattle.np_look.proofs.scan.ScanLook.unfinished.Goals as goal
 
 pub returns-then-left-eq0 : goal.returns-then-left-eq0

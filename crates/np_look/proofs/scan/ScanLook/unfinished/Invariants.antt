@@ -1,6 +1,4 @@
-use Rattle.std.proofs.Common.{◌≡◌, drop}
-use Rattle.std.specs.Prelude.{slice_get}
-use Rattle.np_look.specs.Readers.{jobs_from, is_unfinished_job}
+use Rattle.np_look.proofs.Prelude.{drop, is_unfinished_job, jobs_from, slice_get, ◌≡◌}
 use Rattle.np_look.proofs.scan.ScanLook.unfinished.Given as goal
 
 abbrev pub invariant-loop-number : goal.invariant-loop-number

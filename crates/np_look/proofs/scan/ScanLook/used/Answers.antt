@@ -1,10 +1,5 @@
-use Rattle.std.proofs.Common.{◌≡◌, ◌∙◌, ◌+◌, sym, ap, refl}
-use Rattle.std.specs.Prelude.{◌==◌}
-use Rattle.np_changes.specs.Prelude.{NodeEntry, amount_of}
-use Rattle.np_look.specs.Readers.{amount_at}
-use Rattle.np_look.specs.Views.{node_view, node_seen}
-use Rattle.np_look.specs.declared.asked.NodeView.{NodeView}
-use Rattle.np_look.proofs.Used.{total_seen, few-plus}
+use Rattle.np_look.proofs.Prelude.{NodeEntry, NodeView, amount_at, amount_of, ap, node_seen, node_view, refl, sym, ◌+◌, ◌==◌, ◌∙◌, ◌≡◌}
+use Rattle.np_look.proofs.Looks.{total_seen, few-plus}
 use Rattle.np_look.proofs.scan.ScanLook.used.Goals as goal
 
 pub loop-at-preserved : goal.loop-at-preserved

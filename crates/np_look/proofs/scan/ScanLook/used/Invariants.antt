@@ -1,6 +1,4 @@
-use Rattle.std.proofs.Common.{◌≡◌, map, take}
-use Rattle.std.specs.Prelude.{filter, ◌==◌}
-use Rattle.np_changes.specs.Prelude.{IsFew, amount_of, total}
+use Rattle.np_look.proofs.Prelude.{IsFew, amount_of, filter, map, take, total, ◌==◌, ◌≡◌}
 use Rattle.np_look.proofs.scan.ScanLook.used.Given as goal
 
 abbrev pub invariant-loop-at : goal.invariant-loop-at

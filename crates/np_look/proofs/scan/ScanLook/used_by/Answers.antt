@@ -1,10 +1,5 @@
-use Rattle.std.proofs.Common.{◌≡◌, ◌∙◌, ◌+◌, ◌*◌, sym, ap, refl, arith}
-use Rattle.np_changes.specs.Prelude.{NodeEntry, amount_of_node, is_pending_of, is_tenant, rest_of_request}
-use Rattle.np_look.specs.Readers.{amount_for, rest_for}
-use Rattle.np_look.specs.Views.{node_view, node_seen, request_view, request_seen}
-use Rattle.np_look.specs.declared.asked.NodeView.{NodeView}
-use Rattle.np_look.specs.declared.asked.RequestView.{RequestView}
-use Rattle.np_look.proofs.Used.{total_seen, few-plus}
+use Rattle.np_look.proofs.Prelude.{NodeEntry, NodeView, RequestView, amount_for, amount_of_node, ap, arith, is_pending_of, is_tenant, node_seen, node_view, refl, request_seen, request_view, rest_for, rest_of_request, sym, ◌*◌, ◌+◌, ◌∙◌, ◌≡◌}
+use Rattle.np_look.proofs.Looks.{total_seen, few-plus}
 use Rattle.np_look.proofs.scan.ScanLook.used_by.Goals as goal
 
 pub loop-at-preserved : goal.loop-at-preserved

@@ -1,6 +1,4 @@
-use Rattle.std.proofs.Common.{◌≡◌, ◌*◌, map, take}
-use Rattle.std.specs.Prelude.{filter}
-use Rattle.np_changes.specs.Prelude.{IsFew, amount_of_node, is_pending_of, is_tenant, rest_of_request, total}
+use Rattle.np_look.proofs.Prelude.{IsFew, amount_of_node, filter, is_pending_of, is_tenant, map, rest_of_request, take, total, ◌*◌, ◌≡◌}
 use Rattle.np_look.proofs.scan.ScanLook.used_by.Given as goal
 
 abbrev pub invariant-loop-at : goal.invariant-loop-at

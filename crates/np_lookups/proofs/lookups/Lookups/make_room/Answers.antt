@@ -1,7 +1,7 @@
 use Rattle.np_lookups.proofs.Prelude.{AreLookupsOf, subst, sym}
-use Rattle.np_lookups.proofs.Room.{requests-more, nodes-more}
-use Rattle.np_lookups.proofs.lookups.Lookups.make_room.Goals as goal
+use Rattle.np_lookups.proofs.QueueLemmas.{requests-more, nodes-more}
 use Rattle.np_lookups.proofs.lookups.Lookups.make_room.Goals.{then-len-wanted+in_ok-push, else-len-wanted}
+use Rattle.np_lookups.proofs.lookups.Lookups.make_room.Goals as goal
 
 pub returns-in_ok-push-2-clause-same : goal.returns-in_ok-push-2-clause-same
 returns-in_ok-push-2-clause-same c = λ config s is.

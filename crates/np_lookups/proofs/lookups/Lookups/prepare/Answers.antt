@@ -1,5 +1,5 @@
 use Rattle.np_lookups.proofs.Prelude.{AreLookupsOf, HasRoom, ap, holder_at, queue_at, refl, subst, sym, ◌∙◌}
-use Rattle.np_lookups.proofs.Settled.{ends-same, lookups-after}
+use Rattle.np_lookups.proofs.LookupLemmas.{ends-same, lookups-after}
 use Rattle.np_lookups.proofs.lookups.Lookups.prepare.Goals as goal
 
 pub returns-clause-ok : goal.returns-clause-ok

@@ -1,5 +1,5 @@
-use Rattle.np_lookups.proofs.OpenPrelude.{JobId, List, Member, Past, Rank, ap, subst, ◌∙◌}
-use Rattle.np_lookups.proofs.NoteLemmas.{Moves, open-noted}
+use Rattle.np_lookups.proofs.Prelude.{JobId, List, Member, Past, Rank, ap, subst, ◌∙◌}
+use Rattle.np_lookups.proofs.Members.{Moves, open-noted}
 use Rattle.np_lookups.proofs.requests.Open.note.Goals as goal
 
 pub returns : goal.returns

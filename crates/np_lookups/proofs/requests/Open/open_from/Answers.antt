@@ -1,5 +1,5 @@
-use Rattle.np_lookups.proofs.OpenPrelude.{Group, IsRunEnd, List, Member, Rank, Some, ap, closed_group, has_member, is_closed_rank, ranks_of, same_rank, slice_get, subst, sym, true, ◌∙◌, ◌≡◌}
-use Rattle.np_lookups.proofs.RunLemmas.{open-after}
+use Rattle.np_lookups.proofs.Prelude.{Group, IsRunEnd, List, Member, Rank, Some, ap, closed_group, has_member, is_closed_rank, ranks_of, same_rank, slice_get, subst, sym, true, ◌∙◌, ◌≡◌}
+use Rattle.np_lookups.proofs.LineLemmas.{open-after}
 use Rattle.np_lookups.proofs.requests.Open.open_from.Goals as goal
 
 pub returns : goal.returns

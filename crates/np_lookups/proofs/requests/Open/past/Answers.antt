@@ -1,5 +1,5 @@
-use Rattle.np_lookups.proofs.OpenPrelude.{ap, sym, ◌∙◌}
-use Rattle.np_lookups.proofs.PastLemmas.{past-there, past-not_there, past-end}
+use Rattle.np_lookups.proofs.Prelude.{ap, sym, ◌∙◌}
+use Rattle.np_lookups.proofs.LineLemmas.{past-there, past-not_there, past-end}
 use Rattle.np_lookups.proofs.requests.Open.past.Goals.{else-before-count-via-then-before-count+else-has, else-before-count-via-else-before-count}
 use Rattle.np_lookups.proofs.requests.Open.past.Goals as goal
 

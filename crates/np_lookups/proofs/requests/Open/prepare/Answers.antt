@@ -1,4 +1,4 @@
-use Rattle.np_lookups.proofs.NoteLemmas.{is-prepared}
+use Rattle.np_lookups.proofs.Members.{is-prepared}
 use Rattle.np_lookups.proofs.requests.Open.prepare.Goals as goal
 
 pub returns-clause-prepared : goal.returns-clause-prepared

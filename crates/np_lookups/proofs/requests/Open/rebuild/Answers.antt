@@ -1,5 +1,5 @@
-use Rattle.np_lookups.proofs.OpenPrelude.{sym}
-use Rattle.np_lookups.proofs.RebuildLemmas.{open-rebuilt}
+use Rattle.np_lookups.proofs.Prelude.{sym}
+use Rattle.np_lookups.proofs.Members.{open-rebuilt}
 use Rattle.np_lookups.proofs.requests.Open.rebuild.Goals as goal
 
 pub returns : goal.returns

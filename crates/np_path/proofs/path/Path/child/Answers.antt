@@ -1,7 +1,4 @@
-use Rattle.std.proofs.Common.{◌≡◌, sym, ap, ◌∙◌, length, ◌++◌}
-use Rattle.std.specs.String.{string_bytes}
-use Rattle.np_path.specs.Grammar.{is_element}
-use Rattle.np_path.specs.Parts.{slashed}
+use Rattle.np_path.proofs.Prelude.{ap, is_element, length, slashed, string_bytes, sym, ◌++◌, ◌∙◌, ◌≡◌}
 use Rattle.np_path.proofs.PartsLemmas.{IsNameAt-below}
 use Rattle.np_path.proofs.path.Path.child.Goals as goal
 

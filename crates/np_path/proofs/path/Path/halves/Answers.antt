@@ -1,8 +1,4 @@
-use Rattle.std.proofs.Common.{sym, ap, ◌∙◌, take, drop, ◌-◌, arith}
-use Rattle.std.proofs.lemmas.List.{take-take}
-use Rattle.std.specs.List.{before_last}
-use Rattle.np_path.specs.Grammar.{is_slash}
-use Rattle.np_path.specs.Parts.{name_of}
+use Rattle.np_path.proofs.Prelude.{ap, arith, before_last, drop, is_slash, name_of, sym, take, take-take, ◌-◌, ◌∙◌}
 use Rattle.np_path.proofs.PartsLemmas.{before_last-at, name_of-at}
 use Rattle.np_path.proofs.path.Path.halves.Goals as goal
 

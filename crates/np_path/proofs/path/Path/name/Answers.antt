@@ -1,6 +1,5 @@
-use Rattle.std.proofs.Common.{sym, ap, ◌∙◌, drop}
+use Rattle.np_path.proofs.Prelude.{ap, drop, name_of, sym, ◌∙◌}
 use Rattle.np_path.proofs.PartsLemmas.{name_of-at, name_boundary}
-use Rattle.np_path.specs.Parts.{name_of}
 use Rattle.np_path.proofs.path.Path.name.Goals as goal
 
 pub split_at-requires : goal.split_at-requires

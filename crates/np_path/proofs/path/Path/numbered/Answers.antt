@@ -1,10 +1,4 @@
-use Rattle.std.proofs.Common.{◌≡◌, ap, sym, ◌∙◌, length, take, get_or, [], ◌∷◌, ◌++◌, arith}
-use Rattle.std.proofs.Math.Utf8.{encode}
-use Rattle.std.proofs.lemmas.Str.{encode_ascii}
-use Rattle.std.proofs.lemmas.List.{append_assoc, take_all, take_more}
-use Rattle.std.specs.String.{string_bytes}
-use Rattle.np_text.specs.Number.{ten_digits_of}
-use Rattle.np_path.specs.Parts.{slashed}
+use Rattle.np_path.proofs.Prelude.{ap, append_assoc, arith, encode, encode_ascii, get_or, length, slashed, string_bytes, sym, take, take_all, take_more, ten_digits_of, [], ◌++◌, ◌∙◌, ◌∷◌, ◌≡◌}
 use Rattle.np_path.proofs.PartsLemmas.{IsNameAt-below, is_element-numbered, ten_are_ascii}
 use Rattle.np_path.proofs.path.Path.numbered.Goals as goal
 

@@ -1,5 +1,4 @@
-use Rattle.std.proofs.Common.{◌≡◌, ◌++◌, take}
-use Rattle.std.specs.String.{string_bytes}
+use Rattle.np_path.proofs.Prelude.{string_bytes, take, ◌++◌, ◌≡◌}
 use Rattle.np_path.proofs.path.Path.numbered.Given as goal
 
 abbrev pub invariant-loop-digit : goal.invariant-loop-digit

@@ -1,7 +1,5 @@
-use Rattle.std.proofs.Common.{sym, ap, ◌∙◌, Some, take, length, subst, arith, ◌<◌, ℕ, ◌-◌}
+use Rattle.np_path.proofs.Prelude.{IsNameAt, Some, ap, arith, length, parent_of, string_bytes, subst, sym, take, ℕ, ◌-◌, ◌<◌, ◌∙◌}
 use Rattle.np_path.proofs.PartsLemmas.{parent_of-child_of_root, parent_of-deeper, root_boundary, take_one}
-use Rattle.std.specs.String.{string_bytes}
-use Rattle.np_path.specs.Parts.{IsNameAt, parent_of}
 use Rattle.np_path.proofs.path.Path.parent.Goals as goal
 
 pub split_at-requires : goal.split_at-requires

@@ -1,4 +1,4 @@
-use Rattle.np_desk.specs.Pass.{sight_of}
+use Rattle.np_rounds.proofs.Prelude.{sight_of}
 use Rattle.np_rounds.proofs.PlainLemmas.{no_other}
 use Rattle.np_rounds.proofs.plain.PlainTurnsTurns.turn.Goals as goal
 

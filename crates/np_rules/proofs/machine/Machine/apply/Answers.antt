@@ -1,9 +1,5 @@
 -- one more entry with the machine's reply
-use Rattle.std.proofs.Common.{◌≡◌, ◌<◌, ◌+◌, ◌++◌, ◌∷◌, [], ◌∙◌, List, length, ap, sym, subst, true, arith}
-use Rattle.std.proofs.lemmas.Bool.Decides.{nat_tests}
-use Rattle.np_event.specs.declared.entry.Entry.{Entry}
-use Rattle.np_rules.specs.Running.{Running, ran_of}
-use Rattle.np_rules.specs.RunsOn.{has_room_after}
+use Rattle.np_rules.proofs.Prelude.{Entry, List, Running, ap, arith, has_room_after, length, nat_tests, ran_of, subst, sym, true, [], ◌++◌, ◌+◌, ◌<◌, ◌∙◌, ◌∷◌, ◌≡◌}
 use Rattle.np_rules.proofs.RunLemmas.{RunsOn-reached, RunsOn-fits, RunsOn-next}
 use Rattle.np_rules.proofs.machine.Machine.apply.Goals as goal
 

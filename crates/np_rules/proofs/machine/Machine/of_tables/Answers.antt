@@ -1,6 +1,4 @@
-use Rattle.std.proofs.Common.{subst}
-use Rattle.np_changes.specs.Fits.{IsFitSite}
-use Rattle.np_changes.proofs.Sites.{sound_fits}
+use Rattle.np_rules.proofs.Prelude.{IsFitSite, sound_fits, subst}
 use Rattle.np_rules.proofs.RunLemmas.{RunsOn-reached, RunsOn-fits}
 use Rattle.np_rules.proofs.machine.Machine.of_tables.Goals as goal
 

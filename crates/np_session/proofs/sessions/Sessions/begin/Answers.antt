@@ -1,8 +1,4 @@
-use Rattle.std.proofs.Common.{◌-◌, vec_capacity, [], ◌∷◌, ◌++◌, length, ap, ◌∙◌, arith}
-use Rattle.std.proofs.lemmas.List.{length_push}
-use Rattle.np_session.specs.Known.{after_begin, with_spare}
-use Rattle.np_session.specs.Numbers.{is_live, known_of}
-use Rattle.np_session.specs.declared.sessions.Life.TheVariants.{Live}
+use Rattle.np_session.proofs.Prelude.{Live, after_begin, ap, arith, is_live, known_of, length, length_push, vec_capacity, with_spare, [], ◌++◌, ◌-◌, ◌∙◌, ◌∷◌}
 use Rattle.np_session.proofs.NumbersLemmas.{known_of-push, length-numbers, length-push_live}
 use Rattle.np_session.proofs.sessions.Sessions.begin.Goals as goal
 

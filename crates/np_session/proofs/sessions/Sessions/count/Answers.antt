@@ -1,5 +1,4 @@
-use Rattle.std.proofs.Common.{◌-◌, subst, length, vec_capacity}
-use Rattle.np_session.specs.Known.{IsKnown, Known}
+use Rattle.np_session.proofs.Prelude.{IsKnown, Known, length, subst, vec_capacity, ◌-◌}
 use Rattle.np_session.proofs.NumbersLemmas.{IsKnown-known_of}
 use Rattle.np_session.proofs.sessions.Sessions.count.Goals as goal
 

@@ -1,8 +1,4 @@
-use Rattle.std.proofs.Common.{◌≡◌, ◌-◌, true, vec_capacity, set, sym, ap, ◌∙◌, refl, arith}
-use Rattle.std.proofs.lemmas.List.{length-set}
-use Rattle.np_session.specs.Known.{after_end}
-use Rattle.np_session.specs.Numbers.{is_live, known_of, life_of}
-use Rattle.np_session.specs.declared.sessions.Life.TheVariants.{Over}
+use Rattle.np_session.proofs.Prelude.{Over, after_end, ap, arith, is_live, known_of, length-set, life_of, refl, set, sym, true, vec_capacity, ◌-◌, ◌∙◌, ◌≡◌}
 use Rattle.np_session.proofs.NumbersLemmas.{HasPlace-passes, is_in-live, known_of-over, length-over}
 use Rattle.np_session.proofs.sessions.Sessions.end.Goals as goal
 

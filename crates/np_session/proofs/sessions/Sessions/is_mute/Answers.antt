@@ -1,4 +1,4 @@
-use Rattle.std.proofs.Common.{◌∙◌}
+use Rattle.np_session.proofs.Prelude.{◌∙◌}
 use Rattle.np_session.proofs.NumbersLemmas.{is_in-mute}
 use Rattle.np_session.proofs.sessions.Sessions.is_mute.Goals as goal
 

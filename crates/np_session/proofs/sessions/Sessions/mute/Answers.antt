@@ -1,11 +1,7 @@
-use Rattle.std.proofs.Common.{◌≡◌, ◌-◌, true, vec_capacity, length, set, sym, ap, ◌∙◌, refl, arith}
-use Rattle.std.proofs.lemmas.List.{length-set}
-use Rattle.np_session.specs.Known.{after_mute}
-use Rattle.np_session.specs.Numbers.{is_live, known_of, life_of}
-use Rattle.np_session.specs.declared.sessions.Life.TheVariants.{Mute}
+use Rattle.np_session.proofs.Prelude.{Mute, after_mute, ap, arith, is_live, known_of, length, length-set, life_of, refl, set, sym, true, vec_capacity, ◌-◌, ◌∙◌, ◌≡◌}
 use Rattle.np_session.proofs.NumbersLemmas.{HasPlace-passes, is_in-live, is_in-mute, known_of-mute, may_mute, mute_already, not_live, numbers-mute}
-use Rattle.np_session.proofs.sessions.Sessions.mute.Goals as goal
 use Rattle.np_session.proofs.sessions.Sessions.mute.Goals.{then-not-is_live-via-then-not-is_live, then-not-is_live-via-else-not-is_live+then-is_mute}
+use Rattle.np_session.proofs.sessions.Sessions.mute.Goals as goal
 
 pub returns-then-not-is_live-clause-answer : goal.returns-then-not-is_live-clause-answer
 returns-then-not-is_live-clause-answer c =

@@ -1,5 +1,5 @@
-use Rattle.std.proofs.Common.{◌∙◌, ap, sym}
-use Rattle.np_spelling.proofs.CursorLemmas.{fixed_other}
+use Rattle.np_spelling.proofs.Prelude.{ap, sym, ◌∙◌}
+use Rattle.np_spelling.proofs.Readers.{fixed_other}
 use Rattle.np_spelling.proofs.cursor.Cursor.fixed.Goals as goal
 
 pub returns-in_err-value : goal.returns-in_err-value

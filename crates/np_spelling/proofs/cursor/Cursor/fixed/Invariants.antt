@@ -1,5 +1,4 @@
-use Rattle.std.specs.Prelude.{◌≡◌, drop}
-use Rattle.np_spelling.specs.Reading.{fixed}
+use Rattle.np_spelling.proofs.Prelude.{drop, fixed, ◌≡◌}
 use Rattle.np_spelling.proofs.cursor.Cursor.fixed.Given as goal
 
 abbrev pub invariant-loop-limit : goal.invariant-loop-limit

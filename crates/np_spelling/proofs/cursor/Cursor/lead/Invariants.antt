@@ -1,5 +1,4 @@
-use Rattle.std.specs.Prelude.{◌≡◌, drop}
-use Rattle.np_spelling.specs.Reading.{lead}
+use Rattle.np_spelling.proofs.Prelude.{drop, lead, ◌≡◌}
 use Rattle.np_spelling.proofs.cursor.Cursor.lead.Given as goal
 
 abbrev pub invariant-loop-byte : goal.invariant-loop-byte

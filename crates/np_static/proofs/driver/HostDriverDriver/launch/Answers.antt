@@ -1,15 +1,5 @@
-use Rattle.std.proofs.Common.{◌≡◌, ◌<◌, ℕ, suc, length, refl, sym, ap, ◌∙◌, subst, arith, ◌+◌, ◌++◌, ◌∷◌, [], List}
-use Rattle.std.specs.Prelude.{slice_index}
-use Rattle.std.proofs.lemmas.List.{get_or_read_under}
-use Rattle.np_event.specs.declared.event.Outcome.{Outcome}
-use Rattle.np_event.specs.declared.event.Outcome.TheVariants as outcome
-use Rattle.np_cloud.specs.Inventory.{Told, after_launch, HasOutcome}
-use Rattle.np_cloud.specs.Sound.{numbers_of}
-use Rattle.np_static.specs.Loads.{KeepsLoads, host_of, server_number}
-use Rattle.np_static.specs.Hosting.{hosting, hosted_outcome}
-use Rattle.np_static.proofs.Numbers.{numbers_of-push, host_of-server_number}
-use Rattle.np_static.proofs.Kept.{free-in, keeps-past, keeps-launched}
-use Rattle.np_static.proofs.Launched.{outcome-full, outcome-many, outcome-at, failed-servers, failed-numbered, launched-numbered, fails-only-full}
+use Rattle.np_static.proofs.Prelude.{HasOutcome, KeepsLoads, List, Outcome, Told, [], after_launch, ap, arith, get_or_read_under, host_of, hosted_outcome, hosting, length, numbers_of, refl, server_number, slice_index, subst, suc, sym, ℕ, ◌++◌, ◌+◌, ◌<◌, ◌∙◌, ◌∷◌, ◌≡◌}
+use Rattle.np_static.proofs.Loads.{failed-numbered, failed-servers, fails-only-full, free-in, host_of-server_number, keeps-launched, keeps-past, launched-numbered, numbers_of-push, outcome-at, outcome-full, outcome-many}
 use Rattle.np_static.proofs.driver.HostDriverDriver.launch.Goals.{then-host-len-via-then-host-len, then-host-len-via-else-host-len+then-launches-ge-MOST_LAUNCHES}
 use Rattle.np_static.proofs.driver.HostDriverDriver.launch.Goals as goal
 
@@ -28,7 +18,7 @@ returns-then-host-len-clause-outcome c =
     let d = c.args.self.now in
     let free = free-in d.hosts.items d.loads.items c.deref.result.now c.deref-2.result.now d.from c.first_free-self.result c.deref.ensures.value c.deref-2.ensures.value c.first_free-self.ensures in
     let keeps = keeps-past d.hosts.items d.loads.items d.from c.first_free-self.result (numbers_of d.inventory.servers) d.keeps free in
-    let fails : hosted_outcome (hosting d) ≡ outcome.Failed = elim c.then-host-len.branch [
+    let fails : hosted_outcome (hosting d) ≡ Outcome.Failed = elim c.then-host-len.branch [
       | then-host-len-via-then-host-len w ↦ outcome-full (hosting d) d.loads.items c.first_free-self.result keeps (omega (arith, w.if-host-len.true, c.len.ensures))
       | then-host-len-via-else-host-len+then-launches-ge-MOST_LAUNCHES w ↦ outcome-many (hosting d) (omega (arith, c.launches-launches.ensures, w.if-launches-ge-MOST_LAUNCHES.true))
     ] in
@@ -61,7 +51,7 @@ invariant_of-self-2 c =
     let grown = ap (λ (told : Told). numbers_of told.servers) it ∙ numbers_of-push d.inventory.servers (record { tag = c.args.tag; number = c.server_number-number.result }) in
     record {
       keeps = keeps-launched d.hosts.items d.loads.items at (numbers_of d.inventory.servers) (numbers_of c.answer-2.new.self.servers) c.server_number-number.result (c.index_mut.result.now + 1) keeps inside (free.free inside) on grown (ap (λ (n : ℕ). n + 1) load);
-      numbered = launched-numbered d.inventory c.args.tag at c.answer-2.new.self small d.numbered (ap (λ (told : Told). told.answered) it ∙ ap (λ (x : ℕ). d.inventory.answered ++ record { tag = c.args.tag; outcome = outcome.Launched x } ∷ []) number);
+      numbered = launched-numbered d.inventory c.args.tag at c.answer-2.new.self small d.numbered (ap (λ (told : Told). told.answered) it ∙ ap (λ (x : ℕ). d.inventory.answered ++ record { tag = c.args.tag; outcome = Outcome.Launched x } ∷ []) number);
     }
 
 pub returns-clause-outcome : goal.returns-clause-outcome
@@ -75,5 +65,5 @@ returns-clause-outcome c =
     let takes = outcome-at (hosting d) d.loads.items at keeps inside (free.free inside) few in
     let it = c.in_ok-answer.ensures.outcome in
     let number : c.server_number-number.result ≡ server_number (suc (length d.inventory.answered)) at = c.server_number-number.ensures ∙ ap (λ (k : ℕ). server_number (suc k) at) c.launches-launches.ensures in
-    let same : hosted_outcome (hosting d) ≡ outcome.Launched c.server_number-number.result = takes ∙ ap outcome.Launched (sym number) in
+    let same : hosted_outcome (hosting d) ≡ Outcome.Launched c.server_number-number.result = takes ∙ ap Outcome.Launched (sym number) in
     (same ∙ it.0, it.1 ∙ ap (after_launch d.inventory c.args.tag) (sym same))

@@ -1,13 +1,5 @@
-use Rattle.std.proofs.Common.{◌≡◌, ◌≤◌, ◌<◌, ℕ, length, refl, ap, ◌∙◌, arith, ◌+◌, ◌-◌, ◌%◌}
-use Rattle.std.specs.Prelude.{slice_index}
-use Rattle.std.proofs.lemmas.List.{get_or_read_under}
-use Rattle.np_cloud.specs.Inventory.{Told, after_removal}
-use Rattle.np_cloud.specs.Sound.{numbers_of}
-use Rattle.np_static.specs.Loads.{are_numbered}
-use Rattle.np_static.specs.declared.driver.HostDriver.{HostDriver}
-use Rattle.np_static.specs.Counts.{without}
-use Rattle.np_static.proofs.Numbers.{numbers_of-without, length-numbers_of}
-use Rattle.np_static.proofs.Kept.{keeps-removed, keeps-unknown, gone-few, fewer-left}
+use Rattle.np_static.proofs.Prelude.{HostDriver, Told, after_removal, ap, are_numbered, arith, get_or_read_under, length, numbers_of, refl, slice_index, without, ℕ, ◌%◌, ◌+◌, ◌-◌, ◌<◌, ◌∙◌, ◌≡◌, ◌≤◌}
+use Rattle.np_static.proofs.Loads.{fewer-left, gone-few, keeps-removed, keeps-unknown, length-numbers_of, numbers_of-without}
 use Rattle.np_static.proofs.driver.HostDriverDriver.remove.Goals as goal
 
 -- the numbers that are left

@@ -1,11 +1,5 @@
-use Rattle.std.proofs.Common.{sym, subst}
-use Rattle.np_changes.specs.Prelude.{Fits, IsPlanned, IsReached}
-use Rattle.np_changes.proofs.Sites.{sound_fits}
-use Rattle.np_tables.specs.Kept.{Kept}
-use Rattle.np_tables.specs.Queues.{AreQueuesOf}
-use Rattle.np_tables.proofs.Counts.{countable-changed}
-use Rattle.np_tables.proofs.EndLemmas.{can-end}
-use Rattle.np_tables.proofs.Planned.{can-settle}
+use Rattle.np_tables.proofs.Prelude.{AreQueuesOf, Fits, IsPlanned, IsReached, Kept, sound_fits, subst, sym}
+use Rattle.np_tables.proofs.TableLemmas.{can-end, can-settle, countable-changed}
 use Rattle.np_tables.proofs.tables.Tables.change.Goals as goal
 
 pub settle-requires : goal.settle-requires

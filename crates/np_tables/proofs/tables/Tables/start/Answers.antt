@@ -1,4 +1,4 @@
-use Rattle.np_tables.proofs.Counts.{countable-start}
+use Rattle.np_tables.proofs.TableLemmas.{countable-start}
 use Rattle.np_tables.proofs.tables.Tables.start.Goals as goal
 
 pub invariant_of-result : goal.invariant_of-result

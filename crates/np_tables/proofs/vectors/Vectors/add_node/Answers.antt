@@ -1,8 +1,5 @@
-use Rattle.std.proofs.Common.{◌≡◌, ◌++◌, ◌∷◌, [], refl}
-use Rattle.std.specs.Prelude.{nat_lt}
-use Rattle.np_changes.specs.Prelude.{NodeEntry, insert_before}
-use Rattle.np_tables.proofs.Changing.{joined-none}
-use Rattle.np_tables.proofs.Fresh.{fresh-node, last-node}
+use Rattle.np_tables.proofs.Prelude.{NodeEntry, insert_before, nat_lt, refl, [], ◌++◌, ◌∷◌, ◌≡◌}
+use Rattle.np_tables.proofs.TableLemmas.{fresh-node, joined-none, last-node}
 use Rattle.np_tables.proofs.vectors.Vectors.add_node.Goals as goal
 
 pub insert-requires-clause-none : goal.insert-requires-clause-none

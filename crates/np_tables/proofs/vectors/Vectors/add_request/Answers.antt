@@ -1,4 +1,4 @@
-use Rattle.np_tables.proofs.Fresh.{fresh-request}
+use Rattle.np_tables.proofs.TableLemmas.{fresh-request}
 use Rattle.np_tables.proofs.vectors.Vectors.add_request.Goals as goal
 
 pub insert-requires-clause-none : goal.insert-requires-clause-none

@@ -1,5 +1,5 @@
-use Rattle.std.proofs.Common.{refl}
-use Rattle.np_tables.proofs.Changing.{node-allocated}
+use Rattle.np_tables.proofs.Prelude.{refl}
+use Rattle.np_tables.proofs.TableLemmas.{node-allocated}
 use Rattle.np_tables.proofs.vectors.Vectors.allocate.Goals as goal
 
 pub returns-in-Some : goal.returns-in-Some

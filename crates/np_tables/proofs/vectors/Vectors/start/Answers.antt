@@ -1,6 +1,5 @@
-use Rattle.std.proofs.Common.{[], List, refl}
-use Rattle.np_changes.specs.Prelude.{JobId, new_job, no_deeds}
-use Rattle.np_tables.proofs.StartLemmas.{replicate-map}
+use Rattle.np_tables.proofs.Prelude.{JobId, List, new_job, no_deeds, refl, []}
+use Rattle.np_tables.proofs.TableLemmas.{replicate-map}
 use Rattle.np_tables.proofs.vectors.Vectors.start.Goals as goal
 
 pub returns : goal.returns

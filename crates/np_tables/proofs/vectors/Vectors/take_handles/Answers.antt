@@ -1,4 +1,4 @@
-use Rattle.np_tables.proofs.HandleLemmas.{places}
+use Rattle.np_tables.proofs.TableLemmas.{places}
 use Rattle.np_tables.proofs.vectors.Vectors.take_handles.Goals as goal
 
 pub add_handles-requires : goal.add_handles-requires

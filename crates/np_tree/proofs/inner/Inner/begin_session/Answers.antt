@@ -1,5 +1,5 @@
-use Rattle.std.proofs.Common.{refl}
-use Rattle.np_tree.proofs.HoldsLemmas.{Holds-begin}
+use Rattle.np_tree.proofs.Prelude.{refl}
+use Rattle.np_tree.proofs.CallLemmas.{Holds-begin}
 use Rattle.np_tree.proofs.inner.Inner.begin_session.Goals as goal
 
 pub returns-clause-holds : goal.returns-clause-holds

@@ -1,5 +1,4 @@
-use Rattle.std.proofs.Common.{sym}
-use Rattle.np_tree_nodes.proofs.MadePathLemmas.{MakesName-child}
+use Rattle.np_tree.proofs.Prelude.{MakesName-child, sym}
 use Rattle.np_tree.proofs.inner.Inner.create_part.Goals as goal
 
 pub make-requires-clause-name : goal.make-requires-clause-name

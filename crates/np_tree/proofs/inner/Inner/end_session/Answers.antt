@@ -1,6 +1,5 @@
-use Rattle.std.proofs.Common.{ap, ◌∙◌}
-use Rattle.np_session.specs.Known.{Known}
-use Rattle.np_tree.proofs.HoldsLemmas.{Holds-end}
+use Rattle.np_tree.proofs.Prelude.{Known, ap, ◌∙◌}
+use Rattle.np_tree.proofs.CallLemmas.{Holds-end}
 use Rattle.np_tree.proofs.inner.Inner.end_session.Goals as goal
 
 pub returns-clause-holds : goal.returns-clause-holds

@@ -1,11 +1,5 @@
-use Rattle.std.proofs.Common.{◌≡◌, List, sym, ap, ◌∙◌}
-use Rattle.np_tree_nodes.specs.Prelude.{after_multi, with_next_number}
-use Rattle.np_tree_nodes.specs.declared.node.Node.{Node}
-use Rattle.np_tree.specs.Inners.{state_of}
-use Rattle.np_tree.specs.declared.inner.Inner.{Inner}
-use Rattle.np_tree.proofs.HoldsLemmas.{Holds-tree}
-use Rattle.np_tree.proofs.PartsLemmas.{after_multi-change, after_multi-checks}
-use Rattle.np_tree.proofs.TreeLemmas.{IsTree-after_multi}
+use Rattle.np_tree.proofs.Prelude.{Inner, List, Node, after_multi, ap, state_of, sym, with_next_number, ◌∙◌, ◌≡◌}
+use Rattle.np_tree.proofs.CallLemmas.{Holds-tree, IsTree-after_multi, after_multi-change, after_multi-checks}
 use Rattle.np_tree.proofs.inner.Inner.multi.Goals as goal
 
 pub returns-then-not-has_change-clause-ok : goal.returns-then-not-has_change-clause-ok

@@ -1,6 +1,5 @@
-use Rattle.std.proofs.Common.{refl, ap}
-use Rattle.np_session.specs.Known.{Known}
-use Rattle.np_tree.proofs.HoldsLemmas.{Holds-new}
+use Rattle.np_tree.proofs.Prelude.{Known, ap, refl}
+use Rattle.np_tree.proofs.CallLemmas.{Holds-new}
 use Rattle.np_tree.proofs.inner.Inner.new.Goals as goal
 
 pub returns-clause-holds : goal.returns-clause-holds

@@ -1,5 +1,5 @@
-use Rattle.std.proofs.Common.{◌≡◌, ◌+◌, ◌++◌, ◌∷◌, [], refl}
-use Rattle.np_tree.proofs.PartsLemmas.{DoesPart, SoFar-all, SoFar-more, SoFar-refused, SoFar-rest, SoFar-stopped}
+use Rattle.np_tree.proofs.Prelude.{refl, [], ◌++◌, ◌+◌, ◌∷◌, ◌≡◌}
+use Rattle.np_tree.proofs.CallLemmas.{DoesPart, SoFar-all, SoFar-more, SoFar-refused, SoFar-rest, SoFar-stopped}
 use Rattle.np_tree.proofs.inner.Inner.parts.Goals as goal
 
 pub returns-then-is_err-clause-answer : goal.returns-then-is_err-clause-answer

@@ -1,4 +1,4 @@
-use Rattle.np_tree.proofs.PartsLemmas.{SoFar}
+use Rattle.np_tree.proofs.CallLemmas.{SoFar}
 use Rattle.np_tree.proofs.inner.Inner.parts.Given as goal
 
 abbrev pub invariant-loop-index : goal.invariant-loop-index

@@ -1,6 +1,5 @@
-use Rattle.std.proofs.Common.{◌≡◌, refl, ap, ◌∙◌}
-use Rattle.np_tree_nodes.specs.Prelude.{change_node, with_counter}
-use Rattle.np_tree.proofs.HoldsLemmas.{Holds-raise}
+use Rattle.np_tree.proofs.Prelude.{ap, change_node, refl, with_counter, ◌∙◌, ◌≡◌}
+use Rattle.np_tree.proofs.CallLemmas.{Holds-raise}
 use Rattle.np_tree.proofs.inner.Inner.raise_counter.Goals as goal
 
 pub returns-clause-holds : goal.returns-clause-holds

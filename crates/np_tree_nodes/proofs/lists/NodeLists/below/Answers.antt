@@ -1,4 +1,4 @@
-use Rattle.std.proofs.Common.{[]}
+use Rattle.np_tree_nodes.proofs.Prelude.{[]}
 use Rattle.np_tree_nodes.proofs.PlaceLemmas.{IsSplit-first_le, IsSplit-halves_le}
 use Rattle.np_tree_nodes.proofs.lists.NodeLists.below.Goals as goal
 

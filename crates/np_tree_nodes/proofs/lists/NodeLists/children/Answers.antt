@@ -1,8 +1,5 @@
-use Rattle.std.proofs.Common.{◌≡◌, [], sym}
-use Rattle.np_path.specs.Parts.{root}
-use Rattle.np_tree_nodes.proofs.ChildLemmas.{IsKey-root}
-use Rattle.np_tree_nodes.proofs.FindLemmas.{IsKey-itself, IsStretch-empty, IsStretch-key, empty-is, empty-not}
-use Rattle.np_tree_nodes.proofs.PlaceLemmas.{bytes_eq-from, bytes_eq-is}
+use Rattle.np_tree_nodes.proofs.Prelude.{root, sym, [], ◌≡◌}
+use Rattle.np_tree_nodes.proofs.PlaceLemmas.{IsKey-itself, IsKey-root, IsStretch-empty, IsStretch-key, bytes_eq-from, bytes_eq-is, empty-is, empty-not}
 use Rattle.np_tree_nodes.proofs.lists.NodeLists.children.Goals as goal
 
 pub returns-then-is_empty : goal.returns-then-is_empty

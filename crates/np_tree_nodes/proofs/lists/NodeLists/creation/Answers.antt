@@ -1,11 +1,5 @@
-use Rattle.std.proofs.Common.{◌≡◌, ◌<◌, Some, None, length, ap, ◌∙◌, arith}
-use Rattle.std.specs.Prelude.{if◌then◌else◌}
-use Rattle.np_tree_nodes.specs.Edits.{with_swap}
-use Rattle.np_tree_nodes.specs.After.{new_node, with_child}
-use Rattle.np_tree_nodes.specs.Answer.{made_path}
-use Rattle.np_tree_nodes.specs.Tests.{is_ephemeral}
-use Rattle.np_tree_nodes.specs.declared.edit.Swap.{Swap}
-use Rattle.np_tree_nodes.proofs.CreationLemmas.{Makes-spot, Plans-creation, new_node-parts, then_some-cond}
+use Rattle.np_tree_nodes.proofs.Prelude.{None, Some, Swap, ap, arith, if◌then◌else◌, is_ephemeral, length, made_path, new_node, with_child, with_swap, ◌<◌, ◌∙◌, ◌≡◌}
+use Rattle.np_tree_nodes.proofs.PlanLemmas.{Makes-spot, Plans-creation, new_node-parts, then_some-cond}
 use Rattle.np_tree_nodes.proofs.lists.NodeLists.creation.Goals as goal
 
 pub returns : goal.returns

@@ -1,5 +1,5 @@
-use Rattle.std.proofs.Common.{◌≡◌, ◌++◌, ◌∷◌, [], refl, ap, ◌∙◌}
-use Rattle.np_tree_nodes.proofs.UndoLemmas.{CanUndo-push, marks_before-push, nodes_before-push}
+use Rattle.np_tree_nodes.proofs.Prelude.{ap, refl, [], ◌++◌, ◌∙◌, ◌∷◌, ◌≡◌}
+use Rattle.np_tree_nodes.proofs.PlanLemmas.{CanUndo-push, marks_before-push, nodes_before-push}
 use Rattle.np_tree_nodes.proofs.lists.NodeLists.edit.Goals as goal
 
 pub returns-clause-start : goal.returns-clause-start

@@ -1,14 +1,5 @@
-use Rattle.std.proofs.Common.{◌≡◌, ◌++◌, [], true, false, Some, None, sym, ap, ◌∙◌}
-use Rattle.std.specs.List.{list_any}
-use Rattle.std.specs.Prelude.{slice_get}
-use Rattle.std.proofs.lemmas.Bool.{false_from_ne_true}
-use Rattle.std.proofs.lemmas.Option.{slice_get_within}
-use Rattle.np_path.specs.Grammar.{is_slash}
-use Rattle.np_path.specs.Parts.{name_of}
-use Rattle.np_tree_nodes.specs.Nodes.{before_of, is_at}
-use Rattle.np_tree_nodes.specs.Order.{place_of}
-use Rattle.np_tree_nodes.proofs.FindLemmas.{false-not, place_of-halves, true-not}
-use Rattle.np_tree_nodes.proofs.PlaceLemmas.{IsSplit-halves, at_path-no_slash, at_path-other, at_path-past, at_path-there}
+use Rattle.np_tree_nodes.proofs.Prelude.{None, Some, ap, before_of, false, false_from_ne_true, is_at, is_slash, list_any, name_of, place_of, slice_get, slice_get_within, sym, true, [], ◌++◌, ◌∙◌, ◌≡◌}
+use Rattle.np_tree_nodes.proofs.PlaceLemmas.{IsSplit-halves, at_path-no_slash, at_path-other, at_path-past, at_path-there, false-not, place_of-halves, true-not}
 use Rattle.np_tree_nodes.proofs.lists.NodeLists.find.Goals as goal
 
 pub returns-in_err-before : goal.returns-in_err-before

@@ -1,9 +1,6 @@
-use Rattle.std.proofs.Common.{◌≡◌, [], Some, None, sym, ◌∙◌, subst, ℕ, true}
-use Rattle.std.specs.Prelude.{slice_get}
-use Rattle.np_tree_nodes.specs.Marks.{mark_place}
-use Rattle.np_tree_nodes.specs.Nodes.{is_owned}
-use Rattle.np_tree_nodes.proofs.MarkLemmas.{IsSplit-mark}
-use Rattle.np_tree_nodes.proofs.RemovalLemmas.{EndsOne-removal, TakesMark-first, mark-not_absent, mark-owner, nodes_after_end-all, session-not}
+use Rattle.np_tree_nodes.proofs.Prelude.{None, Some, is_owned, mark_place, slice_get, subst, sym, true, ℕ, [], ◌∙◌, ◌≡◌}
+use Rattle.np_tree_nodes.proofs.KeptLemmas.{IsSplit-mark}
+use Rattle.np_tree_nodes.proofs.PlanLemmas.{EndsOne-removal, TakesMark-first, mark-not_absent, mark-owner, nodes_after_end-all, session-not}
 use Rattle.np_tree_nodes.proofs.lists.NodeLists.first_removal.Goals as goal
 
 pub place-place-requires : goal.place-place-requires

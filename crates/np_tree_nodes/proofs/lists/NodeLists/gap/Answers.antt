@@ -1,6 +1,5 @@
-use Rattle.std.proofs.Common.{sym, ◌∙◌}
-use Rattle.np_tree_nodes.specs.Answer.{made_path}
-use Rattle.np_tree_nodes.proofs.MadePathLemmas.{IsMade-made_path}
+use Rattle.np_tree_nodes.proofs.Prelude.{made_path, sym, ◌∙◌}
+use Rattle.np_tree_nodes.proofs.PlanLemmas.{IsMade-made_path}
 use Rattle.np_tree_nodes.proofs.lists.NodeLists.gap.Goals as goal
 
 pub returns : goal.returns

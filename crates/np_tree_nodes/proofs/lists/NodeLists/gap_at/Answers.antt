@@ -1,6 +1,5 @@
-use Rattle.std.proofs.Common.{◌++◌, sym}
-use Rattle.np_tree_nodes.proofs.GapLemmas.{IsGapAt, FindsGap-none, FindsGap-other, FindsGap-past}
-use Rattle.np_tree_nodes.proofs.PlaceLemmas.{IsSplit-halves}
+use Rattle.np_tree_nodes.proofs.Prelude.{sym, ◌++◌}
+use Rattle.np_tree_nodes.proofs.PlaceLemmas.{FindsGap-none, FindsGap-other, FindsGap-past, IsGapAt, IsSplit-halves}
 use Rattle.np_tree_nodes.proofs.lists.NodeLists.gap_at.Goals as goal
 
 pub place-place-requires : goal.place-place-requires

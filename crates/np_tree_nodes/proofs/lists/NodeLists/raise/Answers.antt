@@ -1,6 +1,5 @@
-use Rattle.std.proofs.Common.{None, refl}
-use Rattle.np_tree_nodes.specs.Calls.{with_counter}
-use Rattle.np_tree_nodes.proofs.TouchLemmas.{Plans-touch}
+use Rattle.np_tree_nodes.proofs.Prelude.{None, refl, with_counter}
+use Rattle.np_tree_nodes.proofs.PlanLemmas.{Plans-touch}
 use Rattle.np_tree_nodes.proofs.lists.NodeLists.raise.Goals as goal
 
 pub returns : goal.returns

@@ -1,6 +1,4 @@
-use Rattle.std.proofs.Common.{◌≡◌, length}
-use Rattle.np_tree_nodes.specs.After.{nodes_after_end}
-use Rattle.np_tree_nodes.specs.Kept.{IsKept}
+use Rattle.np_tree_nodes.proofs.Prelude.{IsKept, length, nodes_after_end, ◌≡◌}
 use Rattle.np_tree_nodes.proofs.lists.NodeLists.release.Given as goal
 
 abbrev pub invariant-loop-edit : goal.invariant-loop-edit

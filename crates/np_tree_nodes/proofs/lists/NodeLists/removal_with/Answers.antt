@@ -1,4 +1,4 @@
-use Rattle.np_tree_nodes.proofs.RemovalLemmas.{Plans-removal}
+use Rattle.np_tree_nodes.proofs.PlanLemmas.{Plans-removal}
 use Rattle.np_tree_nodes.proofs.lists.NodeLists.removal_with.Goals as goal
 
 pub returns-clause-plan : goal.returns-clause-plan

@@ -1,6 +1,5 @@
-use Rattle.std.proofs.Common.{◌+◌, Some, refl}
-use Rattle.np_tree_nodes.specs.After.{with_bytes}
-use Rattle.np_tree_nodes.proofs.TouchLemmas.{Plans-touch}
+use Rattle.np_tree_nodes.proofs.Prelude.{Some, refl, with_bytes, ◌+◌}
+use Rattle.np_tree_nodes.proofs.PlanLemmas.{Plans-touch}
 use Rattle.np_tree_nodes.proofs.lists.NodeLists.replacement.Goals as goal
 
 pub returns : goal.returns

@@ -1,5 +1,5 @@
-use Rattle.std.proofs.Common.{◌≡◌, ap}
-use Rattle.np_tree_nodes.proofs.UndoLemmas.{CanUndo-last, CanUndo-others, marks_before-push, nodes_before-push}
+use Rattle.np_tree_nodes.proofs.Prelude.{ap, ◌≡◌}
+use Rattle.np_tree_nodes.proofs.PlanLemmas.{CanUndo-last, CanUndo-others, marks_before-push, nodes_before-push}
 use Rattle.np_tree_nodes.proofs.lists.NodeLists.roll_back.Goals as goal
 
 pub take_back-requires : goal.take_back-requires

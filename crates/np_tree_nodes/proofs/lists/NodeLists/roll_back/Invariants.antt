@@ -1,5 +1,4 @@
-use Rattle.std.proofs.Common.{◌≡◌, vec_len}
-use Rattle.np_tree_nodes.specs.Edits.{CanUndo, marks_before, nodes_before}
+use Rattle.np_tree_nodes.proofs.Prelude.{CanUndo, marks_before, nodes_before, vec_len, ◌≡◌}
 use Rattle.np_tree_nodes.proofs.lists.NodeLists.roll_back.Given as goal
 
 abbrev pub invariant-loop-edit : goal.invariant-loop-edit

@@ -1,5 +1,5 @@
-use Rattle.std.proofs.Common.{None, refl, sym}
-use Rattle.np_tree_nodes.proofs.RemovalLemmas.{without_child_above-none, without_child_above-some}
+use Rattle.np_tree_nodes.proofs.Prelude.{None, refl, sym}
+use Rattle.np_tree_nodes.proofs.PlanLemmas.{without_child_above-none, without_child_above-some}
 use Rattle.np_tree_nodes.proofs.lists.NodeLists.touch_above.Goals as goal
 
 pub returns-in_err-above-clause-nodes : goal.returns-in_err-above-clause-nodes

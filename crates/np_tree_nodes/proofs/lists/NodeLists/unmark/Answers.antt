@@ -1,6 +1,5 @@
-use Rattle.std.proofs.Common.{◌≡◌, ℕ, List, ap, ◌∙◌}
-use Rattle.np_tree_nodes.specs.Marks.{mark_place}
-use Rattle.np_tree_nodes.proofs.MarkLemmas.{IsSplit-mark, owned-mark}
+use Rattle.np_tree_nodes.proofs.Prelude.{List, ap, mark_place, ℕ, ◌∙◌, ◌≡◌}
+use Rattle.np_tree_nodes.proofs.KeptLemmas.{IsSplit-mark, owned-mark}
 use Rattle.np_tree_nodes.proofs.lists.NodeLists.unmark.Goals as goal
 
 pub place-requires : goal.place-requires

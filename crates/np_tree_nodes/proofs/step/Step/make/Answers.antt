@@ -1,4 +1,4 @@
-use Rattle.np_lists.proofs.EditLemmas.{insert-remove, remove-insert}
+use Rattle.np_tree_nodes.proofs.Prelude.{insert-remove, remove-insert}
 use Rattle.np_tree_nodes.proofs.step.Step.make.Goals as goal
 
 pub returns-in-Take-clause-back : goal.returns-in-Take-clause-back

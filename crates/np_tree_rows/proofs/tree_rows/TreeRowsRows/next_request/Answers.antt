@@ -1,6 +1,4 @@
-use Rattle.std.proofs.Common.{ap, ◌∙◌}
-use Rattle.np_layout.specs.Decoded.{decoded}
-use Rattle.np_tree_rows.specs.Rows.{SiteState}
+use Rattle.np_tree_rows.proofs.Prelude.{SiteState, ap, decoded, ◌∙◌}
 use Rattle.np_tree_rows.proofs.tree_rows.TreeRowsRows.next_request.Goals as goal
 
 pub returns : goal.returns

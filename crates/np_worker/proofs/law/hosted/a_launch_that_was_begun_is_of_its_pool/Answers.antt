@@ -1,5 +1,5 @@
-use Rattle.np_machine.specs.Turns.{turns}
-use Rattle.np_worker.proofs.Pools.{begun-of}
+use Rattle.np_worker.proofs.Prelude.{turns}
+use Rattle.np_worker.proofs.Records.{begun-of}
 use Rattle.np_worker.proofs.law.hosted.a_launch_that_was_begun_is_of_its_pool.Goals as goal
 
 pub returns : goal.returns

@@ -1,6 +1,5 @@
-use Rattle.std.proofs.Common.{false, refl}
-use Rattle.np_worker.proofs.Leaves.{round-have-driven}
-use Rattle.np_worker.proofs.Plays.{round-driven, round-no-tick, numbered-after}
+use Rattle.np_worker.proofs.Prelude.{false, refl}
+use Rattle.np_worker.proofs.Rounds.{numbered-after, round-driven, round-have-driven, round-no-tick}
 use Rattle.np_worker.proofs.law.journals.a_round_is_driven.Goals as goal
 
 pub returns-clause-driven : goal.returns-clause-driven

@@ -1,4 +1,4 @@
-use Rattle.np_worker.proofs.Plans.{planned-driven, planned-planned}
+use Rattle.np_worker.proofs.Journals.{planned-driven, planned-planned}
 use Rattle.np_worker.proofs.law.journals.what_planned_drivers_drove_was_driven_as_planned.Goals as goal
 
 pub returns-clause-driven : goal.returns-clause-driven

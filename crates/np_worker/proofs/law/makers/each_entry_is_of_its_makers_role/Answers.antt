@@ -1,4 +1,4 @@
-use Rattle.np_worker.proofs.OfRoles.{entry-of_worker, entry-of_player}
+use Rattle.np_worker.proofs.Made.{entry-of_worker, entry-of_player}
 use Rattle.np_worker.proofs.law.makers.each_entry_is_of_its_makers_role.Goals as goal
 
 pub returns-clause-worker : goal.returns-clause-worker

@@ -1,5 +1,5 @@
-use Rattle.np_worker.specs.Players.{WasAnswered}
-use Rattle.np_worker.proofs.Unwanted.{unwanted-gone}
+use Rattle.np_worker.proofs.Prelude.{WasAnswered}
+use Rattle.np_worker.proofs.Board.{unwanted-gone}
 use Rattle.np_worker.proofs.law.servers.unwanted_servers_go_in_a_whole_round.Goals as goal
 
 pub returns : goal.returns

@@ -1,7 +1,7 @@
 use Rattle.np_worker.proofs.Prelude.{EndsAs, None, Ok, RoundEnd, err_from_is_err_and, of_reaper, of_requester, subst, sym}
-use Rattle.np_worker.proofs.worker.Worker.play.Goals as goal
-use Rattle.np_worker.proofs.Parts.{of_part, at_err, ends_alone}
+use Rattle.np_worker.proofs.Walks.{of_part, at_err, ends_alone}
 use Rattle.np_worker.proofs.Rounds.{requester_round, reaper_round}
+use Rattle.np_worker.proofs.worker.Worker.play.Goals as goal
 
 pub returns-in_err-next-in-Requester-clause-round : goal.returns-in_err-next-in-Requester-clause-round
 returns-in_err-next-in-Requester-clause-round g c =

@@ -1,6 +1,6 @@
-use Rattle.np_worker.specs.Round.{work_of}
+use Rattle.np_worker.proofs.Prelude.{work_of}
 use Rattle.np_worker.proofs.Board.{has_round_at_board}
-use Rattle.np_worker.proofs.Orderly.{has_moves}
+use Rattle.np_worker.proofs.Walks.{has_moves}
 use Rattle.np_worker.proofs.worker.Worker.round.Goals as goal
 
 pub returns-clause-moves : goal.returns-clause-moves

@@ -1,4 +1,4 @@
-use Rattle.np_board.proofs.CommitLemmas.{plan-answer, plan-fixed, plan-history, plan-legal}
+use Rattle.np_board.proofs.BoardTurns.{plan-answer, plan-fixed, plan-history, plan-legal}
 use Rattle.np_board.proofs.board.object.BoardSeqObject.turn.Goals as goal
 
 pub returns-clause-fixed : goal.returns-clause-fixed

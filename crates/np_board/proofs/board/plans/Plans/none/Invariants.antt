@@ -1,5 +1,4 @@
-use Rattle.std.proofs.Common.{◌≡◌, None}
-use Rattle.std.specs.Prelude.{replicate}
+use Rattle.np_board.proofs.Prelude.{None, replicate, ◌≡◌}
 use Rattle.np_board.proofs.board.plans.Plans.none.Given as goal
 
 abbrev pub invariant-loop : goal.invariant-loop

@@ -1,7 +1,4 @@
-use Rattle.std.proofs.Common.{◌≡◌, ◌<◌, List, Option, None, length, sym, subst, arith}
-use Rattle.std.specs.Prelude.{slice_set}
-use Rattle.np_lists.proofs.ChangeLemmas.{change_at-past, change_at-set}
-use Rattle.np_board.specs.Outstanding.{Outstanding, with_plan}
+use Rattle.np_board.proofs.Prelude.{List, None, Option, Outstanding, arith, change_at-past, change_at-set, length, slice_set, subst, sym, with_plan, ◌<◌, ◌≡◌}
 use Rattle.np_board.proofs.board.plans.Plans.put.Goals as goal
 
 pub returns-then-at-len : goal.returns-then-at-len

@@ -1,8 +1,4 @@
-use Rattle.std.proofs.Common.{◌≡◌, ◌∙◌, ◌<◌, List, Option, Some, None, length, sym, ap, subst, arith}
-use Rattle.std.specs.Prelude.{slice_get, slice_set}
-use Rattle.std.proofs.lemmas.Option.{slice_get-get_or}
-use Rattle.np_lists.proofs.ChangeLemmas.{change_at-past, change_at-set}
-use Rattle.np_board.specs.Outstanding.{Outstanding, plan_in, plan_of, with_plan}
+use Rattle.np_board.proofs.Prelude.{List, None, Option, Outstanding, Some, ap, arith, change_at-past, change_at-set, length, plan_in, plan_of, slice_get, slice_get-get_or, slice_set, subst, sym, with_plan, ◌<◌, ◌∙◌, ◌≡◌}
 use Rattle.np_board.proofs.board.plans.Plans.take.Goals as goal
 
 pub returns-then-at-len-clause-rest : goal.returns-then-at-len-clause-rest

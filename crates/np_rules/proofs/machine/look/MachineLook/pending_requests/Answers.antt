@@ -1,4 +1,4 @@
-use Rattle.std.proofs.Common.{arith}
+use Rattle.np_rules.proofs.Prelude.{arith}
 use Rattle.np_rules.proofs.Few.{few-pending}
 use Rattle.np_rules.proofs.machine.look.MachineLook.pending_requests.Goals as goal
 

@@ -1,5 +1,4 @@
-use Rattle.std.proofs.Common.{length, ap, arith}
-use Rattle.np_lookups.proofs.Few.{few-nodes}
+use Rattle.np_rules.proofs.Prelude.{ap, arith, few-nodes, length}
 use Rattle.np_rules.proofs.machine.look.MachineLook.queued_nodes.Goals as goal
 
 pub number_of-requires : goal.number_of-requires

@@ -1,5 +1,4 @@
-use Rattle.std.proofs.Common.{length, ap, arith}
-use Rattle.np_lookups.proofs.Few.{few-requests}
+use Rattle.np_rules.proofs.Prelude.{ap, arith, few-requests, length}
 use Rattle.np_rules.proofs.machine.look.MachineLook.queued_requests.Goals as goal
 
 pub number_of-requires : goal.number_of-requires

@@ -1,1 +1,0 @@
--- tests that pass or fail

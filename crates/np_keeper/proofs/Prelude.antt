@@ -1,0 +1,65 @@
+-- The names from elsewhere that the proofs cite, passed on from one place. Declares nothing.
+pub use Rattle.np_changes.proofs.Accepted.{plan-next}
+pub use Rattle.np_changes.proofs.Lookups.{session-low}
+pub use Rattle.np_changes.proofs.Runs.{invariant-Runs}
+pub use Rattle.np_changes.proofs.Shapes.{Fits-Runs, sound_fits}
+pub use Rattle.np_changes.specs.Parts.{Invariant}
+pub use Rattle.np_changes.specs.Prelude.{AllByRecursion, Configuration, Event, Fits, IsPlanned, IsReached, IsSound, JobId, MakerPremise, NodeEntry, NonePass, Reply, RequestEntry, RequestFits, RequestId, Rises, SemId, SessionFacts, SessionId, SessionsPremise, State, Swept, changed, handles_of, insert_before, is_id_before, judge, list_all, list_any, most, new_job, next, no_deeds, option_map, option_map_or, reply_of, request_entry, same_request, session_of, start}
+pub use Rattle.np_changes.specs.declared.changes.Changes.{Changes}
+pub use Rattle.np_changes.specs.declared.changes.Growth.{Growth}
+pub use Rattle.np_changes.specs.declared.changes.Maker.{Maker}
+pub use Rattle.np_changes.specs.declared.changes.SessionsChange.{SessionsChange}
+pub use Rattle.np_keeper.specs.Keeper.{CanBegin, CanEnd, CanMake, HasSpare, Holds, IsHeld, MayChange, made, most_changes, room_left}
+pub use Rattle.np_layout.proofs.Carried.{steps-are-carried}
+pub use Rattle.np_layout.proofs.ChangeParts.{deeds-enact, jobs-enact, nodes-enact, requests-enact, sessions-enact, ticks-enact}
+pub use Rattle.np_layout.proofs.Elsewhere.{Stays, frame-stays, jobs-stay, launchers-stay, live-stays, node_locks-stay, nodes-stay, request_locks-stay, requests-stay, roles-stay, semaphores-stay, sessions-stay, swept-stay}
+pub use Rattle.np_layout.proofs.Events.{events-are-ready, events-enact}
+pub use Rattle.np_layout.proofs.FirstTrees.{first-goes, first-lays, starts-are-carried}
+pub use Rattle.np_layout.proofs.GrowthParts.{growths-enact, handles-enact}
+pub use Rattle.np_layout.proofs.OneState.{trees-have-one_state}
+pub use Rattle.np_layout.proofs.Rows.{put_all}
+pub use Rattle.np_layout.proofs.Spelled.{records-are-spelled}
+pub use Rattle.np_layout.proofs.Stands.{changes-after, number-of, room-after, room-less}
+pub use Rattle.np_layout.specs.Carried.{AreHolders, IsCarried, is_pair_before}
+pub use Rattle.np_layout.specs.Decoded.{TreesHaveOneState, decoded, pair_named, session_at, sessions_from, swept_at}
+pub use Rattle.np_layout.specs.Events.{EventsEnact, IsEnacted, IsReady}
+pub use Rattle.np_layout.specs.First.{first_directories, first_parts, first_tree, make, make_each}
+pub use Rattle.np_layout.specs.Layout.{under}
+pub use Rattle.np_layout.specs.Parts.{enacted, parts_of, with_begin, with_end, writer}
+pub use Rattle.np_layout.specs.Prelude.{AtPart, Goes, HasGoodIds, HasRoomFor, IsLater, IsPart, IsStored, IsWhole, LaysOut, Mode, Node, Op, Row, TreeRefusal, TreeState, after_begin, after_create_under, after_multi, after_part, after_parts, and_then, answers_from, at_path, is_check, is_in, is_numbered, job_text, name_of, new_tree, next_change, parent_of, part_answer, range_with_len, role_text, rows_at, tree_session, where_found, with_new_child, with_next_number, with_spare}
+pub use Rattle.np_layout.specs.Ready.{IsAccepted, IsTyped}
+pub use Rattle.np_layout.specs.Stands.{Stands}
+pub use Rattle.np_layout.specs.declared.place.Place.{Place}
+pub use Rattle.np_layout.specs.declared.place.Place.TheVariants.{JanitorRole, Job, Jobs, LauncherRole, Launchers, Nodepool, Nodes, Poolsim, RequestLocks, RequesterRole, Requests, Roles, Semaphore, Semaphores, Sessions, SweptPairs, Tick, Zuul}
+pub use Rattle.np_lists.proofs.Changes.{all-at, all-find, all-weaker, insert_before-end}
+pub use Rattle.np_lists.proofs.Plain.{past-end}
+pub use Rattle.np_lists.specs.Roomy.{Roomy}
+pub use Rattle.np_look.proofs.Looks.{queue-fits}
+pub use Rattle.np_look.specs.Keys.{is_node_before, node_equal, node_one_way, node_some_way, pair_equal, pair_one_way, request_equal, request_one_way, request_some_way, same_node, same_pair}
+pub use Rattle.np_look.specs.Views.{node_view, request_view}
+pub use Rattle.np_look.specs.declared.asked.NodeView.{NodeView}
+pub use Rattle.np_look.specs.declared.asked.RequestView.{RequestView}
+pub use Rattle.np_lookups.proofs.QueueLemmas.{apart, itself, none-later}
+pub use Rattle.np_machine.specs.Tables.{node_queue, request_queue}
+pub use Rattle.np_tables.specs.Kept.{IsCountable}
+pub use Rattle.np_tables.specs.Room.{rows_of}
+unfoldable pub use Rattle.np_text.specs.Number.{digits_within, number_of}
+pub use Rattle.np_text.specs.Request.{request_from}
+unfoldable pub use Rattle.np_text.specs.Request.{request_of, sequence_of}
+pub use Rattle.np_tree.proofs.CallLemmas.{answered-goes, checks-leave-the-tree, goes-under-one-number, goes-unrefused}
+pub use Rattle.np_tree.proofs.LaterLemmas.{begins-later, calls-later, ends-later, later-joined, later-than-itself, reserves-later}
+pub use Rattle.np_tree.proofs.RelationLemmas.{parts-change_nodes_alone}
+pub use Rattle.np_tree_nodes.specs.declared.op.OpDone.{OpDone}
+pub use Rattle.np_tree_nodes.specs.declared.refusal.MultiFault.TheVariants.{NoMemory}
+pub use Rattle.np_tree_rows.specs.Rows.{SiteState}
+pub use Rattle.std.proofs.Common.{Bool, Err, Global, List, None, Ok, OnErr, OnOk, Option, Result, Some, Vec, add-one, ap, arith, cond, drop, false, get_or, inl, inr, length, map, not, refl, rules, subst, suc, sym, take, true, zero, ℕ, [], ◌&&◌, ◌*◌, ◌++◌, ◌+◌, ◌-◌, ◌<◌, ◌^◌, ◌∙◌, ◌∷◌, ◌≡◌, ◌≤◌, ◌⊎◌}
+pub use Rattle.std.proofs.lemmas.Bool.{false_from_ne_true}
+pub use Rattle.std.proofs.lemmas.Bool.Decides.{nat_tests}
+pub use Rattle.std.proofs.lemmas.List.{append-nil, append_assoc, length-append, take_more}
+pub use Rattle.std.proofs.lemmas.List.Folds.{list_all-append}
+pub use Rattle.std.proofs.lemmas.List.FromFn.{length-map-range_with_len, map-range_with_len_more}
+pub use Rattle.std.proofs.lemmas.Option.{get_or_from_slice_get, slice_get_within}
+pub use Rattle.std.proofs.lemmas.Result.{on_err_weaker, on_ok_weaker}
+pub use Rattle.std.specs.Fmt.{decimal}
+unfoldable pub use Rattle.std.specs.Fmt.{digits}
+pub use Rattle.std.specs.Prelude.{IsOk, find, min, nat_lt, slice_get, unwrap_or, ◌==◌}

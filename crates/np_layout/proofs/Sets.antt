@@ -1,0 +1,461 @@
+-- the record of one member of a table is set, and the tree lays out the changed state
+use Rattle.np_layout.proofs.Prelude.{AllByRecursion, AllZip, AreLive, AreRequestLocks, Bool, HasGoodIds, HasNodeLock, HasQueue, IsGood, IsNodeRow, IsWhole, JanitorRole, Job, JobChangesLayOut, JobId, JobRecord, Jobs, JobsLayOut, LauncherRole, LaysOut, List, MutesLayOut, Node, NodeEntry, NodeId, NodeRecord, Nodes, NodesLayOut, None, Option, Place, PoolId, Poolsim, Request, RequestEntry, RequestId, RequestLock, RequestRecord, RequesterId, RequesterRole, Requests, RequestsLayOut, Role, RoleRecord, Roles, RolesLayOut, Row, Semaphore, Session, SessionFacts, SessionId, Sessions, SetLaysOut, Some, SpellsNode, State, Tick, TicksLayOut, TreeState, above, after_part, all-change_first, all-weaker, ap, arith, by_name, bytes_eq, change_at, change_at-set, change_first, change_role, change_session, cond, decimal, eqb-false, false, from-map_some, inr, is_in, is_named, janitor_role_row, job_row, job_text, launcher_role_row, length, length-change_at, list_any, list_any-append, map, map-append, muted, node_entry, node_in, option_map, or_true, persistent, place_name, range_with_len, refl, request_entry, request_in, request_lock_row, request_record_text, request_row, requester_role_row, role_text, row_with, rows_from, same_request, session_of, session_text, set, slice_get, slice_get_within, subst, suc, sym, true, under, zero, ℕ, [], ◌++◌, ◌+◌, ◌-◌, ◌<◌, ◌==◌, ◌^◌, ◌||◌, ◌∙◌, ◌∷◌, ◌≡◌, ◌≤◌}
+use Rattle.np_layout.proofs.Rows.{Tells, any-by_name, any-mapped, any-told, by_name-each, found-any, map-change_first, mapped-zip, put-name, put_bytes, rows_from-any, rows_from-change, rows_from-others, tells-mapped, zip-change_found, zip-mapped}
+use Rattle.np_layout.proofs.Steps.{named-here, named-other, SetsRow, set-goes, sets-row}
+use Rattle.np_layout.proofs.Elsewhere.{Says, Table, all-tables, each-table, is_touched, of_frame, of_jobs, of_live, of_node_locks, of_nodes, of_request_locks, of_requests, of_roles, of_sessions, table-stays, tick-stays}
+use Rattle.np_layout.proofs.Deletes.{is_node_it, is_request_it, lock-names, node-good, node-named, node-same, node-tells, request-good, request-named}
+
+-- # the rows of a list when the record of one member changes
+
+-- the members' places are good, in one directory, and have numbers from the first one on
+pub record IsTable {A : Type 0} (place : ℕ → Place) (number : Place → ℕ) (dir : Place) (first : ℕ) (list : List A) : Type 0 where
+  pub good : (n : ℕ) → n < first + length list → IsGood (place n)
+  pub over : (n : ℕ) → above (place n) ≡ Some dir
+  pub numbers : (n : ℕ) → number (place n) ≡ n
+
+-- the places of the records of jobs and of roles, by their numbers
+abbrev pub job_place : ℕ → Place
+job_place n = Job (record { 0 = n })
+
+abbrev pub launcher_place : ℕ → Place
+launcher_place n = LauncherRole (record { 0 = n })
+
+abbrev pub janitor_place : ℕ → Place
+janitor_place n = JanitorRole (record { 0 = n })
+
+abbrev pub requester_place : ℕ → Place
+requester_place n = RequesterRole (record { 0 = n })
+
+-- the number of such a place, or of a semaphore's
+abbrev pub place_number : Place → ℕ
+place_number (Semaphore x) = x.0
+place_number (Job j) = j.0
+place_number (LauncherRole p) = p.0
+place_number (JanitorRole p) = p.0
+place_number (RequesterRole q) = q.0
+place_number other = 0
+
+-- the records of jobs are a table, and so are those of each kind of role
+pub job-table : {A : Type 0} (list : List A) → length list ≤ 2 ^ 32 → IsTable job_place place_number Jobs 0 list
+job-table list few = record { good = λ n low. omega arith; over = λ n. refl; numbers = λ n. refl }
+
+pub launcher-table : {A : Type 0} (list : List A) → length list ≤ 2 ^ 16 → IsTable launcher_place place_number Roles 0 list
+launcher-table list few = record { good = λ n low. omega arith; over = λ n. refl; numbers = λ n. refl }
+
+pub janitor-table : {A : Type 0} (list : List A) → length list ≤ 2 ^ 16 → IsTable janitor_place place_number Roles 0 list
+janitor-table list few = record { good = λ n low. omega arith; over = λ n. refl; numbers = λ n. refl }
+
+pub requester-table : {A : Type 0} (list : List A) → length list ≤ 2 ^ 16 → IsTable requester_place place_number Roles 0 list
+requester-table list few = record { good = λ n low. omega arith; over = λ n. refl; numbers = λ n. refl }
+
+-- what is among the rows of one table is among those of several
+pub any-first : (test : Row → Bool) (a b : List Row) → list_any test a ≡ true → list_any test (a ++ b) ≡ true
+any-first test a b is = list_any-append test a b ∙ ap (λ (x : Bool). x || list_any test b) is
+
+pub any-last : (test : Row → Bool) (a b : List Row) → list_any test b ≡ true → list_any test (a ++ b) ≡ true
+any-last test a b is = list_any-append test a b ∙ ap (λ (x : Bool). list_any test a || x) is ∙ or_true (list_any test a)
+
+module _ {A : Type 0} (place : ℕ → Place) (number : Place → ℕ) (dir : Place) (first : ℕ) (list : List A) (is : IsTable place number dir first list) (text : A → List ℕ) where
+  abbrev row_of : ℕ → A → Row
+  row_of n a = persistent (place n) (text a)
+
+  -- a place of another kind is none of theirs
+  pub table-others : (p : Place) (bytes : List ℕ) → IsGood p → above p ≡ Some dir → ((n : ℕ) → place n ≡ p → ⊥) → map (put_bytes (place_name p) bytes) (rows_from row_of first list) ≡ rows_from row_of first list
+  table-others p bytes good over apart =
+      rows_from-others row_of (place_name p) bytes (first + length list) (first + length list)
+      (λ n a low other. named-other p (place n) good (is.good n low) (is.over n ∙ sym over) (apart n)) list first (omega arith) (inr (omega arith))
+
+  module _ (at k : ℕ) (old : A) (same : first + at ≡ k) (there : slice_get list at ≡ Some old) where
+    -- the place of a member is good
+    pub table-good : IsGood (place k)
+    table-good = let low = slice_get_within list at old there in is.good k (omega arith)
+
+    -- its row is there
+    pub table-any : list_any (is_named (place_name (place k))) (rows_from row_of first list) ≡ true
+    table-any = rows_from-any row_of (is_named (place_name (place k))) list first at k old same there (named-here (place k))
+
+    -- its row alone changes
+    pub table-change : (change : A → A) → map (put_bytes (place_name (place k)) (text (change old))) (rows_from row_of first list) ≡ rows_from row_of first (change_at at change list)
+    table-change change =
+        rows_from-change row_of (place_name (place k)) (text (change old)) (first + length list) k
+        (λ n a low other. named-other (place k) (place n) table-good (is.good n low) (is.over n ∙ sym (is.over k)) (λ equal. other (sym (is.numbers n) ∙ ap number equal ∙ is.numbers k)))
+        change list first at old (omega arith) same there
+        (ap (λ (b : Bool). cond b (row_with (text (change old)) (row_of k old)) (row_of k old)) (named-here (place k)))
+
+-- # a set of a job's record
+
+module _ (s : State) (t : TreeState) (j : JobId) (change : JobRecord → JobRecord) (old : JobRecord) (whole : IsWhole t.nodes) (good : HasGoodIds s) (lays : LaysOut s t) (there : slice_get s.jobs j.0 ≡ Some old) where
+  abbrev job_bytes : List ℕ
+  job_bytes = job_text (change old)
+
+  job-first : 0 + j.0 ≡ j.0
+  job-first = omega arith
+
+  job-good : IsGood (Job j)
+  job-good = table-good job_place place_number Jobs 0 s.jobs (job-table s.jobs good.jobs) job_text j.0 j.0 old job-first there
+
+  -- the job's row alone changes
+  job-rows : map (put_bytes (place_name (Job j)) job_bytes) (by_name (rows_from job_row 0 s.jobs)) ≡ by_name (rows_from job_row 0 (change_at j.0 change s.jobs))
+  job-rows =
+      by_name-each (put_bytes (place_name (Job j)) job_bytes) (put-name (place_name (Job j)) job_bytes) (rows_from job_row 0 s.jobs)
+      ∙ ap by_name (table-change job_place place_number Jobs 0 s.jobs (job-table s.jobs good.jobs) job_text j.0 j.0 old job-first there change)
+
+  job-lays : (w : ℕ) → LaysOut (record s { jobs = change_at j.0 change s.jobs }) (after_part t w (set job_bytes (Job j)))
+  job-lays w = all-tables _ _ each where
+    sets : SetsRow Jobs (Job j) job_bytes t (after_part t w (set job_bytes (Job j)))
+    sets = sets-row t w Jobs (Job j) job_bytes job-good refl whole
+
+    each : (k : Table) → Says (record s { jobs = change_at j.0 change s.jobs }) (after_part t w (set job_bytes (Job j))) k
+    each of_jobs = record { rows = sets.each ∙ ap (λ (rows : List Row). map (put_bytes (place_name (Job j)) job_bytes) rows) lays.jobs.rows ∙ job-rows; leaves = sets.leaves lays.jobs.leaves }
+    each k = table-stays s (Jobs ∷ []) t _ good sets.stays sets.live sets.begun k refl (each-table s t lays k)
+
+  -- a set of a job's record lays out the state with that record
+  job-set : SetLaysOut (record s { jobs = change_at j.0 change s.jobs }) t (Job j) job_bytes
+  job-set = record {
+    lays = job-lays;
+    goes = λ w. set-goes t Jobs (Job j) job_bytes job-good refl whole
+        (ap (list_any (is_named (place_name (Job j)))) lays.jobs.rows ∙ any-by_name (is_named (place_name (Job j))) (rows_from job_row 0 s.jobs)
+        ∙ table-any job_place place_number Jobs 0 s.jobs (job-table s.jobs good.jobs) job_text j.0 j.0 old job-first there) w;
+  }
+
+pub job_changes-lay-out : JobChangesLayOut
+job_changes-lay-out s t j change old whole good lays there = job-set s t j change old whole good lays there
+
+-- so does the set of another record
+pub jobs-lay-out : JobsLayOut
+jobs-lay-out s t j old kept whole good lays there =
+    subst (λ (jobs : List JobRecord). SetLaysOut (record s { jobs = jobs }) t (Job j) (job_text kept)) (change_at-set j.0 (λ _. kept) s.jobs kept (slice_get_within s.jobs j.0 old there))
+    (job-set s t j (λ _. kept) old whole good lays there)
+
+-- # a set of the record of a role
+
+-- ## three tables in one directory
+
+-- the rows of all, each table after the one before
+abbrev role_rows : List RoleRecord → List RoleRecord → List RoleRecord → List Row
+role_rows launchers janitors requesters = rows_from launcher_role_row 0 launchers ++ rows_from janitor_role_row 0 janitors ++ rows_from requester_role_row 0 requesters
+
+-- each table is changed alone
+put-roles : (f : Row → Row) (a1 a2 b1 b2 c1 c2 : List Row) → map f a1 ≡ a2 → map f b1 ≡ b2 → map f c1 ≡ c2 → map f (a1 ++ b1 ++ c1) ≡ a2 ++ b2 ++ c2
+put-roles f a1 a2 b1 b2 c1 c2 a b c =
+    map-append f (a1 ++ b1) c1
+    ∙ ap (λ (rows : List Row). rows ++ map f c1) (map-append f a1 b1 ∙ ap (λ (rows : List Row). rows ++ map f b1) a ∙ ap (λ (rows : List Row). a2 ++ rows) b)
+    ∙ ap (λ (rows : List Row). a2 ++ b2 ++ rows) c
+
+module _ (s : State) (t : TreeState) (whole : IsWhole t.nodes) (good : HasGoodIds s) (lays : LaysOut s t) where
+  -- a place of another kind is not in the table of launchers
+  launchers-same : (p : Place) (role_bytes : List ℕ) → IsGood p → above p ≡ Some Roles → ((n : ℕ) → launcher_place n ≡ p → ⊥) → map (put_bytes (place_name p) role_bytes) (rows_from launcher_role_row 0 s.launchers) ≡ rows_from launcher_role_row 0 s.launchers
+  launchers-same p role_bytes p_good over apart = table-others launcher_place place_number Roles 0 s.launchers (launcher-table s.launchers good.launchers) role_text p role_bytes p_good over apart
+
+  -- nor in that of janitors
+  janitors-same : (p : Place) (role_bytes : List ℕ) → IsGood p → above p ≡ Some Roles → ((n : ℕ) → janitor_place n ≡ p → ⊥) → map (put_bytes (place_name p) role_bytes) (rows_from janitor_role_row 0 s.janitors) ≡ rows_from janitor_role_row 0 s.janitors
+  janitors-same p role_bytes p_good over apart = table-others janitor_place place_number Roles 0 s.janitors (janitor-table s.janitors good.janitors) role_text p role_bytes p_good over apart
+
+  -- nor in that of requesters
+  requesters-same : (p : Place) (role_bytes : List ℕ) → IsGood p → above p ≡ Some Roles → ((n : ℕ) → requester_place n ≡ p → ⊥) → map (put_bytes (place_name p) role_bytes) (rows_from requester_role_row 0 s.requesters) ≡ rows_from requester_role_row 0 s.requesters
+  requesters-same p role_bytes p_good over apart = table-others requester_place place_number Roles 0 s.requesters (requester-table s.requesters good.requesters) role_text p role_bytes p_good over apart
+
+  -- if a row is there, and the rows change to those of other records, the set lays those out
+  role-lays : (p : Place) (role_bytes : List ℕ) (launchers janitors requesters : List RoleRecord) (w : ℕ) → IsGood p → above p ≡ Some Roles →
+      map (put_bytes (place_name p) role_bytes) (role_rows s.launchers s.janitors s.requesters) ≡ role_rows launchers janitors requesters →
+      LaysOut (record s { launchers = launchers; janitors = janitors; requesters = requesters }) (after_part t w (set role_bytes p))
+  role-lays p role_bytes launchers janitors requesters w p_good over rows = all-tables _ _ each where
+    sets : SetsRow Roles p role_bytes t (after_part t w (set role_bytes p))
+    sets = sets-row t w Roles p role_bytes p_good over whole
+
+    each : (k : Table) → Says (record s { launchers = launchers; janitors = janitors; requesters = requesters }) (after_part t w (set role_bytes p)) k
+    each of_roles = record {
+      rows =
+          sets.each ∙ ap (λ (list : List Row). map (put_bytes (place_name p) role_bytes) list) lays.roles.rows
+          ∙ by_name-each (put_bytes (place_name p) role_bytes) (put-name (place_name p) role_bytes) (role_rows s.launchers s.janitors s.requesters)
+          ∙ ap by_name rows;
+      leaves = sets.leaves lays.roles.leaves;
+    }
+    each k = table-stays s (Roles ∷ []) t _ good sets.stays sets.live sets.begun k refl (each-table s t lays k)
+
+  role-set : (p : Place) (role_bytes : List ℕ) (launchers janitors requesters : List RoleRecord) → IsGood p → above p ≡ Some Roles →
+      map (put_bytes (place_name p) role_bytes) (role_rows s.launchers s.janitors s.requesters) ≡ role_rows launchers janitors requesters →
+      list_any (is_named (place_name p)) (role_rows s.launchers s.janitors s.requesters) ≡ true →
+      SetLaysOut (record s { launchers = launchers; janitors = janitors; requesters = requesters }) t p role_bytes
+  role-set p role_bytes launchers janitors requesters p_good over rows any = record {
+    lays = λ w. role-lays p role_bytes launchers janitors requesters w p_good over rows;
+    goes = λ w. set-goes t Roles p role_bytes p_good over whole
+        (ap (list_any (is_named (place_name p))) lays.roles.rows ∙ any-by_name (is_named (place_name p)) (role_rows s.launchers s.janitors s.requesters) ∙ any) w;
+  }
+
+  module _ (change : RoleRecord → RoleRecord) (old : RoleRecord) where
+    abbrev role_bytes : List ℕ
+    role_bytes = role_text (change old)
+
+    -- a launcher's record
+    launcher-set : (p : PoolId) → slice_get s.launchers p.0 ≡ Some old → SetLaysOut (change_role change (Role.Launcher p) s) t (LauncherRole p) role_bytes
+    launcher-set p there =
+        let p_good = table-good launcher_place place_number Roles 0 s.launchers (launcher-table s.launchers good.launchers) role_text p.0 p.0 old (omega arith) there in
+        role-set (LauncherRole p) role_bytes (change_at p.0 change s.launchers) s.janitors s.requesters p_good refl
+        (put-roles (put_bytes (place_name (LauncherRole p)) role_bytes) (rows_from launcher_role_row 0 s.launchers) (rows_from launcher_role_row 0 (change_at p.0 change s.launchers)) (rows_from janitor_role_row 0 s.janitors) (rows_from janitor_role_row 0 s.janitors) (rows_from requester_role_row 0 s.requesters) (rows_from requester_role_row 0 s.requesters)
+        (table-change launcher_place place_number Roles 0 s.launchers (launcher-table s.launchers good.launchers) role_text p.0 p.0 old (omega arith) there change)
+        (janitors-same (LauncherRole p) role_bytes p_good refl (λ n same. cc))
+        (requesters-same (LauncherRole p) role_bytes p_good refl (λ n same. cc)))
+        (any-first (is_named (place_name (LauncherRole p))) (rows_from launcher_role_row 0 s.launchers ++ rows_from janitor_role_row 0 s.janitors) (rows_from requester_role_row 0 s.requesters)
+        (any-first (is_named (place_name (LauncherRole p))) (rows_from launcher_role_row 0 s.launchers) (rows_from janitor_role_row 0 s.janitors)
+        (table-any launcher_place place_number Roles 0 s.launchers (launcher-table s.launchers good.launchers) role_text p.0 p.0 old (omega arith) there)))
+
+    -- a janitor's record
+    janitor-set : (p : PoolId) → slice_get s.janitors p.0 ≡ Some old → SetLaysOut (change_role change (Role.Janitor p) s) t (JanitorRole p) role_bytes
+    janitor-set p there =
+        let p_good = table-good janitor_place place_number Roles 0 s.janitors (janitor-table s.janitors good.janitors) role_text p.0 p.0 old (omega arith) there in
+        role-set (JanitorRole p) role_bytes s.launchers (change_at p.0 change s.janitors) s.requesters p_good refl
+        (put-roles (put_bytes (place_name (JanitorRole p)) role_bytes) (rows_from launcher_role_row 0 s.launchers) (rows_from launcher_role_row 0 s.launchers) (rows_from janitor_role_row 0 s.janitors) (rows_from janitor_role_row 0 (change_at p.0 change s.janitors)) (rows_from requester_role_row 0 s.requesters) (rows_from requester_role_row 0 s.requesters)
+        (launchers-same (JanitorRole p) role_bytes p_good refl (λ n same. cc))
+        (table-change janitor_place place_number Roles 0 s.janitors (janitor-table s.janitors good.janitors) role_text p.0 p.0 old (omega arith) there change)
+        (requesters-same (JanitorRole p) role_bytes p_good refl (λ n same. cc)))
+        (any-first (is_named (place_name (JanitorRole p))) (rows_from launcher_role_row 0 s.launchers ++ rows_from janitor_role_row 0 s.janitors) (rows_from requester_role_row 0 s.requesters)
+        (any-last (is_named (place_name (JanitorRole p))) (rows_from launcher_role_row 0 s.launchers) (rows_from janitor_role_row 0 s.janitors)
+        (table-any janitor_place place_number Roles 0 s.janitors (janitor-table s.janitors good.janitors) role_text p.0 p.0 old (omega arith) there)))
+
+    -- a requester's record
+    requester-set : (q : RequesterId) → slice_get s.requesters q.0 ≡ Some old → SetLaysOut (change_role change (Role.Requester q) s) t (RequesterRole q) role_bytes
+    requester-set q there =
+        let q_good = table-good requester_place place_number Roles 0 s.requesters (requester-table s.requesters good.requesters) role_text q.0 q.0 old (omega arith) there in
+        role-set (RequesterRole q) role_bytes s.launchers s.janitors (change_at q.0 change s.requesters) q_good refl
+        (put-roles (put_bytes (place_name (RequesterRole q)) role_bytes) (rows_from launcher_role_row 0 s.launchers) (rows_from launcher_role_row 0 s.launchers) (rows_from janitor_role_row 0 s.janitors) (rows_from janitor_role_row 0 s.janitors) (rows_from requester_role_row 0 s.requesters) (rows_from requester_role_row 0 (change_at q.0 change s.requesters))
+        (launchers-same (RequesterRole q) role_bytes q_good refl (λ n same. cc))
+        (janitors-same (RequesterRole q) role_bytes q_good refl (λ n same. cc))
+        (table-change requester_place place_number Roles 0 s.requesters (requester-table s.requesters good.requesters) role_text q.0 q.0 old (omega arith) there change))
+        (any-last (is_named (place_name (RequesterRole q))) (rows_from launcher_role_row 0 s.launchers ++ rows_from janitor_role_row 0 s.janitors) (rows_from requester_role_row 0 s.requesters)
+        (table-any requester_place place_number Roles 0 s.requesters (requester-table s.requesters good.requesters) role_text q.0 q.0 old (omega arith) there))
+
+some_place : {p q : Place} → Some p ≡ Some q → p ≡ q
+some_place same = cc
+
+-- a set of the record of a role lays out the state with that record
+pub roles-lay-out : RolesLayOut
+roles-lay-out s t (Role.Launcher p) place change old whole good lays at there =
+    subst (λ (q : Place). SetLaysOut (change_role change (Role.Launcher p) s) t q (role_text (change old))) (some_place at) (launcher-set s t whole good lays change old p there)
+roles-lay-out s t (Role.Janitor p) place change old whole good lays at there =
+    subst (λ (q : Place). SetLaysOut (change_role change (Role.Janitor p) s) t q (role_text (change old))) (some_place at) (janitor-set s t whole good lays change old p there)
+roles-lay-out s t (Role.Requester q) place change old whole good lays at there =
+    subst (λ (r : Place). SetLaysOut (change_role change (Role.Requester q) s) t r (role_text (change old))) (some_place at) (requester-set s t whole good lays change old q there)
+roles-lay-out s t Role.Reaper place change old whole good lays at there = absurd cc
+
+-- # a set of a session's record
+
+-- the place of each session, and its number
+abbrev session_at : ℕ → Place
+session_at n = Session (record { 0 = n })
+
+abbrev session_number : Place → ℕ
+session_number (Session session) = session.0
+session_number other = 0
+
+abbrev text : SessionFacts → List ℕ
+text facts = session_text (record { mute = facts.mute; role = facts.role })
+
+-- a session that goes mute stays live
+mute-live : (at : ℕ) (sessions : List SessionFacts) → map (λ (f : SessionFacts). f.live) (change_at at muted sessions) ≡ map (λ f. f.live) sessions
+mute-live at [] = refl
+mute-live zero (f ∷ sessions) = refl
+mute-live (suc at) (f ∷ sessions) = ap (λ (flags : List Bool). f.live ∷ flags) (mute-live at sessions)
+
+mutes-live : (at : ℕ) (sessions : List SessionFacts) (t : TreeState) → AreLive sessions t → AreLive (change_at at muted sessions) t
+mutes-live at sessions t are =
+    let same = length-change_at at muted sessions in
+    record {
+      begun = are.begun ∙ ap (λ (n : ℕ). n + 1) (sym same);
+      first = are.first;
+      each = ap (λ (n : ℕ). map (is_in t.live) (range_with_len 2 n)) same ∙ are.each ∙ sym (mute-live at sessions);
+    }
+
+-- sessions count from one
+session-by : (o : Option SessionFacts) (facts : SessionFacts) (b : Bool) → cond b None o ≡ Some facts → (b ≡ false) × (o ≡ Some facts)
+session-by o facts true is = absurd cc
+session-by o facts false is = (refl, is)
+
+module _ (s : State) (t : TreeState) (session : SessionId) (facts : SessionFacts) (whole : IsWhole t.nodes) (good : HasGoodIds s) (lays : LaysOut s t) (is : session_of session s ≡ Some facts) where
+  abbrev at : ℕ
+  at = session.0 - 1
+
+  abbrev session_bytes : List ℕ
+  session_bytes = session_text (record { mute = true; role = facts.role })
+
+  -- sessions are a table
+  is-sessions : IsTable session_at session_number Sessions 1 s.sessions
+  is-sessions = record { good = λ n low. let few = good.sessions in omega arith; over = λ n. refl; numbers = λ n. refl }
+
+  there : slice_get s.sessions (session.0 - 1) ≡ Some facts
+  there = (session-by (slice_get s.sessions (session.0 - 1)) facts (session.0 == 0) is).1
+
+  first : 1 + (session.0 - 1) ≡ session.0
+  first = let not_zero = eqb-false session.0 0 (session-by (slice_get s.sessions (session.0 - 1)) facts (session.0 == 0) is).0 in omega arith
+
+  session-good : IsGood (Session session)
+  session-good = table-good session_at session_number Sessions 1 s.sessions is-sessions text at session.0 facts first there
+
+  session-lays : (w : ℕ) → LaysOut (record s { sessions = change_session session muted s.sessions }) (after_part t w (set session_bytes (Session session)))
+  session-lays w = all-tables _ _ each where
+    sets : SetsRow Sessions (Session session) session_bytes t (after_part t w (set session_bytes (Session session)))
+    sets = sets-row t w Sessions (Session session) session_bytes session-good refl whole
+
+    stays : (k : Table) → is_touched (Sessions ∷ []) k ≡ false → Says s (after_part t w (set session_bytes (Session session))) k
+    stays k none = table-stays s (Sessions ∷ []) t _ good sets.stays sets.live sets.begun k none (each-table s t lays k)
+
+    each : (k : Table) → Says (record s { sessions = change_session session muted s.sessions }) (after_part t w (set session_bytes (Session session))) k
+    each of_sessions = record {
+      rows =
+          sets.each ∙ ap (λ (rows : List Row). map (put_bytes (place_name (Session session)) session_bytes) rows) lays.sessions.rows
+          ∙ table-change session_at session_number Sessions 1 s.sessions is-sessions text at session.0 facts first there muted;
+      leaves = sets.leaves lays.sessions.leaves;
+    }
+    each of_live = mutes-live at s.sessions _ (stays of_live refl)
+    each k = stays k refl
+
+-- a set of a session's record to mute lays out the state in which it is
+pub mutes-lay-out : MutesLayOut
+mutes-lay-out s t session facts whole good lays is = record {
+  lays = session-lays s t session facts whole good lays is;
+  goes = λ w. set-goes t Sessions (Session session) (session_text (record { mute = true; role = facts.role })) (session-good s t session facts whole good lays is) refl whole
+      (ap (list_any (is_named (place_name (Session session)))) lays.sessions.rows
+      ∙ table-any session_at session_number Sessions 1 s.sessions (is-sessions s t session facts whole good lays is) text (session.0 - 1) session.0 facts (first s t session facts whole good lays is) (there s t session facts whole good lays is)) w;
+}
+
+-- # a set of the tick
+
+-- the tick's row alone changes
+tick-lays : (s : State) (t : TreeState) (tick w : ℕ) → IsWhole t.nodes → HasGoodIds s → LaysOut s t → LaysOut (record s { tick = tick }) (after_part t w (set (decimal tick) Tick))
+tick-lays s t tick w whole good lays = all-tables _ _ each where
+  sets : SetsRow Poolsim Tick (decimal tick) t (after_part t w (set (decimal tick) Tick))
+  sets = sets-row t w Poolsim Tick (decimal tick) tt refl whole
+
+  each : (k : Table) → Says (record s { tick = tick }) (after_part t w (set (decimal tick) Tick)) k
+  each of_frame = tick-stays (Poolsim ∷ []) t _ sets.stays s.tick tick refl refl refl refl (sets.each ∙ ap (λ (rows : List Row). map (put_bytes (place_name Tick) (decimal tick)) rows) lays.frame.poolsim) lays.frame
+  each k = table-stays s (Poolsim ∷ []) t _ good sets.stays sets.live sets.begun k refl (each-table s t lays k)
+
+-- a set of the tick lays out the state with that tick
+pub ticks-lay-out : TicksLayOut
+ticks-lay-out s t tick whole good lays = record {
+  lays = λ w. tick-lays s t tick w whole good lays;
+  goes = λ w. set-goes t Poolsim Tick (decimal tick) tt refl whole (ap (list_any (is_named (place_name Tick))) lays.frame.poolsim) w;
+}
+
+-- # a set of a node's record
+
+-- a node's name is its own
+pub same-is : (a b : NodeId) → (a.0 == b.0) ≡ true → a ≡ b
+same-is = node-same
+
+pub named-by : (n id : NodeId) (b : Bool) → (id.0 == n.0) ≡ b → IsGood (Node n) → IsGood (Node id) → bytes_eq (place_name (Node id)) (place_name (Node n)) ≡ b
+named-by = node-named
+
+module _ (s : State) (t : TreeState) (n : NodeId) (change : NodeRecord → NodeRecord) (old : NodeRecord) (bytes : List ℕ) (whole : IsWhole t.nodes) (good : HasGoodIds s) (lays : LaysOut s t) (there : node_in n s.nodes ≡ Some old) (spells : SpellsNode (change old) bytes) where
+  abbrev with_change : NodeEntry → NodeEntry
+  with_change e = record e { kept = change e.kept }
+
+  abbrev changed : List NodeEntry
+  changed = change_first (is_node_it n) with_change s.nodes
+
+  entry : (e : NodeEntry) × (node_entry n s.nodes ≡ Some e) × (e.kept ≡ old)
+  entry = from-map_some (λ (e : NodeEntry). e.kept) (node_entry n s.nodes) old there
+
+  n-good : IsGood (Node n)
+  n-good = node-good n s.nodes entry.0 good.nodes entry.1
+
+  tells : Tells (place_name (Node n)) (is_node_it n) (under Nodes t) s.nodes
+  tells = node-tells n (under Nodes t) s.nodes n-good good.nodes lays.nodes.rows
+
+  node-lays : (w : ℕ) → LaysOut (record s { nodes = changed }) (after_part t w (set bytes (Node n)))
+  node-lays w = all-tables _ _ each where
+    sets : SetsRow Nodes (Node n) bytes t (after_part t w (set bytes (Node n)))
+    sets = sets-row t w Nodes (Node n) bytes n-good refl whole
+
+    stays : (k : Table) → is_touched (Nodes ∷ []) k ≡ false → Says s (after_part t w (set bytes (Node n))) k
+    stays k none = table-stays s (Nodes ∷ []) t _ good sets.stays sets.live sets.begun k none (each-table s t lays k)
+
+    each : (k : Table) → Says (record s { nodes = changed }) (after_part t w (set bytes (Node n))) k
+    each of_nodes = record {
+      rows = subst (λ (rows : List Row). AllZip IsNodeRow rows changed) (sym sets.first)
+          (zip-change_found (is_node_it n) with_change (row_with bytes) (is_named (place_name (Node n))) IsNodeRow (under Nodes t) s.nodes tells lays.nodes.rows
+          (λ x found row is.
+          let kept : Some x.kept ≡ Some old = sym (ap (option_map (λ (e : NodeEntry). e.kept)) found) ∙ there in
+          let same : old ≡ x.kept = cc in
+          record { is = ap (row_with bytes) is.is; spells = subst (λ (k : NodeRecord). SpellsNode (change k) bytes) same spells }));
+      gives = sets.counter ∙ lays.nodes.gives;
+    }
+    each of_node_locks = all-change_first (HasNodeLock (after_part t w (set bytes (Node n)))) (is_node_it n) with_change s.nodes (λ e has. record { rows = has.rows; queue = has.queue }) (stays of_node_locks refl)
+    each k = stays k refl
+
+  node-set : SetLaysOut (record s { nodes = changed }) t (Node n) bytes
+  node-set = record {
+    lays = node-lays;
+    goes = λ w. set-goes t Nodes (Node n) bytes n-good refl whole (any-told (place_name (Node n)) (is_node_it n) (under Nodes t) s.nodes tells ∙ found-any (is_node_it n) entry.0 s.nodes entry.1) w;
+  }
+
+-- a set of a node's record lays out the state with that record, in either spelling of it
+pub nodes-lay-out : NodesLayOut
+nodes-lay-out s t n change old bytes whole good lays there spells = node-set s t n change old bytes whole good lays there spells
+
+-- # a set of a request's record
+
+-- a request's name is its own
+pub request-named-by : (r id : RequestId) (b : Bool) → same_request id r ≡ b → IsGood (Request r) → IsGood (Request id) → bytes_eq (place_name (Request id)) (place_name (Request r)) ≡ b
+request-named-by = request-named
+
+module _ (s : State) (t : TreeState) (r : RequestId) (change : RequestRecord → RequestRecord) (old : RequestRecord) (whole : IsWhole t.nodes) (good : HasGoodIds s) (lays : LaysOut s t) (there : request_in r s.requests ≡ Some old) where
+  abbrev request_with_change : RequestEntry → RequestEntry
+  request_with_change e = record e { kept = change e.kept }
+
+  abbrev request_changed : List RequestEntry
+  request_changed = change_first (is_request_it r) request_with_change s.requests
+
+  abbrev bytes : List ℕ
+  bytes = request_record_text (change old)
+
+  abbrev named : Row → Bool
+  named = is_named (place_name (Request r))
+
+  request-entry : (e : RequestEntry) × (request_entry r s.requests ≡ Some e) × (e.kept ≡ old)
+  request-entry = from-map_some (λ (e : RequestEntry). e.kept) (request_entry r s.requests) old there
+
+  r-good : IsGood (Request r)
+  r-good = request-good r s.requests request-entry.0 good.requests request-entry.1
+
+  names : AllByRecursion (λ x. named (request_row x) ≡ is_request_it r x) s.requests
+  names = all-weaker (λ (x : RequestEntry). named (request_lock_row x) ≡ is_request_it r x) (λ (x : RequestEntry). named (request_row x) ≡ is_request_it r x) (λ x same. same) s.requests (lock-names r s.requests r-good good.requests)
+
+  -- its row changes with it
+  rows-change : change_first named (row_with bytes) (map request_row s.requests) ≡ map request_row request_changed
+  rows-change = mapped-zip request_row (change_first named (row_with bytes) (map request_row s.requests)) request_changed
+      (zip-change_found (is_request_it r) request_with_change (row_with bytes) named (λ row e. row ≡ request_row e) (map request_row s.requests) s.requests (tells-mapped (place_name (Request r)) (is_request_it r) request_row s.requests names) (zip-mapped request_row s.requests)
+      (λ x found row is.
+      let kept : Some x.kept ≡ Some old = sym (ap (option_map (λ (e : RequestEntry). e.kept)) found) ∙ there in
+      let same : x.kept ≡ old = cc in
+      ap (row_with bytes) is ∙ ap (λ (k : RequestRecord). record (request_row x) { bytes = request_record_text (change k) }) (sym same)))
+
+  request-lays : (w : ℕ) → LaysOut (record s { requests = request_changed }) (after_part t w (set bytes (Request r)))
+  request-lays w = all-tables _ _ each where
+    sets : SetsRow Requests (Request r) bytes t (after_part t w (set bytes (Request r)))
+    sets = sets-row t w Requests (Request r) bytes r-good refl whole
+
+    stays : (k : Table) → is_touched (Requests ∷ []) k ≡ false → Says s (after_part t w (set bytes (Request r))) k
+    stays k none = table-stays s (Requests ∷ []) t _ good sets.stays sets.live sets.begun k none (each-table s t lays k)
+
+    locks : AreRequestLocks s.requests (after_part t w (set bytes (Request r)))
+    locks = stays of_request_locks refl
+
+    each : (k : Table) → Says (record s { requests = request_changed }) (after_part t w (set bytes (Request r))) k
+    each of_requests = record { rows = sets.first ∙ ap (change_first named (row_with bytes)) lays.requests.rows ∙ rows-change; leaves = sets.leaves lays.requests.leaves; gives = sets.counter ∙ lays.requests.gives }
+    each of_request_locks = record {
+      rows = locks.rows ∙ sym (map-change_first (is_request_it r) request_with_change request_lock_row (λ e. refl) s.requests);
+      queues = all-change_first (λ (e : RequestEntry). HasQueue (RequestLock e.id) e.queue (after_part t w (set bytes (Request r)))) (is_request_it r) request_with_change s.requests (λ e is. is) locks.queues;
+    }
+    each k = stays k refl
+
+  request-set : SetLaysOut (record s { requests = request_changed }) t (Request r) bytes
+  request-set = record {
+    lays = request-lays;
+    goes = λ w. set-goes t Requests (Request r) bytes r-good refl whole
+        (ap (list_any named) lays.requests.rows ∙ any-mapped request_row named (is_request_it r) s.requests names ∙ found-any (is_request_it r) request-entry.0 s.requests request-entry.1) w;
+  }
+
+-- a set of a request's record lays out the state with that record
+pub requests-lay-out : RequestsLayOut
+requests-lay-out s t r change old whole good lays there = request-set s t r change old whole good lays there

@@ -1,2 +1,0 @@
--- sums of amounts, one member more
-use Rattle.std.proofs.Common.{ℕ}

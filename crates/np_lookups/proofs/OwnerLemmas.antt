@@ -1,0 +1,501 @@
+-- the owners of nodes: the first job that has a node, after a change, and made node by node
+use Rattle.np_lookups.proofs.Prelude.{AllByRecursion, AreOwners, Asked, AsksForJob, Bool, Changes, Configuration, EndAs, Ending, EndsNode, Entry, Event, FinishesJob, Frees, GivesUp, Growth, Invariant, IsReached, Job, JobId, JobRecord, JobsChange, JobsPremise, List, Maker, Marked, NodeEntry, NodeId, NodeRecord, NodeState, NodesChange, NodesPremise, None, Option, Phase, Premises, PutsJob, PutsNode, Reports, RequestId, RequestsChange, Rises, Some, Starts, State, TakesOver, Withdraws, all-at, all-change_at, all-set, ap, arith, cases_lt, change_at, changed, cond, ended_as, eqb-true, false, false_from_ne_true, false≢true, found-same, freed, grown, grown-node, grown-numbered, inl, inr, invariant-changed, invariant-start, is_asked, is_building, is_marked, is_new, is_ok, is_ready, is_request, is_using, jobs-grown, jobs_changed, judge, le_refl, leave-node, length, length-append, length-set, list_any, list_any-map, map, marked, member-there, nat_lt, nat_tests, new_job, next, next-more, next_id, node-place, node_in, node_in-allocated, node_in-below, node_in-freed, node_in-in_use, node_in-other, node_in-put, node_in-remove, node_in-removed, nodes-after, nodes_changed, none-some, option_map, or_parts, owner_at, owner_of, owners_changed, owners_grown, owners_with, owns-if, plan, plan-next, position, position-here, position-later, premises, refl, remove_node, request_after_withdraw, same_Some, set-other, slice_get, slice_get_past, slice_get_within, slice_set, start, state_after, subst, suc, sym, true, unended, unwrap_or, used_from, with_mark, zero, ℕ, [], ◌++◌, ◌+◌, ◌<◌, ◌==◌, ◌||◌, ◌∙◌, ◌∷◌, ◌≡◌, ◌≤◌, ◌⊎◌}
+use Rattle.np_lookups.proofs.QueueLemmas.{at-push}
+
+-- # the owners of nodes: the first job that has a node, after a change, and made node by node
+
+-- # the place of the first member that passes, as one member of the list changes
+
+module _ {X : Type 0} (p : X → Bool) where
+  -- ## if none passes
+
+  pub none-there : (xs : List X) (i : ℕ) (x : X) → list_any p xs ≡ false → slice_get xs i ≡ Some x → p x ≡ false
+  none-there [] i x none is = absurd cc
+  none-there (y ∷ xs) zero x none is = let same : y ≡ x = cc in subst (λ (z : X). p z ≡ false) same (or_parts (p y) (list_any p xs) none).0
+  none-there (y ∷ xs) (suc i) x none is = none-there xs i x (or_parts (p y) (list_any p xs) none).1 is
+
+  pub none-set : (xs : List X) (i : ℕ) (x : X) → list_any p xs ≡ false → p x ≡ false → list_any p (slice_set xs i x) ≡ false
+  none-set [] i x none out = refl
+  none-set (y ∷ xs) zero x none out = rw out ((or_parts (p y) (list_any p xs) none).1)
+  none-set (y ∷ xs) (suc i) x none out = let parts = or_parts (p y) (list_any p xs) none in rw parts.0 (none-set xs i x parts.1 out)
+
+  pub none-first : (xs : List X) → list_any p xs ≡ false → position p xs ≡ None
+  none-first [] none = refl
+  none-first (x ∷ xs) none =
+      let parts = or_parts (p x) (list_any p xs) none in
+      position-later p x xs parts.0 ∙ ap (λ (o : Option ℕ). option_map (λ (i : ℕ). suc i) o) (none-first xs parts.1)
+
+  -- a member that passes is the first if there was none before
+  pub first-set : (xs : List X) (i : ℕ) (x y : X) → list_any p xs ≡ false → slice_get xs i ≡ Some x → p y ≡ true → position p (slice_set xs i y) ≡ Some i
+  first-set [] i x y none is passes = absurd cc
+  first-set (z ∷ xs) zero x y none is passes = position-here p y xs passes
+  first-set (z ∷ xs) (suc i) x y none is passes =
+      let parts = or_parts (p z) (list_any p xs) none in
+      position-later p z (slice_set xs i y) parts.0 ∙ ap (λ (o : Option ℕ). option_map (λ (k : ℕ). suc k) o) (first-set xs i x y parts.1 is passes)
+
+  -- ## if the member passes after the change as before it
+
+  abbrev ahead : Bool → Option ℕ → Option ℕ
+  ahead b o = cond b (Some 0) (option_map (λ (i : ℕ). suc i) o)
+
+  position-cons : (x : X) (xs : List X) → position p (x ∷ xs) ≡ ahead (p x) (position p xs)
+  position-cons x xs = by (p x) refl where
+    by : (b : Bool) → p x ≡ b → position p (x ∷ xs) ≡ ahead b (position p xs)
+    by true is = position-here p x xs is
+    by false is = position-later p x xs is
+
+  pub first-same : (xs : List X) (i : ℕ) (x y : X) → slice_get xs i ≡ Some x → p y ≡ p x → position p (slice_set xs i y) ≡ position p xs
+  first-same [] i x y is same = absurd cc
+  first-same (z ∷ xs) zero x y is same =
+      let here : z ≡ x = cc in
+      position-cons y xs ∙ ap (λ (b : Bool). ahead b (position p xs)) (same ∙ ap p (sym here)) ∙ sym (position-cons z xs)
+  first-same (z ∷ xs) (suc i) x y is same = position-cons z (slice_set xs i y) ∙ ap (ahead (p z)) (first-same xs i x y is same) ∙ sym (position-cons z xs)
+
+  pub first-changed : (i : ℕ) (f : X → X) (xs : List X) → ((x : X) → p (f x) ≡ p x) → position p (change_at i f xs) ≡ position p xs
+  first-changed i f [] same = refl
+  first-changed zero f (x ∷ xs) same = position-cons (f x) xs ∙ ap (λ (b : Bool). ahead b (position p xs)) (same x) ∙ sym (position-cons x xs)
+  first-changed (suc i) f (x ∷ xs) same = position-cons x (change_at i f xs) ∙ ap (ahead (p x)) (first-changed i f xs same) ∙ sym (position-cons x xs)
+
+  pub any-changed : (i : ℕ) (f : X → X) (xs : List X) → ((x : X) → p (f x) ≡ p x) → list_any p (change_at i f xs) ≡ list_any p xs
+  any-changed i f [] same = refl
+  any-changed zero f (x ∷ xs) same = ap (λ (b : Bool). b || list_any p xs) (same x)
+  any-changed (suc i) f (x ∷ xs) same = ap (λ (b : Bool). p x || b) (any-changed i f xs same)
+
+-- # what the changes of an event make of the nodes of a job
+
+-- ## which nodes it has
+
+-- a mark leaves a job its nodes
+pub marked-has : (m n : NodeId) (job : JobRecord) → is_marked n (with_mark m job) ≡ is_marked n job
+marked-has m n job = list_any-map (λ x. x.node.0 == n.0) (marked m) job.nodes (λ x. refl)
+
+-- those of a request are the nodes of the job that took them over
+pub unended-has : (n : NodeId) (numbers : List NodeId) → list_any (λ m. m.node.0 == n.0) (map unended numbers) ≡ list_any (λ m. m.0 == n.0) numbers
+unended-has n [] = refl
+unended-has n (m ∷ numbers) = ap (λ (b : Bool). (m.0 == n.0) || b) (unended-has n numbers)
+
+-- ## a job whose record is put
+
+-- new or asked
+abbrev pub is_early : Phase → Bool
+is_early p = is_new p || is_asked p
+
+-- it keeps the nodes that it had, and uses none after the change
+pub record KeepsNodes (s : State) (j : JobId) (later : JobRecord) : Type 0 where
+  pub kept : JobRecord
+  pub stands : slice_get s.jobs j.0 ≡ Some kept
+  pub same : later.nodes ≡ kept.nodes
+  pub idle : is_using later.phase ≡ false
+  pub early : is_early later.phase ≡ true → is_early kept.phase ≡ true
+
+-- it takes over those of its request
+pub record TakesNodes (c : Configuration) (s : State) (ch : Changes) (j : JobId) (later : JobRecord) : Type 0 where
+  pub request : RequestId
+  pub takes : TakesOver c s ch request
+  pub stands : slice_get s.jobs j.0 ≡ Some takes.kept
+  pub all : later.nodes ≡ map unended takes.request.nodes
+  pub in_use : later.phase ≡ Phase.Using
+
+stands-for : (s : State) (i j : JobId) (kept : JobRecord) → i ≡ j → slice_get s.jobs i.0 ≡ Some kept → slice_get s.jobs j.0 ≡ Some kept
+stands-for s i j kept same stands = subst (λ (x : JobId). slice_get s.jobs x.0 ≡ Some kept) same stands
+
+asked-early : (p : Phase) → is_new p ≡ true → is_early p ≡ true
+asked-early p new = rw new refl
+
+pub put-nodes : (c : Configuration) (s : State) (ch : Changes) (j : JobId) (later : JobRecord) → ch.jobs ≡ JobsChange.Put j later → PutsJob c s ch j later → KeepsNodes s j later ⊎ TakesNodes c s ch j later
+put-nodes c s ch j later at puts = by puts.way where
+  by : ((priority : ℕ) × (asked : Asked) × (asks : AsksForJob c s ch priority asked) × ((ch.grows ≡ Growth.Request priority asked) × (asks.number ≡ j)))
+      ⊎ (((r : RequestId) × (takes : TakesOver c s ch r) × ((ch.requests ≡ RequestsChange.Remove r) × (takes.number ≡ j)))
+      ⊎ (FinishesJob c s ch j puts.kept later
+      ⊎ (Withdraws s ch j puts.kept × (ch.requests ≡ request_after_withdraw puts.kept.request))))
+      → KeepsNodes s j later ⊎ TakesNodes c s ch j later
+  by (inl is) =
+      let asks = is.2 in
+      let both : JobsChange.Put j later ≡ JobsChange.Put asks.number (record asks.kept { phase = Phase.Asked; request = Some (next_id asks.job.priority s) }) = sym at ∙ asks.puts in
+      let same : later ≡ record asks.kept { phase = Phase.Asked; request = Some (next_id asks.job.priority s) } = cc in
+      inl (record {
+        kept = asks.kept;
+        stands = stands-for s asks.number j asks.kept is.3.1 asks.stands;
+        same = ap (λ (x : JobRecord). x.nodes) same;
+        idle = ap (λ (x : JobRecord). is_using x.phase) same;
+        early = λ _. asked-early asks.kept.phase asks.new;
+      })
+  by (inr (inl is)) =
+      let takes = is.1 in
+      let both : JobsChange.Put j later ≡ JobsChange.Put takes.number (record takes.kept { nodes = map unended takes.request.nodes; phase = Phase.Using; pool = takes.request.pool }) = sym at ∙ takes.puts in
+      let same : later ≡ record takes.kept { nodes = map unended takes.request.nodes; phase = Phase.Using; pool = takes.request.pool } = cc in
+      inr (record {
+        request = is.0;
+        takes = takes;
+        stands = stands-for s takes.number j takes.kept is.2.1 takes.stands;
+        all = ap (λ (x : JobRecord). x.nodes) same;
+        in_use = ap (λ (x : JobRecord). x.phase) same;
+      })
+  by (inr (inr (inl finishes))) = inl (record {
+    kept = puts.kept;
+    stands = puts.stands;
+    same = ap (λ (x : JobRecord). x.nodes) finishes.record_after;
+    idle = ap (λ (x : JobRecord). is_using x.phase) finishes.record_after;
+    early = λ early. absurd (let out : is_early later.phase ≡ false = ap (λ (x : JobRecord). is_early x.phase) finishes.record_after in cc);
+  })
+  by (inr (inr (inr withdraws))) =
+      let both : JobsChange.Put j later ≡ JobsChange.Put j (record puts.kept { ending = Some Ending.Withdrawn; phase = Phase.Over }) = sym at ∙ withdraws.0.puts in
+      let same : later ≡ record puts.kept { ending = Some Ending.Withdrawn; phase = Phase.Over } = cc in
+      inl (record {
+        kept = puts.kept;
+        stands = puts.stands;
+        same = ap (λ (x : JobRecord). x.nodes) same;
+        idle = ap (λ (x : JobRecord). is_using x.phase) same;
+        early = λ early. absurd (let out : is_early later.phase ≡ false = ap (λ (x : JobRecord). is_early x.phase) same in cc);
+      })
+
+-- # a node that no job has used is no job's: this holds of every state that a run leads to
+
+-- ## what is said
+
+-- building or ready
+abbrev pub is_unused : NodeState → Bool
+is_unused NodeState.Building = true
+is_unused NodeState.Ready = true
+is_unused NodeState.InUse = false
+is_unused NodeState.Used = false
+is_unused NodeState.Hold = false
+is_unused NodeState.Deleting = false
+is_unused NodeState.Failed = false
+
+-- no job has the node
+abbrev pub IsFree : List JobRecord → NodeId → Type 0
+IsFree rows n = list_any (is_marked n) rows ≡ false
+
+abbrev UnusedFree : List JobRecord → List NodeEntry → Type 0
+UnusedFree rows entries = (n : NodeId) (k : NodeRecord) → node_in n entries ≡ Some k → is_unused k.state ≡ true → IsFree rows n
+
+-- a job that is new or asked has no node
+abbrev IsBare : JobRecord → Type 0
+IsBare job = is_early job.phase ≡ true → job.nodes ≡ []
+
+-- neither has any job a node that is building or ready, or that is not there yet
+pub record AreUnused (s : State) : Type 0 where
+  pub early : AllByRecursion IsBare s.jobs
+  pub unused : UnusedFree s.jobs s.nodes
+  pub later : (n : NodeId) → s.next_node ≤ n.0 → IsFree s.jobs n
+
+building-unused : (state : NodeState) → is_building state ≡ true → is_unused state ≡ true
+building-unused NodeState.Building is = refl
+building-unused _ is = absurd (false≢true is)
+
+ready-unused : (state : NodeState) → is_ready state ≡ true → is_unused state ≡ true
+ready-unused NodeState.Ready is = refl
+ready-unused _ is = absurd (false≢true is)
+
+-- ## the nodes, later
+
+module _ (rows : List JobRecord) where
+  same-looks : (entries later : List NodeEntry) → ((n : NodeId) → node_in n later ≡ node_in n entries) → UnusedFree rows entries → UnusedFree rows later
+  same-looks entries later looks old = λ n k is. old n k (sym (looks n) ∙ is)
+
+  -- each node was unused if it is
+  mapped : (entries later : List NodeEntry) (f : NodeId → NodeRecord → NodeRecord) → ((n : NodeId) → node_in n later ≡ option_map (f n) (node_in n entries))
+      → ((n : NodeId) (k : NodeRecord) → node_in n entries ≡ Some k → is_unused (f n k).state ≡ true → is_unused k.state ≡ true) → UnusedFree rows entries → UnusedFree rows later
+  mapped entries later f looks was old = λ n k is. by n k (node_in n entries) refl (sym (looks n) ∙ is) where
+    by : (n : NodeId) (k : NodeRecord) (o : Option NodeRecord) → node_in n entries ≡ o → option_map (f n) o ≡ Some k → is_unused k.state ≡ true → IsFree rows n
+    by n k None at is = absurd (none-some k is)
+    by n k (Some x) at is = λ unused. old n x at (was n x at (ap (λ (y : NodeRecord). is_unused y.state) (same_Some (f n x) k is) ∙ unused))
+
+  removed : (n0 : NodeId) (entries : List NodeEntry) → Rises (λ (a b : NodeEntry). nat_lt a.id.0 b.id.0) entries → UnusedFree rows entries → UnusedFree rows (remove_node n0 entries)
+  removed n0 entries rises old = λ n k is. by n k is (n0.0 == n.0) refl where
+    by : (n : NodeId) (k : NodeRecord) → node_in n (remove_node n0 entries) ≡ Some k → (b : Bool) → (n0.0 == n.0) ≡ b → is_unused k.state ≡ true → IsFree rows n
+    by n k is true same = absurd (none-some k (sym (node_in-removed n0 n entries rises same) ∙ is))
+    by n k is false other = old n k (sym (node_in-remove n0 n entries other) ∙ is)
+
+  pushed : (new : NodeEntry) (entries : List NodeEntry) → IsFree rows new.id → UnusedFree rows entries → UnusedFree rows (entries ++ new ∷ [])
+  pushed new entries free old = λ n k is unused. by n k is unused (new.id.0 == n.0) refl where
+    by : (n : NodeId) (k : NodeRecord) → node_in n (entries ++ new ∷ []) ≡ Some k → is_unused k.state ≡ true → (b : Bool) → (new.id.0 == n.0) ≡ b → IsFree rows n
+    by n k is unused true same = subst (λ (i : ℕ). IsFree rows (record { 0 = i })) (eqb-true new.id.0 n.0 same) free
+    by n k is unused false other = old n k (sym (node_in-other new n entries other) ∙ is) unused
+
+-- a node that is changed or not: if it is unused afterwards, it was
+if-unused : (b : Bool) (x y : NodeRecord) → (b ≡ true → is_unused x.state ≡ true → is_unused y.state ≡ true) → is_unused (cond b x y).state ≡ true → is_unused y.state ≡ true
+if-unused true x y was unused = was refl unused
+if-unused false x y was unused = unused
+
+ended-used : (as_what : EndAs) → is_unused (ended_as as_what) ≡ true → ⊥
+ended-used EndAs.Used is = false≢true is
+ended-used EndAs.Hold is = false≢true is
+
+module _ (c : Configuration) (s : State) (ch : Changes) (inv : Invariant c s) (old : AreUnused s) (given : Premises c s ch) where
+  abbrev g : State
+  g = grown c ch.maker ch.grows s
+
+  abbrev t : State
+  t = changed c ch s
+
+  -- a node whose record is put
+  put-was : (n : NodeId) (kept : NodeRecord) (puts : PutsNode c s ch n kept) → is_unused kept.state ≡ true → is_unused puts.node.state ≡ true
+  put-was n kept puts unused = by puts.way where
+    by : Starts s ch puts.node kept ⊎ (Reports c s ch puts.node kept ⊎ (EndsNode s ch n puts.node kept ⊎ (GivesUp s ch puts.node kept ⊎ Frees s ch puts.node kept))) → is_unused puts.node.state ≡ true
+    by (inl starts) = ap (λ (x : NodeRecord). is_unused x.state) (sym starts.record_after) ∙ unused
+    by (inr (inl reports)) = building-unused puts.node.state (inv.owned.launches n puts.node puts.held.stands reports.running)
+    by (inr (inr (inl ends))) = absurd (ended-used ends.as_what (ap (λ (x : NodeRecord). is_unused x.state) (sym ends.record_after) ∙ unused))
+    by (inr (inr (inr (inl gives_up)))) = absurd (false≢true (ap (λ (x : NodeRecord). is_unused x.state) (sym gives_up.record_after) ∙ unused))
+    by (inr (inr (inr (inr frees)))) = ap (λ (x : NodeRecord). is_unused x.state) (sym frees.record_after) ∙ unused
+
+  unused-allocated : (maker : Option Maker) (growth : Growth) → UnusedFree s.jobs (grown c maker growth s).nodes
+  unused-allocated maker (Growth.Node kept) = pushed s.jobs _ s.nodes (old.later (record { 0 = s.next_node }) (le_refl s.next_node)) old.unused
+  unused-allocated None (Growth.Allocate n r tenant) = old.unused
+  unused-allocated (Some maker) (Growth.Allocate m r tenant) =
+      mapped s.jobs s.nodes _ (λ n k. cond (m.0 == n.0) (record k { allocated_to = Some r; tenant = tenant }) k) (λ n. node_in-allocated m n r tenant maker.session s.nodes)
+      (λ n k is. if-unused (m.0 == n.0) (record k { allocated_to = Some r; tenant = tenant }) k (λ _ unused. unused)) old.unused
+  unused-allocated maker growth = same-looks s.jobs s.nodes _ (λ n. grown-node c maker growth s n tt) old.unused
+
+  -- no job had a node that is unused after what happens to nodes
+  unused-was : (change : NodesChange) → NodesPremise c s ch change → UnusedFree s.jobs (nodes_changed ch.maker g.tick change g.nodes)
+  unused-was NodesChange.Same premise = unused-allocated ch.maker ch.grows
+  unused-was (NodesChange.Put m kept) premise =
+      mapped s.jobs s.nodes _ (λ n k. cond (m.0 == n.0) kept k)
+      (λ n. node_in-put m n kept g.nodes ∙ ap (λ (x : Growth). option_map (λ k. cond (m.0 == n.0) kept k) (node_in n (grown c ch.maker x s).nodes)) premise.same_size)
+      (λ n k is. if-unused (m.0 == n.0) kept k (λ same unused. subst (λ (x : NodeRecord). is_unused x.state ≡ true) (found-same s.nodes m n premise.node k same premise.held.stands is) (put-was m kept premise unused)))
+      old.unused
+  unused-was (NodesChange.Remove m) premise = removed s.jobs m g.nodes (grown-numbered c s ch.maker ch.grows inv.numbered).nodes_rise (unused-allocated ch.maker ch.grows)
+  unused-was (NodesChange.Leave m) premise = same-looks s.jobs g.nodes _ (λ n. leave-node ch.maker m n g.nodes) (unused-allocated ch.maker ch.grows)
+  unused-was (NodesChange.FreeAll r) premise =
+      mapped s.jobs g.nodes _ (λ n k. cond (is_request r k.allocated_to) (freed k) k) (λ n. node_in-freed r n g.nodes)
+      (λ n k is. if-unused (is_request r k.allocated_to) (freed k) k (λ _ unused. unused)) (unused-allocated ch.maker ch.grows)
+  unused-was (NodesChange.TakeOver numbers) premise =
+      mapped s.jobs g.nodes _ (λ n k. cond (list_any (λ m. m.0 == n.0) numbers) (used_from g.tick k) k) (λ n. node_in-in_use g.tick numbers n g.nodes)
+      (λ n k is. if-unused (list_any (λ m. m.0 == n.0) numbers) (used_from g.tick k) k (λ _ unused. absurd (false≢true unused))) (unused-allocated ch.maker ch.grows)
+
+  unused-before : UnusedFree s.jobs t.nodes
+  unused-before = same-looks s.jobs _ t.nodes (nodes-after c s ch ch.maker ch.grows ch.nodes refl refl refl) (unused-was ch.nodes given.nodes)
+
+  -- nodes that a job takes over are used
+  taken-used : (numbers : List NodeId) → ch.nodes ≡ NodesChange.TakeOver numbers → (n : NodeId) (k : NodeRecord) → node_in n t.nodes ≡ Some k → is_unused k.state ≡ true → list_any (λ m. m.0 == n.0) numbers ≡ false
+  taken-used numbers takes n k is unused =
+      by (list_any (λ m. m.0 == n.0) numbers) (node_in n g.nodes) (sym (nodes-after c s ch ch.maker ch.grows (NodesChange.TakeOver numbers) refl refl takes n ∙ node_in-in_use g.tick numbers n g.nodes) ∙ is)
+    where
+      by : (b : Bool) (o : Option NodeRecord) → option_map (λ x. cond b (used_from g.tick x) x) o ≡ Some k → b ≡ false
+      by false o here = refl
+      by true None here = absurd (none-some k here)
+      by true (Some x) here = absurd (false≢true (ap (λ (y : NodeRecord). is_unused y.state) (same_Some (used_from g.tick x) k here) ∙ unused))
+
+  -- ## the jobs, later
+
+  -- so a node that is taken over is no job's, and there
+  pub taken-free : (r : RequestId) (takes : TakesOver c s ch r) (n : NodeId) → list_any (λ m. m.0 == n.0) takes.request.nodes ≡ true → IsFree s.jobs n × (n.0 < s.next_node)
+  taken-free r takes n among =
+      let owns = owns-if s r takes.request takes.request.state takes.fulfilled (inv.owned.requests r takes.request takes.request_stands) in
+      let place = node-place n takes.request.nodes among in
+      let label = member-there takes.request.labels place.0 (subst (λ (size : ℕ). place.0 < size) owns.as_many (slice_get_within takes.request.nodes place.0 n place.1)) in
+      let is = owns.each place.0 n label.0 place.1 label.1 in
+      (old.unused n is.node is.stands (ready-unused is.node.state is.ready), node_in-below n s.next_node is.node s.nodes inv.numbered.nodes_below is.stands)
+
+  -- no job has a node that none had and none takes over
+  still-free : (change : JobsChange) → ch.jobs ≡ change → JobsPremise c s ch change → (n : NodeId) → IsFree s.jobs n
+      → ((r : RequestId) (takes : TakesOver c s ch r) → list_any (λ m. m.0 == n.0) takes.request.nodes ≡ false) → IsFree (jobs_changed change s.jobs) n
+  still-free JobsChange.Same at premise n free none = free
+  still-free (JobsChange.EndNode j m) at premise n free none = any-changed (is_marked n) j.0 (with_mark m) s.jobs (marked-has m n) ∙ free
+  still-free (JobsChange.Put j later) at premise n free none = none-set (is_marked n) s.jobs j.0 later free (by (put-nodes c s ch j later at premise)) where
+    by : KeepsNodes s j later ⊎ TakesNodes c s ch j later → is_marked n later ≡ false
+    by (inl keeps) = ap (λ (marks : List Marked). list_any (λ m. m.node.0 == n.0) marks) keeps.same ∙ none-there (is_marked n) s.jobs j.0 keeps.kept free keeps.stands
+    by (inr takes) = ap (λ (marks : List Marked). list_any (λ m. m.node.0 == n.0) marks) takes.all ∙ unended-has n takes.takes.request.nodes ∙ none takes.request takes.takes
+
+  still-bare : (change : JobsChange) → ch.jobs ≡ change → JobsPremise c s ch change → AllByRecursion IsBare (jobs_changed change s.jobs)
+  still-bare JobsChange.Same at premise = old.early
+  still-bare (JobsChange.EndNode j m) at premise =
+      all-change_at IsBare j.0 (with_mark m) s.jobs (λ job bare early. ap (λ (marks : List Marked). map (marked m) marks) (bare early)) old.early
+  still-bare (JobsChange.Put j later) at premise = all-set IsBare s.jobs j.0 later (by (put-nodes c s ch j later at premise)) old.early where
+    by : KeepsNodes s j later ⊎ TakesNodes c s ch j later → IsBare later
+    by (inl keeps) = λ early. keeps.same ∙ all-at IsBare s.jobs j.0 keeps.kept old.early keeps.stands (keeps.early early)
+    by (inr takes) = λ early. absurd (false≢true (sym (ap is_early takes.in_use) ∙ early))
+
+  as-grown : (P : List JobRecord → Type 0) → P (jobs_changed ch.jobs s.jobs) → P t.jobs
+  as-grown P is = subst (λ (rows : List JobRecord). P (jobs_changed ch.jobs rows)) (sym (jobs-grown c ch.maker ch.grows s)) is
+
+  pub unused-changed : AreUnused t
+  unused-changed = record {
+    early = as-grown (λ rows. AllByRecursion IsBare rows) (still-bare ch.jobs refl given.jobs);
+    unused = λ n k is unused.
+        as-grown (λ rows. IsFree rows n) (still-free ch.jobs refl given.jobs n (unused-before n k is unused) (λ r takes. taken-used takes.request.nodes takes.takes n k is unused));
+    later = λ n past.
+        let was : s.next_node ≤ n.0 = omega (arith, next-more c ch.maker ch.grows s, past) in
+        as-grown (λ rows. IsFree rows n) (still-free ch.jobs refl given.jobs n (old.later n was) (λ r takes.
+        false_from_ne_true (list_any (λ m. m.0 == n.0) takes.request.nodes) (λ among. let below : n.0 < s.next_node = (taken-free r takes n among).1 in omega arith)));
+  }
+
+-- ## every state that a run leads to
+
+all-bare : (rows : List Job) → AllByRecursion IsBare (map (λ _. new_job) rows)
+all-bare [] = tt
+all-bare (row ∷ rows) = (λ early. refl, all-bare rows)
+
+all-free : (rows : List Job) (n : NodeId) → IsFree (map (λ _. new_job) rows) n
+all-free [] n = refl
+all-free (row ∷ rows) n = all-free rows n
+
+unused-start : (c : Configuration) → AreUnused (start c)
+unused-start c = record { early = all-bare c.jobs; unused = λ n k is unused. absurd cc; later = λ n past. all-free c.jobs n }
+
+record Holds (c : Configuration) (s : State) : Type 0 where
+  pub invariant : Invariant c s
+  pub unused : AreUnused s
+
+holds-next : (c : Configuration) (s : State) (e : Event) → Holds c s → Holds c (next c s e)
+holds-next c s e old = by (is_ok (judge c s e)) refl where
+  by : (b : Bool) → is_ok (judge c s e) ≡ b → Holds c (next c s e)
+  by true ok =
+      let given : Premises c s (plan c s e) = premises c s e ok in
+      subst (Holds c) (plan-next c s e ok) (record { invariant = invariant-changed c s (plan c s e) old.invariant given; unused = unused-changed c s (plan c s e) old.invariant old.unused given })
+  by false refused = rw refused old
+
+holds-after : (c : Configuration) (s : State) (journal : List Entry) → Holds c s → Holds c (state_after c s journal)
+holds-after c s [] old = old
+holds-after c s (entry ∷ journal) old = holds-after c (next c s entry.event) journal (holds-next c s entry.event old)
+
+pub unused-reached : (c : Configuration) (s : State) → IsReached c s → AreUnused s
+unused-reached c s reached = subst AreUnused reached.runs.ends (holds-after c (start c) reached.journal (record { invariant = invariant-start c; unused = unused-start c })).unused
+
+-- # what the changes of an event make of the owners of nodes
+
+-- ## lists by place
+
+pub owner_at-past : (i : ℕ) (owners : List (Option JobId)) → length owners ≤ i → owner_at i owners ≡ None
+owner_at-past i owners past = ap (λ (o : Option (Option JobId)). unwrap_or o None) (slice_get_past owners i past)
+
+length-with : (j : JobId) (nodes : List Marked) (owners : List (Option JobId)) → length (owners_with j nodes owners) ≡ length owners
+length-with j [] owners = refl
+length-with j (m ∷ nodes) owners = length-with j nodes (slice_set owners m.node.0 (Some j)) ∙ length-set owners m.node.0 (Some j)
+
+set-here : {X : Type 0} (xs : List X) (i : ℕ) (x : X) → i < length xs → slice_get (slice_set xs i x) i ≡ Some x
+set-here [] i x within = absurd (omega arith)
+set-here (y ∷ xs) zero x within = refl
+set-here (y ∷ xs) (suc i) x within = set-here xs i x (omega arith)
+
+owner_at-set : (i k : ℕ) (o : Option JobId) (owners : List (Option JobId)) → k < length owners → owner_at k (slice_set owners i o) ≡ cond (i == k) o (owner_at k owners)
+owner_at-set i k o owners within = by (i == k) refl where
+  by : (b : Bool) → (i == k) ≡ b → owner_at k (slice_set owners i o) ≡ cond b o (owner_at k owners)
+  by true is =
+      let same : i ≡ k = grind (arith, nat_tests) in
+      ap (λ (x : ℕ). owner_at k (slice_set owners x o)) same ∙ ap (λ (x : Option (Option JobId)). unwrap_or x None) (set-here owners k o within)
+  by false is = ap (λ (x : Option (Option JobId)). unwrap_or x None) (set-other owners i k o (λ same. absurd (grind (arith, nat_tests))))
+
+-- at the place of a node is the job if it has the node, and else what was there
+owner_at-with : (j : JobId) (k : ℕ) (nodes : List Marked) (owners : List (Option JobId)) → k < length owners → owner_at k (owners_with j nodes owners) ≡ cond (list_any (λ m. m.node.0 == k) nodes) (Some j) (owner_at k owners)
+owner_at-with j k [] owners within = refl
+owner_at-with j k (m ∷ nodes) owners within =
+    owner_at-with j k nodes (slice_set owners m.node.0 (Some j)) (omega (arith, length-set owners m.node.0 (Some j), within))
+    ∙ ap (λ (o : Option JobId). cond (list_any (λ x. x.node.0 == k) nodes) (Some j) o) (owner_at-set m.node.0 k (Some j) owners within)
+    ∙ by (m.node.0 == k) (list_any (λ x. x.node.0 == k) nodes) where
+      by : (a b : Bool) → cond b (Some j) (cond a (Some j) (owner_at k owners)) ≡ cond (a || b) (Some j) (owner_at k owners)
+      by true true = refl
+      by true false = refl
+      by false b = refl
+
+-- ## owners, by the changes of an event
+
+abbrev as_job : Option ℕ → Option JobId
+as_job o = option_map (λ (at : ℕ). record { 0 = at }) o
+
+-- what grows
+owners-grown : (c : Configuration) (s : State) (maker : Option Maker) (growth : Growth) (owners : List (Option JobId)) → AreOwners s owners → AreOwners (grown c maker growth s) (owners_grown growth owners)
+owners-grown c s maker (Growth.Node kept) owners is = record {
+  each = λ n. at-push None n.0 owners ∙ is.each n;
+  many = let more : length (owners ++ None ∷ []) ≡ length owners + 1 = simp length-append refl in omega (arith, more, is.many);
+}
+owners-grown c s None growth owners is = record { each = is.each; many = is.many }
+owners-grown c s (Some m) growth owners is = record { each = is.each; many = is.many }
+
+module _ (c : Configuration) (s : State) (ch : Changes) (inv : Invariant c s) (unused : AreUnused s) (given : Premises c s ch) where
+  -- the owner of a node, after a job's record was put
+  module _ (j : JobId) (later : JobRecord) where
+    kept-owner : (n : NodeId) → KeepsNodes s j later → owner_of n (slice_set s.jobs j.0 later) ≡ owner_of n s.jobs
+    kept-owner n keeps =
+        ap as_job (first-same (is_marked n) s.jobs j.0 keeps.kept later keeps.stands (ap (λ (marks : List Marked). list_any (λ m. m.node.0 == n.0) marks) keeps.same))
+
+    -- the job had no node before
+    had-none : (n : NodeId) (takes : TakesNodes c s ch j later) → is_marked n takes.takes.kept ≡ false
+    had-none n takes =
+        let early : is_early takes.takes.kept.phase ≡ true = early-asked takes.takes.kept.phase takes.takes.asked in
+        let none : takes.takes.kept.nodes ≡ [] = all-at _ s.jobs j.0 takes.takes.kept unused.early takes.stands early in
+        ap (λ (marks : List Marked). list_any (λ m. m.node.0 == n.0) marks) none
+      where
+        early-asked : (p : _) → is_asked p ≡ true → is_early p ≡ true
+        early-asked p asked = grind (arith, nat_tests)
+
+    taken-owner : (n : NodeId) → TakesNodes c s ch j later → owner_of n (slice_set s.jobs j.0 later) ≡ cond (is_marked n later) (Some j) (owner_of n s.jobs)
+    taken-owner n takes = by (is_marked n later) refl where
+      by : (b : Bool) → is_marked n later ≡ b → owner_of n (slice_set s.jobs j.0 later) ≡ cond b (Some j) (owner_of n s.jobs)
+      by true has =
+          let among : list_any (λ m. m.0 == n.0) takes.takes.request.nodes ≡ true =
+          sym (unended-has n takes.takes.request.nodes) ∙ ap (λ (marks : List Marked). list_any (λ m. m.node.0 == n.0) marks) (sym takes.all) ∙ has in
+          ap as_job (first-set (is_marked n) s.jobs j.0 takes.takes.kept later (taken-free c s ch inv unused given takes.request takes.takes n among).0 takes.stands has)
+      by false has = ap as_job (first-same (is_marked n) s.jobs j.0 takes.takes.kept later takes.stands (has ∙ sym (had-none n takes)))
+
+  -- what happens to jobs: t is the state after it
+  module _ (t : State) (owners : List (Option JobId)) (each : (n : NodeId) → owner_at n.0 owners ≡ owner_of n s.jobs) (many : length owners ≡ t.next_node) (later : AreUnused t) where
+    owners-settled : (change : JobsChange) → ch.jobs ≡ change → JobsPremise c s ch change → t.jobs ≡ jobs_changed change s.jobs → AreOwners t (owners_changed change owners)
+    owners-settled JobsChange.Same at premise jobs_are = record { each = λ n. each n ∙ ap (owner_of n) (sym jobs_are); many = many }
+    owners-settled (JobsChange.EndNode j m) at premise jobs_are = record {
+      each = λ n. each n ∙ ap as_job (sym (first-changed (is_marked n) j.0 (with_mark m) s.jobs (marked-has m n))) ∙ ap (owner_of n) (sym jobs_are);
+      many = many;
+    }
+    owners-settled (JobsChange.Put j kept) at premise jobs_are = by (put-nodes c s ch j kept at premise) where
+      by : KeepsNodes s j kept ⊎ TakesNodes c s ch j kept → AreOwners t (cond (is_using kept.phase) (owners_with j kept.nodes owners) owners)
+      by (inl keeps) = rw keeps.idle (record { each = λ n. each n ∙ sym (kept-owner j kept n keeps) ∙ ap (owner_of n) (sym jobs_are); many = many })
+      by (inr takes) = let using : is_using kept.phase ≡ true = ap is_using takes.in_use in rw using (record {
+        each = λ n. at_place n (cases_lt n.0 (length owners));
+        many = length-with j kept.nodes owners ∙ many;
+      }) where
+        at_place : (n : NodeId) → (n.0 < length owners) ⊎ (length owners ≤ n.0) → owner_at n.0 (owners_with j kept.nodes owners) ≡ owner_of n t.jobs
+        at_place n (inl within) =
+            owner_at-with j n.0 kept.nodes owners within
+            ∙ ap (λ (o : Option JobId). cond (is_marked n kept) (Some j) o) (each n)
+            ∙ sym (taken-owner j kept n takes)
+            ∙ ap (owner_of n) (sym jobs_are)
+        at_place n (inr past) =
+            owner_at-past n.0 (owners_with j kept.nodes owners) (omega (arith, length-with j kept.nodes owners, past))
+            ∙ ap as_job (sym (none-first (is_marked n) t.jobs (later.later n (omega (arith, many, past)))))
+
+  pub owners-changed : (owners : List (Option JobId)) → AreOwners s owners → AreOwners (changed c ch s) (owners_changed ch.jobs (owners_grown ch.grows owners))
+  owners-changed owners is =
+      let g = grown c ch.maker ch.grows s in
+      let made = owners-grown c s ch.maker ch.grows owners is in
+      let same : g.jobs ≡ s.jobs = jobs-grown c ch.maker ch.grows s in
+      owners-settled (changed c ch s) (owners_grown ch.grows owners) (λ n. made.each n ∙ ap (owner_of n) same) made.many (unused-changed c s ch inv unused given) ch.jobs refl given.jobs (ap (jobs_changed ch.jobs) same)
+
+-- # the owners of nodes, made node by node
+
+-- the owners of the nodes below a number
+pub record AreOwnersBelow (s : State) (number : ℕ) (owners : List (Option JobId)) : Type 0 where
+  pub many : length owners ≡ number
+  pub each : (n : NodeId) → n.0 < number → owner_at n.0 owners ≡ owner_of n s.jobs
+
+owner_at-before : (i : ℕ) (owners : List (Option JobId)) (o : Option JobId) → i < length owners → owner_at i (owners ++ o ∷ []) ≡ owner_at i owners
+owner_at-before i [] o within = absurd (omega arith)
+owner_at-before zero (x ∷ owners) o within = refl
+owner_at-before (suc i) (x ∷ owners) o within = owner_at-before i owners o (omega arith)
+
+owner_at-end : (owners : List (Option JobId)) (o : Option JobId) → owner_at (length owners) (owners ++ o ∷ []) ≡ o
+owner_at-end [] o = refl
+owner_at-end (x ∷ owners) o = owner_at-end owners o
+
+-- one more
+pub owners-more : (s : State) (number : ℕ) (owners later : List (Option JobId)) (o : Option JobId) → AreOwnersBelow s number owners → later ≡ owners ++ o ∷ [] → o ≡ owner_of (record { 0 = number }) s.jobs → AreOwnersBelow s (number + 1) later
+owners-more s number owners later o made added read = record {
+  many = let more : length (owners ++ o ∷ []) ≡ length owners + 1 = simp length-append refl in omega (arith, ap length added, more, made.many);
+  each = λ n below. ap (owner_at n.0) added ∙ by n below (cases_lt n.0 number);
+} where
+  by : (n : NodeId) → n.0 < number + 1 → (n.0 < number) ⊎ (number ≤ n.0) → owner_at n.0 (owners ++ o ∷ []) ≡ owner_of n s.jobs
+  by n below (inl before) = owner_at-before n.0 owners o (omega (arith, made.many, before)) ∙ made.each n before
+  by n below (inr past) =
+      let last : n.0 ≡ length owners = omega (arith, made.many, below, past) in
+      let same : number ≡ n.0 = omega (arith, below, past) in
+      ap (λ (i : ℕ). owner_at i (owners ++ o ∷ [])) last ∙ owner_at-end owners o ∙ read ∙ ap (λ (i : ℕ). owner_of (record { 0 = i }) s.jobs) same
+
+-- a node that was not made yet has none
+pub owners-all : (c : Configuration) (s : State) → IsReached c s → (number : ℕ) (owners : List (Option JobId)) → number ≡ s.next_node → AreOwnersBelow s number owners → AreOwners s owners
+owners-all c s reached number owners all made = record { each = λ n. by n (cases_lt n.0 number); many = made.many ∙ all } where
+  by : (n : NodeId) → (n.0 < number) ⊎ (number ≤ n.0) → owner_at n.0 owners ≡ owner_of n s.jobs
+  by n (inl below) = made.each n below
+  by n (inr past) =
+      owner_at-past n.0 owners (omega (arith, made.many, past))
+      ∙ ap (λ (o : Option ℕ). option_map (λ (at : ℕ). record { 0 = at }) o) (sym (none-first (is_marked n) s.jobs ((unused-reached c s reached).later n (omega (arith, all, past)))))

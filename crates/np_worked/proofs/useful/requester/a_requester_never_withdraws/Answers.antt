@@ -1,5 +1,0 @@
-use Rattle.std.proofs.Common.{refl}
-use Rattle.np_worked.proofs.useful.requester.a_requester_never_withdraws.Goals as goal
-
-pub returns : goal.returns
-returns c = record { accepted = refl; maker = refl; row = refl }
