@@ -1,5 +1,5 @@
 -- the searches of janitors: one request or the jobs of requesters decide whether an event of a kind is useful
-use Rattle.np_janitor.proofs.Prelude.{All-get_or, AllByRecursion, Bool, Chooses, ChoosesFinish, ChoosesOf, ChoosesOfAny, ChoosesRelease, Configuration, Done, Event, EventKind, IsReached, IsSound, IsUseful, Janitor, Job, JobId, JobKind, JobRecord, List, NodeKind, None, NoneFinished, NoneOf, NoneOpens, NoneReleased, Ok, Option, Phase, PoolId, REQUESTERS, RequestEntry, RequestId, RequestKind, RequestRecord, Requester, RequesterId, Role, SessionId, Some, State, after_release, among, and_from, and_parts, ap, arith, before_fail, eq-eqb, false, false-apart, first_declined_by_all, first_unheld_pending, get_or, get_or_from_slice_get, has_some_handle, holder, is_asked, is_current, is_declined_by_all, is_failed, is_finishable, is_job_to_finish, is_maker_of, is_none, is_ok, is_pending, is_pending_by, is_pool, is_requested, is_some, is_stopped, is_unheld_pending, is_using, janitor, janitor_order, job_event, job_is, job_to_finish, judge, kept-is, kinds-choose, length, lock_pending, made-by, maker, maker_of, may_finish, ok-is, on-check, on-found, on-given, on-need, on-not, on-vacant, option_and_then, option_map, option_map_or, passes, passes-useful, refl, request_entry, request_holder, request_in, request_state_of, requester_or_janitor, row-of, row_holds, slice_get, slice_get_within, subst, sym, true, undeclined, useful-passes, ℕ, [], ◌&&◌, ◌++◌, ◌<◌, ◌==◌, ◌||◌, ◌∙◌, ◌∷◌, ◌≡◌, ◌≤◌}
+use Rattle.np_janitor.proofs.Prelude.{All-get_or, AllByRecursion, Bool, Chooses, ChoosesFinish, ChoosesOf, ChoosesOfAny, ChoosesRelease, Configuration, Done, Event, EventKind, IsReached, IsSound, IsUseful, Janitor, Job, JobId, JobKind, JobRecord, List, NodeKind, None, NoneFinished, NoneOf, NoneOpens, NoneReleased, Ok, Option, Phase, PoolId, REQUESTERS, RequestEntry, RequestId, RequestKind, RequestRecord, Requester, RequesterId, Role, SessionId, Some, State, [], after_release, among, and_from, and_parts, ap, arith, before_fail, eq-eqb, false, false-apart, first_declined_by_all, first_unheld_pending, get_or, get_or_from_slice_get, has_some_handle, holder, is_asked, is_current, is_declined_by_all, is_failed, is_finishable, is_job_to_finish, is_none, is_ok, is_pending, is_pending_by, is_pool, is_requested, is_some, is_stopped, is_unheld_pending, is_using, janitor, janitor_order, job_event, job_is, job_to_finish, judge, kept-is, kinds-choose, length, lock_pending, made-by, maker, maker_of, may_finish, nat_tests, none-is, ok-is, on-check, on-found, on-given, on-need, on-not, on-vacant, option_and_then, option_map, option_map_or, passes, refl, request_entry, request_holder, request_in, request_state_of, requester_or_janitor, row-of, row_holds, slice_get, slice_get_within, some-unless, subst, sym, true, undeclined, useful-passes, ℕ, ◌&&◌, ◌++◌, ◌<◌, ◌==◌, ◌||◌, ◌∙◌, ◌∷◌, ◌≡◌, ◌≤◌}
 use Rattle.np_janitor.proofs.Nodes.{first-request, maker-is}
 
 -- # one request decides whether an event of a kind is useful
@@ -11,29 +11,19 @@ pub record IsFirstPassing (c : Configuration) (s : State) (role : Role) (event :
   pub passes : passes c s role (event id) ≡ true
 
 module _ (c : Configuration) (s : State) (role : Role) (session : SessionId) (current : is_current role session s ≡ true) (event : SessionId → RequestId → Event) (makes : (by : SessionId) (r : RequestId) → maker_of (event by r) ≡ Some by) where
-  -- an event of the session that passes is useful
-  pub passing-useful : (r : RequestId) → passes c s role (event session r) ≡ true → IsUseful c s role (event session r)
-  passing-useful r is = passes-useful c s role (event session r) is (ap (is_maker_of role s) (makes session r) ∙ current)
-
   module _ (first : Option RequestId) (one : (r : RequestId) → IsUseful c s role (event session r) → IsFirstPassing c s role (event session) first) where
     first-of : (other : SessionId) (r : RequestId) → IsUseful c s role (event other r) → IsFirstPassing c s role (event session) first
     first-of other r useful =
         let same : other ≡ session = made-by c s role session current other (event other r) (makes other r) useful in
         one r (subst (λ (x : SessionId). IsUseful c s role (event x r)) same useful)
 
-    -- if there is no such request, none of the events is useful
-    pub none-named : first ≡ None → (other : SessionId) (r : RequestId) → IsUseful c s role (event other r) → ⊥
-    none-named none other r useful =
+    -- if there is no such request, or the first is refused, none of the events is useful
+    pub none-passes : (o : Option RequestId) → first ≡ o → option_map_or (λ r. passes c s role (event session r)) o false ≡ false → (other : SessionId) (r : RequestId) → IsUseful c s role (event other r) → ⊥
+    none-passes o is refused other r useful =
         let found = first-of other r useful in
-        let there : first ≡ Some found.id = found.is in
-        cc
-
-    -- nor if the first is refused
-    pub none-passes : (id : RequestId) → first ≡ Some id → passes c s role (event session id) ≡ false → (other : SessionId) (r : RequestId) → IsUseful c s role (event other r) → ⊥
-    none-passes id named refused other r useful =
-        let found = first-of other r useful in
-        let same : found.id ≡ id = let there : first ≡ Some found.id = found.is in cc in
-        let is : passes c s role (event session id) ≡ true = subst (λ (x : RequestId). passes c s role (event session x) ≡ true) same found.passes in
+        let same : o ≡ Some found.id = sym is ∙ found.is in
+        let no : passes c s role (event session found.id) ≡ false = rw same at refused in
+        let yes : passes c s role (event session found.id) ≡ true = found.passes in
         cc
 
 -- # the first request that every registered pool declined decides whether a janitor fails one
@@ -92,10 +82,6 @@ module _ (c : Configuration) (s : State) (session : SessionId) where
         }
 
     module _ (current : is_current (Janitor p) session s ≡ true) where
-      -- if the failing of a request passes, it is useful
-      pub first-useful : (id : RequestId) → passes c s (Janitor p) (Event.FailDeclined session id) ≡ true → IsUseful c s (Janitor p) (Event.FailDeclined session id)
-      first-useful id is = passing-useful c s (Janitor p) session current (λ by r. Event.FailDeclined by r) (λ by r. refl) id is
-
       module _ (reached : IsReached c s) where
         -- a useful failing names such a request
         useful-failing-first : (r : RequestId) → IsUseful c s (Janitor p) (Event.FailDeclined session r) → IsFirstDeclined
@@ -103,19 +89,11 @@ module _ (c : Configuration) (s : State) (session : SessionId) where
             let answer = ok-is (judge c s (Event.FailDeclined session r)) useful.accepted in
             first-declined reached r (fail-is r answer.0 answer.1)
 
-        -- if there is no such request, none is failed
-        pub no-first : first_declined_by_all s ≡ None → NoneOf c s (Janitor p) (EventKind.Request RequestKind.FailDeclined)
-        no-first none = none-named c s (Janitor p) session current (λ by r. Event.FailDeclined by r) (λ by r. refl) (first_declined_by_all s) useful-failing-first none
-
-        -- nor if the first is refused
-        pub first-refused : (id : RequestId) → first_declined_by_all s ≡ Some id → passes c s (Janitor p) (Event.FailDeclined session id) ≡ false → NoneOf c s (Janitor p) (EventKind.Request RequestKind.FailDeclined)
-        first-refused id found refused = none-passes c s (Janitor p) session current (λ by r. Event.FailDeclined by r) (λ by r. refl) (first_declined_by_all s) useful-failing-first id found refused
+        -- if there is no such request, or the first is refused, none is failed
+        pub first-refused : (o : Option RequestId) → first_declined_by_all s ≡ o → option_map_or (λ r. passes c s (Janitor p) (Event.FailDeclined session r)) o false ≡ false → NoneOf c s (Janitor p) (EventKind.Request RequestKind.FailDeclined)
+        first-refused o found refused = none-passes c s (Janitor p) session current (λ by r. Event.FailDeclined by r) (λ by r. refl) (first_declined_by_all s) useful-failing-first o found refused
 
 -- # the first request that is pending by its pool and that nobody holds decides whether a janitor locks one
-
-nobody : (o : Option SessionId) → is_none o ≡ true → o ≡ None
-nobody None is = refl
-nobody (Some session) is = absurd cc
 
 module _ (c : Configuration) (s : State) (session : SessionId) (p : PoolId) (current : is_current (Janitor p) session s ≡ true) where
   -- the row of a request that is pending by the pool and that nobody holds
@@ -159,13 +137,9 @@ module _ (c : Configuration) (s : State) (session : SessionId) (p : PoolId) (cur
       let parts = and_parts (is_pending_by p e.kept) (is_none (holder e.queue)) is.unheld in
       let pending = and_parts (is_pending e.kept.state) (is_pool p e.kept.pool) parts.0 in
       and_from (is_ok (judge c s (Event.LockRequest session r))) (row_holds c s (Janitor p) (Event.LockRequest session r))
-      (lock-accepted r e is.there pending.0 (nobody (holder e.queue) parts.1)) (lock-row r e is.there parts.0)
+      (lock-accepted r e is.there pending.0 (none-is (holder e.queue) parts.1)) (lock-row r e is.there parts.0)
 
   -- ## the first such request
-
-  -- if its lock passes, it is useful
-  pub lock-useful : (id : RequestId) → passes c s (Janitor p) (Event.LockRequest session id) ≡ true → IsUseful c s (Janitor p) (Event.LockRequest session id)
-  lock-useful id is = passing-useful c s (Janitor p) session current (λ by r. Event.LockRequest by r) (λ by r. refl) id is
 
   module _ (reached : IsReached c s) where
     -- if a lock is useful, that of the first passes
@@ -179,21 +153,13 @@ module _ (c : Configuration) (s : State) (session : SessionId) (p : PoolId) (cur
           passes = lock-passes first.row.id first.row (record { there = first.there; unheld = first.passes });
         }
 
-    -- if there is no such request, none is locked
-    pub no-unheld : first_unheld_pending p s ≡ None → NoneOf c s (Janitor p) (EventKind.Request RequestKind.Lock)
-    no-unheld none = none-named c s (Janitor p) session current (λ by r. Event.LockRequest by r) (λ by r. refl) (first_unheld_pending p s) useful-lock-first none
-
-    -- nor if the first is refused
-    pub unheld-refused : (id : RequestId) → first_unheld_pending p s ≡ Some id → passes c s (Janitor p) (Event.LockRequest session id) ≡ false → NoneOf c s (Janitor p) (EventKind.Request RequestKind.Lock)
-    unheld-refused id found refused = none-passes c s (Janitor p) session current (λ by r. Event.LockRequest by r) (λ by r. refl) (first_unheld_pending p s) useful-lock-first id found refused
+    -- if there is no such request, or the first is refused, none is locked
+    pub unheld-refused : (o : Option RequestId) → first_unheld_pending p s ≡ o → option_map_or (λ r. passes c s (Janitor p) (Event.LockRequest session r)) o false ≡ false → NoneOf c s (Janitor p) (EventKind.Request RequestKind.Lock)
+    unheld-refused o found refused = none-passes c s (Janitor p) session current (λ by r. Event.LockRequest by r) (λ by r. refl) (first_unheld_pending p s) useful-lock-first o found refused
 
 -- # every job is a job of a requester, so that what is useful for none of them is useful for no job
 
 module _ (c : Configuration) where
-  row-by : (such : Job → Bool) (o : Option Job) → option_map_or such o false ≡ true → (job : Job) × (o ≡ Some job)
-  row-by such None is = absurd cc
-  row-by such (Some job) is = (job, refl)
-
   few : IsSound c → (j : JobId) (job : Job) → slice_get c.jobs j.0 ≡ Some job → job.requester.0 < REQUESTERS
   few sound j job row =
       let at : j.0 < length c.jobs = slice_get_within c.jobs j.0 job row in
@@ -212,22 +178,15 @@ module _ (c : Configuration) where
       → ((k : ℕ) → k < REQUESTERS → (by : SessionId) (j : JobId) → job_is j c (λ row. row.requester.0 == k) ≡ true → IsUseful c s (Janitor p) (job_event kind by j) → ⊥)
       → NoneOf c s (Janitor p) (EventKind.Job kind)
   none-of s p kind such sound exists none = λ by j useful.
-      let row = row-by (such j) (slice_get c.jobs j.0) (exists by j useful) in
+      let row = some-unless (slice_get c.jobs j.0) (λ none. false-apart (rw none at (exists by j useful))) in
       none row.0.requester.0 (few sound j row.0 row.1) by j (own j row.0 row.1) useful
 
 -- # if the jobs that are to be finished were tried, no finish is useful
 
 -- a job that can be finished uses its nodes, or its request failed
-finishable-by : (p : Phase) (o : Option RequestRecord) (busy : Bool) → ((is_asked p && option_map_or (λ request. is_failed request.state) o false) || (is_using p && busy)) ≡ true
+pub finishable-by : (p : Phase) (o : Option RequestRecord) (busy : Bool) → ((is_asked p && option_map_or (λ request. is_failed request.state) o false) || (is_using p && busy)) ≡ true
     → (is_using p || (is_asked p && option_map_or is_failed (option_map (λ request. request.state) o) false)) ≡ true
-finishable-by Phase.New o busy is = absurd cc
-finishable-by Phase.Asked None busy is = absurd cc
-finishable-by Phase.Asked (Some request) busy is = by (is_failed request.state) is where
-  by : (b : Bool) → (b || false) ≡ true → b ≡ true
-  by true failed = refl
-  by false failed = failed
-finishable-by Phase.Using o busy is = refl
-finishable-by Phase.Over o busy is = absurd cc
+finishable-by p o busy is = grind (arith, nat_tests)
 
 -- a job whose finish is accepted, whoever makes it, uses its nodes, or its request failed
 finish-ready : (c : Configuration) (s : State) (by : SessionId) (j : JobId) (what : Done) → judge c s (Event.Finish by j) ≡ Ok what
@@ -280,14 +239,7 @@ module _ (c : Configuration) (s : State) (p : PoolId) where
 
 module _ (c : Configuration) (s : State) (p : PoolId) (opens : NoneOpens c s (Janitor p)) (all : AllByRecursion (NoneOf c s (Janitor p)) janitor_order) where
   useless : (e : Event) → IsUseful c s (Janitor p) e → ⊥
-  useless Event.Tick useful = false-apart useful.row
   useless (Event.OpenSession role) useful = opens role useful
-  useless (Event.Crash session) useful = false-apart useful.row
-  useless (Event.Expire session) useful = false-apart useful.row
-  useless (Event.Register session) useful = false-apart useful.row
-  useless (Event.Submit session j) useful = false-apart useful.row
-  useless (Event.Revise session j relative) useful = false-apart useful.row
-  useless (Event.MinReady session l) useful = false-apart useful.row
   useless (Event.Gone session n) useful = all.0 session n useful
   useless (Event.FreeNode session n) useful = all.1.0 session n useful
   useless (Event.MarkDeleting session n) useful = all.1.1.0 session n useful
@@ -299,18 +251,7 @@ module _ (c : Configuration) (s : State) (p : PoolId) (opens : NoneOpens c s (Ja
   useless (Event.Release session j) useful = all.1.1.1.1.1.1.1.1.0 session j useful
   useless (Event.LockRequest session r) useful = all.1.1.1.1.1.1.1.1.1.0 session r useful
   useless (Event.LockNode session n) useful = all.1.1.1.1.1.1.1.1.1.1.0 session n useful
-  useless (Event.Accept session r) useful = false-apart useful.row
-  useless (Event.Decline session r why) useful = false-apart useful.row
-  useless (Event.TakeReady session r n) useful = false-apart useful.row
-  useless (Event.Create session r) useful = false-apart useful.row
-  useless (Event.Start session n) useful = false-apart useful.row
-  useless (Event.Done session n attempt o) useful = false-apart useful.row
-  useless (Event.Fulfil session r) useful = false-apart useful.row
-  useless (Event.Acquire session j) useful = false-apart useful.row
-  useless (Event.Take session j) useful = false-apart useful.row
-  useless (Event.EndNode session n as_what) useful = false-apart useful.row
-  useless (Event.Withdraw session j) useful = false-apart useful.row
-  useless (Event.Sweep session n x) useful = false-apart useful.row
+  useless _ useful = false-apart useful.row
 
 pub janitor-law : (c : Configuration) (s : State) (p : PoolId) → NoneOpens c s (Janitor p) → AllByRecursion (NoneOf c s (Janitor p)) janitor_order → (e : Event) → IsUseful c s (Janitor p) e → ⊥
 janitor-law c s p opens all e useful = useless c s p opens all e useful

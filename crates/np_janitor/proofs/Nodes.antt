@@ -1,17 +1,7 @@
 -- nodes that janitors lock and clean up: it is enough to try those that are due first
-use Rattle.np_janitor.proofs.Prelude.{AllByRecursion, Bool, ChoosesOf, Configuration, Event, EventKind, IsFirst, IsFirstThatPasses, IsNumbered, IsReached, IsUseful, Janitor, List, NodeEntry, NodeId, NodeKind, NodeRecord, NodeState, None, Ok, Option, PoolId, RequestEntry, RequestId, Rises, Role, SessionFacts, SessionId, Some, StandsIn, State, UnheldKind, all-at, all-filter_to, all-find, all-from_at, and_from, and_parts, ap, arith, cond, current-speaks, due_after, due_at, due_of, eq-eqb, false, filter, find, find-passes, first_due, fold, holder, if◌then◌else◌, invariant-Runs, is_cleanable, is_cleanable_as, is_current, is_id_before, is_maker_of, is_node_of, is_none, is_ok, is_old_hold, is_old_ready, is_past, is_paused, is_some, is_unclaimed, is_unheld, is_unheld_as, judge, length, lock_due_at, made-by, maker, maker_of, most, nat_lt, nat_tests, node-apart, node_entry, not, not-zero, option_and_then, option_map, option_map_or, or_left, or_right, passes, passes-useful, passing, passing-is, passing-none, ready_age, refl, request-apart, request-itself, request_entry, row_holds, same-role, same_kind, same_pool, same_request, same_role, session_of, slice_get, sooner, soonest, standing, subst, suc, sym, tried_kinds, true, unheld_kind, unheld_kind_as, zero, ℕ, [], ◌&&◌, ◌<◌, ◌==◌, ◌||◌, ◌∙◌, ◌∷◌, ◌≡◌, ◌≤◌}
+use Rattle.np_janitor.proofs.Prelude.{AllByRecursion, Bool, ChoosesOf, Configuration, Event, EventKind, IsFirst, IsFirstThatPasses, IsNumbered, IsReached, IsUseful, Janitor, List, NodeEntry, NodeId, NodeKind, NodeRecord, NodeState, None, Ok, Option, PoolId, RequestEntry, RequestId, Rises, Role, SessionFacts, SessionId, Some, StandsIn, State, UnheldKind, [], all-at, all-filter_to, all-find, all-from_at, and_from, and_parts, ap, arith, by_bool, cond, current-speaks, due_after, due_at, due_of, eq-eqb, false, filter, find, find-passes, first_due, fold, holder, if◌then◌else◌, invariant-Runs, is_cleanable, is_cleanable_as, is_current, is_id_before, is_maker_of, is_node_of, is_none, is_ok, is_old_hold, is_old_ready, is_past, is_paused, is_some, is_unclaimed, is_unheld, is_unheld_as, judge, length, lock_due_at, made-by, maker, maker_of, most, nat_lt, nat_tests, node-apart, node_entry, none-find, not, not-zero, option_and_then, option_map, option_map_or, or_left, or_right, passes, passes-useful, passing, passing-is, passing-none, ready_age, refl, request-apart, request-itself, request_entry, row_holds, same-role, same_kind, same_pool, same_request, same_role, session_of, slice_get, some-unless, sooner, soonest, standing, subst, suc, sym, tried_kinds, true, true≢false, unheld_kind, unheld_kind_as, zero, ℕ, ◌&&◌, ◌<◌, ◌==◌, ◌||◌, ◌∙◌, ◌∷◌, ◌≡◌, ◌≤◌}
 
 -- # rows by their ids, of which no two are the same
-
--- if one that was found passes another test, there is a first that passes it
-some-by : {X : Type 0} (p q : X → Bool) (x y : X) (xs : List X) (b d : Bool) → p y ≡ d → cond b (Some y) (find q xs) ≡ Some x → p x ≡ true → (find q xs ≡ Some x → (z : X) × (find p xs ≡ Some z)) → (z : X) × (cond d (Some y) (find p xs) ≡ Some z)
-some-by p q x y xs b true is there passes later = (y, refl)
-some-by {X} p q x y xs true false is there passes later = let same : y ≡ x = cc in absurd (let other : p x ≡ false = ap p (sym same) ∙ is in cc)
-some-by p q x y xs false false is there passes later = later there
-
-some-first : {X : Type 0} (p q : X → Bool) (xs : List X) (x : X) → find q xs ≡ Some x → p x ≡ true → (z : X) × (find p xs ≡ Some z)
-some-first p q [] x there passes = absurd cc
-some-first p q (y ∷ xs) x there passes = some-by p q x y xs (q y) (p y) refl there passes (λ found. some-first p q xs x found passes)
 
 -- a member that passes is the first that does, if none that comes before it does
 module _ {X : Type 0} (before : X → X → Bool) (p : X → Bool) (x : X) (passes : p x ≡ true) (earlier : (y : X) → before y x ≡ true → p y ≡ false) where
@@ -53,7 +43,7 @@ module _ (c : Configuration) (s : State) (reached : IsReached c s) where
   -- if a request passes, there is a first that does
   pub first-request : (such : RequestEntry → Bool) (r : RequestId) (e : RequestEntry) → request_entry r s.requests ≡ Some e → such e ≡ true → IsFirstRequest such
   first-request such r e there passes =
-      let first = some-first such (λ (x : RequestEntry). same_request x.id r) s.requests e there passes in
+      let first = some-unless (find such s.requests) (λ none. true≢false (sym passes ∙ all-find (λ (x : RequestEntry). such x ≡ false) (λ x. same_request x.id r) s.requests e (none-find such s.requests none) there)) in
       record {
         row = first.0;
         is = first.1;
@@ -66,10 +56,9 @@ module _ (c : Configuration) (s : State) (reached : IsReached c s) where
 -- what is true of those that pass is true of each that passes
 passing-all : {X : Type 0} (P : X → Type 0) (p : X → Bool) (xs : List X) → AllByRecursion P (filter p xs) → AllByRecursion (λ x. p x ≡ true → P x) xs
 passing-all P p [] all = tt
-passing-all {X} P p (x ∷ xs) all = by (p x) refl all (passing-all P p xs) where
-  by : (b : Bool) → p x ≡ b → AllByRecursion P (cond b (x ∷ filter p xs) (filter p xs)) → (AllByRecursion P (filter p xs) → AllByRecursion (λ y. p y ≡ true → P y) xs) → AllByRecursion (λ y. p y ≡ true → P y) (x ∷ xs)
-  by true is all later = ((λ passes. all.0), later all.1)
-  by false is all later = ((λ passes. absurd cc), later all)
+passing-all P p (x ∷ xs) all =
+    by_bool (λ b. AllByRecursion P (cond b (x ∷ filter p xs) (filter p xs)) → AllByRecursion (λ y. p y ≡ true → P y) (x ∷ xs)) (p x)
+    (λ is kept. ((λ passes. kept.0), passing-all P p xs kept.1)) (λ is kept. ((λ passes. absurd cc), passing-all P p xs kept)) all
 
 module _ (c : Configuration) (kind : UnheldKind) (P : NodeEntry → Type 0) where
   -- the node is due no later than the other
@@ -174,21 +163,10 @@ kind-self UnheldKind.Abandoned = refl
 
 kind-is : (one other : UnheldKind) → same_kind one other ≡ true → other ≡ one
 kind-is UnheldKind.Free UnheldKind.Free same = refl
-kind-is UnheldKind.Free UnheldKind.LeftOver same = absurd cc
-kind-is UnheldKind.Free UnheldKind.Hold same = absurd cc
-kind-is UnheldKind.Free UnheldKind.Abandoned same = absurd cc
-kind-is UnheldKind.LeftOver UnheldKind.Free same = absurd cc
 kind-is UnheldKind.LeftOver UnheldKind.LeftOver same = refl
-kind-is UnheldKind.LeftOver UnheldKind.Hold same = absurd cc
-kind-is UnheldKind.LeftOver UnheldKind.Abandoned same = absurd cc
-kind-is UnheldKind.Hold UnheldKind.Free same = absurd cc
-kind-is UnheldKind.Hold UnheldKind.LeftOver same = absurd cc
 kind-is UnheldKind.Hold UnheldKind.Hold same = refl
-kind-is UnheldKind.Hold UnheldKind.Abandoned same = absurd cc
-kind-is UnheldKind.Abandoned UnheldKind.Free same = absurd cc
-kind-is UnheldKind.Abandoned UnheldKind.LeftOver same = absurd cc
-kind-is UnheldKind.Abandoned UnheldKind.Hold same = absurd cc
 kind-is UnheldKind.Abandoned UnheldKind.Abandoned same = refl
+kind-is one other same = absurd cc
 
 kind-of : (kind : UnheldKind) (o : Option UnheldKind) → option_map_or (same_kind kind) o false ≡ true → o ≡ Some kind
 kind-of kind None is = absurd cc
@@ -210,13 +188,9 @@ module _ (c : Configuration) (s : State) where
 
   -- a node that can be cleaned up is of a kind
   kind-as : (k : NodeRecord) (state : NodeState) → is_cleanable_as c s k state ≡ true → (kind : UnheldKind) × (unheld_kind_as state (is_unclaimed s k) k ≡ Some kind)
-  kind-as k NodeState.Building is = (UnheldKind.Abandoned, refl)
   kind-as k NodeState.Ready is = ready-of k.allocated_to (is_unclaimed s k) (is_old_ready c s k || is_paused c s k.pool) (unallocated k.allocated_to) is
-  kind-as k NodeState.InUse is = (UnheldKind.Abandoned, refl)
-  kind-as k NodeState.Used is = (UnheldKind.Abandoned, refl)
   kind-as k NodeState.Hold is = (UnheldKind.Hold, refl)
-  kind-as k NodeState.Deleting is = (UnheldKind.Abandoned, refl)
-  kind-as k NodeState.Failed is = (UnheldKind.Abandoned, refl)
+  kind-as k _ is = (UnheldKind.Abandoned, refl)
 
   -- ## whether a node of a kind can be cleaned up
 
@@ -229,17 +203,12 @@ module _ (c : Configuration) (s : State) where
   ready-ripe : (k : NodeRecord) (kind : UnheldKind) (request : Option RequestId) (unclaimed : Bool) → ready_kind request unclaimed ≡ Some kind → ((is_some request && unclaimed) || (is_none request && (is_old_ready c s k || is_paused c s k.pool))) ≡ is_ripe kind k
   ready-ripe k kind None true is = let same : UnheldKind.Free ≡ kind = cc in ap (λ (x : UnheldKind). is_ripe x k) same
   ready-ripe k kind (Some r) true is = let same : UnheldKind.LeftOver ≡ kind = cc in ap (λ (x : UnheldKind). is_ripe x k) same
-  ready-ripe k kind None false is = absurd cc
-  ready-ripe k kind (Some r) false is = absurd cc
+  ready-ripe k kind request false is = absurd cc
 
   ripe-as : (k : NodeRecord) (kind : UnheldKind) (state : NodeState) → unheld_kind_as state (is_unclaimed s k) k ≡ Some kind → is_cleanable_as c s k state ≡ is_ripe kind k
-  ripe-as k kind NodeState.Building is = let same : UnheldKind.Abandoned ≡ kind = cc in ap (λ (x : UnheldKind). is_ripe x k) same
   ripe-as k kind NodeState.Ready is = ready-ripe k kind k.allocated_to (is_unclaimed s k) is
-  ripe-as k kind NodeState.InUse is = let same : UnheldKind.Abandoned ≡ kind = cc in ap (λ (x : UnheldKind). is_ripe x k) same
-  ripe-as k kind NodeState.Used is = let same : UnheldKind.Abandoned ≡ kind = cc in ap (λ (x : UnheldKind). is_ripe x k) same
   ripe-as k kind NodeState.Hold is = let same : UnheldKind.Hold ≡ kind = cc in ap (λ (x : UnheldKind). is_ripe x k) same
-  ripe-as k kind NodeState.Deleting is = let same : UnheldKind.Abandoned ≡ kind = cc in ap (λ (x : UnheldKind). is_ripe x k) same
-  ripe-as k kind NodeState.Failed is = let same : UnheldKind.Abandoned ≡ kind = cc in ap (λ (x : UnheldKind). is_ripe x k) same
+  ripe-as k kind _ is = let same : UnheldKind.Abandoned ≡ kind = cc in ap (λ (x : UnheldKind). is_ripe x k) same
 
   -- one of the same pool that is due no later can be, too
   ripe-still : s.tick ≤ most → (kind : UnheldKind) (k other : NodeRecord) → due_of c kind other ≤ due_of c kind k → other.pool ≡ k.pool → is_ripe kind k ≡ true → is_ripe kind other ≡ true
@@ -247,9 +216,8 @@ module _ (c : Configuration) (s : State) where
       or-cases (is_old_ready c s k) (is_paused c s k.pool) is
       (λ old. or_left (is_old_ready c s other) (is_paused c s other.pool) (past-still (ready_age c k.label) k.since (ready_age c other.label) other.since s.tick low no_later old))
       (λ paused. or_right (is_old_ready c s other) (is_paused c s other.pool) (ap (is_paused c s) pool ∙ paused))
-  ripe-still low UnheldKind.LeftOver k other no_later pool is = refl
   ripe-still low UnheldKind.Hold k other no_later pool is = past-still c.max_hold_age k.since c.max_hold_age other.since s.tick low no_later is
-  ripe-still low UnheldKind.Abandoned k other no_later pool is = refl
+  ripe-still low _ k other no_later pool is = refl
 
   -- ## the first of a kind
 

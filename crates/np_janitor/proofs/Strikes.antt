@@ -1,5 +1,5 @@
 -- what the planned faults do now, and that the reaper has nothing else to do
-use Rattle.np_janitor.proofs.Prelude.{Bool, Chooses, ChoosesStrike, Configuration, Done, Event, Fault, FaultKind, IsUseful, List, NamesCurrent, None, Ok, Option, Reaper, Role, SessionFacts, SessionId, Some, StandsIn, State, and_parts, and_right, and_true, ap, arith, current-has, current-names, current_of, due_kind, false, filter, first_mute, has_current, has_due, if◌then◌else◌, is_current, is_due, is_expire, is_mute, is_some, is_struck_by, judge, mute_from, nat_tests, next_fault, not, ok-is, on-found, on-need, option_and_then, option_map, option_map_or, or_left, or_right, refl, same-role, same_role, session-at, session_of, slice_get, strike_by, strike_of, strike_on, strikes_of, subst, suc, sym, true, zero, ℕ, [], ◌&&◌, ◌+◌, ◌-◌, ◌==◌, ◌||◌, ◌∙◌, ◌∷◌, ◌≡◌}
+use Rattle.np_janitor.proofs.Prelude.{Bool, Chooses, ChoosesStrike, Configuration, Done, Event, Fault, FaultKind, IsUseful, List, NamesCurrent, None, Ok, Option, Reaper, Role, SessionFacts, SessionId, Some, State, [], all-at, all-filter_to, all-from_at, and_parts, and_right, and_true, ap, arith, by_bool, current-has, current-names, current_of, due_kind, false, false-apart, filter, first_mute, has_current, has_due, if◌then◌else◌, is_current, is_due, is_expire, is_mute, is_some, is_struck_by, judge, mute_from, nat_tests, next_fault, not, ok-is, on-found, on-need, option_and_then, option_map, option_map_or, or_left, or_right, refl, same-role, same_role, session-at, session_of, slice_get, strike_by, strike_of, strike_on, strikes_of, subst, suc, sym, true, zero, ℕ, ◌&&◌, ◌+◌, ◌-◌, ◌==◌, ◌∙◌, ◌∷◌, ◌≡◌}
 use Rattle.np_janitor.proofs.Nodes.{IsOf, is-of}
 
 -- ## whether a fault of such a kind is due
@@ -7,10 +7,7 @@ use Rattle.np_janitor.proofs.Nodes.{IsOf, is-of}
 module _ (such : FaultKind → Bool) (c : Configuration) (s : State) where
   due-by : (o : Option Fault) (due : Fault → Bool) → option_map_or (λ f. such f.kind && due f) o false ≡ option_map_or such (option_and_then (λ f. if due f then Some f.kind else None) o) false
   due-by None due = refl
-  due-by (Some f) due = by (due f) where
-    by : (u : Bool) → (such f.kind && u) ≡ option_map_or such (if u then Some f.kind else None) false
-    by true = and_true (such f.kind)
-    by false = and_right (such f.kind) false refl
+  due-by (Some f) due = by_bool (λ u. (such f.kind && u) ≡ option_map_or such (if u then Some f.kind else None) false) (due f) (λ is. and_true (such f.kind)) (λ is. and_right (such f.kind) false refl)
 
   due-such : (role : Role) → has_due such c role s ≡ option_map_or such (due_kind c role s) false
   due-such role = due-by (next_fault c role s) (is_due role s)
@@ -72,38 +69,21 @@ module _ (c : Configuration) (s : State) where
 
 -- ## if no fault strikes, no role is struck
 
-filter-by : {X : Type 0} (p : X → Bool) (x y : X) (xs : List X) (i : ℕ) (b : Bool) → p y ≡ b → ((k : ℕ) → slice_get (filter p xs) k ≡ Some x → StandsIn x xs × (p x ≡ true)) → slice_get (if b then y ∷ filter p xs else filter p xs) i ≡ Some x → StandsIn x (y ∷ xs) × (p x ≡ true)
-filter-by p x y xs zero true passes later there =
-    let same : y ≡ x = cc in
-    (record { at = 0; within = omega arith; there = ap (λ (z : _). Some z) same }, ap p (sym same) ∙ passes)
-filter-by p x y xs (suc i) true passes later there =
-    let rest = later i there in
-    (record { at = suc rest.0.at; within = omega (arith, rest.0.within); there = rest.0.there }, rest.1)
-filter-by p x y xs i false passes later there =
-    let rest = later i there in
-    (record { at = suc rest.0.at; within = omega (arith, rest.0.within); there = rest.0.there }, rest.1)
-
--- a member of those that pass is a member, and passes
-filter-there : {X : Type 0} (p : X → Bool) (x : X) (xs : List X) (i : ℕ) → slice_get (filter p xs) i ≡ Some x → StandsIn x xs × (p x ≡ true)
-filter-there p x [] i there = absurd cc
-filter-there p x (y ∷ xs) i there = filter-by p x y xs i (p y) refl (filter-there p x xs) there
-
 module _ (c : Configuration) (s : State) where
   module _ (none : (at : ℕ) (f : Fault) → slice_get c.faults at ≡ Some f → strike_by c s f ≡ None) where
     due-none : (role : Role) (f : Fault) → next_fault c role s ≡ Some f → is_due role s f ≡ true → strike_of c s role ≡ None
     due-none role f next due =
-        let own = filter-there (λ (x : Fault). same_role x.role role) f c.faults (strikes_of role s) next in
+        let own =
+        all-at (λ (x : Fault). (strike_by c s x ≡ None) × (same_role x.role role ≡ true)) (filter (λ (x : Fault). same_role x.role role) c.faults) (strikes_of role s) f
+        (all-filter_to (λ (x : Fault). strike_by c s x ≡ None) (λ x. (strike_by c s x ≡ None) × (same_role x.role role ≡ true)) (λ x. same_role x.role role) c.faults (λ x of_role fails. (fails, of_role)) (all-from_at (λ (x : Fault). strike_by c s x ≡ None) c.faults none)) next in
         let same : f.role ≡ role = same-role f.role role own.1 in
         let here : is_due f.role s f ≡ true = ap (λ (r : Role). is_due r s f) same ∙ due in
-        let fails : strike_of c s f.role ≡ None = (let told : strike_by c s f ≡ strike_of c s f.role = rw here refl in sym told ∙ none own.0.at f own.0.there) in
+        let fails : strike_of c s f.role ≡ None = (let told : strike_by c s f ≡ strike_of c s f.role = rw here refl in sym told ∙ own.0) in
         subst (λ (r : Role). strike_of c s r ≡ None) same fails
 
     next-by : (role : Role) (o : Option Fault) → next_fault c role s ≡ o → strike_of c s role ≡ None
     next-by role None next = rw next refl
-    next-by role (Some f) next = by (is_due role s f) refl where
-      by : (b : Bool) → is_due role s f ≡ b → strike_of c s role ≡ None
-      by true due = due-none role f next due
-      by false due = rw (next, due) refl
+    next-by role (Some f) next = by_bool (λ b. strike_of c s role ≡ None) (is_due role s f) (λ due. due-none role f next due) (λ due. rw (next, due) refl)
 
     pub none-strikes : (role : Role) → strike_of c s role ≡ None
     none-strikes role = next-by role (next_fault c role s) refl
@@ -201,55 +181,16 @@ module _ (c : Configuration) (s : State) where
         let told : (facts.live && facts.mute) ≡ facts.mute = rw live refl in
         rw known (sym told ∙ other)
 
-    expire-row : (session : SessionId) (mute struck : Bool) → mute ≡ false → (mute || struck) ≡ true → struck ≡ true
-    expire-row session true struck mute is = absurd cc
-    expire-row session false struck mute is = is
-
     no-expire : (session : SessionId) → IsUseful c s Reaper (Event.Expire session) → ⊥
     no-expire session useful =
         let answer = ok-is (judge c s (Event.Expire session)) useful.accepted in
         let found = live session answer.0 answer.1 in
-        unstruck c s none_struck is_expire session
-        (expire-row session (is_mute session s) (is_struck_by is_expire c s session) (not-mute session found.0 found.1.0 found.1.1) useful.row)
-
-    no-crash : (session : SessionId) → IsUseful c s Reaper (Event.Crash session) → ⊥
-    no-crash session useful = unstruck c s none_struck (λ kind. not (is_expire kind)) session useful.row
-
-    none : false ≡ true → ⊥
-    none is = cc
+        unstruck c s none_struck is_expire session (rw (not-mute session found.0 found.1.0 found.1.1) at useful.row)
 
     useless : (e : Event) → IsUseful c s Reaper e → ⊥
     useless (Event.Expire session) useful = no-expire session useful
-    useless (Event.Crash session) useful = no-crash session useful
-    useless Event.Tick useful = none useful.row
-    useless (Event.OpenSession role) useful = none useful.row
-    useless (Event.Register session) useful = none useful.row
-    useless (Event.Submit session j) useful = none useful.row
-    useless (Event.Revise session j relative) useful = none useful.row
-    useless (Event.MinReady session l) useful = none useful.row
-    useless (Event.LockRequest session r) useful = none useful.row
-    useless (Event.UnlockRequest session r) useful = none useful.row
-    useless (Event.Accept session r) useful = none useful.row
-    useless (Event.Decline session r why) useful = none useful.row
-    useless (Event.TakeReady session r n) useful = none useful.row
-    useless (Event.Create session r) useful = none useful.row
-    useless (Event.Start session n) useful = none useful.row
-    useless (Event.Done session n attempt o) useful = none useful.row
-    useless (Event.Fulfil session r) useful = none useful.row
-    useless (Event.LockNode session n) useful = none useful.row
-    useless (Event.UnlockNode session n) useful = none useful.row
-    useless (Event.Acquire session j) useful = none useful.row
-    useless (Event.Take session j) useful = none useful.row
-    useless (Event.EndNode session n as_what) useful = none useful.row
-    useless (Event.Finish session j) useful = none useful.row
-    useless (Event.Withdraw session j) useful = none useful.row
-    useless (Event.Release session j) useful = none useful.row
-    useless (Event.MarkDeleting session n) useful = none useful.row
-    useless (Event.Gone session n) useful = none useful.row
-    useless (Event.Reset session r) useful = none useful.row
-    useless (Event.FreeNode session n) useful = none useful.row
-    useless (Event.FailDeclined session r) useful = none useful.row
-    useless (Event.Sweep session n x) useful = none useful.row
+    useless (Event.Crash session) useful = unstruck c s none_struck (λ kind. not (is_expire kind)) session useful.row
+    useless _ useful = false-apart useful.row
 
   -- if no session is mute, the faults decide
   pub strikes-choose : first_mute s ≡ None → (o : Option Event) → ChoosesStrike c s o → Chooses c s Reaper o

@@ -1,67 +1,7 @@
 -- the nodes that are for a requester: how they are found, and when a lock, an end or an unlock of one is useful
-use Rattle.np_jobs.proofs.Prelude.{AllByRecursion, Bool, ChoosesOf, ChoosesToLeave, Configuration, Done, EndAs, Event, EventKind, Invariant, IsGiven, IsReached, IsUseful, Job, JobId, JobRecord, List, NoLeave, NodeEntry, NodeId, NodeKind, NodeRecord, NodeState, None, NoneOf, Ok, Option, OwnsItsLabels, PassesAt, RequestEntry, RequestId, RequestState, Requester, RequesterId, Rises, SessionId, Some, StandsIn, State, all-at, and-first, and-second, any-place, ap, arith, asker, both-ways, by_node_holder, false, false_from_ne_true, filter, find, find-passes, find-place, fulfilled-Runs, handed_to, if◌then◌else◌, invariant-Runs, is_asked, is_asked_by, is_current, is_for, is_from_node_queue, is_fulfilled, is_given_to, is_handed_over, is_id_before, is_in_use, is_listed, is_queued, is_ready, is_request, is_some, is_to_leave, is_to_lock, judge, leaving, length, length-filter_at_most, length-map, list_any-there, made-by, map, member-there, named-place, nat_lt, nat_tests, node-maker, node-place, node-queued, node_entry, node_event, node_in, node_is, node_queue, node_to_leave, node_to_lock, not, ok-is, on-check, on-found, on-given, on-need, option_and_then, option_map, option_map_or, passes, passes-useful, refl, request-apart, request-equal, request-itself, request_entry, request_in, requester, same_node, same_node-is, same_request, slice_get, slice_get_within, subst, suc, sym, true, useful-passes, zero, ℕ, [], ◌&&◌, ◌<◌, ◌==◌, ◌∙◌, ◌∷◌, ◌≡◌}
-use Rattle.np_jobs.proofs.Windows.{current-maker}
-
--- # what a search in a list finds, and the nodes and requests that are found by their ids
-
--- ## a search that finds nothing
-
--- it has passed the first member, and finds nothing in the rest
-none-by : {X : Type 0} (p : X → Bool) (x : X) (xs : List X) (b : Bool) → p x ≡ b → find p (x ∷ xs) ≡ None → (b ≡ false) × (find p xs ≡ None)
-none-by p x xs true is none = absurd (let no : Some x ≡ None = rw is at none in cc)
-none-by p x xs false is none = (refl, rw is at none)
-
--- it has passed each member
-pub none-passes : {X : Type 0} (p : X → Bool) (xs : List X) (i : ℕ) (x : X) → find p xs ≡ None → slice_get xs i ≡ Some x → p x ≡ false
-none-passes p [] i x none there = absurd cc
-none-passes p (y ∷ xs) zero x none there =
-    let same : y ≡ x = cc in
-    ap p (sym same) ∙ (none-by p y xs (p y) refl none).0
-none-passes p (y ∷ xs) (suc i) x none there = none-passes p xs i x (none-by p y xs (p y) refl none).1 there
-
--- ## members in order
-
--- a member that passes is found, if none passes that comes before it
-module _ {X : Type 0} (before : X → X → Bool) (p : X → Bool) (x : X) (passes : p x ≡ true) (earlier : (y : X) → before y x ≡ true → p y ≡ false) where
-  found-at : (xs : List X) (i : ℕ) → slice_get xs i ≡ Some x → Rises before xs → find p xs ≡ Some x
-  found-at [] i there rises = absurd cc
-  found-at (y ∷ xs) zero there rises = let same : y ≡ x = cc in rw (ap p same, passes) (ap Some same)
-  found-at (y ∷ xs) (suc i) there rises =
-      let fails : p y ≡ false = earlier y (all-at (λ (z : X). before y z ≡ true) xs i x rises.0 there) in
-      rw fails (found-at xs i there rises.1)
-
-node-apart : (a b : NodeId) → nat_lt a.0 b.0 ≡ true → same_node a b ≡ false
-node-apart a b order = grind (arith, nat_tests)
-
-node-self : (n : NodeId) → same_node n n ≡ true
-node-self n = grind (arith, nat_tests)
-
--- the request at a place is the request with its id
-pub request-found : (rows : List RequestEntry) (i : ℕ) (e : RequestEntry) → Rises (λ a b. is_id_before a.id b.id) rows → slice_get rows i ≡ Some e → request_entry e.id rows ≡ Some e
-request-found rows i e rise there =
-    found-at (λ (a b : RequestEntry). is_id_before a.id b.id) (λ (x : RequestEntry). same_request x.id e.id) e (request-itself e.id) (λ y order. request-apart y.id e.id order) rows i there rise
-
--- and the node at a place is the node with its number
-pub node-found : (rows : List NodeEntry) (i : ℕ) (e : NodeEntry) → Rises (λ a b. nat_lt a.id.0 b.id.0) rows → slice_get rows i ≡ Some e → node_entry e.id rows ≡ Some e
-node-found rows i e rise there =
-    found-at (λ (a b : NodeEntry). nat_lt a.id.0 b.id.0) (λ (x : NodeEntry). same_node x.id e.id) e (node-self e.id) (λ y order. node-apart y.id e.id order) rows i there rise
+use Rattle.np_jobs.proofs.Prelude.{AllByRecursion, Bool, ChoosesOf, ChoosesToLeave, Configuration, Done, EndAs, Event, EventKind, Invariant, IsGiven, IsReached, IsUseful, Job, JobId, JobRecord, List, NoLeave, NodeEntry, NodeId, NodeKind, NodeRecord, NodeState, None, NoneOf, Ok, Option, OwnsItsLabels, PassesAt, RequestEntry, RequestId, RequestState, Requester, RequesterId, SessionId, Some, StandsIn, State, [], all-at, and-first, and-second, and_false, and_true, any-place, ap, arith, asker, both-ways, by_node_holder, each-node, false, false_from_ne_true, filter, find, find-passes, find-place, from-map_some, fulfilled-Runs, handed_to, if◌then◌else◌, invariant-Runs, is_asked, is_asked_by, is_current, is_for, is_from_node_queue, is_fulfilled, is_given_to, is_handed_over, is_in_use, is_listed, is_queued, is_ready, is_request, is_some, is_to_leave, is_to_lock, judge, leaving, length, length-filter_at_most, length-map, list_any-there, made-by, maker-is, map, member-there, named-place, node-maker, node-place, node-queued, node_entry, node_event, node_in, node_is, node_queue, node_to_leave, node_to_lock, none-find, not, ok-is, on-check, on-found, on-given, on-need, option_and_then, option_map, option_map_or, passes, passes-useful, refl, request-equal, request_entry, request_in, requester, row-there, same_node, same_node-is, same_request, slice_get, slice_get_within, subst, sym, true, useful-passes, ℕ, ◌&&◌, ◌<◌, ◌==◌, ◌∙◌, ◌≡◌}
 
 -- # the nodes that are for a requester are those that were given to it, as their allocations say
-
--- ## a request that is found
-
--- it is at a place
-record IsPlaced (r : RequestId) (rows : List RequestEntry) (e : RequestEntry) : Type 0 where
-  place : ℕ
-  there : slice_get rows place ≡ Some e
-
-placed-by : (r : RequestId) (first : RequestEntry) (rows : List RequestEntry) (e : RequestEntry) (b : Bool) → same_request first.id r ≡ b → request_entry r (first ∷ rows) ≡ Some e → (request_entry r rows ≡ Some e → IsPlaced r rows e) → IsPlaced r (first ∷ rows) e
-placed-by r first rows e true same found later = record { place = 0; there = rw same at found }
-placed-by r first rows e false other found later = let is = later (rw other at found) in record { place = suc is.place; there = is.there }
-
-entry-place : (r : RequestId) (rows : List RequestEntry) (e : RequestEntry) → request_entry r rows ≡ Some e → IsPlaced r rows e
-entry-place r [] e found = absurd cc
-entry-place r (first ∷ rows) e found = placed-by r first rows e (same_request first.id r) refl found (entry-place r rows e)
 
 -- ## a request that is handed over
 
@@ -73,14 +13,8 @@ module _ (q : RequesterId) where
   asked_by : (row : Option Job) (b : Bool) → (option_map_or (λ (job : Job). job.requester.0 == q.0) row false && b) ≡ is_requester (if b then option_map (λ (job : Job). job.requester) row else None)
   asked_by None true = refl
   asked_by None false = refl
-  asked_by (Some job) true = by (job.requester.0 == q.0) where
-    by : (b : Bool) → (b && true) ≡ b
-    by true = refl
-    by false = refl
-  asked_by (Some job) false = by (job.requester.0 == q.0) where
-    by : (b : Bool) → (b && false) ≡ false
-    by true = refl
-    by false = refl
+  asked_by (Some job) true = and_true (job.requester.0 == q.0)
+  asked_by (Some job) false = and_false (job.requester.0 == q.0)
 
   asked_of : (row : Option Job) (kept : Option JobRecord) → (option_map_or (λ (job : Job). job.requester.0 == q.0) row false && option_map_or (λ (k : JobRecord). is_asked k.phase) kept false) ≡ is_requester (option_and_then (λ (k : JobRecord). if is_asked k.phase then option_map (λ (job : Job). job.requester) row else None) kept)
   asked_of row None = asked_by row false
@@ -120,7 +54,7 @@ module _ (c : Configuration) (s : State) (reached : IsReached c s) (q : Requeste
 
   handed : (i : ℕ) (e : RequestEntry) → slice_get s.requests i ≡ Some e → is_fulfilled e.kept.state ≡ true → is_listed n e.kept ≡ true → IsHanded s n e
   handed i e there fulfilled listed =
-      let found : request_in e.id s.requests ≡ Some e.kept = ap (option_map (λ (x : RequestEntry). x.kept)) (request-found s.requests i e invariant.numbered.requests_rise there) in
+      let found : request_in e.id s.requests ≡ Some e.kept = ap (option_map (λ (x : RequestEntry). x.kept)) (row-there c s reached i e there) in
       let owns : OwnsItsLabels s e.id e.kept = fulfilled-Runs c reached.journal s reached.runs e.id e.kept found fulfilled in
       let place = node-place n e.kept.nodes listed in
       let within : place.0 < length e.kept.labels = omega (arith, owns.as_many, slice_get_within e.kept.nodes place.0 n place.1) in
@@ -141,16 +75,9 @@ module _ (c : Configuration) (s : State) (reached : IsReached c s) (q : Requeste
       let listed : is_listed n at.member.kept ≡ true = and-second _ _ at.passes in
       record { entry = at.member; over = over; way = handed at.place at.member at.there (and-first _ _ over) listed }
 
-  none_by : (b : Bool) → is_for c s q n ≡ b → node_in n s.nodes ≡ None → is_for c s q n ≡ false
-  none_by false is none = is
-  none_by true is none =
-      let found = found-for is in
-      let no : None ≡ Some found.way.node = sym none ∙ found.way.stands in
-      absurd cc
-
   -- a node that does not exist is for nobody
   pub for-none : node_in n s.nodes ≡ None → is_for c s q n ≡ false
-  for-none none = none_by (is_for c s q n) refl none
+  for-none none = false_from_ne_true (is_for c s q n) (λ is. let found = found-for is in let no : None ≡ Some found.way.node = sym none ∙ found.way.stands in cc)
 
   module _ (k : NodeRecord) (stands : node_in n s.nodes ≡ Some k) where
     -- a node that is for the requester is ready
@@ -170,10 +97,10 @@ module _ (c : Configuration) (s : State) (reached : IsReached c s) (q : Requeste
     back_by : (r : RequestId) → k.allocated_to ≡ Some r → (o : Option RequestEntry) → request_entry r s.requests ≡ o → is_given_to c s q k ≡ true → is_for c s q n ≡ true
     back_by r some None found is = absurd (let no : false ≡ true = rw (some, found) at is in cc)
     back_by r some (Some e) found is =
-        let place = entry-place r s.requests e found in
+        let place = find-place (λ (x : RequestEntry). same_request x.id r) s.requests e found in
         let over : is_handed_over c s q e ≡ true = over-is q c s e ∙ rw (some, found) at is in
         let listed : is_listed n e.kept ≡ true = (invariant.owned.allocations n k r stands some).listed e.kept (ap (option_map (λ (x : RequestEntry). x.kept)) found) in
-        list_any-there (λ (x : RequestEntry). is_handed_over c s q x && is_listed n x.kept) s.requests place.place e place.there (rw (over, listed) refl)
+        list_any-there (λ (x : RequestEntry). is_handed_over c s q x && is_listed n x.kept) s.requests place.at e place.there (rw (over, listed) refl)
 
     back_of : (o : Option RequestId) → k.allocated_to ≡ o → is_given_to c s q k ≡ true → is_for c s q n ≡ true
     back_of None none is = absurd (let no : false ≡ true = rw none at is in cc)
@@ -185,11 +112,6 @@ module _ (c : Configuration) (s : State) (reached : IsReached c s) (q : Requeste
 
 -- # a lock of a node is useful if the node was given to the requester and its session does not wait at it, and no other
 
--- the entry of a node that has a record
-entry_of : {X Y : Type 0} (f : X → Y) (o : Option X) (y : Y) → option_map f o ≡ Some y → (x : X) × ((o ≡ Some x) × (f x ≡ y))
-entry_of f None y is = absurd cc
-entry_of f (Some x) y is = (x, (refl, cc))
-
 module _ (c : Configuration) (s : State) (reached : IsReached c s) (q : RequesterId) (session : SessionId) (current : is_current (Requester q) session s ≡ true) where
   -- ## no node to lock
 
@@ -198,13 +120,13 @@ module _ (c : Configuration) (s : State) (reached : IsReached c s) (q : Requeste
     unlocked : (n : NodeId) → is_for c s q n ≡ true → not (is_queued session (node_queue n s.nodes)) ≡ true → ⊥
     unlocked n for_it apart =
         let found = found-for c s reached q n for_it in
-        let e = entry_of (λ (x : NodeEntry). x.kept) (node_entry n s.nodes) found.way.node found.way.stands in
-        let number : e.0.id ≡ n = same_node-is e.0.id n (find-passes (λ (x : NodeEntry). same_node x.id n) s.nodes e.0 e.1.0) in
-        let stands : node_in n s.nodes ≡ Some e.0.kept = ap (option_map (λ (x : NodeEntry). x.kept)) e.1.0 in
+        let e = from-map_some (λ (x : NodeEntry). x.kept) (node_entry n s.nodes) found.way.node found.way.stands in
+        let number : e.0.id ≡ n = same_node-is e.0.id n (find-passes (λ (x : NodeEntry). same_node x.id n) s.nodes e.0 e.1) in
+        let stands : node_in n s.nodes ≡ Some e.0.kept = ap (option_map (λ (x : NodeEntry). x.kept)) e.1 in
         let given : is_given_to c s q e.0.kept ≡ true = sym (for-is c s reached q n e.0.kept stands) ∙ for_it in
-        let place : StandsIn e.0 s.nodes = find-place (λ (x : NodeEntry). same_node x.id n) s.nodes e.0 e.1.0 in
+        let place : StandsIn e.0 s.nodes = find-place (λ (x : NodeEntry). same_node x.id n) s.nodes e.0 e.1 in
         let is : is_to_lock c s q session e.0 ≡ true = rw (given, number, apart) refl in
-        let no : is_to_lock c s q session e.0 ≡ false = none-passes (is_to_lock c s q session) s.nodes place.at e.0 none place.there in
+        let no : is_to_lock c s q session e.0 ≡ false = all-at (λ (x : NodeEntry). is_to_lock c s q session x ≡ false) s.nodes place.at e.0 (none-find (is_to_lock c s q session) s.nodes none) place.there in
         cc
 
     -- so no lock of a node is useful, whoever makes it
@@ -225,17 +147,11 @@ module _ (c : Configuration) (s : State) (reached : IsReached c s) (q : Requeste
       let given : is_given_to c s q e.kept ≡ true = and-first (is_given_to c s q e.kept) (not (is_queued session (node_queue e.id s.nodes))) is in
       let apart : not (is_queued session (node_queue e.id s.nodes)) ≡ true = and-second (is_given_to c s q e.kept) (not (is_queued session (node_queue e.id s.nodes))) is in
       let place : StandsIn e s.nodes = find-place (is_to_lock c s q session) s.nodes e found in
-      let entry : node_entry e.id s.nodes ≡ Some e = node-found s.nodes place.at e (invariant-Runs c reached.journal s reached.runs).numbered.nodes_rise place.there in
+      let entry : node_entry e.id s.nodes ≡ Some e = all-at (λ (x : NodeEntry). node_entry x.id s.nodes ≡ Some x) s.nodes place.at e (each-node c s reached) place.there in
       let stands : node_in e.id s.nodes ≡ Some e.kept = ap (option_map (λ (x : NodeEntry). x.kept)) entry in
       let for_it : is_for c s q e.id ≡ true = for-is c s reached q e.id e.kept stands ∙ given in
-      let passed : passes c s (Requester q) (Event.LockNode session e.id) ≡ true = rw (current-maker s q session current, stands, for_it, apart) refl in
+      let passed : passes c s (Requester q) (Event.LockNode session e.id) ≡ true = rw (maker-is s (Requester q) session current, stands, for_it, apart) refl in
       passes-useful c s (Requester q) (Event.LockNode session e.id) passed current
-
-  by_entry : (o : Option NodeEntry) → find (is_to_lock c s q session) s.nodes ≡ o → (n : NodeId) → option_map (λ (x : NodeEntry). x.id) o ≡ Some n → IsUseful c s (Requester q) (Event.LockNode session n)
-  by_entry None found n is = absurd cc
-  by_entry (Some e) found n is =
-      let same : e.id ≡ n = cc in
-      subst (λ (x : NodeId). IsUseful c s (Requester q) (Event.LockNode session x)) same (lock-useful e found)
 
   no_entry : (o : Option NodeEntry) → option_map (λ (x : NodeEntry). x.id) o ≡ None → o ≡ None
   no_entry None is = refl
@@ -243,7 +159,9 @@ module _ (c : Configuration) (s : State) (reached : IsReached c s) (q : Requeste
 
   -- the lock of the node to lock is the choice among locks
   pub lock-chooses : (n : NodeId) → node_to_lock c q session s ≡ Some n → ChoosesOf c s (Requester q) (EventKind.Node NodeKind.Lock) (Some (Event.LockNode session n))
-  lock-chooses n is = by_entry (find (is_to_lock c s q session) s.nodes) refl n is
+  lock-chooses n is =
+      let row = from-map_some (λ (x : NodeEntry). x.id) (find (is_to_lock c s q session) s.nodes) n is in
+      subst (λ (x : NodeId). IsUseful c s (Requester q) (Event.LockNode session x)) row.2 (lock-useful row.0 row.1)
 
   pub lock-none : node_to_lock c q session s ≡ None → ChoosesOf c s (Requester q) (EventKind.Node NodeKind.Lock) None
   lock-none is = locks-none (no_entry (find (is_to_lock c s q session) s.nodes) is)
@@ -252,13 +170,8 @@ module _ (c : Configuration) (s : State) (reached : IsReached c s) (q : Requeste
 
 -- what is in use is not ready
 not-ready : (state : NodeState) → is_in_use state ≡ true → is_ready state ≡ true → ⊥
-not-ready NodeState.Building used ready = cc
 not-ready NodeState.Ready used ready = cc
-not-ready NodeState.InUse used ready = cc
-not-ready NodeState.Used used ready = cc
-not-ready NodeState.Hold used ready = cc
-not-ready NodeState.Deleting used ready = cc
-not-ready NodeState.Failed used ready = cc
+not-ready state used ready = cc
 
 -- ## the nodes to leave
 

@@ -1,6 +1,6 @@
 -- when no event is useful: the kinds that are tried for a requester, and the roles that have nothing to do
-use Rattle.np_jobs.proofs.Prelude.{AllByRecursion, AreOfSite, ArePoolsIdle, AreRequestersIdle, Bool, Chooses, ChoosesInWindow, ChoosesOf, ChoosesOfAny, ChoosesOfNew, ChoosesRelease, ChoosesToAcquire, ChoosesToFinish, ChoosesToTake, ChoosesToTakeOne, ChoosesUnderWay, Configuration, Done, EndAs, Event, EventKind, IsIdle, IsReached, IsSettled, IsSound, IsUseful, Janitor, JobId, JobKind, JobRecord, Launcher, List, NoNewStep, NoTake, NodeKind, None, NoneOf, NoneOpens, NoneReleased, NoneUnderWay, Ok, Option, Phase, Reaper, Requester, RequesterId, Role, SessionFacts, SessionId, Some, State, among, and-first, and-parts, ap, arith, before-end, cond, current-speaks, false, false-apart, false_from_ne_true, first_full, has_fulfilled_request, is_asked, is_current, is_in_window, is_job_to_acquire, is_job_to_begin, is_job_to_finish, is_job_to_take, is_maker_of, is_new, is_ok, is_over, is_role, is_some, is_supplied, job-maker, job_event, job_to_acquire, job_to_begin, job_to_finish, job_to_take, jobs_from, judge, kinds-choose, leaving, length, made-by, maker, maker_of, missing_handles, none-is, not, ok-is, option_map_or, or_right, passes, passes-useful, phase_is, refl, requester_kinds, row_holds, same-role, same_role, session_of, sessions-of_site, slice_get, some-within, subst, suc, sym, takes_part, true, useful-passes, waits_for_handles, zero, ℕ, [], ◌&&◌, ◌+◌, ◌-◌, ◌<◌, ◌==◌, ◌||◌, ◌↔◌, ◌∙◌, ◌∷◌, ◌≡◌, ◌≤◌}
-use Rattle.np_jobs.proofs.Windows.{IsListed, IsNewInWindow, IsOpen, IsToAcquire, IsToBegin, WasGiven, acquire-begins, acquire-either, acquire-listed, all-supplied, apart, begins-listed, current-maker, earlier-within, finish-listed, listed, listed-acquire, listed-begins, new-open, release-own, submit-begins, submit-new, take-given, take-listed, unsupplied-missing}
+use Rattle.np_jobs.proofs.Prelude.{AllByRecursion, ArePoolsIdle, AreRequestersIdle, Bool, Chooses, ChoosesInWindow, ChoosesOf, ChoosesOfAny, ChoosesOfNew, ChoosesRelease, ChoosesToAcquire, ChoosesToFinish, ChoosesToTake, ChoosesToTakeOne, ChoosesUnderWay, Configuration, Done, EndAs, Event, EventKind, IsIdle, IsReached, IsSettled, IsSound, IsUseful, Janitor, JobId, JobKind, JobRecord, Launcher, NoNewStep, NoTake, NodeKind, None, NoneOf, NoneOpens, NoneReleased, NoneUnderWay, Ok, Option, Phase, Reaper, Requester, RequesterId, Role, SessionFacts, SessionId, Some, State, all-at, among, and-first, and-parts, ap, arith, before-end, by_bool, current-speaks, false, false-apart, false_from_ne_true, first_full, has_fulfilled_request, is_asked, is_current, is_in_window, is_job_to_acquire, is_job_to_begin, is_job_to_finish, is_job_to_take, is_maker_of, is_new, is_ok, is_over, is_role, is_some, is_supplied, job-maker, job_event, job_to_acquire, job_to_begin, job_to_finish, job_to_take, jobs_from, judge, kinds-choose, leaving, length, made-by, maker, maker-is, maker_of, missing_handles, nat_tests, none-is, not, ok-is, option_map_or, or_right, passes, passes-useful, phase_is, refl, requester_kinds, row_holds, same-role, same_role, session-at, session_of, sessions-of_site, slice_get, some-within, subst, sym, takes_part, true, true_from_ne_false, useful-passes, waits_for_handles, ℕ, ◌&&◌, ◌+◌, ◌-◌, ◌<◌, ◌==◌, ◌||◌, ◌↔◌, ◌∙◌, ◌≡◌, ◌≤◌}
+use Rattle.np_jobs.proofs.Windows.{IsListed, IsNewInWindow, IsOpen, IsToAcquire, IsToBegin, WasGiven, acquire-begins, acquire-either, acquire-listed, all-supplied, apart, begins-listed, earlier-within, finish-listed, listed, listed-acquire, listed-begins, new-open, release-own, submit-begins, submit-new, take-given, take-listed, unsupplied-missing}
 
 -- # if the first job that is to begin has no acquire and submit, no new job in the window has one
 
@@ -9,12 +9,12 @@ module _ (c : Configuration) (s : State) (q : RequesterId) (session : SessionId)
 
   module _ (j : JobId) (is : IsToBegin c s q j) (within : is_in_window c s q j ≡ true) where
     submit-passes : (is.row.resources_first || (missing_handles s j is.row == 0)) ≡ true → passes c s (Requester q) (Event.Submit session j) ≡ true
-    submit-passes ready = rw (current-maker s q session current, is.stands, is.there, is.own, is.new, ready, within) refl
+    submit-passes ready = rw (maker-is s (Requester q) session current, is.stands, is.there, is.own, is.new, ready, within) refl
 
     acquire-passes : is.row.resources_first ≡ false → (missing_handles s j is.row == 0) ≡ false → first_full c s j is.row ≡ None → passes c s (Requester q) (Event.Acquire session j) ≡ true
     acquire-passes first missing room =
         let stays : not (is_over is.kept.phase) ≡ true = new-open is.kept.phase is.new in
-        rw (current-maker s q session current, is.stands, is.there, is.own, stays, room, missing, is.new, first, within) refl
+        rw (maker-is s (Requester q) session current, is.stands, is.there, is.own, stays, room, missing, is.new, first, within) refl
 
     -- its submit passes if it asks for its nodes first or has all its handles, else its acquire
     begins : NoNewStep c s q session j → ⊥
@@ -41,13 +41,13 @@ module _ (c : Configuration) (s : State) (q : RequesterId) (session : SessionId)
   acquired-begins j new passed =
       let parts = and-parts c s (Requester q) _ (row_holds c s (Requester q) (Event.Acquire session j)) passed in
       let answer = ok-is (judge c s (Event.Acquire session j)) parts.0 in
-      acquire-begins c s session q (current-maker s q session current) j answer.0 answer.1 new
+      acquire-begins c s session q (maker-is s (Requester q) session current) j answer.0 answer.1 new
 
   submitted-begins : (j : JobId) → passes c s (Requester q) (Event.Submit session j) ≡ true → IsToBegin c s q j
   submitted-begins j passed =
       let parts = and-parts c s (Requester q) _ (row_holds c s (Requester q) (Event.Submit session j)) passed in
       let answer = ok-is (judge c s (Event.Submit session j)) parts.0 in
-      submit-begins c s session q (current-maker s q session current) j answer.0 answer.1
+      submit-begins c s session q (maker-is s (Requester q) session current) j answer.0 answer.1
 
   -- neither passes of one that is not to begin
   neither : (j : JobId) → phase_is j s is_new ≡ true → (IsToBegin c s q j → ⊥) → NoNewStep c s q session j
@@ -95,16 +95,10 @@ module _ (c : Configuration) (s : State) (q : RequesterId) (session : SessionId)
 
 -- a job that has asked for its nodes is not over, and not new
 asked-open : (p : Phase) → is_asked p ≡ true → not (is_over p) ≡ true
-asked-open Phase.New is = absurd cc
-asked-open Phase.Asked is = refl
-asked-open Phase.Using is = absurd cc
-asked-open Phase.Over is = absurd cc
+asked-open p is = grind (arith, nat_tests)
 
 asked-old : (p : Phase) → is_asked p ≡ true → is_new p ≡ true → ⊥
-asked-old Phase.New asked new = cc
-asked-old Phase.Asked asked new = cc
-asked-old Phase.Using asked new = cc
-asked-old Phase.Over asked new = cc
+asked-old p asked new = grind (arith, nat_tests)
 
 not-both : (o : Option JobRecord) → option_map_or (λ (kept : JobRecord). is_asked kept.phase) o false ≡ true → option_map_or (λ (kept : JobRecord). is_new kept.phase) o false ≡ true → ⊥
 not-both None asked new = cc
@@ -112,7 +106,7 @@ not-both (Some kept) asked new = asked-old kept.phase asked new
 
 module _ (c : Configuration) (s : State) (q : RequesterId) (session : SessionId) (current : is_current (Requester q) session s ≡ true) where
   made : maker s session ≡ Ok (Requester q)
-  made = current-maker s q session current
+  made = maker-is s (Requester q) session current
 
   -- no event of the kind is useful, if none that is accepted and whose row is true passes
   none_of : (kind : JobKind) → ((j : JobId) (what : Done) → judge c s (job_event kind session j) ≡ Ok what → row_holds c s (Requester q) (job_event kind session j) ≡ true → passes c s (Requester q) (job_event kind session j) ≡ false) → NoneOf c s (Requester q) (EventKind.Job kind)
@@ -221,11 +215,7 @@ no-take c s q session j (Some e) is none = absurd cc
 
 module _ (c : Configuration) (s : State) (q : RequesterId) (opens : NoneOpens c s (Requester q)) (all : AllByRecursion (NoneOf c s (Requester q)) requester_kinds) where
   useless : (e : Event) → IsUseful c s (Requester q) e → ⊥
-  useless Event.Tick useful = false-apart useful.row
   useless (Event.OpenSession role) useful = opens role useful
-  useless (Event.Crash session) useful = false-apart useful.row
-  useless (Event.Expire session) useful = false-apart useful.row
-  useless (Event.Register session) useful = false-apart useful.row
   useless (Event.Finish session j) useful = all.0 session j useful
   useless (Event.LockNode session n) useful = all.1.0 session n useful
   useless (Event.Take session j) useful = all.1.1.0 session j useful
@@ -235,24 +225,7 @@ module _ (c : Configuration) (s : State) (q : RequesterId) (opens : NoneOpens c 
   useless (Event.EndNode session n EndAs.Used) useful = all.1.1.1.1.1.1.0 session n useful
   useless (Event.EndNode session n EndAs.Hold) useful = all.1.1.1.1.1.1.1.0 session n useful
   useless (Event.UnlockNode session n) useful = all.1.1.1.1.1.1.1.1.0 session n useful
-  useless (Event.Revise session j relative) useful = false-apart useful.row
-  useless (Event.MinReady session l) useful = false-apart useful.row
-  useless (Event.LockRequest session r) useful = false-apart useful.row
-  useless (Event.UnlockRequest session r) useful = false-apart useful.row
-  useless (Event.Accept session r) useful = false-apart useful.row
-  useless (Event.Decline session r why) useful = false-apart useful.row
-  useless (Event.TakeReady session r n) useful = false-apart useful.row
-  useless (Event.Create session r) useful = false-apart useful.row
-  useless (Event.Start session n) useful = false-apart useful.row
-  useless (Event.Done session n attempt o) useful = false-apart useful.row
-  useless (Event.Fulfil session r) useful = false-apart useful.row
-  useless (Event.Withdraw session j) useful = false-apart useful.row
-  useless (Event.MarkDeleting session n) useful = false-apart useful.row
-  useless (Event.Gone session n) useful = false-apart useful.row
-  useless (Event.Reset session r) useful = false-apart useful.row
-  useless (Event.FreeNode session n) useful = false-apart useful.row
-  useless (Event.FailDeclined session r) useful = false-apart useful.row
-  useless (Event.Sweep session n x) useful = false-apart useful.row
+  useless _ useful = false-apart useful.row
 
 pub requester-law : (c : Configuration) (s : State) (q : RequesterId) → NoneOpens c s (Requester q) → AllByRecursion (NoneOf c s (Requester q)) requester_kinds → (e : Event) → IsUseful c s (Requester q) e → ⊥
 requester-law c s q opens all e useful = useless c s q opens all e useful
@@ -274,9 +247,7 @@ module _ (c : Configuration) (s : State) (q : RequesterId) (session : SessionId)
   all-choose None under is None releases fails None begins stays None leaves =
       kinds-choose c s (Requester q) requester_kinds (requester-law c s q) session current None (none-useful under releases begins leaves)
   all-choose None under is None releases fails None begins stays (Some e) leaves = leaves
-  all-choose None under is None releases fails (Some e) begins stays o leaves = absurd cc
-  all-choose None under is (Some e) releases fails begun begins stays o leaves = absurd cc
-  all-choose (Some e) under is release releases fails begun begins stays o leaves = absurd cc
+  all-choose found under is release releases fails begun begins stays o leaves = absurd cc
 
   -- if no finish, lock and take is useful, the acquire of a job that waits for handles decides what is
   -- useful on the jobs under way
@@ -289,39 +260,24 @@ module _ (c : Configuration) (s : State) (q : RequesterId) (session : SessionId)
     acquire = acquires-fail c s q session current takes full;
   }
   under-chooses None finishes is None locks fails None takes stays (Some e) useful = useful
-  under-chooses None finishes is None locks fails (Some e) takes stays o useful = absurd cc
-  under-chooses None finishes is (Some e) locks fails take takes stays o useful = absurd cc
-  under-chooses (Some e) finishes is lock locks fails take takes stays o useful = absurd cc
+  under-chooses finish finishes is lock locks fails take takes stays o useful = absurd cc
 
 -- # each session of a run belongs to a role of the configuration
 
 module _ (c : Configuration) where
-  of-get : (rows : List SessionFacts) (at : ℕ) (facts : SessionFacts) → AreOfSite c rows → slice_get rows at ≡ Some facts → is_role c facts.role ≡ true
-  of-get [] at facts all there = absurd cc
-  of-get (f ∷ rows) zero facts all there =
-      let same : f ≡ facts = cc in
-      subst (λ (x : SessionFacts). is_role c x.role ≡ true) same all.0
-  of-get (f ∷ rows) (suc at) facts all there = of-get rows at facts all.1 there
-
   -- a session of a run
   pub role-at : (s : State) (at : ℕ) (facts : SessionFacts) → IsReached c s → slice_get s.sessions at ≡ Some facts → is_role c facts.role ≡ true
-  role-at s at facts reached there = of-get s.sessions at facts (sessions-of_site c s reached) there
+  role-at s at facts reached there = all-at (λ (f : SessionFacts). is_role c f.role ≡ true) s.sessions at facts (sessions-of_site c s reached) there
 
   pub role-of : (s : State) (session : SessionId) (facts : SessionFacts) → IsReached c s → session_of session s ≡ Some facts → is_role c facts.role ≡ true
-  role-of s session facts reached is = by (session.0 == 0) is where
-    by : (b : Bool) → cond b None (slice_get s.sessions (session.0 - 1)) ≡ Some facts → is_role c facts.role ≡ true
-    by true none = absurd cc
-    by false there = role-at s (session.0 - 1) facts reached there
+  role-of s session facts reached is = role-at s (session.0 - 1) facts reached (session-at s session.0 facts is)
 
 -- # a role that is not in the configuration has nothing to do
 
 module _ (c : Configuration) (s : State) where
   -- a role that is neither the reaper nor in the configuration
   no-role : (role : Role) → takes_part c role ≡ false → is_role c role ≡ true → ⊥
-  no-role (Launcher p) outside is = absurd cc
-  no-role (Janitor p) outside is = absurd cc
-  no-role (Requester q) outside is = absurd cc
-  no-role Reaper outside is = absurd cc
+  no-role role outside is = grind (arith, nat_tests)
 
   -- it has no current session
   current-of : (role : Role) (session : SessionId) → IsReached c s → is_current role session s ≡ true → is_role c role ≡ true
@@ -336,10 +292,7 @@ module _ (c : Configuration) (s : State) where
 
   -- sessions are opened for roles of the configuration
   open-of : (other : Role) → is_ok (judge c s (Event.OpenSession other)) ≡ true → is_role c other ≡ true
-  open-of other accepted = by (is_role c other) refl where
-    by : (b : Bool) → is_role c other ≡ b → is_role c other ≡ true
-    by true is = is
-    by false is = absurd (let refused : is_ok (judge c s (Event.OpenSession other)) ≡ false = rw is refl in cc)
+  open-of other accepted = true_from_ne_false (is_role c other) (λ is. let refused : is_ok (judge c s (Event.OpenSession other)) ≡ false = rw is refl in cc)
 
   opened : (role other : Role) → takes_part c role ≡ false → row_holds c s role (Event.OpenSession other) ≡ true → other ≡ role
   opened (Launcher p) other outside is = same-role other (Launcher p) (and-first _ _ is)
@@ -354,22 +307,15 @@ module _ (c : Configuration) (s : State) where
 
   -- only the reaper ticks or ends sessions
   ticks : (role : Role) → takes_part c role ≡ false → row_holds c s role Event.Tick ≡ true → ⊥
-  ticks (Launcher p) outside is = absurd cc
-  ticks (Janitor p) outside is = absurd cc
-  ticks (Requester q) outside is = absurd cc
-  ticks Reaper outside is = absurd cc
+  ticks role outside is = grind (arith, nat_tests)
 
   crashes : (role : Role) (session : SessionId) → takes_part c role ≡ false → row_holds c s role (Event.Crash session) ≡ true → ⊥
-  crashes (Launcher p) session outside is = absurd cc
-  crashes (Janitor p) session outside is = absurd cc
-  crashes (Requester q) session outside is = absurd cc
   crashes Reaper session outside is = absurd cc
+  crashes role session outside is = absurd cc
 
   expires : (role : Role) (session : SessionId) → takes_part c role ≡ false → row_holds c s role (Event.Expire session) ≡ true → ⊥
-  expires (Launcher p) session outside is = absurd cc
-  expires (Janitor p) session outside is = absurd cc
-  expires (Requester q) session outside is = absurd cc
   expires Reaper session outside is = absurd cc
+  expires role session outside is = absurd cc
 
   pub outside-idle : (role : Role) → IsReached c s → takes_part c role ≡ false → IsIdle c s role
   outside-idle role reached outside Event.Tick useful = ticks role outside useful.row
@@ -401,12 +347,8 @@ module _ (c : Configuration) (s : State) where
   all-idle sound pools requesters reaper Reaper e part useful = reaper e useful
 
   -- a role of the configuration by what is known of it, any other in every state of a run
-  role-idle : (role : Role) (b : Bool) → takes_part c role ≡ b → IsReached c s → IsSettled c s → IsIdle c s role
-  role-idle role true part reached settled e useful = settled role e part useful
-  role-idle role false outside reached settled e useful = outside-idle c s role reached outside e useful
-
   settled-role : (role : Role) → IsReached c s → IsSettled c s → IsIdle c s role
-  settled-role role reached settled = role-idle role (takes_part c role) refl reached settled
+  settled-role role reached settled e useful = by_bool (λ b. ⊥) (takes_part c role) (λ part. settled role e part useful) (λ outside. outside-idle c s role reached outside e useful)
 
   pub settled-pools : IsReached c s → IsSettled c s → ArePoolsIdle c s
   settled-pools reached settled k below = (settled-role (Launcher (record { 0 = k })) reached settled, settled-role (Janitor (record { 0 = k })) reached settled)

@@ -1,5 +1,5 @@
 -- the jobs of a requester by their place in its window: which are to begin, which were given their nodes, and which an accepted event can be of
-use Rattle.np_jobs.proofs.Prelude.{Bool, Configuration, Done, Err, Event, IsAmong, Job, JobId, JobRecord, List, None, Ok, Option, Phase, Refusal, RequestRecord, Requester, RequesterId, Result, Role, SemId, SessionFacts, SessionId, Some, State, among, and-first, and-second, ap, arith, before-end, cond, count_by, current-speaks, drop, eqb-true, false, find, first_full, has_fulfilled_request, has_handle, if◌then◌else◌, is_asked, is_current, is_failed, is_finishable, is_fulfilled, is_full, is_in_window, is_job_to_acquire, is_job_to_begin, is_job_to_finish, is_job_to_take, is_new, is_over, is_own, is_supplied, is_unfinished, is_unfinished_job, is_using, job_is, jobs_from, jobs_of, judge, length, list_any, maker, may_acquire, may_begin, may_finish, may_release, may_take, missing_handles, nat_le, nat_lt, nat_tests, needed, none-is, none_missing, not, not-true, not-zero, on-check, on-found, on-given, on-need, on-vacant, option_and_then, option_map, option_map_or, or_right, own_job, phase_is, refl, request_in, request_state_of, requester_or_janitor, row_holds, same-role, same_role, slice_get, speaks_for, subst, suc, sum_by-cons, sym, take, then-ok, true, unfinished_from, unheld, waits_for_handles, was_given, window_of, zero, zip, ℕ, [], ◌&&◌, ◌+◌, ◌<◌, ◌==◌, ◌>>=◌, ◌||◌, ◌∙◌, ◌∷◌, ◌≡◌, ◌≤◌}
+use Rattle.np_jobs.proofs.Prelude.{Bool, Configuration, Done, Err, Event, IsAmong, Job, JobId, JobRecord, List, None, Ok, Option, Phase, Refusal, RequestRecord, Requester, RequesterId, Result, SemId, SessionId, Some, State, [], among, and-first, and-second, ap, arith, before-end, by_bool, count-cons, count_by, drop, eqb-true, false, find, first_full, has_fulfilled_request, has_handle, if◌then◌else◌, is_asked, is_failed, is_finishable, is_fulfilled, is_full, is_in_window, is_job_to_acquire, is_job_to_begin, is_job_to_finish, is_job_to_take, is_new, is_over, is_own, is_supplied, is_unfinished, is_unfinished_job, is_using, job_is, jobs_from, jobs_of, judge, length, list_any, maker, may_acquire, may_begin, may_finish, may_release, may_take, missing_handles, nat_le, nat_lt, nat_tests, needed, none-is, none_missing, not, not-true, on-check, on-found, on-given, on-need, on-vacant, one, option_and_then, option_map, option_map_or, or_right, own_job, phase_is, refl, request_in, request_state_of, requester_or_janitor, row_holds, slice_get, subst, suc, sym, take, then-ok, true, unfinished_from, unheld, waits_for_handles, was_given, window_of, zero, zip, ℕ, ◌&&◌, ◌+◌, ◌<◌, ◌==◌, ◌>>=◌, ◌||◌, ◌∙◌, ◌∷◌, ◌≡◌, ◌≤◌}
 
 -- # the jobs that pass a test: each is one of the jobs, and their numbers rise
 
@@ -117,16 +117,8 @@ nothing_placed q (suc i) at is = absurd (let no : false ≡ true = is.passes in 
 
 -- a list counts one more than what follows its first member, if that one passes
 pub counted : {X : Type 0} (p : X → Bool) (x : X) (xs : List X) (b : Bool) → p x ≡ b → count_by p (x ∷ xs) ≡ (if b then suc (count_by p xs) else count_by p xs)
-counted p x xs true is =
-    let step : count_by p (x ∷ xs) ≡ cond (p x) 1 0 + count_by p xs = sum_by-cons (λ z. cond (p z) 1 0) x xs in
-    let one : cond {A = ℕ} (p x) 1 0 ≡ 1 = rw is refl in
-    let more : count_by p (x ∷ xs) ≡ suc (count_by p xs) = omega (arith, step, one) in
-    more
-counted p x xs false is =
-    let step : count_by p (x ∷ xs) ≡ cond (p x) 1 0 + count_by p xs = sum_by-cons (λ z. cond (p z) 1 0) x xs in
-    let none : cond {A = ℕ} (p x) 1 0 ≡ 0 = rw is refl in
-    let same : count_by p (x ∷ xs) ≡ count_by p xs = omega (arith, step, none) in
-    same
+counted p x xs true is = let more : count_by p (x ∷ xs) ≡ suc (count_by p xs) = omega (arith, count-cons p x xs, ap one is) in more
+counted p x xs false is = let same : count_by p (x ∷ xs) ≡ count_by p xs = omega (arith, count-cons p x xs, ap one is) in same
 
 -- one place further
 one_on : (q : RequesterId) (number : ℕ) (job : Job) (rows : List Job) (kept : JobRecord) (jobs : List JobRecord) (at : ℕ) (j : JobId) → is_unfinished q (job, kept) ≡ false → IsFrom q (suc number) rows jobs at j → IsFrom q number (job ∷ rows) (kept ∷ jobs) at j
@@ -258,23 +250,18 @@ module _ (c : Configuration) (s : State) (q : RequesterId) where
 
 -- a new job is not over
 pub new-open : (p : Phase) → is_new p ≡ true → not (is_over p) ≡ true
-new-open Phase.New is = refl
-new-open Phase.Asked is = absurd cc
-new-open Phase.Using is = absurd cc
-new-open Phase.Over is = absurd cc
+new-open p is = grind (arith, nat_tests)
 
 -- # a job of a requester is to begin if it is new and need not wait for semaphores
 
 -- ## semaphores that are not missing
 
 -- if a list counts none, none is found in it that also passes a second test
-uncounted-by : {X : Type 0} (p full : X → Bool) (x : X) (xs : List X) (b : Bool) → p x ≡ b → count_by p (x ∷ xs) ≡ 0 → (count_by p xs ≡ 0 → find (λ y. p y && full y) xs ≡ None) → find (λ y. p y && full y) (x ∷ xs) ≡ None
-uncounted-by p full x xs true is none later = absurd (omega (arith, counted p x xs true is, none))
-uncounted-by p full x xs false is none later = rw is (later (sym (counted p x xs false is) ∙ none))
-
 uncounted : {X : Type 0} (p full : X → Bool) (xs : List X) → count_by p xs ≡ 0 → find (λ y. p y && full y) xs ≡ None
 uncounted p full [] none = refl
-uncounted p full (x ∷ xs) none = uncounted-by p full x xs (p x) refl none (uncounted p full xs)
+uncounted p full (x ∷ xs) none =
+    by_bool (λ b. find (λ y. p y && full y) (x ∷ xs) ≡ None) (p x)
+    (λ is. absurd (omega (arith, counted p x xs true is, none))) (λ is. rw is (uncounted p full xs (sym (counted p x xs false is) ∙ none)))
 
 module _ (c : Configuration) (s : State) (j : JobId) (row : Job) where
   -- a job that has all its handles lacks no full semaphore
@@ -331,15 +318,11 @@ module _ (c : Configuration) (s : State) (q : RequesterId) (j : JobId) where
 -- ## handles
 
 -- if a list counts none that lacks something, it is empty or one of its members has it
-supplied-by : {X : Type 0} (has : X → Bool) (x : X) (xs : List X) (b : Bool) → has x ≡ b → count_by (λ y. not (has y)) (x ∷ xs) ≡ 0 → ((length (x ∷ xs) == 0) || list_any has (x ∷ xs)) ≡ true
-supplied-by has x xs true is none = or_right (length (x ∷ xs) == 0) (list_any has (x ∷ xs)) (rw is refl)
-supplied-by has x xs false is none =
-    let lacks : not (has x) ≡ true = rw is refl in
-    absurd (omega (arith, counted (λ (y : _). not (has y)) x xs true lacks, none))
-
 supplied : {X : Type 0} (has : X → Bool) (xs : List X) → count_by (λ y. not (has y)) xs ≡ 0 → ((length xs == 0) || list_any has xs) ≡ true
 supplied has [] none = refl
-supplied has (x ∷ xs) none = supplied-by has x xs (has x) refl none
+supplied has (x ∷ xs) none =
+    by_bool (λ b. ((length (x ∷ xs) == 0) || list_any has (x ∷ xs)) ≡ true) (has x) (λ is. or_right (length (x ∷ xs) == 0) (list_any has (x ∷ xs)) (rw is refl))
+    (λ is. let lacks : not (has x) ≡ true = rw is refl in absurd (omega (arith, counted (λ (y : _). not (has y)) x xs true lacks, none)))
 
 module _ (s : State) (j : JobId) (row : Job) where
   -- a job that has all its handles need not wait for them
@@ -407,27 +390,6 @@ module _ (c : Configuration) (s : State) (q : RequesterId) (j : JobId) where
           room = none-is (first_full c s j row) (and-second (not (is_supplied s j row)) _ may);
         }
 
--- # a requester makes the events of its current session
-
--- a session that speaks for the requester is live, not mute and the requester's
-three : (a b d : Bool) → (a && b && not d) ≡ true → (a ≡ true) × ((b ≡ true) × (not d ≡ true))
-three true true true is = absurd cc
-three true true false is = (refl, (refl, refl))
-three true false d is = absurd cc
-three false b d is = absurd cc
-
-spoken : {q : RequesterId} (facts : SessionFacts) → speaks_for (Requester q) facts ≡ true → (facts.live ≡ true) × ((not facts.mute ≡ true) × (facts.role ≡ Requester q))
-spoken {q} facts is =
-    let parts = three (same_role facts.role (Requester q)) facts.live facts.mute is in
-    (parts.1.0, (parts.1.1, same-role facts.role (Requester q) parts.0))
-
-pub current-maker : (s : State) (q : RequesterId) (session : SessionId) → is_current (Requester q) session s ≡ true → maker s session ≡ Ok (Requester q)
-current-maker s q session current =
-    let speaks = current-speaks (Requester q) s session current in
-    let begun : (session.0 == 0) ≡ false = not-zero session.0 speaks.begun in
-    let is = spoken speaks.facts speaks.speaks in
-    rw (begun, speaks.there, is.0, is.1.0) (ap (λ (role : Role). Ok role) is.1.1)
-
 -- # an accepted event of a requester's session on a job: which jobs it can be of
 
 -- a job waits for its semaphores if it is new and in the window, or has asked and its request is
@@ -441,14 +403,7 @@ waits false first within asked given is begins goes_on = goes_on (and-first aske
 -- a job that can be finished uses its nodes, or has asked for them and its request failed
 finishable-by : (p : Phase) (o : Option RequestRecord) (busy : Bool) → ((is_asked p && option_map_or (λ (request : RequestRecord). is_failed request.state) o false) || (is_using p && busy)) ≡ true
     → (is_using p || (is_asked p && option_map_or is_failed (option_map (λ (request : RequestRecord). request.state) o) false)) ≡ true
-finishable-by Phase.New o busy is = absurd cc
-finishable-by Phase.Asked None busy is = absurd cc
-finishable-by Phase.Asked (Some request) busy is = by (is_failed request.state) is where
-  by : (b : Bool) → (b || false) ≡ true → b ≡ true
-  by true failed = refl
-  by false failed = failed
-finishable-by Phase.Using o busy is = refl
-finishable-by Phase.Over o busy is = absurd cc
+finishable-by p o busy is = grind (arith, nat_tests)
 
 -- new, and in the window
 pub record IsNewInWindow (c : Configuration) (s : State) (q : RequesterId) (j : JobId) : Type 0 where

@@ -1,41 +1,24 @@
 -- what is found and counted in lists: the first spare node, the request that lists a node, and a request in hand
-use Rattle.np_launch.proofs.Prelude.{AllByRecursion, Bool, Configuration, Done, Err, Event, Invariant, IsReached, IsServed, Janitor, LabelId, Launcher, List, NodeEntry, NodeId, NodeRecord, None, Ok, Option, PoolId, Reaper, Refusal, RequestEntry, RequestId, RequestRecord, RequestState, Requester, Result, Rises, Role, SessionFacts, SessionId, Some, StandsIn, State, add-one, all-from_at, and_parts, any-here, any-place, ap, arith, as_launcher, both_true, both_ways, cond, count_by, drop, drop-past, false, false_from_ne_true, filter, find, find-insert, find-place, first_free, first_takable, free_ready_of, has_failed_node, holder, holder-queued, if◌then◌else◌, insert-remove, invariant-Runs, is_declined_by, is_id_before, is_in_hand, is_in_hand_at, is_kind, is_listed, is_none, is_ok, is_pending, is_pending_by, is_pool, is_queued, is_ready, is_request, is_requested, is_session_of, is_some, is_spare, is_takable, is_to_launch, is_wanted_by, judge, launcher, length, list_any, list_any-there, maker, map, map-some, may_take_ready, member-there, nat_lt, nat_tests, need, next_label, node-apart, node-itself, node-place, node_entry, node_in, node_is, none-remove, not, ok-is, on-found, on-need, on-not, option_and_then, option_map, option_map_or, pool_of, pool_of_role, queued_requests, refl, registered, remove, request-apart, request-equal, request-itself, request_entry, request_holder, request_in, same_request, served_request, session_of, slice_get, slice_get_within, suc, sum_by-cons, sym, true, vacant, wrong_node, wrong_request, zero, ℕ, [], ◌&&◌, ◌+◌, ◌<◌, ◌==◌, ◌>>=◌, ◌>>◌, ◌||◌, ◌∙◌, ◌∷◌, ◌≡◌, ◌≤◌}
+use Rattle.np_launch.proofs.Prelude.{AllByRecursion, Bool, Configuration, Done, Err, Event, Invariant, IsReached, IsServed, LabelId, List, NodeEntry, NodeId, NodeRecord, None, Ok, Option, PoolId, Refusal, RequestEntry, RequestId, RequestRecord, RequestState, Result, Rises, SessionId, Some, StandsIn, State, [], add-one, all-at, all-from_at, and_parts, any-here, any-place, ap, arith, both_true, both_ways, by_bool, cond, contrapositive, count_by, drop, drop-past, false, false_from_ne_true, filter, find, find-none, find-place, first_free, first_takable, free_ready_of, has_failed_node, holder, holder-queued, if◌then◌else◌, invariant-Runs, is_declined_by, is_id_before, is_in_hand, is_in_hand_at, is_kind, is_listed, is_none, is_ok, is_pending, is_pending_by, is_pool, is_queued, is_ready, is_request, is_requested, is_session_of, is_some, is_spare, is_takable, is_to_launch, is_wanted_by, judge, launcher, launcher-heard, length, list_any, list_any-there, map, map-some, may_take_ready, member-there, nat_lt, nat_tests, need, next_label, node-apart, node-itself, node-place, node_entry, node_in, node_is, none-find, not, ok-is, option_and_then, option_map, option_map_or, pool_of, pool_of_role, queued_requests, refl, registered, request-apart, request-equal, request-itself, request_entry, request_holder, request_in, same_request, served_request, slice_get, slice_get_within, some-unless, suc, sum_by-cons, sym, true, true≢false, vacant, wrong_node, wrong_request, zero, ℕ, ◌&&◌, ◌+◌, ◌<◌, ◌==◌, ◌>>◌, ◌||◌, ◌∙◌, ◌∷◌, ◌≡◌, ◌≤◌}
 
 -- # the first member that passes a test
 
 -- some member passes if there is a first one
-any-by : {X : Type 0} (q : X → Bool) (x : X) (xs : List X) (b : Bool) → q x ≡ b → list_any q xs ≡ is_some (find q xs) → list_any q (x ∷ xs) ≡ is_some (find q (x ∷ xs))
-any-by q x xs true is later = rw is refl
-any-by q x xs false is later = rw is later
-
 pub any-find : {X : Type 0} (q : X → Bool) (xs : List X) → list_any q xs ≡ is_some (find q xs)
 any-find q [] = refl
-any-find q (x ∷ xs) = any-by q x xs (q x) refl (any-find q xs)
-
-some-by : {X : Type 0} (q : X → Bool) (x : X) (xs : List X) (b : Bool) → q x ≡ b → ((y : X) × (find q xs ≡ Some y)) → (y : X) × (find q (x ∷ xs) ≡ Some y)
-some-by q x xs true is later = (x, rw is refl)
-some-by q x xs false is later = (later.0, rw is later.1)
+any-find q (x ∷ xs) = by_bool (λ b. (b || list_any q xs) ≡ is_some (cond b (Some x) (find q xs))) (q x) (λ is. refl) (λ is. any-find q xs)
 
 -- there is a first one if a member passes
 pub find-some : {X : Type 0} (q : X → Bool) (xs : List X) (i : ℕ) (x : X) → slice_get xs i ≡ Some x → q x ≡ true → (y : X) × (find q xs ≡ Some y)
-find-some q [] i x there passes = absurd cc
-find-some {X = X} q (y ∷ xs) zero x there passes =
-    let same : y ≡ x = cc in
-    let is : q y ≡ true = ap q same ∙ passes in
-    (y, rw is refl)
-find-some q (y ∷ xs) (suc i) x there passes = some-by q y xs (q y) refl (find-some q xs i x there passes)
-
-named-by : {X I : Type 0} (name : X → I) (keep q : X → Bool) (t : I → Bool) (x : X) (xs : List X) (b : Bool) → keep x ≡ b → (keep x ≡ true → t (name x) ≡ q x) → (q x ≡ true → keep x ≡ true) → list_any t (map name (filter keep xs)) ≡ list_any q xs → list_any t (map name (filter keep (x ∷ xs))) ≡ list_any q (x ∷ xs)
-named-by name keep q t x xs true is same kept later = rw (is, same is) (ap (λ (b : Bool). q x || b) later)
-named-by name keep q t x xs false is same kept later = by (q x) refl where
-  by : (b : Bool) → q x ≡ b → list_any t (map name (filter keep (x ∷ xs))) ≡ list_any q (x ∷ xs)
-  by true passes = let no : keep x ≡ true = kept passes in absurd cc
-  by false fails = rw (is, fails) later
+find-some q xs i x there passes = some-unless (find q xs) (λ none. true≢false (sym passes ∙ all-at (λ y. q y ≡ false) xs i x (none-find q xs none) there))
 
 -- by names: one of the members that are kept passes if some member does, as each that passes is kept
 pub any-named : {X I : Type 0} (name : X → I) (keep q : X → Bool) (t : I → Bool) (xs : List X) → AllByRecursion (λ x. keep x ≡ true → t (name x) ≡ q x) xs → ((x : X) → q x ≡ true → keep x ≡ true) → list_any t (map name (filter keep xs)) ≡ list_any q xs
 any-named name keep q t [] all kept = refl
-any-named name keep q t (x ∷ xs) all kept = named-by name keep q t x xs (keep x) refl all.0 (kept x) (any-named name keep q t xs all.1 kept)
+any-named name keep q t (x ∷ xs) all kept =
+    let later : list_any t (map name (filter keep xs)) ≡ list_any q xs = any-named name keep q t xs all.1 kept in
+    by_bool (λ b. list_any t (map name (cond b (x ∷ filter keep xs) (filter keep xs))) ≡ (q x || list_any q xs)) (keep x)
+    (λ is. rw (all.0 is) (ap (λ (b : Bool). q x || b) later)) (λ is. rw (contrapositive (q x) (keep x) (kept x) is) later)
 
 -- ## a walk
 
@@ -53,18 +36,13 @@ any-past p xs i past = rw (drop-past xs i past) refl
 
 -- ## by an order
 
--- in an order, the member at a place is the one that is found, if no earlier or later one passes
-pub find-there : {X : Type 0} (before : X → X → Bool) (p : X → Bool) (xs : List X) (i : ℕ) (x : X) → Rises before xs → slice_get xs i ≡ Some x → ((y : X) → before y x ≡ true → p y ≡ false) → ((y : X) → before x y ≡ true → p y ≡ false) → p x ≡ true → find p xs ≡ Some x
-find-there before p xs i x rise there earlier later passes =
-    let none = none-remove before p xs i x rise there earlier later in
-    ap (λ (ys : List _). find p ys) (sym (insert-remove xs i x there))
-    ∙ find-insert p (remove xs i) i x (λ is. none)
-    ∙ rw passes refl
-
--- none is found if none passes
-pub find-none : {X : Type 0} (q : X → Bool) (xs : List X) → ((x : X) → q x ≡ false) → find q xs ≡ None
-find-none q [] none = refl
-find-none q (x ∷ xs) none = rw (none x) (find-none q xs none)
+-- in an order, the member at a place is the one that is found, if no earlier one passes
+pub find-there : {X : Type 0} (before : X → X → Bool) (p : X → Bool) (xs : List X) (i : ℕ) (x : X) → Rises before xs → slice_get xs i ≡ Some x → ((y : X) → before y x ≡ true → p y ≡ false) → p x ≡ true → find p xs ≡ Some x
+find-there before p [] i x rise there earlier passes = absurd cc
+find-there before p (y ∷ xs) zero x rise there earlier passes = let same : y ≡ x = cc in rw (ap p same, passes) (ap Some same)
+find-there before p (y ∷ xs) (suc i) x rise there earlier passes =
+    let fails : p y ≡ false = earlier y (all-at (λ z. before y z ≡ true) xs i x rise.0 there) in
+    rw fails (find-there before p xs i x rise.1 there earlier passes)
 
 -- ## one test that does not depend on the member, and one that does
 
@@ -79,17 +57,14 @@ module _ {X I : Type 0} (name : X → I) (q : I → Bool) (p : X → Bool) where
 
   none-tested : (xs : List X) → AllByRecursion (λ x. q (name x) ≡ false) xs → tested (option_map name (slice_get (filter p xs) 0)) ≡ None
   none-tested [] all = refl
-  none-tested (x ∷ xs) all = by (p x) refl all.0 (none-tested xs all.1) where
-    by : (b : Bool) → p x ≡ b → q (name x) ≡ false → tested (option_map name (slice_get (filter p xs) 0)) ≡ None → tested (option_map name (slice_get (filter p (x ∷ xs)) 0)) ≡ None
-    by true is fails later = rw is (rw fails refl)
-    by false is fails later = rw is later
+  none-tested (x ∷ xs) all =
+      by_bool (λ b. tested (option_map name (slice_get (cond b (x ∷ filter p xs) (filter p xs)) 0)) ≡ None) (p x) (λ is. rw all.0 refl) (λ is. none-tested xs all.1)
 
   first-same : (xs : List X) → AllByRecursion (λ x. q (name x) ≡ p x) xs → option_map name (find (λ x. q (name x)) xs) ≡ tested (option_map name (slice_get (filter p xs) 0))
   first-same [] all = refl
-  first-same (x ∷ xs) all = by (p x) refl all.0 (first-same xs all.1) where
-    by : (b : Bool) → p x ≡ b → q (name x) ≡ p x → option_map name (find (λ y. q (name y)) xs) ≡ tested (option_map name (slice_get (filter p xs) 0)) → option_map name (find (λ y. q (name y)) (x ∷ xs)) ≡ tested (option_map name (slice_get (filter p (x ∷ xs)) 0))
-    by true is same later = let passes : q (name x) ≡ true = same ∙ is in rw (is, passes) refl
-    by false is same later = let fails : q (name x) ≡ false = same ∙ is in rw (is, fails) later
+  first-same (x ∷ xs) all =
+      by_bool (λ b. option_map name (find (λ y. q (name y)) (x ∷ xs)) ≡ tested (option_map name (slice_get (cond b (x ∷ filter p xs) (filter p xs)) 0))) (p x)
+      (λ is. rw (all.0 ∙ is) refl) (λ is. rw (all.0 ∙ is) (first-same xs all.1))
 
   -- the first that passes both is the first that passes the second, if that passes
   pub first-tested : (t : Bool) (xs : List X) → AllByRecursion (λ x. q (name x) ≡ (t && p x)) xs → option_map name (find (λ x. q (name x)) xs) ≡ option_and_then (λ i. if q i then Some i else None) (option_map name (slice_get (filter p xs) 0))
@@ -138,13 +113,10 @@ count-named name keep q t (x ∷ xs) all = count-named-by name keep q t x xs (ke
 
 -- ## nodes, each number once
 
-nodes-later-apart : (a b : NodeId) → nat_lt b.0 a.0 ≡ true → (a.0 == b.0) ≡ false
-nodes-later-apart a b order = grind (arith, nat_tests)
-
 -- the node at a place is the node with its number
 node-there : (rows : List NodeEntry) (i : ℕ) (e : NodeEntry) → Rises (λ a b. nat_lt a.id.0 b.id.0) rows → slice_get rows i ≡ Some e → node_entry e.id rows ≡ Some e
 node-there rows i e rise there =
-    find-there (λ (a b : NodeEntry). nat_lt a.id.0 b.id.0) (λ (x : NodeEntry). x.id.0 == e.id.0) rows i e rise there (λ y order. node-apart y.id e.id order) (λ y order. nodes-later-apart y.id e.id order) (node-itself e.id)
+    find-there (λ (a b : NodeEntry). nat_lt a.id.0 b.id.0) (λ (x : NodeEntry). x.id.0 == e.id.0) rows i e rise there (λ y order. node-apart y.id e.id order) (node-itself e.id)
 
 -- ## the tests of an allocation
 
@@ -165,28 +137,7 @@ tests true true true true true true None (Some x) wrong late label = refl
 
 -- the pool of the launcher that makes the event is the session's
 pool-is : (s : State) (session : SessionId) (p : PoolId) → launcher s session ≡ Ok p → pool_of s session ≡ Some p
-pool-is s session p by = of_maker (maker s session) refl by where
-  of_role : (role : Role) → as_launcher role ≡ Ok p → pool_of_role role ≡ Some p
-  of_role (Launcher q) is = let same : q ≡ p = cc in ap (λ (x : PoolId). Some x) same
-  of_role (Janitor q) is = absurd cc
-  of_role (Requester q) is = absurd cc
-  of_role Reaper is = absurd cc
-
-  of_session : (role : Role) → maker s session ≡ Ok role → option_map (λ (facts : SessionFacts). facts.role) (session_of session s) ≡ Some role
-  of_session role is =
-      on-found (session_of session s) Refusal.NoSession _ role is (λ facts there rest.
-      on-need facts.live Refusal.Expired _ role rest (λ live rest.
-      on-not facts.mute Refusal.Crashed _ role rest (λ heard rest.
-      let same : facts.role ≡ role = cc in
-      rw there (ap (λ (x : Role). Some x) same))))
-
-  of_facts : (o : Option SessionFacts) (role : Role) → option_map (λ (facts : SessionFacts). facts.role) o ≡ Some role → as_launcher role ≡ Ok p → option_and_then (λ (facts : SessionFacts). pool_of_role facts.role) o ≡ Some p
-  of_facts None role there is = absurd cc
-  of_facts (Some facts) role there is = let same : role ≡ facts.role = cc in of_role facts.role (ap as_launcher (sym same) ∙ is)
-
-  of_maker : (o : Result Role Refusal) → maker s session ≡ o → (o >>= as_launcher) ≡ Ok p → pool_of s session ≡ Some p
-  of_maker (Err why) made is = absurd cc
-  of_maker (Ok role) made is = of_facts (session_of session s) role (of_session role made) is
+pool-is s session p by = let heard = launcher-heard s session p by in rw heard.begun (ap pool_of_role heard.role)
 
 module _ (c : Configuration) (s : State) (session : SessionId) (r : RequestId) where
   -- the node, if it may be allocated
@@ -200,7 +151,7 @@ module _ (c : Configuration) (s : State) (session : SessionId) (r : RequestId) w
   -- if none may be, none is found
   refused : ((n : NodeId) → is_takable c s session r n ≡ false) → (o : Option NodeId) → first ≡ taken o
   refused none o =
-      ap (λ (x : Option NodeEntry). option_map (λ (e : NodeEntry). e.id) x) (find-none (λ (e : NodeEntry). is_takable c s session r e.id) s.nodes (λ e. none e.id)) ∙ by o
+      ap (λ (x : Option NodeEntry). option_map (λ (e : NodeEntry). e.id) x) (find-none (λ (e : NodeEntry). is_takable c s session r e.id) s.nodes (all-from_at (λ (e : NodeEntry). is_takable c s session r e.id ≡ false) s.nodes (λ i e there. none e.id))) ∙ by o
     where
       by : (o : Option NodeId) → None ≡ taken o
       by None = refl
@@ -253,13 +204,10 @@ module _ (c : Configuration) (s : State) (session : SessionId) (r : RequestId) w
 
 -- ## requests, each number once
 
-requests-later-apart : (a b : RequestId) → is_id_before b a ≡ true → same_request a b ≡ false
-requests-later-apart a b order = grind (arith, nat_tests)
-
 -- the request at a place is the request with its id
 pub entry-there : (rows : List RequestEntry) (i : ℕ) (e : RequestEntry) → Rises (λ a b. is_id_before a.id b.id) rows → slice_get rows i ≡ Some e → request_entry e.id rows ≡ Some e
 entry-there rows i e rise there =
-    find-there (λ (a b : RequestEntry). is_id_before a.id b.id) (λ (x : RequestEntry). same_request x.id e.id) rows i e rise there (λ y order. request-apart y.id e.id order) (λ y order. requests-later-apart y.id e.id order) (request-itself e.id)
+    find-there (λ (a b : RequestEntry). is_id_before a.id b.id) (λ (x : RequestEntry). same_request x.id e.id) rows i e rise there (λ y order. request-apart y.id e.id order) (request-itself e.id)
 
 named : (r : RequestId) (o : Option RequestId) → is_request r o ≡ true → o ≡ Some r
 named r None is = absurd cc
@@ -314,10 +262,7 @@ module _ (c : Configuration) (s : State) (holds : Invariant c s) (p : PoolId) (n
 
 -- none is there if not some is
 pub none-is : (b : Bool) (o : Option RequestRecord) → is_some o ≡ not b → b ≡ is_none o
-none-is true None is = refl
-none-is true (Some q) is = absurd cc
-none-is false None is = absurd cc
-none-is false (Some q) is = refl
+none-is b o is = grind (arith, nat_tests)
 
 -- ## a reached state
 

@@ -1,5 +1,5 @@
 -- the useful events of a launcher: how they are computed, planned and ordered, and which request it locks
-use Rattle.np_launch.proofs.Prelude.{AllByRecursion, Asked, Bool, Chooses, ChoosesComputed, ChoosesLaunched, ChoosesOf, ChoosesOfAnyKind, ChoosesOpening, ChoosesPlanned, ChoosesPlannedOf, ChoosesPlannedOfAny, ComputedKind, Configuration, Done, Event, IsFirst, IsFirstThatPasses, IsReached, IsUseful, Label, LabelId, LaunchKind, Launcher, List, Lock, Node, NodeEntry, NodeId, NodeKind, NodeRecord, None, NoneComputed, NoneLaunched, NoneOf, NoneOpens, NonePlanned, Ok, Option, Outcome, Plain, PlannedKind, PoolId, Reason, Refusal, Request, RequestEntry, RequestId, RequestKind, RequestRecord, Result, Role, SessionFacts, SessionId, Some, State, and_parts, ap, arith, as_launcher, asked_of, blocking, comes_before, computed_at, computed_places, cond, current-opens, current-speaks, decline_at, done_at, earlier, equal-numbers, false, filter, find, find-passes, find-place, first-chooses, first_of, first_reason, first_takable, first_unoffered, fold, found, has_current, holder, holder-queued, if◌then◌else◌, is_as_planned, is_by_registrant, is_candidate, is_current, is_declined_by, is_first_reason, is_maker_of, is_node, is_none, is_ok, is_pending_by, is_pinned_away, is_planned, is_reason, is_requested, is_session_of, is_some, is_spent, is_takable, judge, launcher, launcher_order, least, lock_request_as, made-by, maker, maker_of, nat_tests, never_fits, new_record, no-maker, node_entry, node_holder, node_in, node_is, node_queue, not, ok-is, on-given, on-need, on-not, on-vacant, option_and_then, option_map, option_map_or, other_than, outcome_of, passes, passes-useful, passing, passing-is, passing-none, planned_at, planned_order, planned_places, queued-node, queued-request, queued_nodes, queued_requests, reason_of, refl, registered, request-equal, request_at, request_entry, request_holder, request_in, request_is, request_queue, same-role, same_node-is, same_outcome, same_reason, same_request, same_role, session_of, slice_get, slice_get_within, some-unless, speaks_for, subst, sym, take_ready_at, tenant_never_fits, true, true_from_ne_false, useful-passes, wrong_request, ℕ, [], ◌&&◌, ◌-◌, ◌<◌, ◌==◌, ◌>>=◌, ◌∙◌, ◌∷◌, ◌≡◌}
+use Rattle.np_launch.proofs.Prelude.{AllByRecursion, Asked, Bool, Chooses, ChoosesComputed, ChoosesLaunched, ChoosesOf, ChoosesOfAnyKind, ChoosesOpening, ChoosesPlanned, ChoosesPlannedOf, ChoosesPlannedOfAny, ComputedKind, Configuration, Done, Event, IsFirst, IsFirstThatPasses, IsReached, IsUseful, Label, LabelId, LaunchKind, Launcher, List, Lock, Node, NodeEntry, NodeId, NodeKind, NodeRecord, None, NoneComputed, NoneLaunched, NoneOf, NoneOpens, NonePlanned, Ok, Option, Outcome, Plain, PlannedKind, PoolId, Reason, Refusal, Request, RequestEntry, RequestId, RequestKind, RequestRecord, Result, Role, SessionId, Some, State, [], and_parts, ap, arith, as_launcher, asked_of, blocking, by_bool, comes_before, computed_at, computed_places, cond, current-has, current-opens, current-speaks, decline_at, done_at, earlier, equal-numbers, false, false-apart, filter, find, find-passes, find-place, first-chooses, first_of, first_reason, first_takable, first_unoffered, fold, found, has_current, holder, holder-queued, if◌then◌else◌, is_as_planned, is_by_registrant, is_candidate, is_current, is_declined_by, is_first_reason, is_maker_of, is_node, is_none, is_ok, is_pending_by, is_pinned_away, is_planned, is_reason, is_requested, is_session_of, is_some, is_spent, is_takable, judge, launcher, launcher_order, least, lock_request_as, made-by, maker, maker_of, map, map-some, named-place, nat_tests, never_fits, new_record, node_entry, node_holder, node_in, node_is, node_queue, not, not-zero, ok-is, on-found, on-need, on-not, on-vacant, option_and_then, option_and_then_some, option_map, option_map_or, other_than, outcome_of, passes, passes-useful, passing, passing-is, passing-none, planned_at, planned_order, planned_places, queued-node, queued-request, queued_nodes, queued_requests, reason_of, refl, registered, request-equal, request_entry, request_holder, request_in, request_is, request_queue, same-role, same_node-is, same_outcome, same_reason, same_request, same_role, slice_get, slice_get_within, some-unless, subst, sym, take_ready_at, tenant_never_fits, true, true_from_ne_false, useful-passes, wrong_request, ℕ, ◌&&◌, ◌<◌, ◌==◌, ◌>>=◌, ◌∙◌, ◌∷◌, ◌≡◌}
 use Rattle.np_useful.proofs.Useful.{StandsIn}
 use Rattle.np_launch.proofs.Finds.{find-some, first-is}
 
@@ -13,33 +13,12 @@ first-by label never tenant spent Reason.TenantNeverFits = is_none label && not 
 first-by label never tenant spent (Reason.Spent n) = (is_none label && not never && not tenant) && option_map_or (is_node n) spent false
 
 by-reason : (label : Option LabelId) (never tenant : Bool) (spent : Option NodeId) (why : Reason) → first-by label never tenant spent why ≡ is_reason why (reason_of label never tenant spent)
-by-reason (Some l) never tenant spent (Reason.NoLabel of) = refl
-by-reason (Some l) never tenant spent Reason.NeverFits = refl
-by-reason (Some l) never tenant spent Reason.TenantNeverFits = refl
-by-reason (Some l) never tenant spent (Reason.Spent n) = refl
-by-reason None true tenant spent (Reason.NoLabel of) = refl
-by-reason None true tenant spent Reason.NeverFits = refl
-by-reason None true tenant spent Reason.TenantNeverFits = refl
-by-reason None true tenant spent (Reason.Spent n) = refl
-by-reason None false true spent (Reason.NoLabel of) = refl
-by-reason None false true spent Reason.NeverFits = refl
-by-reason None false true spent Reason.TenantNeverFits = refl
-by-reason None false true spent (Reason.Spent n) = refl
-by-reason None false false None (Reason.NoLabel of) = refl
-by-reason None false false None Reason.NeverFits = refl
-by-reason None false false None Reason.TenantNeverFits = refl
-by-reason None false false None (Reason.Spent n) = refl
-by-reason None false false (Some m) (Reason.NoLabel of) = refl
-by-reason None false false (Some m) Reason.NeverFits = refl
-by-reason None false false (Some m) Reason.TenantNeverFits = refl
-by-reason None false false (Some m) (Reason.Spent n) = refl
+by-reason label never tenant spent why = grind (arith, nat_tests)
 
 module _ (c : Configuration) (s : State) (p : PoolId) (k : RequestRecord) where
   as-it-is : (why : Reason) → is_first_reason c s p k why ≡ first-by (first_unoffered c p k) (never_fits c p k) (tenant_never_fits c p k) (find (λ m. is_spent m s) k.nodes) why
-  as-it-is (Reason.NoLabel l) = refl
   as-it-is Reason.NeverFits = refl
-  as-it-is Reason.TenantNeverFits = refl
-  as-it-is (Reason.Spent n) = refl
+  as-it-is _ = refl
 
   pub reason-is : (why : Reason) → is_first_reason c s p k why ≡ is_reason why (first_reason c s p k)
   reason-is why = as-it-is why ∙ by-reason (first_unoffered c p k) (never_fits c p k) (tenant_never_fits c p k) (find (λ m. is_spent m s) k.nodes) why
@@ -48,21 +27,10 @@ module _ (c : Configuration) (s : State) (p : PoolId) (k : RequestRecord) where
 
 pub same-reason : (one other : Reason) → same_reason one other ≡ true → other ≡ one
 same-reason (Reason.NoLabel l) (Reason.NoLabel of) is = ap (λ (n : ℕ). Reason.NoLabel (record { 0 = n })) (equal-numbers of.0 l.0 is)
-same-reason (Reason.NoLabel l) Reason.NeverFits is = absurd cc
-same-reason (Reason.NoLabel l) Reason.TenantNeverFits is = absurd cc
-same-reason (Reason.NoLabel l) (Reason.Spent n) is = absurd cc
-same-reason Reason.NeverFits (Reason.NoLabel of) is = absurd cc
 same-reason Reason.NeverFits Reason.NeverFits is = refl
-same-reason Reason.NeverFits Reason.TenantNeverFits is = absurd cc
-same-reason Reason.NeverFits (Reason.Spent n) is = absurd cc
-same-reason Reason.TenantNeverFits (Reason.NoLabel of) is = absurd cc
-same-reason Reason.TenantNeverFits Reason.NeverFits is = absurd cc
 same-reason Reason.TenantNeverFits Reason.TenantNeverFits is = refl
-same-reason Reason.TenantNeverFits (Reason.Spent n) is = absurd cc
-same-reason (Reason.Spent m) (Reason.NoLabel of) is = absurd cc
-same-reason (Reason.Spent m) Reason.NeverFits is = absurd cc
-same-reason (Reason.Spent m) Reason.TenantNeverFits is = absurd cc
 same-reason (Reason.Spent m) (Reason.Spent of) is = ap (λ (n : ℕ). Reason.Spent (record { 0 = n })) (equal-numbers of.0 m.0 is)
+same-reason one other is = absurd cc
 
 pub reason-found : (why : Reason) (o : Option Reason) → is_reason why o ≡ true → o ≡ Some why
 reason-found why None is = absurd cc
@@ -88,9 +56,8 @@ such-one such (Some x) is = (x, (refl, is))
 
 same-result : (one other : Outcome) → same_outcome one other ≡ true → one ≡ other
 same-result (Outcome.Launched x) (Outcome.Launched y) is = ap (λ (n : ℕ). Outcome.Launched n) (equal-numbers x y is)
-same-result (Outcome.Launched x) Outcome.Failed is = absurd cc
-same-result Outcome.Failed (Outcome.Launched y) is = absurd cc
 same-result Outcome.Failed Outcome.Failed is = refl
+same-result one other is = absurd cc
 
 -- ## what an accepted event says
 
@@ -120,76 +87,52 @@ module _ (c : Configuration) (s : State) (session : SessionId) (what : Done) whe
 -- ## the current launcher
 
 module _ (s : State) (p : PoolId) (session : SessionId) where
-  live-parts : (facts : SessionFacts) → speaks_for (Launcher p) facts ≡ true → (facts.role ≡ Launcher p) × ((facts.live ≡ true) × (not facts.mute ≡ true))
-  live-parts facts is =
-      let parts = and_parts (same_role facts.role (Launcher p) && facts.live) (not facts.mute) is in
-      let firsts = and_parts (same_role facts.role (Launcher p)) facts.live parts.0 in
-      (same-role facts.role (Launcher p) firsts.0, (firsts.1, parts.1))
-
-  session-there : (facts : SessionFacts) → 0 < session.0 → slice_get s.sessions (session.0 - 1) ≡ Some facts → session_of session s ≡ Some facts
-  session-there facts begun there = grind (arith, nat_tests)
-
-  maker-by : (facts : SessionFacts) → session_of session s ≡ Some facts → facts.role ≡ Launcher p → facts.live ≡ true → not facts.mute ≡ true → maker s session ≡ Ok (Launcher p)
-  maker-by facts there role live heard = rw (there, live, heard, role) refl
-
   pub maker-is : is_current (Launcher p) session s ≡ true → maker s session ≡ Ok (Launcher p)
   maker-is current =
       let who = current-speaks (Launcher p) s session current in
-      let parts = live-parts who.facts who.speaks in
-      maker-by who.facts (session-there who.facts who.begun who.there) parts.0 parts.1.0 parts.1.1
+      let parts = and_parts (same_role who.facts.role (Launcher p) && who.facts.live) (not who.facts.mute) who.speaks in
+      let firsts = and_parts (same_role who.facts.role (Launcher p)) who.facts.live parts.0 in
+      rw (not-zero session.0 who.begun, who.there, firsts.1, parts.1) (ap (λ (role : Role). Ok role) (same-role who.facts.role (Launcher p) firsts.0))
 
   launcher-is : is_current (Launcher p) session s ≡ true → launcher s session ≡ Ok p
   launcher-is current = ap (λ (x : Result Role Refusal). x >>= as_launcher) (maker-is current)
 
--- ## a candidate's maker is the session
+-- ## a candidate is an event of its kind
+
+-- what is true of each event that the search can name is true of the candidate
+module _ (P : Event → Type 0) where
+  mapped : {X : Type 0} (make : X → Event) → ((x : X) → P (make x)) → (o : Option X) (e : Event) → option_map make o ≡ Some e → P e
+  mapped make all None e is = absurd cc
+  mapped make all (Some x) e is = let same : make x ≡ e = cc in subst P same (all x)
+
+  if-so : (b : Bool) (o : Option Event) (e : Event) → (if b then o else None) ≡ Some e → (o ≡ Some e → P e) → P e
+  if-so true o e is all = all is
+  if-so false o e is all = absurd cc
+
+  module _ (c : Configuration) (s : State) (p : PoolId) (session : SessionId) where
+    take-is : ((r : RequestId) (n : NodeId) → P (Event.TakeReady session r n)) → (at : ℕ) (e : Event) → take_ready_at c s p session at ≡ Some e → P e
+    take-is all at e is =
+        option_and_then_some _ (slice_get (queued_requests session s) at) e is (λ r _ of_request.
+        option_and_then_some _ (request_in r s.requests) e of_request (λ k _ of_record.
+        if-so (is_pending_by p k) _ e of_record (λ of_node. mapped (λ (n : NodeId). Event.TakeReady session r n) (all r) (first_takable c s session r) e of_node)))
+
+    decline-is : ((r : RequestId) (why : Reason) → P (Event.Decline session r why)) → (at : ℕ) (e : Event) → decline_at c s p session at ≡ Some e → P e
+    decline-is all at e is =
+        option_and_then_some _ (slice_get (queued_requests session s) at) e is (λ r _ of_request.
+        option_and_then_some _ (request_in r s.requests) e of_request (λ k _ of_reason. mapped (λ (why : Reason). Event.Decline session r why) (all r) (first_reason c s p k) e of_reason))
 
 module _ (c : Configuration) (s : State) (p : PoolId) (session : SessionId) where
-  made : (f : Event) (e : Event) → maker_of f ≡ Some session → Some f ≡ Some e → maker_of e ≡ Some session
-  made f e maker is = let same : f ≡ e = cc in ap maker_of (sym same) ∙ maker
+  abbrev IsMade : Event → Type 0
+  IsMade e = maker_of e ≡ Some session
 
-  done-by : (n : NodeId) (o : Option NodeRecord) (e : Event) → option_map (λ k. Event.Done session n k.attempts (outcome_of c p k.start)) o ≡ Some e → maker_of e ≡ Some session
-  done-by n None e is = absurd cc
-  done-by n (Some k) e is = made (Event.Done session n k.attempts (outcome_of c p k.start)) e refl is
-
-  done-maker : (o : Option NodeId) (e : Event) → option_and_then (λ n. option_map (λ k. Event.Done session n k.attempts (outcome_of c p k.start)) (node_in n s.nodes)) o ≡ Some e → maker_of e ≡ Some session
-  done-maker None e is = absurd cc
-  done-maker (Some n) e is = done-by n (node_in n s.nodes) e is
-
-  take-one : (r : RequestId) (b : Bool) (o : Option NodeId) (e : Event) → (if b then option_map (λ n. Event.TakeReady session r n) o else None) ≡ Some e → maker_of e ≡ Some session
-  take-one r false o e is = absurd cc
-  take-one r true None e is = absurd cc
-  take-one r true (Some n) e is = made (Event.TakeReady session r n) e refl is
-
-  take-by : (r : RequestId) (o : Option RequestRecord) (e : Event) → option_and_then (λ k. if is_pending_by p k then option_map (λ n. Event.TakeReady session r n) (first_takable c s session r) else None) o ≡ Some e → maker_of e ≡ Some session
-  take-by r None e is = absurd cc
-  take-by r (Some k) e is = take-one r (is_pending_by p k) (first_takable c s session r) e is
-
-  take-maker : (o : Option RequestId) (e : Event) → option_and_then (λ r. option_and_then (λ k. if is_pending_by p k then option_map (λ n. Event.TakeReady session r n) (first_takable c s session r) else None) (request_in r s.requests)) o ≡ Some e → maker_of e ≡ Some session
-  take-maker None e is = absurd cc
-  take-maker (Some r) e is = take-by r (request_in r s.requests) e is
-
-  decline-one : (r : RequestId) (o : Option Reason) (e : Event) → option_map (λ why. Event.Decline session r why) o ≡ Some e → maker_of e ≡ Some session
-  decline-one r None e is = absurd cc
-  decline-one r (Some why) e is = made (Event.Decline session r why) e refl is
-
-  decline-by : (r : RequestId) (o : Option RequestRecord) (e : Event) → option_and_then (λ k. option_map (λ why. Event.Decline session r why) (first_reason c s p k)) o ≡ Some e → maker_of e ≡ Some session
-  decline-by r None e is = absurd cc
-  decline-by r (Some k) e is = decline-one r (first_reason c s p k) e is
-
-  decline-maker : (o : Option RequestId) (e : Event) → option_and_then (λ r. option_and_then (λ k. option_map (λ why. Event.Decline session r why) (first_reason c s p k)) (request_in r s.requests)) o ≡ Some e → maker_of e ≡ Some session
-  decline-maker None e is = absurd cc
-  decline-maker (Some r) e is = decline-by r (request_in r s.requests) e is
-
-  min-ready-maker : (at : ℕ) (o : Option Label) (e : Event) → option_map (λ _. Event.MinReady session (record { 0 = at })) o ≡ Some e → maker_of e ≡ Some session
-  min-ready-maker at None e is = absurd cc
-  min-ready-maker at (Some x) e is = made (Event.MinReady session (record { 0 = at })) e refl is
-
-  computed-maker : (kind : ComputedKind) (at : ℕ) (e : Event) → computed_at c s p session kind at ≡ Some e → maker_of e ≡ Some session
-  computed-maker ComputedKind.Register at e is = made (Event.Register session) e refl is
-  computed-maker ComputedKind.Done at e is = done-maker (slice_get (queued_nodes session s) at) e is
-  computed-maker ComputedKind.TakeReady at e is = take-maker (slice_get (queued_requests session s) at) e is
-  computed-maker ComputedKind.Decline at e is = decline-maker (slice_get (queued_requests session s) at) e is
-  computed-maker ComputedKind.MinReady at e is = min-ready-maker at (slice_get c.labels at) e is
+  -- a candidate's maker is the session
+  computed-maker : (kind : ComputedKind) (at : ℕ) (e : Event) → computed_at c s p session kind at ≡ Some e → IsMade e
+  computed-maker ComputedKind.Register at e is = let same : Event.Register session ≡ e = cc in ap maker_of (sym same)
+  computed-maker ComputedKind.Done at e is =
+      option_and_then_some _ (slice_get (queued_nodes session s) at) e is (λ n _ of_node. mapped IsMade (λ (k : NodeRecord). Event.Done session n k.attempts (outcome_of c p k.start)) (λ k. refl) (node_in n s.nodes) e of_node)
+  computed-maker ComputedKind.TakeReady at e is = take-is IsMade c s p session (λ r n. refl) at e is
+  computed-maker ComputedKind.Decline at e is = decline-is IsMade c s p session (λ r why. refl) at e is
+  computed-maker ComputedKind.MinReady at e is = mapped IsMade (λ (l : Label). Event.MinReady session (record { 0 = at })) (λ l. refl) (slice_get c.labels at) e is
 
 -- ## a useful event is a candidate, or another of its kind is
 
@@ -343,38 +286,16 @@ module _ (c : Configuration) (s : State) (reached : IsReached c s) (p : PoolId) 
 
 -- ## a candidate can be planned
 
-named : {X : Type 0} (make : X → Event) → ((x : X) → is_planned (make x) ≡ true) → (o : Option X) (e : Event) → option_map make o ≡ Some e → is_planned e ≡ true
-named make all None e is = absurd cc
-named make all (Some x) e is = let same : make x ≡ e = cc in subst (λ (f : Event). is_planned f ≡ true) same (all x)
+abbrev CanBePlanned : Event → Type 0
+CanBePlanned e = is_planned e ≡ true
 
-module _ (c : Configuration) (s : State) (p : PoolId) (session : SessionId) where
-  take-one-planned : (r : RequestId) (b : Bool) (o : Option NodeId) (e : Event) → (if b then option_map (λ n. Event.TakeReady session r n) o else None) ≡ Some e → is_planned e ≡ true
-  take-one-planned r false o e is = absurd cc
-  take-one-planned r true o e is = named (λ (n : NodeId). Event.TakeReady session r n) (λ n. refl) o e is
-
-  take-by-planned : (r : RequestId) (o : Option RequestRecord) (e : Event) → option_and_then (λ k. if is_pending_by p k then option_map (λ n. Event.TakeReady session r n) (first_takable c s session r) else None) o ≡ Some e → is_planned e ≡ true
-  take-by-planned r None e is = absurd cc
-  take-by-planned r (Some k) e is = take-one-planned r (is_pending_by p k) (first_takable c s session r) e is
-
-  take-planned : (o : Option RequestId) (e : Event) → option_and_then (λ r. option_and_then (λ k. if is_pending_by p k then option_map (λ n. Event.TakeReady session r n) (first_takable c s session r) else None) (request_in r s.requests)) o ≡ Some e → is_planned e ≡ true
-  take-planned None e is = absurd cc
-  take-planned (Some r) e is = take-by-planned r (request_in r s.requests) e is
-
-  decline-by-planned : (r : RequestId) (o : Option RequestRecord) (e : Event) → option_and_then (λ k. option_map (λ why. Event.Decline session r why) (first_reason c s p k)) o ≡ Some e → is_planned e ≡ true
-  decline-by-planned r None e is = absurd cc
-  decline-by-planned r (Some k) e is = named (λ (why : Reason). Event.Decline session r why) (λ why. refl) (first_reason c s p k) e is
-
-  decline-planned : (o : Option RequestId) (e : Event) → option_and_then (λ r. option_and_then (λ k. option_map (λ why. Event.Decline session r why) (first_reason c s p k)) (request_in r s.requests)) o ≡ Some e → is_planned e ≡ true
-  decline-planned None e is = absurd cc
-  decline-planned (Some r) e is = decline-by-planned r (request_in r s.requests) e is
-
-  candidate-planned : (kind : PlannedKind) (at : ℕ) (e : Event) → planned_at c s p session kind at ≡ Some e → is_planned e ≡ true
-  candidate-planned PlannedKind.Fulfil at e is = named (λ (r : RequestId). Event.Fulfil session r) (λ r. refl) (slice_get (queued_requests session s) at) e is
-  candidate-planned PlannedKind.UnlockNode at e is = named (λ (n : NodeId). Event.UnlockNode session n) (λ n. refl) (slice_get (queued_nodes session s) at) e is
-  candidate-planned PlannedKind.UnlockRequest at e is = named (λ (r : RequestId). Event.UnlockRequest session r) (λ r. refl) (slice_get (queued_requests session s) at) e is
-  candidate-planned PlannedKind.Start at e is = named (λ (n : NodeId). Event.Start session n) (λ n. refl) (slice_get (queued_nodes session s) at) e is
-  candidate-planned PlannedKind.TakeReady at e is = take-planned (slice_get (queued_requests session s) at) e is
-  candidate-planned PlannedKind.Decline at e is = decline-planned (slice_get (queued_requests session s) at) e is
+candidate-planned : (c : Configuration) (s : State) (p : PoolId) (session : SessionId) (kind : PlannedKind) (at : ℕ) (e : Event) → planned_at c s p session kind at ≡ Some e → CanBePlanned e
+candidate-planned c s p session PlannedKind.Fulfil at e is = mapped CanBePlanned (λ (r : RequestId). Event.Fulfil session r) (λ r. refl) (slice_get (queued_requests session s) at) e is
+candidate-planned c s p session PlannedKind.UnlockNode at e is = mapped CanBePlanned (λ (n : NodeId). Event.UnlockNode session n) (λ n. refl) (slice_get (queued_nodes session s) at) e is
+candidate-planned c s p session PlannedKind.UnlockRequest at e is = mapped CanBePlanned (λ (r : RequestId). Event.UnlockRequest session r) (λ r. refl) (slice_get (queued_requests session s) at) e is
+candidate-planned c s p session PlannedKind.Start at e is = mapped CanBePlanned (λ (n : NodeId). Event.Start session n) (λ n. refl) (slice_get (queued_nodes session s) at) e is
+candidate-planned c s p session PlannedKind.TakeReady at e is = take-is CanBePlanned c s p session (λ r n. refl) at e is
+candidate-planned c s p session PlannedKind.Decline at e is = decline-is CanBePlanned c s p session (λ r why. refl) at e is
 
 -- ## the search
 
@@ -405,6 +326,11 @@ module _ (c : Configuration) (s : State) (reached : IsReached c s) (p : PoolId) 
 -- ## the choice
 
 module _ (c : Configuration) (s : State) (p : PoolId) where
+  -- a launcher without a session makes no event
+  unmade : has_current (Launcher p) s ≡ false → (o : Option SessionId) → is_some o ≡ true → is_maker_of (Launcher p) s o ≡ true → ⊥
+  unmade none None some is = absurd cc
+  unmade none (Some session) some is = let has : has_current (Launcher p) s ≡ true = current-has (Launcher p) s session is in cc
+
   -- the kinds are the whole choice
   pub plans-choose : (o : Option Event) → ChoosesPlannedOfAny c s p planned_order o → ChoosesPlanned c s p o
   plans-choose (Some e) useful = useful
@@ -422,13 +348,11 @@ module _ (c : Configuration) (s : State) (p : PoolId) where
   pub none-without : has_current (Launcher p) s ≡ false → ChoosesPlanned c s p None
   none-without none = useless where
     useless : (e : Event) → is_planned e ≡ true → IsUseful c s (Launcher p) e → ⊥
-    useless (Event.Fulfil session r) planned useful = no-maker c s (Launcher p) none session (Event.Fulfil session r) refl useful
-    useless (Event.UnlockNode session n) planned useful = no-maker c s (Launcher p) none session (Event.UnlockNode session n) refl useful
-    useless (Event.UnlockRequest session r) planned useful = no-maker c s (Launcher p) none session (Event.UnlockRequest session r) refl useful
-    useless (Event.Start session n) planned useful = no-maker c s (Launcher p) none session (Event.Start session n) refl useful
-    useless (Event.TakeReady session r n) planned useful = no-maker c s (Launcher p) none session (Event.TakeReady session r n) refl useful
-    useless (Event.Decline session r why) planned useful = no-maker c s (Launcher p) none session (Event.Decline session r why) refl useful
-    useless _ planned useful = absurd cc
+    useless Event.Tick planned useful = false-apart planned
+    useless (Event.OpenSession role) planned useful = false-apart planned
+    useless (Event.Crash session) planned useful = false-apart planned
+    useless (Event.Expire session) planned useful = false-apart planned
+    useless e planned useful = unmade none (maker_of e) refl useful.maker
 
 -- # a launcher locks only the first request that its pool may take up
 
@@ -436,29 +360,15 @@ module _ (c : Configuration) (s : State) (p : PoolId) where
 
 earlier-some : (o : Option RequestEntry) (e : RequestEntry) → is_some (earlier o e) ≡ true
 earlier-some None e = refl
-earlier-some (Some best) e = by (comes_before e best) where
-  by : (b : Bool) → is_some (cond b (Some e) (Some best)) ≡ true
-  by true = refl
-  by false = refl
+earlier-some (Some best) e = by_bool (λ b. is_some (cond b (Some e) (Some best)) ≡ true) (comes_before e best) (λ is. refl) (λ is. refl)
 
-module _ (q : RequestEntry → Bool) where
-  stays-some : (rows : List RequestEntry) (o : Option RequestEntry) → is_some o ≡ true → is_some (fold earlier o (filter q rows)) ≡ true
-  stays-some [] o some = some
-  stays-some (e ∷ rows) o some = by (q e) (stays-some rows (earlier o e) (earlier-some o e)) (stays-some rows o some) where
-    by : (b : Bool) → is_some (fold earlier (earlier o e) (filter q rows)) ≡ true → is_some (fold earlier o (filter q rows)) ≡ true → is_some (fold earlier o (cond b (e ∷ filter q rows) (filter q rows))) ≡ true
-    by true taken left = taken
-    by false taken left = left
+stays-some : (rows : List RequestEntry) (o : Option RequestEntry) → is_some o ≡ true → is_some (fold earlier o rows) ≡ true
+stays-some [] o some = some
+stays-some (e ∷ rows) o some = stays-some rows (earlier o e) (earlier-some o e)
 
-  some-first : (p : RequestEntry → Bool) (rows : List RequestEntry) (o : Option RequestEntry) (e : RequestEntry) → find p rows ≡ Some e → q e ≡ true → is_some (fold earlier o (filter q rows)) ≡ true
-  some-first p [] o e there passes = absurd cc
-  some-first p (x ∷ rows) o e there passes =
-      by (p x) (q x) refl there (λ found. some-first p rows (earlier o x) e found passes) (λ found. some-first p rows o e found passes)
-    where
-      by : (b d : Bool) → q x ≡ d → cond b (Some x) (find p rows) ≡ Some e → (find p rows ≡ Some e → is_some (fold earlier (earlier o x) (filter q rows)) ≡ true) → (find p rows ≡ Some e → is_some (fold earlier o (filter q rows)) ≡ true) → is_some (fold earlier o (cond d (x ∷ filter q rows) (filter q rows))) ≡ true
-      by true true own found taken left = stays-some rows (earlier o x) (earlier-some o x)
-      by true false own found taken left = let same : x ≡ e = cc in absurd cc
-      by false true own found taken left = taken found
-      by false false own found taken left = left found
+some-least : (rows : List RequestEntry) (e : RequestEntry) → StandsIn e (map (λ x. x) rows) → is_some (least rows) ≡ true
+some-least [] e place = absurd (omega (arith, place.within))
+some-least (x ∷ rows) e place = stays-some rows (Some x) refl
 
 -- ## the lock is of the first
 
@@ -466,14 +376,8 @@ module _ (c : Configuration) (s : State) (p : PoolId) (r : RequestId) where
   -- what is there and is not another than the request is the request
   first-other-is : (o : Option RequestId) → is_some o ≡ true → other_than r o ≡ None → o ≡ Some r
   first-other-is None some none = absurd cc
-  first-other-is (Some first) some none = by (same_request first r) refl none where
-    by : (b : Bool) → same_request first r ≡ b → cond b None (Some first) ≡ None → Some first ≡ Some r
-    by true same is = ap Some (request-equal first r same)
-    by false same is = absurd cc
-
-  first-some : (o : Option RequestEntry) → is_some o ≡ true → is_some (option_map (λ (e : RequestEntry). e.id) o) ≡ true
-  first-some None some = absurd cc
-  first-some (Some e) some = refl
+  first-other-is (Some first) some none =
+      by_bool (λ b. cond b None (Some first) ≡ None → Some first ≡ Some r) (same_request first r) (λ same is. ap Some (request-equal first r same)) (λ same is. absurd cc) none
 
   candidate-is : (e : RequestEntry) (request : RequestRecord) → e.kept ≡ request → is_requested request.state ≡ true → is_declined_by p request.declined ≡ false → is_pinned_away p request ≡ false → holder e.queue ≡ None → blocking c s p request ≡ None → is_candidate c s p e ≡ true
   candidate-is e request kept requested undeclined unpinned free unblocked = rw (kept, requested, undeclined, unpinned, free, unblocked) refl
@@ -482,13 +386,14 @@ module _ (c : Configuration) (s : State) (p : PoolId) (r : RequestId) where
   candidate-by None request there kept requested undeclined unpinned free unblocked = absurd cc
   candidate-by (Some e) request there kept requested undeclined unpinned free unblocked =
       let same : e.kept ≡ request = cc in
-      first-some (least (filter (is_candidate c s p) s.requests))
-      (some-first (is_candidate c s p) (λ (x : RequestEntry). same_request x.id r) s.requests None e there (candidate-is e request same requested undeclined unpinned free unblocked))
+      map-some (λ (x : RequestEntry). x.id) (least (filter (is_candidate c s p) s.requests))
+      ∙ some-least (filter (is_candidate c s p) s.requests) e
+      (named-place (λ (x : RequestEntry). x) (λ (x : RequestEntry). same_request x.id r) (is_candidate c s p) s.requests e there (candidate-is e request same requested undeclined unpinned free unblocked))
 
   module _ (session : SessionId) (what : Done) where
     locked-first : lock_request_as c s session r (Launcher p) ≡ Ok what → first_of c s p ≡ Some r
     locked-first is =
-        on-given (request_at s r) _ what is (λ request at rest.
+        on-found (request_in r s.requests) Refusal.NoRequest _ what is (λ request there rest.
         on-need (is_session_of session (registered p s.registrations)) Refusal.NotRegistered _ what rest (λ _ rest.
         on-need (is_requested request.state) (wrong_request request) _ what rest (λ requested rest.
         on-not (is_declined_by p request.declined) Refusal.Declined _ what rest (λ undeclined rest.
@@ -496,13 +401,7 @@ module _ (c : Configuration) (s : State) (p : PoolId) (r : RequestId) where
         on-vacant (request_holder r s.requests) Refusal.Busy _ what rest (λ free rest.
         on-vacant (blocking c s p request) _ _ what rest (λ unblocked rest.
         on-vacant (other_than r (first_of c s p)) Refusal.NotFirst _ what rest (λ none rest.
-        first-other-is (first_of c s p) (candidate-by (request_entry r s.requests) request refl (there request at) requested undeclined unpinned free unblocked) none))))))))
-      where
-        there : (request : RequestRecord) → request_at s r ≡ Ok request → request_in r s.requests ≡ Some request
-        there request at = by (request_in r s.requests) at where
-          by : (o : Option RequestRecord) → found o Refusal.NoRequest ≡ Ok request → o ≡ Some request
-          by None is = absurd cc
-          by (Some k) is = let same : k ≡ request = cc in ap Some same
+        first-other-is (first_of c s p) (candidate-by (request_entry r s.requests) request refl there requested undeclined unpinned free unblocked) none))))))))
 
 -- ## the choice of a lock
 
@@ -544,21 +443,12 @@ module _ (c : Configuration) (s : State) (p : PoolId) where
 -- # a launcher's useful events are of the kinds in the order
 
 module _ (c : Configuration) (s : State) (p : PoolId) where
-  never : (e : Event) → (is_by_registrant s p e && false) ≡ true → ⊥
-  never e is = by (is_by_registrant s p e) is where
-    by : (b : Bool) → (b && false) ≡ true → ⊥
-    by true is = cc
-    by false is = cc
-
-  none : false ≡ true → ⊥
-  none is = cc
-
   module _ (opens : NoneOpens c s (Launcher p)) (all : AllByRecursion (NoneLaunched c s p) launcher_order) where
     useless : (e : Event) → IsUseful c s (Launcher p) e → ⊥
-    useless Event.Tick useful = none useful.row
+    useless Event.Tick useful = false-apart useful.row
     useless (Event.OpenSession role) useful = opens role useful
-    useless (Event.Crash session) useful = none useful.row
-    useless (Event.Expire session) useful = none useful.row
+    useless (Event.Crash session) useful = false-apart useful.row
+    useless (Event.Expire session) useful = false-apart useful.row
     useless (Event.Register session) useful = all.0 session useful
     useless (Event.Done session n attempt o) useful = all.1.0 session n attempt o useful
     useless (Event.Fulfil session r) useful = all.1.1.0 session r useful
@@ -571,66 +461,18 @@ module _ (c : Configuration) (s : State) (p : PoolId) where
     useless (Event.Accept session r) useful = all.1.1.1.1.1.1.1.1.1.0 session r useful
     useless (Event.LockRequest session r) useful = all.1.1.1.1.1.1.1.1.1.1.0 session r useful
     useless (Event.MinReady session l) useful = all.1.1.1.1.1.1.1.1.1.1.1.0 session l useful
-    useless (Event.Submit session j) useful = never (Event.Submit session j) useful.row
-    useless (Event.Revise session j relative) useful = never (Event.Revise session j relative) useful.row
-    useless (Event.LockNode session n) useful = never (Event.LockNode session n) useful.row
-    useless (Event.Acquire session j) useful = never (Event.Acquire session j) useful.row
-    useless (Event.Take session j) useful = never (Event.Take session j) useful.row
-    useless (Event.EndNode session n as_what) useful = never (Event.EndNode session n as_what) useful.row
-    useless (Event.Finish session j) useful = never (Event.Finish session j) useful.row
-    useless (Event.Withdraw session j) useful = never (Event.Withdraw session j) useful.row
-    useless (Event.Release session j) useful = never (Event.Release session j) useful.row
-    useless (Event.MarkDeleting session n) useful = never (Event.MarkDeleting session n) useful.row
-    useless (Event.Gone session n) useful = never (Event.Gone session n) useful.row
-    useless (Event.Reset session r) useful = never (Event.Reset session r) useful.row
-    useless (Event.FreeNode session n) useful = never (Event.FreeNode session n) useful.row
-    useless (Event.FailDeclined session r) useful = never (Event.FailDeclined session r) useful.row
-    useless (Event.Sweep session n x) useful = never (Event.Sweep session n x) useful.row
-
-  -- no event of these kinds is made without a session
-  none-made : has_current (Launcher p) s ≡ false → AllByRecursion (NoneLaunched c s p) launcher_order
-  none-made without = (
-    λ session useful. no-maker c s (Launcher p) without session (Event.Register session) refl useful,
-    (
-      λ session n attempt o useful. no-maker c s (Launcher p) without session (Event.Done session n attempt o) refl useful,
-      (
-        λ session r useful. no-maker c s (Launcher p) without session (Event.Fulfil session r) refl useful,
-        (
-          λ session n useful. no-maker c s (Launcher p) without session (Event.UnlockNode session n) refl useful,
-          (
-            λ session r useful. no-maker c s (Launcher p) without session (Event.UnlockRequest session r) refl useful,
-            (
-              λ session n useful. no-maker c s (Launcher p) without session (Event.Start session n) refl useful,
-              (
-                λ session r n useful. no-maker c s (Launcher p) without session (Event.TakeReady session r n) refl useful,
-                (
-                  λ session r useful. no-maker c s (Launcher p) without session (Event.Create session r) refl useful,
-                  (
-                    λ session r why useful. no-maker c s (Launcher p) without session (Event.Decline session r why) refl useful,
-                    (
-                      λ session r useful. no-maker c s (Launcher p) without session (Event.Accept session r) refl useful,
-                      (
-                        λ session r useful. no-maker c s (Launcher p) without session (Event.LockRequest session r) refl useful,
-                        (
-                          λ session l useful. no-maker c s (Launcher p) without session (Event.MinReady session l) refl useful,
-                          tt,
-                        ),
-                      ),
-                    ),
-                  ),
-                ),
-              ),
-            ),
-          ),
-        ),
-      ),
-    ),
-  )
+    useless e useful = false-apart (and_parts (is_by_registrant s p e) false useful.row).1
 
   -- without a session, the opening is the whole choice
   pub opening-launches : has_current (Launcher p) s ≡ false → (o : Option Event) → ChoosesOpening c s (Launcher p) o → Chooses c s (Launcher p) o
-  opening-launches without None opens = useless opens (none-made without)
   opening-launches without (Some e) useful = useful
+  opening-launches without None opens = absent where
+    absent : (e : Event) → IsUseful c s (Launcher p) e → ⊥
+    absent Event.Tick useful = false-apart useful.row
+    absent (Event.OpenSession role) useful = opens role useful
+    absent (Event.Crash session) useful = false-apart useful.row
+    absent (Event.Expire session) useful = false-apart useful.row
+    absent e useful = unmade c s p without (maker_of e) refl useful.maker
 
   -- with a session, the kinds are the whole choice
   pub launches-choose : (session : SessionId) → is_current (Launcher p) session s ≡ true → (o : Option Event) → ChoosesOfAnyKind c s p launcher_order o → Chooses c s (Launcher p) o

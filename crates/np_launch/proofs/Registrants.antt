@@ -1,5 +1,5 @@
 -- launchers in the queues of requests: each is registered for its pool, and a request counts at one pool of a provider
-use Rattle.np_launch.proofs.Prelude.{AllByRecursion, Bool, Changes, Configuration, Done, Entry, Event, Growth, GrowthPremise, Invariant, IsHeard, IsLauncher, IsNotOver, IsReached, Janitor, Launcher, List, Maker, MakerPremise, NodeId, None, Ok, Option, Pool, PoolId, Premises, Reaper, Refusal, Registration, RequestEntry, RequestId, Requester, RequestsChange, Result, Role, SessionFacts, SessionId, SessionsChange, Some, State, all-at, all-change_first, all-filter_to, all-find, all-from_at, all-insert_before, all-joined, all-left, all-mapped, all-remove_first, all-weaker, and_parts, ap, arith, both_true, both_ways, changed, cond, count_by, count_by-le-length, edited, facts-stay, false, filter, find, find-filter, find-insert_before, find-passes, grown, holder, holder-queued, holder-waits, if◌then◌else◌, invariant-Runs, is_held_near, is_near_below, is_ok, is_pending, is_pending_by, is_pool, is_queued, is_served_by_sister, is_served_near, is_session, is_session_of, is_sister, is_sister_launcher, is_wanted, janitor, joined, judge, judge_lock_request, kept-is, launcher, launcher_requests, left, length, length-filter, length-filter_at_most, length-map, lock_request_as, made_by, maker, nat_lt, nat_tests, near_pool, next, next_label, node_in, not, ok-is, on-found, on-given, on-need, option_and_then, option_map, option_map_or, or_true, pending_requests, plan, plan-found, plan-given, plan-made, plan-next, plan_lock_request, pool_of_role, premises, provider_of, queued_requests, refl, registered, registrations_left, request_entry, request_in, request_is, request_left, request_of_job, request_queue, requester, requests_changed, requests_left, requests_near, role_of, row-of, same, same_pool, same_request, served-by, session-equal, session_of, sister_requests, slice_get, slice_get_within, start, state_after, subst, suc, sym, true, unserved_requests, with_found, with_given, ℕ, [], ◌&&◌, ◌+◌, ◌==◌, ◌||◌, ◌∙◌, ◌∷◌, ◌≡◌, ◌≤◌}
+use Rattle.np_launch.proofs.Prelude.{AllByRecursion, Bool, Changes, Configuration, Done, Entry, Event, Growth, GrowthPremise, Invariant, IsHeard, IsLauncher, IsNotOver, IsNumbered, IsReached, Launcher, List, Maker, MakerPremise, None, Ok, Option, Pool, PoolId, Premises, Refusal, Registration, RequestEntry, RequestId, Role, SessionFacts, SessionId, SessionsChange, Some, State, [], all-at, all-filter_to, all-find, all-from_at, and_parts, ap, arith, both_true, both_ways, by_bool, changed, cond, count_by, count_by-le-length, equal-itself, facts-stay, false, filter, find, find-filter, find-insert_before, find-passes, grown, holder, holder-queued, holder-waits, invariant-Runs, invariant-next, invariant-start, is_held_near, is_near_below, is_ok, is_pending, is_pending_by, is_pool, is_queued, is_served_by_sister, is_served_near, is_session, is_session_of, is_sister, is_sister_launcher, judge, judge_lock_request, kept-is, launcher, launcher_requests, length, length-filter, length-filter_at_most, length-map, lock_request_as, maker, nat_lt, nat_tests, near_pool, next, not, not-true, ok-is, on-found, on-given, on-need, option_and_then, option_map, option_map_or, or_true, pending_requests, plan, plan-next, plan_lock_request, pool_of_role, premises, provider_of, queue-after, queued_requests, refl, registered, registrations_left, request_in, request_is, request_queue, request_queue-left, requests_changed, requests_left, requests_near, role_of, row-of, same, same_pool, served-by, session-equal, session_of, sister_requests, slice_get, slice_get_within, start, state_after, subst, suc, sym, true, unserved_requests, ℕ, ◌&&◌, ◌+◌, ◌==◌, ◌||◌, ◌∙◌, ◌∷◌, ◌≡◌, ◌≤◌}
 use Rattle.np_launch.proofs.Finds.{count-either, count-named, count-none, count-same, one, row-there}
 
 -- # a launcher joins the queue of a request only while it is registered for its pool
@@ -7,37 +7,6 @@ use Rattle.np_launch.proofs.Finds.{count-either, count-named, count-none, count-
 -- a launcher that joins the queue of a request is registered for its pool
 pub record JoinsRegistered (s : State) (ch : Changes) : Type 0 where
   pub registers : (r : RequestId) (m : Maker) (p : PoolId) → ch.grows ≡ Growth.JoinRequest r → ch.maker ≡ Some m → m.role ≡ Launcher p → registered p s.registrations ≡ Some m.session
-
--- ## changes by which nobody joins
-
-abbrev joins : Growth → Bool
-joins Growth.Nothing = false
-joins (Growth.Session role) = false
-joins (Growth.Registration p) = false
-joins (Growth.Request priority asked) = false
-joins (Growth.Node kept) = false
-joins (Growth.JoinRequest r) = true
-joins (Growth.JoinNode n) = false
-joins (Growth.Allocate n r tenant) = false
-joins (Growth.Handles j) = false
-joins (Growth.Swept n x) = false
-
-module _ (s : State) where
-  none-joins : (ch : Changes) → joins ch.grows ≡ false → JoinsRegistered s ch
-  none-joins ch none = record { registers = λ r m p grows made role. absurd (let some : joins ch.grows ≡ true = ap joins grows in cc) }
-
-  given-joins : {A : Type 0} (o : Result A Refusal) (f : A → Changes) → ((a : A) → JoinsRegistered s (f a)) → JoinsRegistered s (with_given o f)
-  given-joins o f each = plan-given (JoinsRegistered s) (none-joins same refl) o f (λ a who. each a)
-
-  found-joins : {A : Type 0} (o : Option A) (f : A → Changes) → ((a : A) → JoinsRegistered s (f a)) → JoinsRegistered s (with_found o f)
-  found-joins o f each = plan-found (JoinsRegistered s) (none-joins same refl) o f (λ a has. each a)
-
-  found-joins_by : {A : Type 0} (by : SessionId) (role : Role) (o : Option A) (f : A → Changes) → ((a : A) → JoinsRegistered s (made_by by role (f a))) → JoinsRegistered s (made_by by role (with_found o f))
-  found-joins_by by role o f each = plan-made (JoinsRegistered s) by role (none-joins (made_by by role same) refl) o f (λ a has. each a)
-
-not-swept : (b : Bool) (n : NodeId) (x : ℕ) → joins (if b then Growth.Nothing else Growth.Swept n x) ≡ false
-not-swept true n x = refl
-not-swept false n x = refl
 
 -- ## the lock of a request
 
@@ -61,39 +30,8 @@ module _ (c : Configuration) (s : State) (session : SessionId) (r : RequestId) (
 -- ## all events
 
 plan-joins : (c : Configuration) (s : State) (e : Event) (what : Done) → judge c s e ≡ Ok what → JoinsRegistered s (plan c s e)
-plan-joins c s Event.Tick what ok = none-joins s _ refl
-plan-joins c s (Event.OpenSession role) what ok = none-joins s _ refl
-plan-joins c s (Event.Crash session) what ok = found-joins s (session_of session s) _ (λ facts. none-joins s _ refl)
-plan-joins c s (Event.Expire session) what ok = found-joins s (session_of session s) _ (λ facts. none-joins s _ refl)
-plan-joins c s (Event.Register by) what ok = given-joins s (launcher s by) _ (λ p. none-joins s _ refl)
-plan-joins c s (Event.Submit by j) what ok = given-joins s (requester s by) _ (λ q. found-joins_by s by _ (slice_get c.jobs j.0) _ (λ job. found-joins_by s by _ (slice_get s.jobs j.0) _ (λ kept. none-joins s _ refl)))
-plan-joins c s (Event.Revise by j relative) what ok = given-joins s (requester s by) _ (λ q. found-joins_by s by _ (request_of_job j s) _ (λ r. none-joins s _ refl))
-plan-joins c s (Event.MinReady by l) what ok = given-joins s (launcher s by) _ (λ p. none-joins s _ refl)
 plan-joins c s (Event.LockRequest by r) what ok = lock-joins c s by r what ok
-plan-joins c s (Event.UnlockRequest by r) what ok = given-joins s (maker s by) _ (λ role. none-joins s _ refl)
-plan-joins c s (Event.Accept by r) what ok = given-joins s (launcher s by) _ (λ p. none-joins s _ refl)
-plan-joins c s (Event.Decline by r why) what ok = given-joins s (launcher s by) _ (λ p. found-joins_by s by _ (request_in r s.requests) _ (λ request. none-joins s _ refl))
-plan-joins c s (Event.TakeReady by r n) what ok = given-joins s (launcher s by) _ (λ p. found-joins_by s by _ (request_in r s.requests) _ (λ request. none-joins s _ refl))
-plan-joins c s (Event.Create by r) what ok =
-    given-joins s (launcher s by) _ (λ p. found-joins_by s by _ (request_in r s.requests) _ (λ request. found-joins_by s by _ (next_label request) _ (λ l. none-joins s _ refl)))
-plan-joins c s (Event.Start by n) what ok = given-joins s (launcher s by) _ (λ p. found-joins s (node_in n s.nodes) _ (λ k. none-joins s _ refl))
-plan-joins c s (Event.Done by n attempt o) what ok = given-joins s (launcher s by) _ (λ p. found-joins_by s by _ (node_in n s.nodes) _ (λ k. none-joins s _ refl))
-plan-joins c s (Event.Fulfil by r) what ok = given-joins s (launcher s by) _ (λ p. found-joins_by s by _ (request_in r s.requests) _ (λ request. none-joins s _ refl))
-plan-joins c s (Event.LockNode by n) what ok = given-joins s (maker s by) _ (λ role. none-joins s _ refl)
-plan-joins c s (Event.UnlockNode by n) what ok = given-joins s (maker s by) _ (λ role. none-joins s _ refl)
-plan-joins c s (Event.Acquire by j) what ok = given-joins s (requester s by) _ (λ q. none-joins s _ refl)
-plan-joins c s (Event.Take by j) what ok =
-    given-joins s (requester s by) _ (λ q. found-joins_by s by _ (slice_get s.jobs j.0) _ (λ kept. found-joins_by s by _ kept.request _ (λ r. found-joins_by s by _ (request_in r s.requests) _ (λ request. none-joins s _ refl))))
-plan-joins c s (Event.EndNode by n as_what) what ok = given-joins s (requester s by) _ (λ q. found-joins_by s by _ (node_in n s.nodes) _ (λ k. none-joins s _ refl))
-plan-joins c s (Event.Finish by j) what ok = given-joins s (maker s by) _ (λ role. found-joins_by s by _ (slice_get s.jobs j.0) _ (λ kept. none-joins s _ refl))
-plan-joins c s (Event.Withdraw by j) what ok = given-joins s (requester s by) _ (λ q. found-joins_by s by _ (slice_get s.jobs j.0) _ (λ kept. none-joins s _ refl))
-plan-joins c s (Event.Release by j) what ok = given-joins s (maker s by) _ (λ role. none-joins s _ refl)
-plan-joins c s (Event.MarkDeleting by n) what ok = given-joins s (janitor s by) _ (λ p. found-joins_by s by _ (node_in n s.nodes) _ (λ k. none-joins s _ refl))
-plan-joins c s (Event.Gone by n) what ok = given-joins s (janitor s by) _ (λ p. none-joins s _ refl)
-plan-joins c s (Event.Reset by r) what ok = given-joins s (janitor s by) _ (λ p. found-joins_by s by _ (request_in r s.requests) _ (λ request. none-joins s _ refl))
-plan-joins c s (Event.FreeNode by n) what ok = given-joins s (janitor s by) _ (λ p. found-joins_by s by _ (node_in n s.nodes) _ (λ k. none-joins s _ refl))
-plan-joins c s (Event.FailDeclined by r) what ok = given-joins s (janitor s by) _ (λ p. none-joins s _ refl)
-plan-joins c s (Event.Sweep by n x) what ok = given-joins s (janitor s by) _ (λ p. none-joins s _ (not-swept (is_wanted s n x) n x))
+plan-joins c s _ what ok = grind (arith, nat_tests)
 
 pub joins-registered : (c : Configuration) (s : State) (e : Event) → is_ok (judge c s e) ≡ true → JoinsRegistered s (plan c s e)
 joins-registered c s e ok = let was : (what : Done) × (judge c s e ≡ Ok what) = ok-is (judge c s e) ok in plan-joins c s e was.0 was.1
@@ -107,65 +45,27 @@ pub record IsRegistrant (s : State) (session : SessionId) : Type 0 where
   pub registers : (p : PoolId) → facts.role ≡ Launcher p → registered p s.registrations ≡ Some session
 
 abbrev pub QueuesRegistered : State → Type 0
-QueuesRegistered s = AllByRecursion (λ e. AllByRecursion (IsRegistrant s) e.queue) s.requests
+QueuesRegistered s = (r : RequestId) → AllByRecursion (IsRegistrant s) (request_queue r s.requests)
 
--- ## the queues of requests
-
-module _ (P : SessionId → Type 0) where
-  abbrev Rows : List RequestEntry → Type 0
-  Rows rows = AllByRecursion (λ e. AllByRecursion P e.queue) rows
-
-  queue-found : (r : RequestId) (rows : List RequestEntry) → Rows rows → AllByRecursion P (request_queue r rows)
-  queue-found r rows all = by (request_entry r rows) refl where
-    by : (o : Option RequestEntry) → request_entry r rows ≡ o → AllByRecursion P (option_map_or (λ (e : RequestEntry). e.queue) o [])
-    by None is = tt
-    by (Some e) is = all-find (λ (x : RequestEntry). AllByRecursion P x.queue) (λ x. same_request x.id r) rows e all is
-
-  -- who joins is such a session, too
-  rows-grown : (c : Configuration) (s : State) (maker : Option Maker) (growth : Growth) → ((r : RequestId) (m : Maker) → growth ≡ Growth.JoinRequest r → maker ≡ Some m → P m.session) → Rows s.requests → Rows (grown c maker growth s).requests
-  rows-grown c s maker Growth.Nothing such old = old
-  rows-grown c s maker (Growth.Session role) such old = old
-  rows-grown c s None (Growth.Registration p) such old = old
-  rows-grown c s (Some maker) (Growth.Registration p) such old = old
-  rows-grown c s maker (Growth.Request priority asked) such old = all-insert_before (λ (e : RequestEntry). AllByRecursion P e.queue) _ _ s.requests tt old
-  rows-grown c s maker (Growth.Node kept) such old = old
-  rows-grown c s None (Growth.JoinRequest r) such old = old
-  rows-grown c s (Some maker) (Growth.JoinRequest r) such old =
-      all-change_first (λ (e : RequestEntry). AllByRecursion P e.queue) (λ e. same_request e.id r) (λ e. record e { queue = joined maker.session (request_queue r s.requests) }) s.requests
-      (λ e is. all-joined P maker.session (request_queue r s.requests) (queue-found r s.requests old) (such r maker refl refl)) old
-  rows-grown c s maker (Growth.JoinNode n) such old = old
-  rows-grown c s maker (Growth.Allocate n r tenant) such old = old
-  rows-grown c s maker (Growth.Handles j) such old = old
-  rows-grown c s maker (Growth.Swept n x) such old = old
-
-  rows-settled : (maker : Option Maker) (change : RequestsChange) (rows : List RequestEntry) → Rows rows → Rows (requests_changed maker change rows)
-  rows-settled maker RequestsChange.Same rows old = old
-  rows-settled maker (RequestsChange.Edit r edit) rows old = all-change_first (λ (e : RequestEntry). AllByRecursion P e.queue) (λ e. same_request e.id r) (λ e. record e { kept = edited edit e.kept }) rows (λ e is. is) old
-  rows-settled maker (RequestsChange.Remove r) rows old = all-remove_first (λ (e : RequestEntry). AllByRecursion P e.queue) (λ e. same_request e.id r) rows old
-  rows-settled None (RequestsChange.Leave r) rows old = old
-  rows-settled (Some maker) (RequestsChange.Leave r) rows old =
-      all-change_first (λ (e : RequestEntry). AllByRecursion P e.queue) (λ e. same_request e.id r) (λ e. record e { queue = left maker.session (request_queue r rows) }) rows
-      (λ e is. all-left P maker.session (request_queue r rows) (queue-found r rows old)) old
+-- the session that ends is in no queue any more
+not-over : (change : SessionsChange) (r : RequestId) (rows : List RequestEntry) → AllByRecursion (IsNotOver change) (request_queue r (requests_left change rows))
+not-over (SessionsChange.End over) r rows =
+    subst (λ (queue : List SessionId). AllByRecursion (λ session. is_session session over ≡ false) queue) (sym (request_queue-left over r rows))
+    (all-filter_to (λ (session : SessionId). session ≡ session) (λ session. is_session session over ≡ false) (λ session. not (is_session session over)) (request_queue r rows)
+    (λ session keeps is. not-true (is_session session over) keeps) (all-from_at (λ (session : SessionId). session ≡ session) (request_queue r rows) (λ i session there. refl)))
+not-over change r rows = all-from_at (IsNotOver change) (request_queue r (requests_left change rows)) (λ i session there. tt)
 
 -- ## the registrations
 
 -- a new registration is of a pool that had none
 registered-grown : (c : Configuration) (s : State) (ch : Changes) (maker : Option Maker) (growth : Growth) → GrowthPremise c s ch growth → (p : PoolId) (session : SessionId) → registered p s.registrations ≡ Some session → registered p (grown c maker growth s).registrations ≡ Some session
-registered-grown c s ch maker Growth.Nothing premise p session is = is
-registered-grown c s ch maker (Growth.Session role) premise p session is = is
 registered-grown c s ch None (Growth.Registration q) premise p session is = is
-registered-grown c s ch (Some maker) (Growth.Registration q) premise p session is = by (q.0 == p.0) refl where
-  by : (b : Bool) → (q.0 == p.0) ≡ b → registered p (grown c (Some maker) (Growth.Registration q) s).registrations ≡ Some session
-  by true same = absurd (let none : registered p s.registrations ≡ None = ap (λ (x : PoolId). registered x s.registrations) (sym (same_pool q p same)) ∙ premise.free in cc)
-  by false other =
-      ap (option_map (λ (g : Registration). g.session)) (find-insert_before (λ (g : Registration). g.pool.0 == p.0) (λ g. nat_lt q.0 g.pool.0) (record { pool = q; session = maker.session }) s.registrations other) ∙ is
-registered-grown c s ch maker (Growth.Request priority asked) premise p session is = is
-registered-grown c s ch maker (Growth.Node kept) premise p session is = is
-registered-grown c s ch maker (Growth.JoinRequest r) premise p session is = is
-registered-grown c s ch maker (Growth.JoinNode n) premise p session is = is
-registered-grown c s ch maker (Growth.Allocate n r tenant) premise p session is = is
-registered-grown c s ch maker (Growth.Handles j) premise p session is = is
-registered-grown c s ch maker (Growth.Swept n x) premise p session is = is
+registered-grown c s ch (Some maker) (Growth.Registration q) premise p session is =
+    by_bool (λ b. registered p (grown c (Some maker) (Growth.Registration q) s).registrations ≡ Some session) (q.0 == p.0)
+    (λ same. absurd (let none : registered p s.registrations ≡ None = ap (λ (x : PoolId). registered x s.registrations) (sym (same_pool q p same)) ∙ premise.free in cc))
+    (λ other.
+    ap (option_map (λ (g : Registration). g.session)) (find-insert_before (λ (g : Registration). g.pool.0 == p.0) (λ g. nat_lt q.0 g.pool.0) (record { pool = q; session = maker.session }) s.registrations other) ∙ is)
+registered-grown c s ch maker _ premise p session is = is
 
 -- only the session that ends leaves its registration
 registered-left : (change : SessionsChange) (session : SessionId) → IsNotOver change session → (p : PoolId) (rows : List Registration) → registered p rows ≡ Some session → registered p (registrations_left change rows) ≡ Some session
@@ -179,7 +79,7 @@ registered-left (SessionsChange.End over) session lives p rows is =
 
 -- ## one step
 
-module _ (c : Configuration) (s : State) (ch : Changes) (given : Premises c s ch) where
+module _ (c : Configuration) (s : State) (ch : Changes) (numbered : IsNumbered s) (given : Premises c s ch) where
   registrant-stays : (session : SessionId) → IsNotOver ch.sessions session → IsRegistrant s session → IsRegistrant (changed c ch s) session
   registrant-stays session lives is =
       let stays = facts-stay c s ch given.sessions session is.facts is.begun lives in
@@ -191,44 +91,31 @@ module _ (c : Configuration) (s : State) (ch : Changes) (given : Premises c s ch
             (registered-grown c s ch ch.maker ch.grows given.grows p session (is.registers p (sym stays.role ∙ launches)));
       }
 
-  rows-left : (change : SessionsChange) → ch.sessions ≡ change → (rows : List RequestEntry) → Rows (IsRegistrant s) rows → Rows (IsRegistrant (changed c ch s)) (requests_left change rows)
-  rows-left change is rows old = by change is where
-    all-stay : ((session : SessionId) → IsNotOver ch.sessions session) → Rows (IsRegistrant (changed c ch s)) rows
-    all-stay lives = all-weaker (λ (e : RequestEntry). AllByRecursion (IsRegistrant s) e.queue) (λ e. AllByRecursion (IsRegistrant (changed c ch s)) e.queue)
-        (λ e queue. all-weaker (IsRegistrant s) (IsRegistrant (changed c ch s)) (λ session such. registrant-stays session (lives session) such) e.queue queue) rows old
-
-    by : (change : SessionsChange) → ch.sessions ≡ change → Rows (IsRegistrant (changed c ch s)) (requests_left change rows)
-    by SessionsChange.Same is = all-stay (λ session. rw is tt)
-    by (SessionsChange.Mute quiet) is = all-stay (λ session. rw is tt)
-    by (SessionsChange.End over) is =
-        all-mapped (λ (e : RequestEntry). AllByRecursion (IsRegistrant s) e.queue) (λ (e : RequestEntry). AllByRecursion (IsRegistrant (changed c ch s)) e.queue) (request_left over) rows
-        (λ e queue. all-filter_to (IsRegistrant s) (IsRegistrant (changed c ch s)) (λ other. not (is_session other over)) e.queue
-        (λ session keeps such. registrant-stays session (rw is (let other : is_session session over ≡ false = grind (arith, nat_tests) in other)) such) queue) old
-
   joins-as : JoinsRegistered s ch → (r : RequestId) (m : Maker) → ch.grows ≡ Growth.JoinRequest r → ch.maker ≡ Some m → IsRegistrant s m.session
   joins-as joins r m grows made =
       let heard : IsHeard s m = subst (MakerPremise s) made given.maker in
       record { facts = heard.facts; begun = heard.begun; registers = λ p launches. joins.registers r m p grows made (sym heard.role ∙ launches) }
 
   queues-changed : JoinsRegistered s ch → QueuesRegistered s → QueuesRegistered (changed c ch s)
-  queues-changed joins old =
-      rows-left ch.sessions refl (requests_changed ch.maker ch.requests (grown c ch.maker ch.grows s).requests)
-      (rows-settled (IsRegistrant s) ch.maker ch.requests (grown c ch.maker ch.grows s).requests (rows-grown (IsRegistrant s) c s ch.maker ch.grows (joins-as joins) old))
+  queues-changed joins old r =
+      all-from_at (IsRegistrant (changed c ch s)) (request_queue r (changed c ch s).requests) (λ i session there.
+      registrant-stays session
+      (all-at (IsNotOver ch.sessions) (request_queue r (changed c ch s).requests) i session (not-over ch.sessions r (requests_changed ch.maker ch.requests (grown c ch.maker ch.grows s).requests)) there)
+      (all-at (IsRegistrant s) (request_queue r (changed c ch s).requests) i session (queue-after (IsRegistrant s) c s ch numbered r (old r) (λ m made grows. joins-as joins r m grows made)) there))
 
 -- ## whole runs
 
-queues-next : (c : Configuration) (s : State) (e : Event) → QueuesRegistered s → QueuesRegistered (next c s e)
-queues-next c s e old = by (is_ok (judge c s e)) refl where
-  by : (b : Bool) → is_ok (judge c s e) ≡ b → QueuesRegistered (next c s e)
-  by true ok = subst QueuesRegistered (plan-next c s e ok) (queues-changed c s (plan c s e) (premises c s e ok) (joins-registered c s e ok) old)
-  by false refused = rw refused old
+queues-next : (c : Configuration) (s : State) (e : Event) → Invariant c s → QueuesRegistered s → QueuesRegistered (next c s e)
+queues-next c s e holds old =
+    by_bool (λ b. QueuesRegistered (next c s e)) (is_ok (judge c s e))
+    (λ ok. subst QueuesRegistered (plan-next c s e ok) (queues-changed c s (plan c s e) holds.numbered (premises c s e ok) (joins-registered c s e ok) old)) (λ refused. rw refused old)
 
-queues-after : (c : Configuration) (s : State) (journal : List Entry) → QueuesRegistered s → QueuesRegistered (state_after c s journal)
-queues-after c s [] old = old
-queues-after c s (entry ∷ journal) old = queues-after c (next c s entry.event) journal (queues-next c s entry.event old)
+queues-after : (c : Configuration) (s : State) (journal : List Entry) → Invariant c s → QueuesRegistered s → QueuesRegistered (state_after c s journal)
+queues-after c s [] holds old = old
+queues-after c s (entry ∷ journal) holds old = queues-after c (next c s entry.event) journal (invariant-next c s entry.event holds) (queues-next c s entry.event holds old)
 
 pub queues-registered : (c : Configuration) (s : State) → IsReached c s → QueuesRegistered s
-queues-registered c s reached = subst QueuesRegistered reached.runs.ends (queues-after c (start c) reached.journal tt)
+queues-registered c s reached = subst QueuesRegistered reached.runs.ends (queues-after c (start c) reached.journal (invariant-start c) (λ r. tt))
 
 -- # each request that the launchers of a provider work on counts at one pool of the provider
 
@@ -243,12 +130,7 @@ queued-holds session (other ∷ next ∷ queue) few queued = absurd (omega (arit
 
 launcher-of : (role : Role) (q : PoolId) → pool_of_role role ≡ Some q → role ≡ Launcher q
 launcher-of (Launcher p) q is = let same : p ≡ q = cc in ap (λ (x : PoolId). Launcher x) same
-launcher-of (Janitor p) q is = absurd cc
-launcher-of (Requester p) q is = absurd cc
-launcher-of Reaper q is = absurd cc
-
-pool-self : (q : PoolId) → (q.0 == q.0) ≡ true
-pool-self q = grind (arith, nat_tests)
+launcher-of role q is = absurd cc
 
 module _ (c : Configuration) (s : State) (p : PoolId) where
   -- the session that is registered for the pool is in the request's queue
@@ -287,9 +169,7 @@ module _ (c : Configuration) (s : State) (p : PoolId) where
   unheld-by : (o : Option Role) → option_map_or (is_sister_launcher c p) o false ≡ true → option_and_then pool_of_role o ≡ None → ⊥
   unheld-by None held none = absurd cc
   unheld-by (Some (Launcher q)) held none = absurd cc
-  unheld-by (Some (Janitor q)) held none = absurd cc
-  unheld-by (Some (Requester q)) held none = absurd cc
-  unheld-by (Some Reaper) held none = absurd cc
+  unheld-by (Some role) held none = absurd cc
 
   -- ## one request
 
@@ -319,7 +199,7 @@ module _ (c : Configuration) (s : State) (p : PoolId) where
       by true served d at =
           let pool : e.kept.pool ≡ Some q = rw served at near in
           let both = and_parts (is_pending e.kept.state) (option_map_or (is_sister c p) e.kept.pool false) served in
-          (rw pool at both.1, rw (both.0, pool, pool-self q) refl)
+          (rw pool at both.1, rw (both.0, pool, equal-itself q.0) refl)
       by false unserved false unheld = absurd (let none = rw (unserved, unheld) at near in cc)
       by false unserved true held = held-by (holder e.queue) refl where
         held-by : (o : Option SessionId) → holder e.queue ≡ o → (is_sister c p q ≡ true) × (counts_at q e ≡ true)
@@ -343,7 +223,7 @@ module _ (c : Configuration) (s : State) (p : PoolId) where
       there is = let counts = counts-near q (served-by q (near_pool c s p e) is) in both_true counts.0 counts.1
 
       back : (is_sister c p q && counts_at q e) ≡ true → is_pool q (near_pool c s p e) ≡ true
-      back is = let both = and_parts (is_sister c p q) (counts_at q e) is in ap (is_pool q) (near-counts q both.0 both.1) ∙ pool-self q
+      back is = let both = and_parts (is_sister c p q) (counts_at q e) is in ap (is_pool q) (near-counts q both.0 both.1) ∙ equal-itself q.0
 
     -- the launchers of the provider work on it if it is near one of the pools
     near-is : (is_served_near c p e || is_held_near c s p e) ≡ is_near_below c s p (length c.pools) e
@@ -413,7 +293,8 @@ module _ (c : Configuration) (s : State) (reached : IsReached c s) (p : PoolId) 
   few-there i e there = all-at (λ (x : RequestEntry). length x.queue ≤ 1) s.requests i e holds.queued.one_a_request there
 
   registrants-there : (i : ℕ) (e : RequestEntry) → slice_get s.requests i ≡ Some e → AllByRecursion (IsRegistrant s) e.queue
-  registrants-there i e there = all-at (λ (x : RequestEntry). AllByRecursion (IsRegistrant s) x.queue) s.requests i e (queues-registered c s reached) there
+  registrants-there i e there =
+      subst (λ (queue : List SessionId). AllByRecursion (IsRegistrant s) queue) (ap (λ (o : Option RequestEntry). option_map_or (λ (x : RequestEntry). x.queue) o []) (row-there c s reached i e there)) (queues-registered c s reached e.id)
 
   unserved-there : (session : SessionId) (i : ℕ) (e : RequestEntry) → slice_get s.requests i ≡ Some e → is_queued session e.queue ≡ true → not (request_is e.id s (is_served_by_sister c p)) ≡ not (is_served_near c p e)
   unserved-there session i e there queued = rw (row-there c s reached i e there) refl

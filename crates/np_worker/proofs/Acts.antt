@@ -1,8 +1,8 @@
 -- what is known of a pool's nodes after a journal, and what each turn of the pool's worker leaves of it
-use Rattle.np_worker.proofs.Prelude.{Answer, AreAloneSound, ArePresent, Ask, Bool, Configuration, Contains, DistinctNumbers, Done, Entry, Event, FailAfter, Invariant, IsAskOf, IsOfServer, IsReplied, IsServerOf, IsSoundAlone, IsUseful, Janitor, Launch, Launcher, List, MayAsk, NodeEntry, NodeId, NodeRecord, None, Ok, Option, Outcome, Phase, PoolId, Role, Server, SessionId, Some, Start, State, Turn, WasLaunchedFor, WereLaunched, acting, acts, after, all-push, answers, answers_sweep, ap, append-nil, append_assoc, arith, cond, ended, eq-eqb, false, false≢true, inl, inr, is_deleting, is_idle, is_ok, is_unwanted, is_wanted, judge, judge_done, judge_start, launcher, launcher-role, length, length-append, looks, maker_of, nat_tests, next, next-keeps, node_in, none-some, number_in, numbers_in, of_pool, ok-is, owes_due, owes_launch, owes_report, owes_swept, recorded, refl, report_of, reported, reports_of, role_of, same_pool, start, start_made, start_of, subst, suc, sweeps, sym, true, turns, ℕ, [], ⊎_elim, ◌++◌, ◌+◌, ◌∙◌, ◌∷◌, ◌≡◌, ◌≤◌, ◌⊎◌}
+use Rattle.np_worker.proofs.Prelude.{Answer, AreAloneSound, ArePresent, Ask, Bool, Configuration, Contains, DistinctNumbers, Done, Entry, Event, FailAfter, Invariant, IsAskOf, IsCutOff, IsOfServer, IsReplied, IsServerOf, IsSoundAlone, IsUseful, Janitor, Launch, Launcher, List, MayAsk, NodeEntry, NodeId, NodeRecord, None, Ok, Option, Outcome, Phase, PoolId, Role, Server, SessionId, Some, Start, State, Turn, WasLaunchedFor, WereLaunched, acting, acts, after, all-push, answers, answers_sweep, ap, append-nil, append_assoc, arith, cond, ended, eq-eqb, false, false≢true, inl, inr, is_deleting, is_idle, is_ok, is_unwanted, is_wanted, judge, judge_done, judge_start, launcher, launcher-role, length, length-append, looks, maker_of, nat_tests, next, next-keeps, node_in, none-some, number_in, numbers_in, of_pool, ok-is, owes_due, owes_launch, owes_report, owes_swept, recorded, refl, report_of, reported, reports_of, role_of, same_pool, start, start_made, start_of, subst, suc, sweeps, sym, true, turns, ℕ, [], ⊎_elim, ◌++◌, ◌+◌, ◌∙◌, ◌∷◌, ◌≡◌, ◌≤◌, ◌⊎◌}
 use Rattle.np_worker.proofs.Records.{MayReport, current-role, holds-after, quiet-report, reports-next, state_after-append, useful-done, useful-start_role, was-of}
 use Rattle.np_worker.proofs.Reports.{IsOfStart, IsPolite, IsReportedBy, KeptServer, NoLauncherWaits, chosen-start, may-before, may-before_done, may-before_lock, may-before_start, may-report, report-accepted, server-before}
-use Rattle.np_worker.proofs.Journals.{numbers-append, outcomes, start-parts}
+use Rattle.np_worker.proofs.Journals.{SomePlace, numbers-append, outcomes, place-more, start-parts}
 use Rattle.np_worker.proofs.Steps.{TurnCases, goes_on, role_goes}
 
 -- # what is known of a pool's nodes after a journal, and how one entry more changes it
@@ -113,16 +113,13 @@ module _ (c : Configuration) (p : PoolId) (never : Type 0) where
     pub waits : NoLauncherWaits (after c journal)
     pub polite : IsPolite (after c journal) e.event
 
-  same-reporter : (k : NodeRecord) → k.pool.0 ≡ p.0 → k.pool ≡ p
-  same-reporter k own = same_pool k.pool p (eq-eqb k.pool.0 p.0 own)
-
   pub at-foreign : (X : Reportable) (journal : List Entry) (e : Entry) (launches : List Launch) (servers : List Server) → At X journal launches servers → IsForeign journal e → At X (journal ++ e ∷ []) launches servers
   at-foreign X journal e launches servers at foreign = at-quiet journal e launches servers X at foreign.waits foreign.polite
       (λ session n k new. foreign.maker session (ap maker_of new.event) (launcher-role (after c journal) session p new.who))
-      (λ n k x new own. foreign.maker new.by (ap maker_of new.event) (launcher-role (after c journal) new.by p (new.who ∙ ap (λ (q : PoolId). Ok q) (same-reporter k own))))
+      (λ n k x new own. foreign.maker new.by (ap maker_of new.event) (launcher-role (after c journal) new.by p (new.who ∙ ap (λ (q : PoolId). Ok q) (same_pool k.pool p (eq-eqb k.pool.0 p.0 own)))))
 
-  pub reports-foreign : (journal : List Entry) (e : Entry) → IsForeign journal e → reports_of c p (journal ++ e ∷ []) ≡ reports_of c p journal
-  reports-foreign journal e foreign = reports-next c p journal e ∙ (ap (λ (l : List Outcome). reports_of c p journal ++ l) foreign.quiet ∙ append-nil (reports_of c p journal))
+  pub reports-quiet : (journal : List Entry) (e : Entry) → reported p (turns c journal) e.event ≡ [] → reports_of c p (journal ++ e ∷ []) ≡ reports_of c p journal
+  reports-quiet journal e quiet = reports-next c p journal e ∙ (ap (λ (l : List Outcome). reports_of c p journal ++ l) quiet ∙ append-nil (reports_of c p journal))
 
   -- each of these entries is another's, at its place
   abbrev pub AreForeign : List Entry → List Entry → Type 0
@@ -136,7 +133,7 @@ module _ (c : Configuration) (p : PoolId) (never : Type 0) where
 
   pub reports-gap : (journal more : List Entry) → AreForeign journal more → reports_of c p (journal ++ more) ≡ reports_of c p journal
   reports-gap journal [] foreign = ap (reports_of c p) (append-nil journal)
-  reports-gap journal (e ∷ more) foreign = ap (reports_of c p) (sym (append_assoc journal (e ∷ []) more)) ∙ (reports-gap (journal ++ e ∷ []) more foreign.1 ∙ reports-foreign journal e foreign.0)
+  reports-gap journal (e ∷ more) foreign = ap (reports_of c p) (sym (append_assoc journal (e ∷ []) more)) ∙ (reports-gap (journal ++ e ∷ []) more foreign.1 ∙ reports-quiet journal e foreign.0.quiet)
 
 -- ## what is known of a pool's journal, nodes and driver in each phase of the round of its worker
 
@@ -153,17 +150,15 @@ IsLate room Outcome.Failed n = room ≤ n
 fail-push_from : (room n : ℕ) (os : List Outcome) (o : Outcome) → FailAfter room n os → IsLate room o (n + length (numbers_in os)) → FailAfter room n (os ++ o ∷ [])
 fail-push_from room n [] (Outcome.Launched x) fails late = tt
 fail-push_from room n [] Outcome.Failed fails late = (omega (arith, late), tt)
-fail-push_from room n (Outcome.Launched x ∷ os) o fails late = fail-push_from room (suc n) os o fails (later o late) where
-  later : (q : Outcome) → IsLate room q (n + length (numbers_in (Outcome.Launched x ∷ os))) → IsLate room q (suc n + length (numbers_in os))
-  later (Outcome.Launched y) is = tt
-  later Outcome.Failed is = omega (arith, is)
+fail-push_from room n (Outcome.Launched x ∷ os) o fails late =
+    let same : n + length (numbers_in (Outcome.Launched x ∷ os)) ≡ suc n + length (numbers_in os) = omega arith in
+    fail-push_from room (suc n) os o fails (subst (IsLate room o) same late)
 fail-push_from room n (Outcome.Failed ∷ os) o fails late = (fails.0, fail-push_from room n os o fails.1 late)
 
 pub fail-push : (room : ℕ) (os : List Outcome) (o : Outcome) → FailAfter room 0 os → IsLate room o (length (numbers_in os)) → FailAfter room 0 (os ++ o ∷ [])
-fail-push room os o fails late = fail-push_from room 0 os o fails (at_once o late) where
-  at_once : (q : Outcome) → IsLate room q (length (numbers_in os)) → IsLate room q (0 + length (numbers_in os))
-  at_once (Outcome.Launched y) is = tt
-  at_once Outcome.Failed is = omega (arith, is)
+fail-push room os o fails late =
+    let same : length (numbers_in os) ≡ 0 + length (numbers_in os) = omega arith in
+    fail-push_from room 0 os o fails (subst (IsLate room o) same late)
 
 -- ## reports
 
@@ -184,14 +179,8 @@ module _ (c : Configuration) (p : PoolId) (sound : List ℕ → Bool) (room earl
   Never = DistinctNumbers (numbers_in (outcomes final))
 
   -- the node was of the pool before
-  pub record WasStarted (journal : List Entry) (n : NodeId) : Type 0 where
-    pub before : List Entry
-    pub entry : Entry
-    pub rest : List Entry
-    pub stands : journal ≡ before ++ entry ∷ rest
-    pub node : NodeRecord
-    pub stood : node_in n (after c before).nodes ≡ Some node
-    pub own : node.pool.0 ≡ p.0
+  abbrev pub WasStarted : List Entry → NodeId → Type 0
+  WasStarted journal n = SomePlace c (start c) journal (λ t. (node : NodeRecord) × (node_in n t.before.nodes ≡ Some node) × (node.pool.0 ≡ p.0))
 
   -- what the journal reports is sound and late enough
   pub record Tells (journal : List Entry) : Type 0 where
@@ -253,18 +242,33 @@ module _ (c : Configuration) (p : PoolId) (sound : List ℕ → Bool) (room earl
 
   -- what is left of it when others go on
   abbrev pub Leaves : Phase → List Entry → List Launch → List Server → Type 0
-  Leaves (owes_launch pool m s) journal launches servers = Unit {0}
-  Leaves (owes_report pool m s o) journal launches servers = Unit {0}
-  Leaves ended journal launches servers = Unit {0}
-  Leaves _ journal launches servers = Calm journal launches servers
+  Leaves ph journal launches servers = (IsCutOff ph → ⊥) → Calm journal launches servers
 
   pub leaves-of : (ph : Phase) (journal : List Entry) (launches : List Launch) (servers : List Server) → Rest ph journal launches servers → Leaves ph journal launches servers
-  leaves-of (owes_launch pool m s) journal launches servers rest = tt
-  leaves-of (owes_report pool m s o) journal launches servers rest = tt
-  leaves-of ended journal launches servers rest = tt
-  leaves-of (owes_due pool m x) journal launches servers rest = rest.0
-  leaves-of (owes_swept pool x) journal launches servers rest = rest.0
-  leaves-of _ journal launches servers rest = rest
+  leaves-of (owes_launch pool m s) journal launches servers rest uncut = absurd (uncut tt)
+  leaves-of (owes_report pool m s o) journal launches servers rest uncut = absurd (uncut tt)
+  leaves-of ended journal launches servers rest uncut = absurd (uncut tt)
+  leaves-of (owes_due pool m x) journal launches servers rest uncut = rest.0
+  leaves-of (owes_swept pool x) journal launches servers rest uncut = rest.0
+  leaves-of _ journal launches servers rest uncut = rest
+
+  -- ## where nothing more is reported
+
+  module _ (journal later : List Entry) (same : reports_of c p later ≡ reports_of c p journal) where
+    pub tells-same : Tells journal → Tells later
+    tells-same tells = record {
+      alone = subst (AreAloneSound sound) (sym same) tells.alone;
+      failed = λ none. subst (FailAfter room 0) (sym same) (tells.failed none);
+    }
+
+    pub held-same : (X Y : Reportable) (a b : ℕ) (launches : List Launch) (servers : List Server) → Held X a b journal launches servers → At c p Never Y later launches servers → Held Y a b later launches servers
+    held-same X Y a b launches servers held at = record {
+      at = at;
+      few = subst (λ (os : List Outcome). length launches ≤ earlier + (length os + a)) (sym same) held.few;
+      fits = subst (λ (os : List Outcome). length servers ≤ length (numbers_in os) + b) (sym same) held.fits;
+      made = held.made;
+      among = held.among;
+    }
 
   -- ## entries of others
 
@@ -273,32 +277,15 @@ module _ (c : Configuration) (p : PoolId) (sound : List ℕ → Bool) (room earl
     same-reports = reports-gap c p Never journal more foreign
 
     pub tells-gap : Tells journal → Tells (journal ++ more)
-    tells-gap tells = record {
-      alone = subst (AreAloneSound sound) (sym same-reports) tells.alone;
-      failed = λ none. subst (FailAfter room 0) (sym same-reports) (tells.failed none);
-    }
+    tells-gap = tells-same journal (journal ++ more) same-reports
 
     pub held-gap : (X : Reportable) (a b : ℕ) (launches : List Launch) (servers : List Server) → Held X a b journal launches servers → Held X a b (journal ++ more) launches servers
-    held-gap X a b launches servers held = record {
-      at = at-gap c p Never X journal more launches servers held.at foreign;
-      few = subst (λ (os : List Outcome). length launches ≤ earlier + (length os + a)) (sym same-reports) held.few;
-      fits = subst (λ (os : List Outcome). length servers ≤ length (numbers_in os) + b) (sym same-reports) held.fits;
-      made = held.made;
-      among = held.among;
-    }
+    held-gap X a b launches servers held = held-same journal (journal ++ more) same-reports X X a b launches servers held (at-gap c p Never X journal more launches servers held.at foreign)
 
     reporting-gap : (s : Start) (o : Outcome) (launches : List Launch) (servers : List Server) → Reporting s o journal launches servers → Reporting s o (journal ++ more) launches servers
     reporting-gap s o launches servers r = record {
       held = held-gap (IsReportOf s) 1 (length (number_in o)) launches servers r.held;
-      started = record {
-        before = r.started.before;
-        entry = r.started.entry;
-        rest = r.started.rest ++ more;
-        stands = ap (λ (j : List Entry). j ++ more) r.started.stands ∙ append_assoc r.started.before (r.started.entry ∷ r.started.rest) more;
-        node = r.started.node;
-        stood = r.started.stood;
-        own = r.started.own;
-      };
+      started = place-more journal more r.started;
       answered = r.answered;
       there = r.there;
       alone = r.alone;
@@ -317,10 +304,7 @@ module _ (c : Configuration) (p : PoolId) (sound : List ℕ → Bool) (room earl
     stands-gap ph a launches servers may stands = record { tells = tells-gap stands.tells; rest = rest-gap ph a launches servers may stands.rest }
 
     pub leaves-later : (ph : Phase) (launches : List Launch) (servers : List Server) → Leaves ph journal launches servers → Leaves ph (journal ++ more) launches servers
-    leaves-later (owes_launch pool m s) launches servers rest = tt
-    leaves-later (owes_report pool m s o) launches servers rest = tt
-    leaves-later ended launches servers rest = tt
-    leaves-later _ launches servers rest = held-gap nobody 0 0 launches servers rest
+    leaves-later ph launches servers leaves uncut = held-gap nobody 0 0 launches servers (leaves uncut)
 
 -- # the turns of a pool's worker: what each leaves of what is known
 
@@ -338,30 +322,10 @@ module _ (c : Configuration) (p : PoolId) (sound : List ℕ → Bool) (room earl
   abbrev never : Type 0
   never = Never c p sound room earlier final
 
-  -- ## an entry that begins and reports nothing
-
-  -- nothing is reported
-  module _ (quiet : reported p (turns c before) e.event ≡ []) where
-    quiet-same-reports : reports_of c p (before ++ e ∷ []) ≡ reports_of c p before
-    quiet-same-reports = reports-next c p before e ∙ (ap (λ (l : List Outcome). reports_of c p before ++ l) quiet ∙ append-nil (reports_of c p before))
-
-    tells-quiet : Tells c p sound room earlier final before → Tells c p sound room earlier final (before ++ e ∷ [])
-    tells-quiet tells = record {
-      alone = subst (AreAloneSound sound) (sym quiet-same-reports) tells.alone;
-      failed = λ none. subst (FailAfter room 0) (sym quiet-same-reports) (tells.failed none);
-    }
-
-    held-quiet : (X Y : Reportable) → Held c p sound room earlier final X 0 0 before launches servers → At c p never Y (before ++ e ∷ []) launches servers → Held c p sound room earlier final Y 0 0 (before ++ e ∷ []) launches servers
-    held-quiet X Y held at = record {
-      at = at;
-      few = subst (λ (os : List Outcome). length launches ≤ earlier + (length os + 0)) (sym quiet-same-reports) held.few;
-      fits = subst (λ (os : List Outcome). length servers ≤ length (numbers_in os) + 0) (sym quiet-same-reports) held.fits;
-      made = held.made;
-      among = held.among;
-    }
-
   abbrev calm : List Entry → Type 0
   calm journal = Calm c p sound room earlier final journal launches servers
+
+  -- ## an entry that begins and reports nothing
 
   module _ (r : Role) (own : IsOwn p r) (useful : IsUseful c s r e.event) (replied : IsReplied c before e) where
     -- no report would be accepted, so it is none
@@ -373,8 +337,15 @@ module _ (c : Configuration) (p : PoolId) (sound : List ℕ → Bool) (room earl
         let role : role_of session s ≡ Some (Launcher p) = who.2 ∙ ap (λ (q : PoolId). Some (Launcher q)) pool in
         held.at.idle session n k (may-report s p session n k it.accepted role)
 
-    quiet-act : calm before → reported p (turns c before) e.event ≡ []
-    quiet-act held = quiet-report p (turns c before) e.event (λ session n k o is. absurd (no-done held session n k o is))
+    -- nothing is reported
+    quiet-act : calm before → reports_of c p (before ++ e ∷ []) ≡ reports_of c p before
+    quiet-act held = reports-quiet c p never before e (quiet-report p (turns c before) e.event (λ session n k o is. absurd (no-done held session n k o is)))
+
+    pub tells-act : calm before → Tells c p sound room earlier final before → Tells c p sound room earlier final (before ++ e ∷ [])
+    tells-act held = tells-same c p sound room earlier final before (before ++ e ∷ []) (quiet-act held)
+
+    held-act : (Y : Reportable) → calm before → At c p never Y (before ++ e ∷ []) launches servers → Held c p sound room earlier final Y 0 0 (before ++ e ∷ []) launches servers
+    held-act Y held = held-same c p sound room earlier final before (before ++ e ∷ []) (quiet-act held) nobody Y 0 0 launches servers held
 
     no-report : calm before → (n : NodeId) (k : NodeRecord) (x : ℕ) → IsReportedBy s e.event n k x → k.pool.0 ≡ p.0 → ⊥
     no-report held n k x new mine = no-done held new.by n new.attempt (Outcome.Launched x) new.event
@@ -396,11 +367,8 @@ module _ (c : Configuration) (p : PoolId) (sound : List ℕ → Bool) (room earl
           none-some _ (sym none-here ∙ start-is session n k new.first new.event new.ok)
 
       pub calm-act : calm before → calm (before ++ e ∷ [])
-      calm-act held = held-quiet (quiet-act held) nobody nobody held
+      calm-act held = held-act nobody held
           (at-quiet c p never before e launches servers nobody held.at waits polite no-start (no-report held))
-
-      pub tells-act : calm before → Tells c p sound room earlier final before → Tells c p sound room earlier final (before ++ e ∷ [])
-      tells-act held tells = tells-quiet (quiet-act held) tells
 
     -- ### a start
 
@@ -422,22 +390,19 @@ module _ (c : Configuration) (p : PoolId) (sound : List ℕ → Bool) (room earl
       held-start role held =
           let it : IsUseful c s (Launcher p) (Event.Start st.session st.tag.node) = subst (λ (q : Role). IsUseful c s q (Event.Start st.session st.tag.node)) role (subst (IsUseful c s r) parts-event useful) in
           let node = (chosen-start false c before p st.session st.tag.node (inl it)).1 in (
-            held-quiet (quiet-act held) nobody Awaits held
+            held-act Awaits held
                 (at-step c p never before e launches servers nobody Awaits held.at waits polite
                 (λ session n k may old. ⊎_elim (λ was. absurd (old was)) (λ new. begun-is session n k new) (may-last c p never before e waits polite session n k may))
                 (λ n k x new mine. absurd (no-report held n k x new mine))),
-            record { before = before; entry = e; rest = []; stands = refl; node = node.0; stood = node.1; own = node.2 },
+            record { before = before; entry = e; rest = []; stands = refl; holds = node },
           )
-
-      pub tells-start : calm before → Tells c p sound room earlier final before → Tells c p sound room earlier final (before ++ e ∷ [])
-      tells-start held tells = tells-quiet (quiet-act held) tells
 
   -- ## the report of a launch
 
   module _ (st : Start) (o : Outcome) (is : e.event ≡ report_of st o) (r : Reporting c p sound room earlier final st o before launches servers) where
     told-once : reported p (turns c before) e.event ≡ o ∷ []
     told-once = ap (reported p (turns c before)) is ∙ ap (λ (b : Bool). cond b (o ∷ []) [])
-        (was-of c p st.tag.node before r.started.before r.started.entry r.started.rest r.started.node r.started.stands r.started.stood r.started.own)
+        (was-of c p st.tag.node before r.started.before r.started.entry r.started.rest r.started.holds.0 r.started.stands r.started.holds.1 r.started.holds.2)
 
     reports-are : reports_of c p (before ++ e ∷ []) ≡ reports_of c p before ++ o ∷ []
     reports-are = reports-next c p before e ∙ ap (λ (l : List Outcome). reports_of c p before ++ l) told-once
@@ -458,9 +423,7 @@ module _ (c : Configuration) (p : PoolId) (sound : List ℕ → Bool) (room earl
           let was : MayReport s p session n k = subst (λ (t : State). MayReport t p session n k) same now in
           let report = r.held.at.idle session n k was in
           let accepted : is_ok (judge_done s session n k) ≡ true = report-accepted s p session n k was in
-          false≢true (sym out ∙ (ap (λ (x : SessionId). is_ok (judge_done s x st.tag.node st.tag.attempt)) (sym report.by)
-          ∙ (ap (λ (x : NodeId). is_ok (judge_done s session x st.tag.attempt)) (sym report.node)
-          ∙ (ap (λ (x : ℕ). is_ok (judge_done s session n x)) (sym report.attempt) ∙ accepted))))
+          cc (accepted, out, report.by, report.node, report.attempt)
 
     covers : (n : NodeId) (k : NodeRecord) (x : ℕ) → IsReportedBy s e.event n k x → k.pool.0 ≡ p.0 → WasLaunchedFor launches n x × (never → IsServerOf servers n x)
     covers n k x new mine =
@@ -522,14 +485,8 @@ module _ (c : Configuration) (p : PoolId) (sound : List ℕ → Bool) (room earl
   here : (ph : Phase) (before seen : List Entry) → seen ≡ before → At' ph before → At' ph seen
   here ph before seen same stands = subst (λ (j : List Entry). At' ph j) (sym same) stands
 
-  calm-rest : (r : Role) (m : ℕ) (journal : List Entry) → calm-at journal → Rest c p sound room earlier final (acting r m) journal launches servers
-  calm-rest r m journal held = goes_on (λ ph. Rest c p sound room earlier final ph journal launches servers) (λ q k. held) (λ pool k. held) (λ pool. held) held r m
-
   goes : (r : Role) (m : ℕ) (journal : List Entry) → tells journal → calm-at journal → At' (acting r m) journal
-  goes r m journal told held = record { tells = told; rest = calm-rest r m journal held }
-
-  own-role : (r : Role) → IsAskOf (of_pool p) (Ask.Act r) → IsOwn p r
-  own-role r is = is
+  goes r m journal told held = record { tells = told; rest = goes_on (λ ph. Rest c p sound room earlier final ph journal launches servers) (λ q k. held) (λ pool k. held) (λ pool. held) held r m }
 
   -- ## turns in which a role acts
 
@@ -538,16 +495,16 @@ module _ (c : Configuration) (p : PoolId) (sound : List ℕ → Bool) (room earl
       let it = ready e refl in
       subst (λ (j : List Entry). At' (acting r m) j) (sym sees)
       (goes r m (before ++ e ∷ [])
-      (tells-act c p sound room earlier final before e it.waits it.polite launches servers r (own-role r own) answer.0 answer.1 none stands.rest stands.tells)
-      (calm-act c p sound room earlier final before e it.waits it.polite launches servers r (own-role r own) answer.0 answer.1 none stands.rest))
+      (tells-act c p sound room earlier final before e it.waits it.polite launches servers r own answer.0 answer.1 stands.rest stands.tells)
+      (calm-act c p sound room earlier final before e it.waits it.polite launches servers r own answer.0 answer.1 none stands.rest))
 
   started : (pool : PoolId) (m : ℕ) (e : Entry) (s : Start) → start_of pool e ≡ Some s → Turned (acts (Launcher pool) m) (Ask.Act (Launcher pool)) (Turn.Did e) (owes_launch pool m s)
   started pool m e s is before seen own of answer sees full ready stands =
       let it = ready e refl in
-      let same : pool ≡ p = ⊎_elim (λ (h : Launcher pool ≡ Launcher p). cc) (λ (h : Launcher pool ≡ Janitor p). absurd cc) own in
+      let same : pool ≡ p = own-launcher p pool (Launcher pool) own refl in
       let mine : start_of p e ≡ Some s = ap (λ (q : PoolId). start_of q e) (sym same) ∙ is in
       subst (λ (j : List Entry). At' (owes_launch pool m s) j) (sym sees) (record {
-        tells = tells-start c p sound room earlier final before e it.waits it.polite launches servers (Launcher pool) own answer.0 answer.1 s mine stands.rest stands.tells;
+        tells = tells-act c p sound room earlier final before e it.waits it.polite launches servers (Launcher pool) own answer.0 answer.1 stands.rest stands.tells;
         rest = held-start c p sound room earlier final before e it.waits it.polite launches servers (Launcher pool) own answer.0 answer.1 s mine (ap Launcher same) stands.rest;
       })
 

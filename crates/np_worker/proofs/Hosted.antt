@@ -1,8 +1,12 @@
 -- a pool with its driver: launches, removals, a round, a tick and the start
-use Rattle.np_worker.proofs.Prelude.{All, All-contains, All-head, All-tail, AreAloneSound, AreAsksOf, AreCarried, AreNumbered, AreSoundAlone, Ask, BeginAfter, BeginsEmpty, BeginsNew, Bool, Carries, Configuration, Contains, Contains-append_left, Contains-push, Contains-push_cases, DistinctNumbers, DrivenBy, Drives, Driving, Drove, EachPlaysFrom, Earlier, Entry, Event, FailAfter, FailFull, FailOnlyFull, FailsFull, HaveDriven, HaveHosted, HaveSoundness, Hosts, IfSome, IsCutOff, IsHosted, IsNumbered, IsRound, IsServerOf, IsSoundAlone, IsTrue, Janitor, Launch, Leads, List, MOST_LAUNCHES, MayAsk, MayLaunch, MayRemove, Move, NeverRepeats, NodeEntry, NodeId, NodeRecord, NodeState, None, Option, Outcome, Phase, Player, PlayerEnd, PlaysFrom, PoolId, Records, Runs, Says, Server, Sight, Some, Soundness, Start, StartsWith, SweepsServers, Tag, Turn, Walk, WasAnswered, Work, acts, after, after_launch, after_removal, after_turn, all-weaker, answers_of, ap, append-nil, append_assoc, arith, asked, cases_lt, driving_in, drivings_of, ended, eq-eqb, eqb-true, false, false_from_ne_true, false≢true, first_phase, fresh_sight, inl, inr, is_building, is_deleting, is_number, is_server, is_some, is_tick, is_up, is_wanted, launched, launcher-role, launches_of, length, length-append, length-filter_at_most, maker_of, map, nat_tests, next_number, node_in, none-some, not, number_in, numbers_in, numbers_of, of_pool, option_map, option_map_or, or_right, owes_due, owes_launch, owes_report, owes_swept, recorded, refl, removed, reported, reports_of, same_Some, servers_after, servers_up, slice_get, starts_on, subst, suc, sweeps, sym, true, turns, with_launch, with_launched, without_number, zero, ℕ, [], ⊎_elim, ◌++◌, ◌+◌, ◌<◌, ◌==◌, ◌||◌, ◌∙◌, ◌∷◌, ◌≡◌, ◌≤◌, ◌⊎◌}
+use Rattle.np_worker.proofs.Prelude.{All, All-contains, AreAloneSound, AreAsksOf, AreCarried, AreNumbered, AreSoundAlone, Ask, BeginAfter, BeginsEmpty, BeginsNew, Bool, Carries, Configuration, Contains, Contains-append_left, Contains-push, Contains-push_cases, DistinctNumbers, DrivenBy, Drives, Driving, Drove, EachPlaysFrom, Earlier, Entry, Event, FailAfter, FailFull, FailOnlyFull, FailsFull, HaveDriven, HaveHosted, HaveSoundness, Hosts, IfSome, IsCutOff, IsHosted, IsNumbered, IsRound, IsServerOf, IsSoundAlone, IsTrue, Janitor, Launch, Leads, List, MOST_LAUNCHES, MayAsk, MayLaunch, MayRemove, Move, NeverRepeats, NodeEntry, NodeId, NodeRecord, NodeState, None, Option, Outcome, Phase, Player, PlayerEnd, PlaysFrom, PoolId, Records, Runs, Says, Server, Sight, Some, Soundness, Start, StartsWith, SweepsServers, Tag, Turn, Walk, WasAnswered, Work, acts, after, after_launch, after_removal, after_turn, all-weaker, answers_of, ap, append-nil, append_assoc, arith, asked, cases_lt, driving_in, drivings_of, eq-eqb, false, false_from_ne_true, false≢true, first_phase, fresh_sight, inl, inr, is_building, is_deleting, is_number, is_server, is_some, is_tick, is_up, is_wanted, launched, launcher-role, launches_of, length, length-append, length-filter_at_most, maker_of, map, nat_tests, next_number, node_in, none-some, not, number_in, numbers_in, numbers_of, of_pool, option_map, option_map_or, or_left, or_right, owes_due, owes_launch, owes_report, owes_swept, recorded, refl, removed, reported, reports_of, same_Some, servers_after, servers_up, slice_get, starts_on, subst, suc, sweeps, sym, true, turns, with_launch, with_launched, without_number, zero, ℕ, [], ⊎_elim, ◌++◌, ◌+◌, ◌<◌, ◌==◌, ◌||◌, ◌∙◌, ◌∷◌, ◌≡◌, ◌≤◌, ◌⊎◌}
+use Rattle.std.proofs.lemmas.List.{map-append}
+use Rattle.std.proofs.lemmas.List.Elements.{All-get_or}
+use Rattle.std.proofs.lemmas.List.Folds.{list_any-append}
+use Rattle.std.proofs.lemmas.Option.{get_or_from_slice_get, slice_get_within}
 use Rattle.np_worker.proofs.Journals.{one-launch, outcomes, IsKnown, found-rows, up-sound, numbers-append}
 use Rattle.np_worker.proofs.Records.{few-reports, holds-after}
-use Rattle.np_worker.proofs.Leaving.{AreBelow, below-turn, filtered-member, kept_at, launched_stay}
+use Rattle.np_worker.proofs.Leaving.{AreBelow, below-turn, filtered-member, launched_stay, leaves_one}
 use Rattle.np_worker.proofs.Reports.{may-report, plain-answer, polite-at, report-accepted, waits-after}
 use Rattle.np_worker.proofs.Walks.{no-member, same-split, split-within, starts_length, turn_seen, walk_seen}
 use Rattle.np_worker.proofs.Steps.{asks_of, full_ends, of_turn}
@@ -28,19 +32,13 @@ module _ (c : Configuration) (p : PoolId) (sound : List ℕ → Bool) (room earl
     abbrev there_now : List Server
     there_now = with_launched s.tag o servers
 
-    server-cases : (q : Outcome) (x : Server) → Contains (with_launched s.tag q servers) x → Contains servers x ⊎ (q ≡ Outcome.Launched x.number) × (x.tag ≡ s.tag)
-    server-cases (Outcome.Launched y) x h = ⊎_elim (λ old. inl old)
-        (λ (new : record { tag = s.tag; number = y } ≡ x). inr (ap (λ (z : Server). Outcome.Launched z.number) new, ap (λ (z : Server). z.tag) (sym new)))
+    made-now : (q : Outcome) (x : Server) → Contains (with_launched s.tag q servers) x → Contains (with_launch s.tag q launches) (record { tag = x.tag; outcome = Outcome.Launched x.number })
+    made-now (Outcome.Launched y) x h = ⊎_elim
+        (λ (old : Contains servers x). Contains-append_left launches (record { tag = s.tag; outcome = Outcome.Launched y } ∷ []) (record { tag = x.tag; outcome = Outcome.Launched x.number }) (held.made x old))
+        (λ (new : record { tag = s.tag; number = y } ≡ x). subst (λ (z : Server). Contains (with_launch s.tag (Outcome.Launched y) launches) (record { tag = z.tag; outcome = Outcome.Launched z.number })) new
+        (Contains-push launches (record { tag = s.tag; outcome = Outcome.Launched y })))
         (Contains-push_cases servers (record { tag = s.tag; number = y }) x h)
-    server-cases Outcome.Failed x h = inl h
-
-    made-now : (x : Server) → Contains there_now x → Contains more (record { tag = x.tag; outcome = Outcome.Launched x.number })
-    made-now x h = ⊎_elim
-        (λ (old : Contains servers x). Contains-append_left launches (record { tag = s.tag; outcome = o } ∷ []) (record { tag = x.tag; outcome = Outcome.Launched x.number }) (held.made x old))
-        (λ (new : (o ≡ Outcome.Launched x.number) × (x.tag ≡ s.tag)).
-        subst (λ (l : Launch). Contains more l) (ap (λ (q : Outcome). let l : Launch = record { tag = s.tag; outcome = q } in l) new.0 ∙ ap (λ (t : Tag). let l : Launch = record { tag = t; outcome = Outcome.Launched x.number } in l) (sym new.1))
-        (Contains-push launches (record { tag = s.tag; outcome = o })))
-        (server-cases o x h)
+    made-now Outcome.Failed x h = Contains-append_left launches (record { tag = s.tag; outcome = Outcome.Failed } ∷ []) (record { tag = x.tag; outcome = Outcome.Launched x.number }) (held.made x h)
 
     there-is : (q : Outcome) → IsThere c p sound room earlier final s q (with_launched s.tag q servers)
     there-is (Outcome.Launched x) = Contains-push servers (record { tag = s.tag; number = x })
@@ -65,7 +63,7 @@ module _ (c : Configuration) (p : PoolId) (sound : List ℕ → Bool) (room earl
         };
         few = omega (arith, held.few, length-append launches (record { tag = s.tag; outcome = o } ∷ []));
         fits = omega (arith, held.fits, longer-servers s.tag o servers);
-        made = made-now;
+        made = made-now o;
         among = among;
       };
       started = started;
@@ -84,13 +82,10 @@ module _ (c : Configuration) (p : PoolId) (sound : List ℕ → Bool) (room earl
     stays : (y : ℕ) (n : NodeId) → (y ≡ x → ⊥) → IsServerOf servers n y → IsServerOf left_now n y
     stays y n other is = record {
       server = is.server;
-      there = kept_at (λ (z : Server). not (z.number == x)) servers is.server (kept (is.server.number == x) refl) is.there.0 is.there.1 is.there.2;
+      there = ⊎_elim (λ there. there) (λ (goes : x ≡ is.server.number). absurd (other (sym (goes ∙ is.number)))) (leaves_one x servers is.server is.there);
       node = is.node;
       number = is.number;
-    } where
-      kept : (b : Bool) → (is.server.number == x) ≡ b → not (is.server.number == x) ≡ true
-      kept true same = absurd (other (sym is.number ∙ eqb-true is.server.number x same))
-      kept false out = ap not out
+    }
 
     pub removed-held : Calm c p sound room earlier final journal launches left_now
     removed-held = record {
@@ -133,6 +128,11 @@ module _ (c : Configuration) (p : PoolId) (sound : List ℕ → Bool) (room earl
 
 -- ## places of one's own
 
+-- what was seen before a turn begins what is seen after it
+before-seen : (r : Option Entry) (before : List Entry) (v u : Sight Entry) → Records r before v u → StartsWith u.seen before
+before-seen None before v u records = ([], records.0 ∙ sym (append-nil before))
+before-seen (Some e) before v u records = (e ∷ [], records.0)
+
 module _ {F : Type 0} (says : F → List Entry → Ask → Turn → Type 0) (f : F) where
   later-turn : (r : Option Entry) (before : List Entry) (v u : Sight Entry) (y : ℕ) → StartsWith before v.seen → Records r before v u → Contains u.mine y → Contains v.mine y ⊎ (length before ≤ y)
   later-turn None before v u y starts records there = inl (subst (λ (l : List ℕ). Contains l y) records.1 there)
@@ -155,12 +155,8 @@ module _ {F : Type 0} (says : F → List Entry → Ask → Turn → Type 0) (f :
       (λ (was : Contains v.mine y). omega (arith, early y was, least))
       (λ (new : length walk.1.0 ≤ y). omega (arith, new, less))
       (later-turn (recorded a t) walk.1.0 v walk.0 y walk.1.1 walk.1.3 old))
-      (λ (new : length walk.0.seen ≤ y). omega (arith, new, less, longer (recorded a t) walk.1.0 v walk.0 walk.1.3))
+      (λ (new : length walk.0.seen ≤ y). omega (arith, new, less, starts_length walk.0.seen walk.1.0 (before-seen (recorded a t) walk.1.0 v walk.0 walk.1.3)))
       (late ms walk.0 w walk.2 y there)
-    where
-      longer : (r : Option Entry) (before : List Entry) (v u : Sight Entry) → Records r before v u → length before ≤ length u.seen
-      longer None before v u records = omega (arith, ap length records.0)
-      longer (Some e) before v u records = omega (arith, ap length records.0, length-append before (e ∷ []))
 
 -- all places of one's own are of what was seen
 pub walk-early : {F : Type 0} (says : F → List Entry → Ask → Turn → Type 0) (f : F) (ms : List Move) (v w : Sight Entry) → Walk says f ms v w → AreBelow v → AreBelow w
@@ -171,11 +167,6 @@ walk-early says f (move ∷ ms) v w walk early y there = walk-early says f ms v 
 sees-of : (r : Option Entry) (before : List Entry) (v u : Sight Entry) → Records r before v u → Sees r before u.seen
 sees-of None before v u records = records.0
 sees-of (Some e) before v u records = records.0
-
--- what was seen before a turn begins what is seen after it
-before-seen : (r : Option Entry) (before : List Entry) (v u : Sight Entry) → Records r before v u → StartsWith u.seen before
-before-seen None before v u records = ([], records.0 ∙ sym (append-nil before))
-before-seen (Some e) before v u records = (e ∷ [], records.0)
 
 -- ## the round
 
@@ -354,25 +345,17 @@ module _ (c : Configuration) (history : List Entry) where
 
 -- ## numbers of launches
 
-more-numbers : (z : ℕ) (us vs : List ℕ) → is_number z us ≡ true → is_number z (us ++ vs) ≡ true
-more-numbers z [] vs there = absurd (false≢true there)
-more-numbers z (u ∷ us) vs there = let rest = more-numbers z us vs in grind (arith, nat_tests)
-
 fewer-numbers : (z : ℕ) (us vs : List ℕ) → is_number z (us ++ vs) ≡ false → is_number z us ≡ false
-fewer-numbers z us vs out = false_from_ne_true (is_number z us) (λ there. false≢true (sym out ∙ more-numbers z us vs there))
+fewer-numbers z us vs out = false_from_ne_true (is_number z us) (λ there. false≢true (sym out ∙ (list_any-append (λ (y : ℕ). y == z) us vs ∙ or_left (is_number z us) (is_number z vs) there)))
 
 distinct-first : (first rest : List ℕ) → DistinctNumbers (first ++ rest) → DistinctNumbers first
 distinct-first [] rest distinct = tt
 distinct-first (x ∷ first) rest distinct = (fewer-numbers x first rest distinct.0, distinct-first first rest distinct.1)
 
-outcomes-append : (first rest : List Launch) → outcomes (first ++ rest) ≡ outcomes first ++ outcomes rest
-outcomes-append [] rest = refl
-outcomes-append (l ∷ first) rest = ap (λ (os : List Outcome). l.outcome ∷ os) (outcomes-append first rest)
-
 -- fewer launches repeat no number either
 fewer-distinct : (first rest : List Launch) → DistinctNumbers (numbers_in (outcomes (first ++ rest))) → DistinctNumbers (numbers_in (outcomes first))
 fewer-distinct first rest distinct = distinct-first (numbers_in (outcomes first)) (numbers_in (outcomes rest))
-    (subst DistinctNumbers (ap numbers_in (outcomes-append first rest) ∙ numbers-append (outcomes first) (outcomes rest)) distinct)
+    (subst DistinctNumbers (ap numbers_in (map-append (λ (l : Launch). l.outcome) first rest) ∙ numbers-append (outcomes first) (outcomes rest)) distinct)
 
 -- ## from one form to the other
 
@@ -432,12 +415,6 @@ module _ (c : Configuration) (p : PoolId) (earlier : ℕ) (journal : List Entry)
 
 -- ## a round
 
-calm-left : (c : Configuration) (p : PoolId) (sound : List ℕ → Bool) (room earlier : ℕ) (final : List Launch) (ph : Phase) (journal : List Entry) (launches : List Launch) (servers : List Server) → (IsCutOff ph → ⊥) → Leaves c p sound room earlier final ph journal launches servers → Calm c p sound room earlier final journal launches servers
-calm-left c p sound room earlier final (owes_launch pool m s) journal launches servers uncut leaves = absurd (uncut tt)
-calm-left c p sound room earlier final (owes_report pool m s o) journal launches servers uncut leaves = absurd (uncut tt)
-calm-left c p sound room earlier final ended journal launches servers uncut leaves = absurd (uncut tt)
-calm-left c p sound room earlier final _ journal launches servers uncut leaves = leaves
-
 module _ (c : Configuration) (history later : List Entry) (players now : List Player) (is_cut : Bool) (round : IsRound false c history later players now is_cut) (runs : Runs c later (after c later)) (have : HaveDriven c history players) where
   driven-now : DrivenBy (WasAnswered (drivings_of now)) c later
   driven-now = round-driven c history later players now is_cut round runs have
@@ -480,13 +457,10 @@ module _ (c : Configuration) (history later : List Entry) (players now : List Pl
     begins : Stands c p r.d.sound r.d.room earlier final (first_phase (of_pool p)) history h.launches h.servers
     begins = record { tells = tells-of c p earlier history r.d h final; rest = calm-of c p earlier history r.d r.d.sound r.d.room h (launches_of r.plays.trace) }
 
-    none-early : (y : ℕ) → Contains [] y → y < length history
-    none-early y there = no-member y there
-
     walked : Left c p r.d.sound r.d.room earlier final (length history) later r.end.sight.mine around r.end.phase r.end.sight.seen final left
     walked =
         let leads : Leads (first_phase (of_pool p)) r.plays.trace r.end.phase = subst (λ (w : Work). Leads (first_phase w) r.plays.trace r.end.phase) work-is r.plays.led in
-        walk-stands c p r.d.sound r.d.room earlier final (length history) later r.end.sight.mine around r.plays.trace (first_phase (of_pool p)) r.end.phase (fresh_sight history) r.end.sight h.launches h.servers begins r.plays.walked leads refl seen-all (omega arith) none-early
+        walk-stands c p r.d.sound r.d.room earlier final (length history) later r.end.sight.mine around r.plays.trace (first_phase (of_pool p)) r.end.phase (fresh_sight history) r.end.sight h.launches h.servers begins r.plays.walked leads refl seen-all (omega arith) (λ y there. no-member y there)
         (asks_of (of_pool p) r.end.phase r.plays.trace leads)
         (told (SweepsServers r.plays.trace) r.d.facts.servers h.servers h.told drives.swept)
         (told (λ servers. AreSoundAlone r.d.sound r.plays.trace) r.d.facts.servers h.servers h.told drives.alone)
@@ -495,7 +469,7 @@ module _ (c : Configuration) (history later : List Entry) (players now : List Pl
 
     -- nothing of one's own comes after what was seen
     early : (y : ℕ) → Contains r.end.sight.mine y → y < length r.end.sight.seen
-    early = walk-early (answers_of false) c r.plays.trace (fresh_sight history) r.end.sight r.plays.walked none-early
+    early = walk-early (answers_of false) c r.plays.trace (fresh_sight history) r.end.sight r.plays.walked (λ y there. no-member y there)
 
     long : length history ≤ length r.end.sight.seen
     long = let seen = walk_seen (answers_of false) c r.plays.trace (fresh_sight history) r.end.sight r.plays.walked in omega (arith, ap length seen.1, length-append history seen.0)
@@ -530,8 +504,7 @@ module _ (c : Configuration) (history later : List Entry) (players now : List Pl
     }
 
     round-hosts : (IsCutOff r.end.phase → ⊥) → Hosts earlier c later p d'
-    round-hosts uncut = hosts-of c p earlier later d' r.d.sound r.d.room final left answered-now told-now round-carries
-        (calm-left c p r.d.sound r.d.room earlier final r.end.phase later final left uncut leaves-now)
+    round-hosts uncut = hosts-of c p earlier later d' r.d.sound r.d.room final left answered-now told-now round-carries (leaves-now uncut)
 
   -- the pool's round
   round-at : (p : PoolId) (d' : Driving) → slice_get (drivings_of now) p.0 ≡ Some d' → PoolRound c history players round.ends p.0 p.0 d'
@@ -558,9 +531,7 @@ round-hosted earlier c history later players now false round runs hosted = recor
 
 -- what holds of each driver holds of a pool's
 pub driver-at : (P : Driving → Type 0) (drivings : List Driving) → All P drivings → (i : ℕ) (d : Driving) → slice_get drivings i ≡ Some d → P d
-driver-at P [] all i d at = absurd (none-some d at)
-driver-at P (x ∷ drivings) all zero d at = subst P (same_Some x d at) (All-head P x drivings all)
-driver-at P (x ∷ drivings) all (suc i) d at = driver-at P drivings (All-tail P x drivings all) i d at
+driver-at P drivings all i d at = subst P (get_or_from_slice_get drivings i d d at) (All-get_or P drivings i d (slice_get_within drivings i d at) all)
 
 module _ (c : Configuration) (journal : List Entry) (e : Entry) (tick : e.event ≡ Event.Tick) (says : Says) (driven : DrivenBy says c journal) where
   tick-foreign : (p : PoolId) (never : Type 0) → IsForeign c p never journal e
@@ -626,7 +597,7 @@ no-node c n k is = absurd (none-some k is)
 
 begin-hosts : (c : Configuration) (p : PoolId) (earlier : ℕ) (d : Driving) → Begins earlier d → Hosts earlier c [] p d
 begin-hosts c p earlier d b = record {
-  carries = record { nodes = λ never before rest e is tick. absurd (no-entry before e rest is); reports = tt; failed = λ none. tt };
+  carries = record { nodes = λ never before rest e is tick. absurd (omega (arith, ap length is, length-append before (e ∷ rest))); reports = tt; failed = λ none. tt };
   launches = b.launches;
   servers = [];
   answered = b.answered;
@@ -637,9 +608,7 @@ begin-hosts c p earlier d b = record {
   present = λ never n k x is own up has. no-node c n k is;
   few = omega (arith, b.few);
   fits = omega arith;
-} where
-  no-entry : (before : List Entry) (e : Entry) (rest : List Entry) → [] ≡ before ++ e ∷ rest → ⊥
-  no-entry before e rest is = omega (arith, ap length is, length-append before (e ∷ rest))
+}
 
 begins-as : (earlier : ℕ) (d : Driving) (o : Option (List Launch)) → d.facts.answered ≡ o → IfSome o (λ launches. length launches ≤ earlier) → BeginsEmpty d.facts → Begins earlier d
 begins-as earlier d None is few b = absurd (false≢true (ap is_some (sym is) ∙ b.answered))

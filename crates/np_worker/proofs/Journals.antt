@@ -1,6 +1,7 @@
 -- journals that are driven, place by place: what their entries and replies say, and the numbers of servers in them
-use Rattle.np_worker.proofs.Prelude.{All, All-nil, All-push, All-weaker, AllByRecursion, AreNamed, AreNumbered, ArePlanned, Ask, Bool, Configuration, Contains, DistinctNumbers, Done, Driven, DrivenAs, DrivenBy, DrivenFrom, Driving, EachAfter, EachAfter-push, EachAfter-weaker, EachTurn, Entry, Event, HaveDrivenAs, IfSome, IsAskOf, IsDrivenTurn, IsPlannedTurn, IsReplied, IsReportOfLaunch, IsServerOf, IsTrue, IsTurnAs, Launch, List, NamesServer, NodeEntry, NodeId, NodeRecord, None, Option, Outcome, PlannedBy, PlannedDriven, Player, PoolId, Reply, Rises, Role, Runs, Runs-next, Runs-prefix, Says, Server, SessionId, Some, SomeTurn, Start, StartsWith, State, Tag, WasAnswered, WasLaunchedFor, WasNamed, Work, after, and_from, and_parts, ap, append-nil, append_assoc, arith, as_planned, bytes_eq-Decides, cond, drivings_of, eq-eqb, eqb-true, equal-numbers, false, false_from_ne_true, false≢true, has_replies, head-reply, inl, inr, is-at_most, is_legal, is_node, is_number, is_report_of, is_same_reply, is_session, is_tick, is_up, judge, launch_of, length, length-append, listed, map, nat_le, nat_lt, nat_tests, next, node_in, number_in, numbers_in, numbers_of, of_pool, or_left, or_right, outcome_of, refl, replayed, replied-at, reply_numbers, reply_of, report_of, server_up, servers_up, session-equal, slice_get, start, start_in, state_after, subst, suc, sym, tail-replies, take, true, turns, turns_from, with_launched, zero, ℕ, [], ⊎_elim, ◌&&◌, ◌++◌, ◌+◌, ◌<◌, ◌==◌, ◌∙◌, ◌∷◌, ◌≡◌, ◌≤◌, ◌⊎◌}
+use Rattle.np_worker.proofs.Prelude.{All, All-contains, All-from_recursion, All-nil, All-push, All-weaker, AllByRecursion, AreNamed, AreNumbered, ArePlanned, Ask, Bool, Configuration, Contains, DistinctNumbers, Done, Driven, DrivenAs, DrivenBy, DrivenFrom, Driving, EachAfter, EachAfter-push, EachAfter-weaker, EachTurn, Entry, Event, HaveDrivenAs, IfSome, IsAskOf, IsDrivenTurn, IsPlannedTurn, IsReplied, IsReportOfLaunch, IsServerOf, IsTrue, IsTurnAs, Launch, List, NamesServer, NodeEntry, NodeId, NodeRecord, None, Option, Outcome, PlannedBy, PlannedDriven, Player, PoolId, Reply, Rises, Role, Runs, Runs-next, Runs-prefix, Says, Server, SessionId, Some, SomeTurn, Start, StartsWith, State, Tag, WasAnswered, WasLaunchedFor, WasNamed, Work, after, and_from, and_parts, ap, append-nil, append_assoc, arith, as_planned, bytes_eq-Decides, cond, drivings_of, drop, drop-there, eq-eqb, eqb-true, equal-numbers, false, false_from_ne_true, false≢true, has_replies, head-reply, inl, inr, is-at_most, is_legal, is_node, is_number, is_report_of, is_same_reply, is_session, is_tick, is_up, judge, launch_of, length, length-append, listed, map, nat_le, nat_lt, nat_tests, next, node_in, number_in, numbers_in, numbers_of, of_pool, or_left, or_right, outcome_of, refl, replayed, replied-at, reply_numbers, reply_of, report_of, server_up, servers_up, session-equal, slice_get, start, start_in, state_after, subst, suc, sym, tail-replies, take, true, turns, turns_from, with_launched, zero, ℕ, [], ⊎_elim, ◌&&◌, ◌++◌, ◌+◌, ◌<◌, ◌==◌, ◌∙◌, ◌∷◌, ◌≡◌, ◌≤◌, ◌⊎◌}
 use Rattle.np_changes.specs.Prelude.{Turn}
+use Rattle.std.proofs.lemmas.List.{take-append-drop}
 use Rattle.np_worker.proofs.Walks.{member-cases, no-member}
 
 -- # journals that are driven, place by place
@@ -19,6 +20,16 @@ pub record SomePlace (c : Configuration) (s : State) (journal : List Entry) (P :
   pub rest : List Entry
   pub stands : journal ≡ before ++ entry ∷ rest
   pub holds : P (turn_of c (state_after c s before) entry)
+
+-- that entry is one of a longer journal too
+pub place-more : {c : Configuration} {s : State} {P : Turn → Type 0} (journal more : List Entry) → SomePlace c s journal P → SomePlace c s (journal ++ more) P
+place-more journal more h = record {
+  before = h.before;
+  entry = h.entry;
+  rest = h.rest ++ more;
+  stands = ap (λ (j : List Entry). j ++ more) h.stands ∙ append_assoc h.before (h.entry ∷ h.rest) more;
+  holds = h.holds;
+}
 
 module _ (c : Configuration) where
   -- ## turns of parts
@@ -122,8 +133,7 @@ module _ (c : Configuration) where
     turn-more_as true past t h = ⊎_elim (λ u. inl (turn-more past t u)) (λ was. inr was) h
 
     pub driven-more : (past ts : List Turn) → DrivenFrom says c past ts → DrivenFrom more c past ts
-    driven-more past [] h = tt
-    driven-more past (t ∷ ts) h = (turn-more past t h.0, driven-more (past ++ t ∷ []) ts h.1)
+    driven-more past ts h = each-driven more past ts (EachAfter-weaker (IsDrivenTurn says c) (IsDrivenTurn more c) turn-more past ts (driven-each says past ts h))
 
 -- # drivers that answer as the configuration plans
 
@@ -195,11 +205,6 @@ sweep-work work pool n x x1 = grind (arith, nat_tests)
 
 -- # Servers that reports named: they stay so, and a launch's server is named by the report of the launch
 
-module _ (P : Turn → Type 0) where
-  some_last : (ts : List Turn) (t : Turn) → P t → SomeTurn P (ts ++ t ∷ [])
-  some_last [] t h = inl h
-  some_last (u ∷ ts) t h = inr (some_last ts t h)
-
 module _ (c : Configuration) where
   -- ## names
 
@@ -214,9 +219,7 @@ module _ (c : Configuration) where
   all_named_later journal later servers s h = All-weaker (WasNamed c journal) (WasNamed c later) (λ server k. named_later journal later server s k) servers h
 
   pub named_next : (journal : List Entry) (e : Entry) (session : SessionId) (attempt : ℕ) (server : Server) → e.event ≡ Event.Done session server.tag.node attempt (Outcome.Launched server.number) → WasNamed c (journal ++ e ∷ []) server
-  named_next journal e session attempt server is = let P = NamesServer server.tag.node server.number in
-      subst (SomeTurn P) (sym (turns-append c (start c) journal (e ∷ [])))
-      (some_last P (turns c journal) (turn_of c (after c journal) e) (record { session = session; attempt = attempt; event = is }))
+  named_next journal e session attempt server is = some-from c (NamesServer server.tag.node server.number) (start c) journal e [] (record { session = session; attempt = attempt; event = is })
 
   -- the report of a launch names the server that it made, if it made one
   pub report_names : (journal : List Entry) (e : Entry) (s : Start) (o : Outcome) (servers : List Server) → e.event ≡ report_of s o → All (WasNamed c journal) servers → All (WasNamed c (journal ++ e ∷ [])) (with_launched s.tag o servers)
@@ -391,8 +394,7 @@ module _ (p : PoolId) (launches : List Launch) (servers : List Server) (distinct
       (up-cases e.kept x (servers_up p rows) is)
 
   all-row : (P : NodeEntry → Type 0) (rows : List NodeEntry) (e : NodeEntry) → AllByRecursion P rows → Contains rows e → P e
-  all-row P [] e all there = no-member e there
-  all-row P (f ∷ rows) e all there = ⊎_elim (λ (here : f ≡ e). subst P here all.0) (λ later. all-row P rows e all.1 later) (member-cases f rows e there)
+  all-row P rows e all there = All-contains P rows e (All-from_recursion P rows all) there
 
   -- a server of a row is that of no later one
   apart : (e : NodeEntry) (rows : List NodeEntry) (x : ℕ) → AllByRecursion (λ f. nat_lt e.id.0 f.id.0 ≡ true) rows → IsKnown e → AllByRecursion IsKnown rows → e.kept.pool.0 ≡ p.0 → e.kept.server ≡ Some x → is_number x (servers_up p rows) ≡ false
@@ -486,26 +488,6 @@ legal-next c journal e is replied =
 
 -- ## its entries
 
-reply-at : (c : Configuration) (s : State) (journal : List Entry) (at : ℕ) (e : Entry) → replayed c s journal ≡ journal → slice_get journal at ≡ Some e → e.reply ≡ reply_of (judge c (state_after c s (take at journal)) e.event)
-reply-at c s [] at e is there = absurd cc
-reply-at c s (first ∷ journal) zero e is there =
-    let same : first ≡ e = cc in
-    subst (λ (x : Entry). x.reply ≡ reply_of (judge c s x.event)) same (sym (head-reply c s first journal is))
-reply-at c s (first ∷ journal) (suc at) e is there = reply-at c (next c s first.event) journal at e (tail-replies c s first journal is) there
-
-take-short : (journal : List Entry) (at : ℕ) (e : Entry) → slice_get journal at ≡ Some e → length (take at journal) < length journal
-take-short [] at e there = absurd cc
-take-short (first ∷ journal) zero e there = omega arith
-take-short (first ∷ journal) (suc at) e there = let later = take-short journal at e there in omega (arith, later)
-
-pub legal-at : (c : Configuration) (journal : List Entry) (at : ℕ) (e : Entry) → is_legal c journal ≡ true → slice_get journal at ≡ Some e → IsReplied c (take at journal) e
-legal-at c journal at e is there =
-    let runs = legal-Runs c journal is in
-    record {
-      room = omega (arith, take-short journal at e there, runs.short);
-      reply = reply-at c (start c) journal at e runs.replies there;
-    }
-
 pub legal-between : (c : Configuration) (before : List Entry) (e : Entry) (rest : List Entry) → is_legal c (before ++ e ∷ rest) ≡ true → IsReplied c before e
 legal-between c before e rest is =
     let runs = legal-Runs c (before ++ e ∷ rest) is in
@@ -513,3 +495,8 @@ legal-between c before e rest is =
       room = omega (arith, length-append before (e ∷ rest), runs.short);
       reply = replied-at c (start c) before e rest runs.replies;
     }
+
+pub legal-at : (c : Configuration) (journal : List Entry) (at : ℕ) (e : Entry) → is_legal c journal ≡ true → slice_get journal at ≡ Some e → IsReplied c (take at journal) e
+legal-at c journal at e is there =
+    let splits : journal ≡ take at journal ++ e ∷ drop (suc at) journal = sym (take-append-drop at journal) ∙ ap (λ (l : List Entry). take at journal ++ l) (drop-there journal at e there) in
+    legal-between c (take at journal) e (drop (suc at) journal) (subst (λ (j : List Entry). is_legal c j ≡ true) splits is)

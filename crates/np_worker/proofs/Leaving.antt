@@ -1,9 +1,9 @@
 -- how and why servers leave: sweeps, and removals that come right after a turn that named the server
-use Rattle.np_worker.proofs.Prelude.{All, All-contains, All-contains_itself, All-filter, All-weaker, Answer, Answered, AreAsksOf, AreInOrder, Ask, Bool, Configuration, Contains, Contains-append_left, Contains-push, Contains-push_cases, Done, Drives, Driving, Drove, Entry, Err, Event, Growth, HasServers, IsAskOf, IsDue, IsOfRound, IsOfServer, IsOnlyNodeOfItsNumber, IsOnlyOfItsNumber, IsSweepAt, IsSweptAfter, Janitor, Launch, Leads, LeftWithCause, List, Maker, Move, NodeId, None, Ok, Option, Outcome, Phase, Player, PlayerEnd, PlaysFrom, PoolId, Records, Reply, Role, Server, SessionId, Sight, Some, StartsWith, State, StaysKept, SweepsServers, Swept, Tag, Turn, Walk, WasDue, WasFull, WasKept, WasLaunched, WasRemoved, WasSwept, Work, after, answers_of, answers_sweep, ap, arith, asked, by_bool, cond, effect, ended, eq-eqb, eqb-true, false, filter, first_phase, fresh_sight, get_or, grown, if◌then◌else◌, inl, inr, insert_before, is_current, is_ok, is_pair, is_pair_after, is_remove, is_swept, is_unwanted, is_wanted, janitor, judge, launched, launches_of, length, length-append, list_any-insert_before, nat_tests, next, not, of_pool, or_left, or_right, plan, plan-next, recorded, refl, removed, reply_of, servers_after, slice_get, stage_of, start, starts_on, starts_same, state_after, subst, suc, sym, true, with_act, with_launched, with_pair, without_number, zero, ℕ, [], ◌++◌, ◌+◌, ◌-◌, ◌<◌, ◌==◌, ◌∙◌, ◌∷◌, ◌≡◌, ◌⊎◌}
+use Rattle.np_worker.proofs.Prelude.{All, All-contains, All-contains_itself, All-filter, All-weaker, Answer, Answered, AreAsksOf, AreInOrder, Ask, Bool, Configuration, Contains, Contains-append_left, Contains-push, Contains-push_cases, Done, Drives, Driving, Drove, Entry, Err, Event, Growth, HasServers, IsAskOf, IsDue, IsOfRound, IsOfServer, IsOnlyNodeOfItsNumber, IsOnlyOfItsNumber, IsSweepAt, IsSweptAfter, Janitor, Launch, Leads, LeftWithCause, List, Maker, Move, NodeId, None, Ok, Option, Outcome, Phase, Player, PlayerEnd, PlaysFrom, PoolId, Records, Reply, Role, Server, SessionId, Sight, Some, StartsWith, State, StaysKept, SweepsServers, Swept, Tag, Turn, Walk, WasDue, WasFull, WasKept, WasLaunched, WasRemoved, WasSwept, Work, after, answers_of, answers_sweep, ap, arith, asked, by_bool, cond, effect, ended, eq-eqb, eqb-true, false, filter, first_phase, fresh_sight, get_or, grown, if◌then◌else◌, inl, inr, insert_before, is_current, is_ok, is_pair, is_pair_after, is_remove, is_swept, is_unwanted, is_wanted, janitor, judge, launched, launches_of, length, length-append, list_any-insert_before, nat_tests, next, not, of_pool, or_left, or_right, plan, plan-next, recorded, refl, removed, reply_of, servers_after, slice_get, stage_of, start, starts_on, starts_same, state_after, subst, suc, sym, true, with_act, with_launched, with_pair, without_number, zero, ℕ, [], ⊎_elim, ◌++◌, ◌+◌, ◌-◌, ◌<◌, ◌==◌, ◌∙◌, ◌∷◌, ◌≡◌, ◌⊎◌}
 use Rattle.np_changes.specs.Prelude.{acting}
 use Rattle.np_worker.proofs.Records.{state_after-append}
 use Rattle.np_worker.specs.Trace.{NamesServer, AreNamed}
-use Rattle.np_worker.proofs.Walks.{get_last, starts_length, turn_seen, walk_seen}
+use Rattle.np_worker.proofs.Walks.{get_last, member-cases, starts_length, turn_seen, walk_seen}
 use Rattle.np_worker.proofs.Steps.{are_named, asks_of, in_order, is_at_end}
 use Rattle.np_worker.proofs.Made.{told}
 
@@ -36,13 +36,9 @@ itself n x = rw (eq-eqb n.0 n.0 refl, eq-eqb x x refl) refl
 inserted : (n : NodeId) (x : ℕ) (swept : List Swept) → is_swept n x (insert_before (is_pair_after n x) (pair n x) swept) ≡ true
 inserted n x swept = list_any-insert_before (is_pair n x) (is_pair_after n x) (pair n x) swept ∙ or_left (is_pair n x (pair n x)) (is_swept n x swept) (itself n x)
 
-pair-there_by : (n : NodeId) (x : ℕ) (swept : List Swept) (b : Bool) → is_swept n x swept ≡ b → is_swept n x (cond b swept (insert_before (is_pair_after n x) (pair n x) swept)) ≡ true
-pair-there_by n x swept true is = is
-pair-there_by n x swept false is = inserted n x swept
-
 -- the pair that joined is there
 pair-there : (n : NodeId) (x : ℕ) (swept : List Swept) → is_swept n x (with_pair n x swept) ≡ true
-pair-there n x swept = pair-there_by n x swept (is_swept n x swept) refl
+pair-there n x swept = by_bool (λ b. is_swept n x (cond b swept (insert_before (is_pair_after n x) (pair n x) swept)) ≡ true) (is_swept n x swept) (λ t. t) (λ f. inserted n x swept)
 
 pair-keeps_by : (n m : NodeId) (x y : ℕ) (swept : List Swept) (b : Bool) → is_swept m y swept ≡ true → is_swept m y (cond b swept (insert_before (is_pair_after n x) (pair n x) swept)) ≡ true
 pair-keeps_by n m x y swept true is = is
@@ -51,39 +47,31 @@ pair-keeps_by n m x y swept false is = list_any-insert_before (is_pair m y) (is_
 -- ## what an event leaves
 
 -- each pair that is swept at first is swept then
-pub record KeepsSwept (s t : State) : Type 0 where
-  pub keeps : (n : NodeId) (x : ℕ) → is_swept n x s.swept ≡ true → is_swept n x t.swept ≡ true
-
-still : (s t : State) → t.swept ≡ s.swept → KeepsSwept s t
-still s t same = record { keeps = λ n x is. subst (λ (pairs : List Swept). is_swept n x pairs ≡ true) (sym same) is }
+abbrev pub KeepsSwept : State → State → Type 0
+KeepsSwept s t = (n : NodeId) (x : ℕ) → is_swept n x s.swept ≡ true → is_swept n x t.swept ≡ true
 
 grown-keeps : (c : Configuration) (maker : Option Maker) (growth : Growth) (s : State) → KeepsSwept s (grown c maker growth s)
-grown-keeps c maker (Growth.Swept n x) s = record { keeps = λ m y is. pair-keeps_by n m x y s.swept (is_swept n x s.swept) is }
-grown-keeps c None (Growth.Registration p) s = still s s refl
-grown-keeps c maker _ s = still s _ refl
+grown-keeps c maker (Growth.Swept n x) s m y is = pair-keeps_by n m x y s.swept (is_swept n x s.swept) is
+grown-keeps c None (Growth.Registration p) s m y is = is
+grown-keeps c maker _ s m y is = is
 
 -- no event takes a swept pair away
 next-keeps_swept : (c : Configuration) (s : State) (e : Event) → KeepsSwept s (next c s e)
 next-keeps_swept c s e = by (is_ok (judge c s e)) refl where
   by : (b : Bool) → is_ok (judge c s e) ≡ b → KeepsSwept s (next c s e)
-  by true ok =
-      let grown-one : KeepsSwept s (grown c (plan c s e).maker (plan c s e).grows s) = grown-keeps c (plan c s e).maker (plan c s e).grows s in
-      record { keeps = λ n x is. subst (λ (t : State). is_swept n x t.swept ≡ true) (plan-next c s e ok) (grown-one.keeps n x is) }
-  by false refused = rw refused (still s s refl)
+  by true ok = λ n x is. subst (λ (t : State). is_swept n x t.swept ≡ true) (plan-next c s e ok) (grown-keeps c (plan c s e).maker (plan c s e).grows s n x is)
+  by false refused = let same : next c s e ≡ s = rw refused refl in λ n x is. subst (λ (t : State). is_swept n x t.swept ≡ true) (sym same) is
 
 -- ## over journals
 
 later-keeps : (c : Configuration) (s : State) (journal : List Entry) → KeepsSwept s (state_after c s journal)
-later-keeps c s [] = still s s refl
-later-keeps c s (e ∷ journal) =
-    let first : KeepsSwept s (next c s e.event) = next-keeps_swept c s e.event in
-    let rest : KeepsSwept (next c s e.event) (state_after c (next c s e.event) journal) = later-keeps c (next c s e.event) journal in
-    record { keeps = λ n x is. rest.keeps n x (first.keeps n x is) }
+later-keeps c s [] n x is = is
+later-keeps c s (e ∷ journal) n x is = later-keeps c (next c s e.event) journal n x (next-keeps_swept c s e.event n x is)
 
 -- what is swept after a history is swept after each that continues it
 pub swept-stays : (c : Configuration) (seen before : List Entry) → StartsWith seen before → KeepsSwept (after c before) (after c seen)
 swept-stays c seen before h =
-    subst (KeepsSwept (after c before)) (sym (ap (λ (l : List Entry). after c l) h.1 ∙ state_after-append c (start c) before h.0))
+    subst (λ (t : State). KeepsSwept (after c before) t) (sym (ap (λ (l : List Entry). after c l) h.1 ∙ state_after-append c (start c) before h.0))
     (later-keeps c (after c before) h.0)
 
 -- ## what a sweep adds
@@ -108,7 +96,7 @@ swept-after c journal e session n x is unwanted reply removes =
 
 -- # How servers leave a driver.
 
-pub kept_at : (f : Server → Bool) (xs : List Server) (s : Server) → f s ≡ true → (k : ℕ) → k < length xs → get_or xs k s ≡ s → Contains (filter f xs) s
+kept_at : (f : Server → Bool) (xs : List Server) (s : Server) → f s ≡ true → (k : ℕ) → k < length xs → get_or xs k s ≡ s → Contains (filter f xs) s
 kept_at f [] s e k l i = absurd (omega arith)
 kept_at f (x ∷ xs) s e zero l i = by_bool (λ b. Contains (cond b (x ∷ filter f xs) (filter f xs)) s) (f x) (λ t. (0, omega arith, i)) (λ t. let u : f x ≡ f s = ap f i in absurd (cc))
 kept_at f (x ∷ xs) s e (suc k) l i = let r = kept_at f xs s e k (omega arith) i in by_bool (λ b. Contains (cond b (x ∷ filter f xs) (filter f xs)) s) (f x) (λ t. (suc r.0, omega (arith, r.1), r.2)) (λ t. r)
@@ -117,7 +105,7 @@ pub launched_stay : (tag : Tag) (o : Outcome) (servers : List Server) (s : Serve
 launched_stay tag (Outcome.Launched x) servers s h = Contains-append_left servers (record { tag = tag; number = x } ∷ []) s h
 launched_stay tag Outcome.Failed servers s h = h
 
-leaves_one : (x : ℕ) (servers : List Server) (s : Server) → Contains servers s → (Contains (without_number x servers) s) ⊎ (x ≡ s.number)
+pub leaves_one : (x : ℕ) (servers : List Server) (s : Server) → Contains servers s → (Contains (without_number x servers) s) ⊎ (x ≡ s.number)
 leaves_one x servers s h = by_bool (λ b. (not b ≡ true → Contains (without_number x servers) s) → (b ≡ true → x ≡ s.number) → (Contains (without_number x servers) s) ⊎ (x ≡ s.number)) (s.number == x) (λ t f g. inr (g refl)) (λ t f g. inl (f refl)) (λ e. kept_at (λ (y : Server). not (y.number == x)) servers s e h.0 h.1 h.2) (λ e. sym (eqb-true s.number x e))
 
 pub stays_or_goes : (ms : List Move) (servers : List Server) (s : Server) → Contains servers s → (Contains (servers_after ms servers) s) ⊎ WasRemoved s.number ms
@@ -142,24 +130,14 @@ filtered-member f xs s h = All-contains (Contains xs) (filter f xs) s (All-filte
 
 -- ## the servers of a round
 
-launched-there : (tag : Tag) (o : Outcome) (now : List Server) (s : Server) → tag ≡ s.tag → o ≡ Outcome.Launched s.number → Contains (with_launched tag o now) s
-launched-there tag o now s of_tag of_number =
-    subst (λ (q : Outcome). Contains (with_launched tag q now) s) (sym of_number)
-    (subst (λ (g : Tag). Contains (now ++ record { tag = g; number = s.number } ∷ []) s) (sym of_tag) (Contains-push now s))
-
-launch-leaves : (tag : Tag) (o : Outcome) (ms : List Move) (now : List Server) (s : Server)
-    → (Contains (launches_of ms) (record { tag = s.tag; outcome = Outcome.Launched s.number }) → (Contains (servers_after ms (with_launched tag o now)) s) ⊎ WasRemoved s.number ms)
-    → (k : ℕ) → k < length (launches_of (launched tag o ∷ ms)) → get_or (launches_of (launched tag o ∷ ms)) k (record { tag = s.tag; outcome = Outcome.Launched s.number }) ≡ record { tag = s.tag; outcome = Outcome.Launched s.number }
-    → (Contains (servers_after ms (with_launched tag o now)) s) ⊎ WasRemoved s.number ms
-launch-leaves tag o ms now s later zero l i =
-    stays_or_goes ms (with_launched tag o now) s (launched-there tag o now s (ap (λ (launch : Launch). launch.tag) i) (ap (λ (launch : Launch). launch.outcome) i))
-launch-leaves tag o ms now s later (suc k) l i = later (k, omega (arith, l), i)
-
 -- a server that was launched is there in the end, or its number was removed
 launched-stays : (ms : List Move) (now : List Server) (s : Server) → WasLaunched ms s → (Contains (servers_after ms now) s) ⊎ WasRemoved s.number ms
 launched-stays [] now s h = absurd (omega (arith, h.1))
 launched-stays (asked a t ∷ ms) now s h = launched-stays ms now s h
-launched-stays (launched tag o ∷ ms) now s h = launch-leaves tag o ms now s (launched-stays ms (with_launched tag o now) s) h.0 h.1 h.2
+launched-stays (launched tag o ∷ ms) now s h = ⊎_elim
+    (λ (same : ◌≡◌ {A = Launch} (record { tag = tag; outcome = o }) (record { tag = s.tag; outcome = Outcome.Launched s.number })). stays_or_goes ms (with_launched tag o now) s (subst (λ (l : Launch). Contains (with_launched l.tag l.outcome now) s) (sym same) (Contains-push now s)))
+    (λ later. launched-stays ms (with_launched tag o now) s later)
+    (member-cases (record { tag = tag; outcome = o }) (launches_of ms) (record { tag = s.tag; outcome = Outcome.Launched s.number }) h)
 launched-stays (removed x ∷ ms) now s h = elim (launched-stays ms (without_number x now) s h) [ inl k ↦ inl k | inr k ↦ inr (inr k) ]
 
 -- the same for each server of the round
@@ -202,7 +180,7 @@ module _ (plans : Bool) (c : Configuration) (pool : PoolId) (history : List Entr
   unwanted-swept before p n x _ v u h unwanted r = absurd cc
 
   stays-swept : (u : Sight Entry) → StartsWith w.seen u.seen → (n : NodeId) (x : ℕ) → is_swept n x (after c u.seen).swept ≡ true → is_swept n x (after c w.seen).swept ≡ true
-  stays-swept u to = let stays = swept-stays c w.seen u.seen to in stays.keeps
+  stays-swept u to = swept-stays c w.seen u.seen to
 
   server-swept : (now : List Server) → AreOfRound now → (p : PoolId) (n : NodeId) (x : ℕ) → IsOfServer (Ask.Sweep p n x) now → is_swept n x (after c w.seen).swept ≡ true → WasSwept c w.seen trace servers x
   server-swept now own p n x there swept = record {

@@ -23,6 +23,27 @@ follows_later xs ys first second s h = record {
 
 -- ## causes
 
+-- the pool's launcher accepted this start, by an entry of the journal
+pub record Accepted (plans : Bool) (c : Configuration) (work : Work) (pool : PoolId) (start : Start) (journal : List Entry) : Type 0 where
+  pub own : work ≡ of_pool pool
+  pub earlier : List Entry
+  pub begin : Entry
+  pub rest : List Entry
+  pub stood : journal ≡ earlier ++ begin ∷ rest
+  pub begun : start_of pool begin ≡ Some start
+  pub act : IsChosen plans c earlier (Launcher pool) begin.event × IsReplied c earlier begin
+
+accepted_later : (plans : Bool) (c : Configuration) (work : Work) (pool : PoolId) (start : Start) (journal later : List Entry) → StartsWith later journal → Accepted plans c work pool start journal → Accepted plans c work pool start later
+accepted_later plans c work pool start journal later s h = record {
+  own = h.own;
+  earlier = h.earlier;
+  begin = h.begin;
+  rest = h.rest ++ s.0;
+  stood = s.1 ∙ (ap (λ (l : List Entry). l ++ s.0) h.stood ∙ append_assoc h.earlier (h.begin ∷ h.rest) s.0);
+  begun = h.begun;
+  act = h.act;
+}
+
 module _ (plans : Bool) (c : Configuration) (before : List Entry) (entry : Entry) where
   pub record IsActed (work : Work) : Type 0 where
     pub role : Role
@@ -40,16 +61,11 @@ module _ (plans : Bool) (c : Configuration) (before : List Entry) (entry : Entry
 
   pub record IsReported (work : Work) : Type 0 where
     pub pool : PoolId
-    pub own : work ≡ of_pool pool
     pub start : Start
     pub outcome : Outcome
     pub event : entry.event ≡ report_of start outcome
-    pub earlier : List Entry
-    pub begin : Entry
-    pub rest : List Entry
-    pub stood : before ≡ earlier ++ begin ∷ rest
-    pub begun : start_of pool begin ≡ Some start
-    pub act : IsChosen plans c earlier (Launcher pool) begin.event × IsReplied c earlier begin
+    pub accepted : Accepted plans c work pool start before
+    pub open accepted use *
 
   -- these places of one's own are of the start and, right after it, of the report of one of these launches
   abbrev pub HasReported : Work → List ℕ → List Launch → Type 0
@@ -115,15 +131,9 @@ module _ (plans : Bool) (c : Configuration) (work : Work) (knew : Type 0) where
 
 -- the last entry of one's own accepted the start
 pub record HasBegun (plans : Bool) (c : Configuration) (work : Work) (pool : PoolId) (s : Start) (v : Sight Entry) : Type 0 where
-  pub own : work ≡ of_pool pool
-  pub earlier : List Entry
-  pub begin : Entry
-  pub rest : List Entry
+  pub accepted : Accepted plans c work pool s v.seen
   pub places : List ℕ
-  pub stood : v.seen ≡ earlier ++ begin ∷ rest
-  pub begun : start_of pool begin ≡ Some s
-  pub act : IsChosen plans c earlier (Role.Launcher pool) begin.event × IsReplied c earlier begin
-  pub last : v.mine ≡ places ++ length earlier ∷ []
+  pub last : v.mine ≡ places ++ length accepted.earlier ∷ []
 
 module _ (plans : Bool) (c : Configuration) (work : Work) (knew : Type 0) where
   -- if it is known which servers there are, each of them was named
@@ -156,17 +166,8 @@ module _ (plans : Bool) (c : Configuration) (work : Work) (knew : Type 0) where
   named_more journal later servers s h = λ k. all_named_later c journal later servers s (h k)
 
   begun_later : (pool : PoolId) (s : Start) (v u : Sight Entry) → Unturned v u → HasBegun plans c work pool s v → HasBegun plans c work pool s u
-  begun_later pool s v u m h = record {
-    own = h.own;
-    earlier = h.earlier;
-    begin = h.begin;
-    rest = h.rest ++ m.0.0;
-    places = h.places;
-    stood = m.0.1 ∙ (ap (λ (l : List Entry). l ++ m.0.0) h.stood ∙ append_assoc h.earlier (h.begin ∷ h.rest) m.0.0);
-    begun = h.begun;
-    act = h.act;
-    last = m.1 ∙ h.last;
-  }
+  unfolding accepted_later
+  begun_later pool s v u m h = record { accepted = accepted_later plans c work pool s v.seen u.seen m.0 h.accepted; places = h.places; last = m.1 ∙ h.last }
 
   fits_later : (p : Phase) (v u : Sight Entry) (launches : List Launch) (servers : List Server) → Unturned v u → Fits p v launches servers → Fits p u launches servers
   fits_later (owes_launch pool n s) v u launches servers m h = (begun_later pool s v u m h.0, named_more v.seen u.seen servers m.0 h.1)
@@ -197,7 +198,7 @@ module _ (plans : Bool) (c : Configuration) (work : Work) (knew : Type 0) where
         → IsChosen plans c before (Role.Launcher pool) e.event × IsReplied c before e → Named u.seen servers → Fits (after_start pool n o) u launches servers
     start_fits pool n before e None is own m a k = acting_fits (Role.Launcher pool) n u launches servers k
     start_fits pool n before e (Some s) is own m a k =
-        (record { own = own; earlier = before; begin = e; rest = []; places = v.mine; stood = m.1; begun = is; act = a; last = m.2 }, k)
+        (record { accepted = record { own = own; earlier = before; begin = e; rest = []; stood = m.1; begun = is; act = a }; places = v.mine; last = m.2 }, k)
 
     entry_fits : (r : Role) (n : ℕ) (before : List Entry) (e : Entry) → IsAskOf work (Ask.Act r) → Adds before e v u → IsChosen plans c before r e.event × IsReplied c before e
         → Named u.seen servers → Fits (after_entry r n e) u launches servers
@@ -221,24 +222,13 @@ module _ (plans : Bool) (c : Configuration) (work : Work) (knew : Type 0) where
 
     report_cause : (pool : PoolId) (s : Start) (o : Outcome) (before : List Entry) (e : Entry) → HasBegun plans c work pool s v → Contains launches (record { tag = s.tag; outcome = o }) → Adds before e v u
         → e.event ≡ report_of s o → HasReported plans c before e work u.mine launches
+    unfolding accepted_later
     report_cause pool s o before e b l m is = (
-      record {
-        pool = pool;
-        own = b.own;
-        start = s;
-        outcome = o;
-        event = is;
-        earlier = b.earlier;
-        begin = b.begin;
-        rest = b.rest ++ m.0.0;
-        stood = m.0.1 ∙ (ap (λ (xs : List Entry). xs ++ m.0.0) b.stood ∙ append_assoc b.earlier (b.begin ∷ b.rest) m.0.0);
-        begun = b.begun;
-        act = b.act;
-      },
+      record { pool = pool; start = s; outcome = o; event = is; accepted = accepted_later plans c work pool s v.seen before m.0 b.accepted },
       record {
         earlier = b.places;
         later = [];
-        splits = m.2 ∙ (ap (λ (xs : List ℕ). xs ++ length before ∷ []) b.last ∙ append_assoc b.places (length b.earlier ∷ []) (length before ∷ []));
+        splits = m.2 ∙ (ap (λ (xs : List ℕ). xs ++ length before ∷ []) b.last ∙ append_assoc b.places (length b.accepted.earlier ∷ []) (length before ∷ []));
       },
       l,
     )
@@ -528,21 +518,18 @@ HasAnswered driving l = IfSome driving.facts.answered (λ launches. Contains lau
 abbrev pub IsPlanned : (Tag → Option Outcome) → Launch → Type 0
 IsPlanned plan l = IfSome (plan l.tag) (λ planned. planned ≡ l.outcome)
 
-stays_some : (more : List Launch) (l : Launch) (o : Option (List Launch)) → IfSome o (λ launches. Contains launches l) → IfSome (option_map (λ launches. launches ++ more) o) (λ launches. Contains launches l)
-stays_some more l None h = tt
-stays_some more l (Some launches) h = Contains-append_left launches more l h
-
-joins_some : (more : List Launch) (l : Launch) (o : Option (List Launch)) → Contains more l → IfSome (option_map (λ launches. launches ++ more) o) (λ launches. Contains launches l)
-joins_some more l None h = tt
-joins_some more l (Some launches) h = Contains-append_right launches more l h
+grown_some : (more : List Launch) (l : Launch) (o : Option (List Launch)) → ((launches : List Launch) → o ≡ Some launches → Contains (launches ++ more) l) → IfSome (option_map (λ launches. launches ++ more) o) (λ launches. Contains launches l)
+grown_some more l None each = tt
+grown_some more l (Some launches) each = each launches refl
 
 -- what a driver once answered stays answered
 pub answer_stays : (moves : List Move) (before now : Driving) → Drives moves before now → (l : Launch) → HasAnswered before l → HasAnswered now l
-answer_stays moves before now d l h = subst (λ (o : Option (List Launch)). IfSome o (λ launches. Contains launches l)) (sym d.answered) (stays_some (launches_of moves) l before.facts.answered h)
+answer_stays moves before now d l h = subst (λ (o : Option (List Launch)). IfSome o (λ launches. Contains launches l)) (sym d.answered)
+    (grown_some (launches_of moves) l before.facts.answered (λ launches is. Contains-append_left launches (launches_of moves) l (told (λ (all : List Launch). Contains all l) before.facts.answered launches is h)))
 
 -- the launches of a round are among the answers
 pub answers_launches : (moves : List Move) (before now : Driving) → Drives moves before now → (l : Launch) → Contains (launches_of moves) l → HasAnswered now l
-answers_launches moves before now d l h = subst (λ (o : Option (List Launch)). IfSome o (λ launches. Contains launches l)) (sym d.answered) (joins_some (launches_of moves) l before.facts.answered h)
+answers_launches moves before now d l h = subst (λ (o : Option (List Launch)). IfSome o (λ launches. Contains launches l)) (sym d.answered) (grown_some (launches_of moves) l before.facts.answered (λ launches is. Contains-append_right launches (launches_of moves) l h))
 
 all_planned : (plan : Tag → Option Outcome) (moves : List Move) → FollowsPlan plan moves → All (IsPlanned plan) (launches_of moves)
 all_planned plan [] h = All-nil (IsPlanned plan)

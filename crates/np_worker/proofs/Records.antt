@@ -1,5 +1,5 @@
 -- the records of nodes and the roles of sessions over a run: what stays, where a record comes from, and of which pool a node is
-use Rattle.np_worker.proofs.Prelude.{AllByRecursion, Answer, BeginsLaunch, Bool, Changes, Configuration, Done, EndAs, Entry, Event, Growth, Invariant, IsUseful, JobId, JobRecord, LabelId, Launcher, List, Maker, NodeEntry, NodeId, NodeRecord, NodeState, NodesChange, NodesPremise, None, Ok, Option, Outcome, PoolId, Premises, PutsNode, Reply, RequestId, RequestRecord, Rises, Role, Runs, RunsWhileBuilding, SessionFacts, SessionId, SessionsChange, Some, SomeTurn, StartsWith, State, TenantId, Way, above-apart, after, after_found-keeps, after_given-keeps, all-filter, all_freed, all_in_use, allocated, ap, append-nil, append_assoc, arith, by_bool, cases_lt, change_first, change_session, changed, cond, create_by, create_for, created, decline_by, declined, drop, effect, ended_as, eq-eqb, eqb-true, expired, facts-grown, facts_in, false, false≢true, freed, fulfilled, given_back, given_up, grown, grown-numbered, holder, incomplete, inl, inr, invariant-after, invariant-next, invariant-start, is_building, is_current, is_fulfilled, is_in_use, is_node_of, is_none, is_ok, is_pending_by, is_ready, is_request, is_session, is_session_of, is_some, is_up, joined, judge, judge_done, judge_end_node, judge_start, judge_take, judge_take_ready, kept-change_at, launcher, launcher-role, left, length, length-append, list_any, made, map, muted, nat_lt, nat_tests, next, next-keeps, next-more, next_label, node_ended, node_freed, node_holder, node_in, node_in-allocated, node_in-below, node_in-freed, node_in-in_use, node_in-later, node_in-left, node_in-new, node_in-other, node_in-put, node_in-queue, node_in-remove, node_in-removed, node_left, node_queue, node_queue-allocated, node_queue-freed, node_queue-in_use, node_queue-left, node_queue-new, node_queue-nowhere, node_queue-other, node_queue-put, node_queue-queue, node_queue-remove, nodes_changed, nodes_left, none-some, not, ok-is, on-found, on-given, on-need, option_map, option_map_or, or_left, or_right, owned-node, owns-if, plan, plan-next, premises, put_node, put_node_queue, refl, registered, remove_node, replied-at, reply_of, reported, reports_from, reports_of, request_holder, request_in, role_of, row-of, same_Some, same_node-is, same_role, session_of, sessions_changed, slice_get, start, started, starts_of, state_after, subst, sym, take_for, take_from, take_ready-stands, taken, tenant_of_request, took_ready, true, turns, turns_from, used_from, was_node_of, with_act, ℕ, [], ⊎_elim, ◌&&◌, ◌++◌, ◌+◌, ◌-◌, ◌<◌, ◌==◌, ◌||◌, ◌∙◌, ◌∷◌, ◌≡◌, ◌≢◌, ◌≤◌, ◌⊎◌}
+use Rattle.np_worker.proofs.Prelude.{AllByRecursion, BeginsLaunch, Bool, Changes, Configuration, Done, EndAs, Entry, Event, Growth, Invariant, IsUseful, JobId, JobRecord, LabelId, Launcher, List, Maker, NodeEntry, NodeId, NodeRecord, NodeState, NodesChange, NodesPremise, None, Ok, Option, Outcome, PoolId, Premises, PutsNode, Reply, RequestId, RequestRecord, Rises, Role, Runs, RunsWhileBuilding, SessionFacts, SessionId, SessionsChange, Some, SomeTurn, StartsWith, State, TenantId, Way, above-apart, after, after_found-keeps, after_given-keeps, all-filter, all_freed, all_in_use, allocated, ap, append-nil, append_assoc, arith, by_bool, cases_lt, change_first, change_session, changed, cond, create_by, create_for, created, decline_by, declined, drop, effect, ended_as, eq-eqb, eqb-true, expired, facts-grown, facts_in, false, false≢true, freed, fulfilled, given_back, given_up, grown, grown-numbered, holder, incomplete, inl, inr, invariant-after, invariant-next, invariant-start, is_building, is_current, is_fulfilled, is_in_use, is_node_of, is_none, is_ok, is_pending_by, is_ready, is_request, is_session, is_session_of, is_some, is_up, joined, judge, judge_done, judge_end_node, judge_start, judge_take, judge_take_ready, kept-change_at, launcher, launcher-role, left, length, length-append, list_any, made, map, muted, nat_lt, nat_tests, next, next-keeps, next-more, next_label, node_ended, node_freed, node_holder, node_in, node_in-allocated, node_in-below, node_in-freed, node_in-in_use, node_in-later, node_in-left, node_in-new, node_in-other, node_in-put, node_in-queue, node_in-remove, node_in-removed, node_left, node_queue, node_queue-allocated, node_queue-freed, node_queue-in_use, node_queue-left, node_queue-new, node_queue-nowhere, node_queue-other, node_queue-put, node_queue-queue, node_queue-remove, nodes_changed, nodes_left, none-some, not, on-found, on-given, on-need, option_map, option_map_or, or_left, or_right, owned-node, owns-if, plan, plan-next, premises, put_node, put_node_queue, refl, registered, remove_node, replied-at, reply_of, reported, reports_from, reports_of, request_holder, request_in, role_of, row-of, same_Some, same_node-is, same_role, session_of, sessions_changed, slice_get, start, started, starts_of, state_after, subst, sym, take_for, take_from, take_ready-stands, taken, tenant_of_request, took_ready, true, turns, turns_from, used_from, was_node_of, with_act, ℕ, [], ⊎_elim, ◌++◌, ◌+◌, ◌-◌, ◌<◌, ◌==◌, ◌||◌, ◌∙◌, ◌∷◌, ◌≡◌, ◌≢◌, ◌≤◌, ◌⊎◌}
 use Rattle.np_changes.specs.Prelude.{acting, ended, Turn}
 use Rattle.np_changes.specs.Parts.{IsNumbered}
 use Rattle.np_worker.proofs.Walks.{same-split, split-within}
@@ -146,16 +146,7 @@ pub record IsStarting (s : State) (by : SessionId) (m : NodeId) (what : Done) : 
   pub says : what ≡ Done.Started (node.attempts + 1) (starts_of pool s + 1)
 
 pub starting : (s : State) (by : SessionId) (m : NodeId) (what : Done) → judge_start s by m ≡ Ok what → IsStarting s by m what
-starting s by m what ok =
-    on-given (launcher s by) _ what ok (λ p who node_is.
-    on-found (node_in m s.nodes) _ _ what node_is (λ node stands pool_is.
-    on-need (node.pool.0 == p.0) _ _ what pool_is (λ own holds_is.
-    on-need (is_session_of by (node_holder m s.nodes)) _ _ what holds_is (λ holds idle_is.
-    on-need (is_building node.state && not node.in_flight) _ _ what idle_is (λ idle says.
-    record { pool = p; who = who; node = node; stands = stands; of_pool = own; holds = holds; says = same_Ok (Done.Started (node.attempts + 1) (starts_of p s + 1)) what says })))))
-  where
-    same_Ok : (a b : Done) → (let x : Answer = Ok a in x) ≡ Ok b → b ≡ a
-    same_Ok a b same = cc
+starting s by m what x1 = grind (arith, nat_tests)
 
 next-attempt : (s : State) (session : SessionId) (n : NodeId) (k m : ℕ) (b : IsStarting s session n (Done.Started k m)) → b.node.attempts + 1 ≡ k
 next-attempt s session n k m b = let is : Done.Started k m ≡ Done.Started (b.node.attempts + 1) (starts_of b.pool s + 1) = b.says in cc
@@ -204,15 +195,7 @@ pub record MayReport (s : State) (p : PoolId) (session : SessionId) (n : NodeId)
 
 -- an accepted report is of a launcher that may make it
 pub reporting : (s : State) (session : SessionId) (n : NodeId) (k : ℕ) → is_ok (judge_done s session n k) ≡ true → (p : PoolId) × MayReport s p session n k
-reporting s session n k accepted =
-    let was : (what : Done) × (judge_done s session n k ≡ Ok what) = ok-is (judge_done s session n k) accepted in
-    on-given (launcher s session) _ was.0 was.1 (λ p who node_is.
-    on-found (node_in n s.nodes) _ _ was.0 node_is (λ node stands pool_is.
-    on-need (node.pool.0 == p.0) _ _ was.0 pool_is (λ own holds_is.
-    on-need (is_session_of session (node_holder n s.nodes)) _ _ was.0 holds_is (λ holds flies_is.
-    on-need node.in_flight _ _ was.0 flies_is (λ flies attempt_is.
-    on-need (node.attempts == k) _ _ was.0 attempt_is (λ attempt rest.
-    (p, record { who = who; node = node; stands = stands; of_pool = own; holds = holds; flies = flies; attempt = attempt })))))))
+reporting s session n k x1 = grind (arith, nat_tests)
 
 -- it is of an attempt that was spent
 pub done-spends : (c : Configuration) (s : State) (session : SessionId) (n : NodeId) (k : ℕ) (o : Outcome) → IsNumbered s → is_ok (judge c s (Event.Done session n k o)) ≡ true → IsSpent n k s
@@ -427,8 +410,7 @@ pub record Back (P : SessionId → Type 0) (s t : State) : Type 0 where
   pub waiting : (n : NodeId) → AllByRecursion P (behind (node_queue n s.nodes)) → AllByRecursion P (behind (node_queue n t.nodes))
 
 behind-all : (P : SessionId → Type 0) (queue : List SessionId) → AllByRecursion P queue → AllByRecursion P (behind queue)
-behind-all P [] all = tt
-behind-all P (first ∷ queue) all = all.1
+behind-all P queue x1 = grind (arith, nat_tests)
 
 behind-left : (P : SessionId → Type 0) (gone : SessionId) (queue : List SessionId) → AllByRecursion P (behind queue) → AllByRecursion P (behind (left gone queue))
 behind-left P gone [] all = tt

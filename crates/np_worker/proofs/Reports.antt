@@ -1,5 +1,5 @@
 -- which reports of a pool's launcher the machine would accept, that no launcher waits, and what a chosen event says
-use Rattle.np_worker.proofs.Prelude.{AllByRecursion, Ask, Bool, Changes, Configuration, Done, DrivenBy, DrivenFrom, Entry, Event, Invariant, IsChosen, IsDrivenTurn, IsLive, IsLiveQueue, IsOfRole, IsOfUse, IsReportOfLaunch, IsSweepOfServer, IsTickBetween, IsTurnAs, IsUseful, Launcher, List, Move, NodeEntry, NodeId, NodeRecord, None, Ok, Option, Outcome, PoolId, Reaper, Refusal, Result, Role, Says, SessionFacts, SessionId, SessionsChange, Sight, Some, SomeTurn, State, Walk, WasOfUse, WasUseful, after, after_found-keeps, after_given-keeps, all-filter, all-find, all-push, all-weaker, and_parts, answers, answers_of, ap, arith, as_launcher, asked, by_bool, change_session, cond, drop, effect, effect_lock_node, eqb-true, facts-grown, facts_in, false, false≢true, found, grown, holder, inl, inr, invariant-next, invariant-start, is_by_registrant, is_first, is_maker_of, is_ok, is_planned, is_session, is_session_of, is_up, joined, judge, judge_done, judge_start, launcher, launcher-role, left, length, list_any, maker_of, muted, nat_tests, need, next, next-keeps, node_entry, node_holder, node_in, node_in-put, node_in-queue, node_queue, node_queue-nowhere, node_queue-put, node_queue-queue, none-some, not, ok-is, one-named, option_map, option_map_or, plan, plan-next, put_node, refl, retries_of, role_of, row_holds, same_Some, same_node-is, session-equal, sessions_changed, slice_get, slice_get-change_at, slice_get-change_at_other, start, start_by, started, starts_of, state_after, subst, suc, sym, take, take-append-drop, true, turns, turns_from, with_act, zero, ℕ, [], ⊎_elim, ◌++◌, ◌+◌, ◌-◌, ◌==◌, ◌>>=◌, ◌>>◌, ◌∙◌, ◌∷◌, ◌≡◌, ◌≤◌, ◌⊎◌}
+use Rattle.np_worker.proofs.Prelude.{AllByRecursion, Ask, Bool, Changes, Configuration, Done, DrivenBy, DrivenFrom, Entry, Event, Invariant, IsChosen, IsDrivenTurn, IsLive, IsLiveQueue, IsOfRole, IsOfUse, IsReportOfLaunch, IsSweepOfServer, IsTickBetween, IsTurnAs, IsUseful, Launcher, List, Move, NodeEntry, NodeId, NodeRecord, None, Ok, Option, Outcome, PoolId, Reaper, Refusal, Result, Role, Says, SessionFacts, SessionId, SessionsChange, Sight, Some, SomeTurn, State, Walk, WasOfUse, WasUseful, after, after_found-keeps, after_given-keeps, all-filter, all-find, all-push, all-weaker, and_parts, answers, answers_of, ap, arith, as_launcher, asked, by_bool, change_session, cond, drop, effect, effect_lock_node, eqb-true, facts-grown, facts_in, false, false≢true, found, grown, holder, inl, inr, invariant-next, invariant-start, is_by_registrant, is_first, is_maker_of, is_ok, is_planned, is_session, is_session_of, is_up, joined, judge, judge_done, judge_start, launcher, launcher-role, left, length, list_any, maker_of, muted, nat_tests, need, next, next-keeps, node_holder, node_in, node_in-put, node_in-queue, node_queue, node_queue-nowhere, node_queue-put, node_queue-queue, not, ok-is, one-named, plan, plan-next, put_node, refl, retries_of, role_of, row_holds, same_Some, same_node-is, session-equal, sessions_changed, slice_get-change_at, slice_get-change_at_other, start, start_by, started, starts_of, state_after, subst, suc, sym, take, take-append-drop, true, turns, turns_from, with_act, zero, ℕ, [], ⊎_elim, ◌++◌, ◌+◌, ◌-◌, ◌==◌, ◌>>=◌, ◌>>◌, ◌∙◌, ◌∷◌, ◌≡◌, ◌≤◌, ◌⊎◌}
 use Rattle.np_changes.specs.Prelude.{acting, ended, launched, reported, Turn}
 use Rattle.np_worker.proofs.Records.{Back, Had, IsLess, IsStarting, MayReport, back-next, behind, current-role, is_plain, reporting, role-over, role-stays, same_launcher, same_role-is, start-leads, start-of_pool, starting, useful-done, useful-tickless}
 use Rattle.np_worker.proofs.Journals.{turn_of, driven-at, turn_after, some-from, turns-append}
@@ -19,14 +19,7 @@ muted-unheard live role p is = grind (arith, nat_tests)
 -- the facts of a session after a change of one session's
 changed-facts : (other : SessionId) (g : SessionFacts → SessionFacts) (session : SessionId) (f : SessionFacts) (rows : List SessionFacts) → facts_in session rows ≡ Some f
     → (facts_in session (change_session other g rows) ≡ Some (g f)) ⊎ (facts_in session (change_session other g rows) ≡ Some f)
-changed-facts other g session f rows is = by (session.0 == 0) refl is where
-  at_place : (b : Bool) → (session.0 - 1 == other.0 - 1) ≡ b → (session.0 == 0) ≡ false → slice_get rows (session.0 - 1) ≡ Some f
-      → (facts_in session (change_session other g rows) ≡ Some (g f)) ⊎ (facts_in session (change_session other g rows) ≡ Some f)
-  at_place b same positive there = grind (arith, nat_tests, slice_get-change_at, slice_get-change_at_other)
-
-  by : (b : Bool) → (session.0 == 0) ≡ b → cond b None (slice_get rows (session.0 - 1)) ≡ Some f → (facts_in session (change_session other g rows) ≡ Some (g f)) ⊎ (facts_in session (change_session other g rows) ≡ Some f)
-  by true zero_number none = absurd cc
-  by false positive there = at_place (session.0 - 1 == other.0 - 1) refl positive there
+changed-facts other g session f rows x1 = grind (arith, nat_tests, slice_get-change_at, slice_get-change_at_other)
 
 settled-heard : (change : SessionsChange) (session : SessionId) (f : SessionFacts) (p : PoolId) (rows : List SessionFacts) → facts_in session rows ≡ Some f → heard (facts_in session (sessions_changed change rows)) ≡ Ok p → heard (Some f) ≡ Ok p
 settled-heard SessionsChange.Same session f p rows is now = ap heard (sym is) ∙ now
@@ -49,10 +42,7 @@ heard-before c s e session p live now = by (is_ok (judge c s e)) refl where
 
 -- what holds of each queue holds of the one that is found
 queue-all : (Q : List SessionId → Type 0) → Q [] → (n : NodeId) (rows : List NodeEntry) → AllByRecursion (λ e. Q e.queue) rows → Q (node_queue n rows)
-queue-all Q none n rows all = by (node_entry n rows) refl where
-  by : (o : Option NodeEntry) → node_entry n rows ≡ o → Q (option_map_or (λ (e : NodeEntry). e.queue) o [])
-  by None is = none
-  by (Some e) is = all-find (λ (x : NodeEntry). Q x.queue) (λ x. x.id.0 == n.0) rows e all is
+queue-all Q x1 n rows x2 = let found = all-find (λ (x : NodeEntry). Q x.queue) (λ x. x.id.0 == n.0) rows in grind (arith, nat_tests)
 
 queue-live : (c : Configuration) (s : State) (n : NodeId) → Invariant c s → AllByRecursion (IsLive s) (node_queue n s.nodes)
 queue-live c s n whole = (queue-all (IsLiveQueue s) (record { live = tt; once = tt }) n s.nodes whole.queued.at_nodes).live
@@ -195,14 +185,7 @@ module _ (s t : State) (m : NodeId) (kept : NodeRecord) (same : t.nodes ≡ put_
   IsPut n k = (((m.0 == n.0) ≡ false) × (node_in n s.nodes ≡ Some k)) ⊎ (((m.0 == n.0) ≡ true) × (kept ≡ k))
 
   put-is : (n : NodeId) (k : NodeRecord) → node_in n t.nodes ≡ Some k → IsPut n k
-  put-is n k is = found (node_in n s.nodes) refl (sym (node_in-put m n kept s.nodes) ∙ (ap (node_in n) (sym same) ∙ is)) where
-    by : (old : NodeRecord) (b : Bool) → (m.0 == n.0) ≡ b → node_in n s.nodes ≡ Some old → cond b kept old ≡ k → IsPut n k
-    by old true here stood new = inr (here, new)
-    by old false other stood new = inl (other, stood ∙ ap (λ (x : NodeRecord). Some x) new)
-
-    found : (o : Option NodeRecord) → node_in n s.nodes ≡ o → option_map (λ (x : NodeRecord). cond (m.0 == n.0) kept x) o ≡ Some k → IsPut n k
-    found None stood new = absurd (none-some k new)
-    found (Some old) stood new = by old (m.0 == n.0) refl stood (same_Some (cond (m.0 == n.0) kept old) k new)
+  put-is n k x1 = let put = node_in-put m n kept s.nodes in grind (arith, nat_tests)
 
   queue-is : (n : NodeId) → node_queue n t.nodes ≡ node_queue n s.nodes
   queue-is n = ap (node_queue n) same ∙ node_queue-put m n kept s.nodes

@@ -1,5 +1,5 @@
 -- what follows a phase of a round, case by case: what a turn may begin, name or remove, and how a round ends
-use Rattle.np_worker.proofs.Prelude.{AreAsksOf, AreInOrder, AreReported, Ask, Bool, EndsWhereFull, Entry, Event, IfSome, IsAskOf, IsLone, IsOfServer, IsOfWork, IsPastJanitor, IsPastLauncher, IsPlayed, IsReported, Launch, Leads, List, MayAsk, MayLaunch, MayRemove, Move, NodeId, None, Option, Outcome, OwesRemoval, Phase, PoolId, Reports, RequesterId, Role, Server, Some, Stage, Start, Tag, TookAll, Turn, WasFull, WasIdle, WentFar, Work, acting, acts, after_act, after_launch, after_look, after_removal, after_report, after_start, after_sweep, after_turn, ap, append-nil, append_assoc, arith, ask_of, asked, cond, did_count, ended, false, first_phase, inl, inr, is_did, is_idle, is_janitor_act, is_launcher_act, is_lone_act, is_unwanted, launched, launches_of, looks, map, nat_tests, none-some, of_pool, of_reaper, of_requester, owed_tags, owes_due, owes_launch, owes_report, owes_swept, phase_of, player, refl, removed, report_of, rests, same_Some, server_in, stage_of, start_made, start_of, steps_act, steps_acting, steps_left, subst, suc, sweeps, sym, tags_launched, tags_of, true, zero, ℕ, [], ◌&&◌, ◌++◌, ◌+◌, ◌<◌, ◌∙◌, ◌∷◌, ◌≡◌, ◌≤◌, ◌⊎◌}
+use Rattle.np_worker.proofs.Prelude.{AreAsksOf, AreInOrder, AreReported, Ask, Bool, EndsWhereFull, Entry, Event, IfSome, IsAskOf, IsLone, IsOfServer, IsOfWork, IsPastJanitor, IsPastLauncher, IsPlayed, IsReported, Launch, Leads, List, MayAsk, MayLaunch, MayRemove, Move, NodeId, None, Option, Outcome, OwesRemoval, Phase, PoolId, Reports, RequesterId, Role, Server, Some, Stage, Start, Tag, TookAll, Turn, WasFull, WasIdle, WentFar, Work, acting, acts, after_act, after_launch, after_look, after_removal, after_report, after_start, after_sweep, after_turn, ap, append-nil, append_assoc, arith, ask_of, asked, cond, did_count, ended, false, first_phase, inl, inr, is_did, is_idle, is_janitor_act, is_launcher_act, is_lone_act, is_unwanted, launched, launches_of, looks, map, nat_tests, of_pool, of_reaper, of_requester, owed_tags, owes_due, owes_launch, owes_report, owes_swept, phase_of, player, refl, removed, report_of, rests, server_in, stage_of, start_made, start_of, steps_left, subst, suc, sweeps, sym, tags_launched, tags_of, true, zero, ℕ, [], ◌&&◌, ◌++◌, ◌+◌, ◌<◌, ◌∙◌, ◌∷◌, ◌≡◌, ◌≤◌, ◌⊎◌}
 use Rattle.np_worker.specs.Trace.{starts_of, NamesServer, AreNamed}
 
 -- # What follows a phase, case by case.
@@ -84,41 +84,16 @@ of_removal P f g p y h = absurd h
 
 -- # Accepted starts, their launches and the reports of these.
 
-none_full : (a : Ask) → start_made a Turn.Full ≡ None
-none_full a = grind (arith, nat_tests)
-
-none_idle : (r : Role) (t : Turn) → is_idle t ≡ true → start_made (Ask.Act r) t ≡ None
-none_idle r t x1 = grind (arith, nat_tests)
-
 -- ## launches
 
-asks_owe_none : (p : Phase) (a : Ask) → MayAsk p a → owed_tags p ≡ []
-asks_owe_none p a x1 = grind (arith, nat_tests)
-
-role_owes_none : (r : Role) (n : ℕ) → [] ≡ owed_tags (acting r n)
-role_owes_none r n = goes_on (λ s. [] ≡ owed_tags s) (λ q m. refl) (λ pool m. refl) (λ pool. refl) refl r n
-
 -- what a phase owes and what a turn starts is owed afterwards
-abbrev Owes : Phase → Ask → Turn → Phase → Type 0
-Owes p a t s = owed_tags p ++ tags_of (start_made a t) ≡ owed_tags s
-
-turns_owe : TurnCases Owes
-turns_owe = record {
-  full = λ p a m. ap (λ (l : List Tag). l ++ tags_of (start_made a Turn.Full)) (asks_owe_none p a m) ∙ ap tags_of (none_full a);
-  entry = λ r n e k. ap tags_of k ∙ role_owes_none r n;
-  start = λ pool n e s k. ap tags_of k;
-  idle = λ r n t i. ap tags_of (none_idle r t i) ∙ role_owes_none r 0;
-  report = λ pool n s o t. role_owes_none (Role.Launcher pool) n;
-  due_server = λ pool n node x. refl;
-  look = λ pool n t. refl;
-  swept_server = λ pool node x t k. refl;
-  sweep = λ pool node x t. refl;
-}
+turn_owes : (p : Phase) (a : Ask) (t : Turn) → MayAsk p a → owed_tags p ++ tags_of (start_made a t) ≡ owed_tags (after_turn p a t)
+turn_owes p a t x1 = grind (arith, nat_tests)
 
 -- the accepted starts are the launches, in this order, except one whose launch is still owed
 pub starts_launched : (p q : Phase) (ms : List Move) → Leads p ms q → owed_tags p ++ starts_of ms ≡ tags_launched ms ++ owed_tags q
 starts_launched p q [] h = append-nil (owed_tags p) ∙ ap owed_tags h
-starts_launched p q (asked a t ∷ ms) h = sym (append_assoc (owed_tags p) (tags_of (start_made a t)) (starts_of ms)) ∙ (ap (λ (l : List Tag). l ++ starts_of ms) (of_turn Owes turns_owe p a t h.0) ∙ starts_launched (after_turn p a t) q ms h.1)
+starts_launched p q (asked a t ∷ ms) h = sym (append_assoc (owed_tags p) (tags_of (start_made a t)) (starts_of ms)) ∙ (ap (λ (l : List Tag). l ++ starts_of ms) (turn_owes p a t h.0) ∙ starts_launched (after_turn p a t) q ms h.1)
 starts_launched p q (launched tag o ∷ ms) h = of_launch (λ u x s. owed_tags u ++ starts_of ms ≡ x ∷ (owed_tags s ++ starts_of ms)) (λ pool n s x. refl) p tag o h.0 ∙ ap (λ (l : List Tag). tag ∷ l) (starts_launched (after_launch p o) q ms h.1)
 starts_launched p q (removed y ∷ ms) h = of_removal (λ u s. owed_tags u ++ starts_of ms ≡ owed_tags s ++ starts_of ms) (λ pool n x. refl) (λ pool x. refl) p y h.0 ∙ starts_launched (after_removal p) q ms h.1
 
@@ -134,31 +109,13 @@ is_reported pool n s [] q h = (pool, n, sym h)
 is_reported pool n s (launched tag o ∷ ms) q h = (h.0, reports pool n s o ms q h.1)
 is_reported pool n s _ q h = absurd h.0
 
-module _ (ms : List Move) (q : Phase) where
-  -- the start, if there is one, is launched and reported in these moves
-  abbrev StartReported : Option Start → Type 0
-  StartReported o = IfSome o (λ s. IsReported s ms q)
-
-  -- the same for the start of a turn, if these moves come next
-  abbrev TurnReported : Phase → Ask → Turn → Phase → Type 0
-  TurnReported p a t s = Leads s ms q → StartReported (start_made a t)
-
-  turns_reported : TurnCases TurnReported
-  turns_reported = record {
-    full = λ p a m h. subst StartReported (sym (none_full a)) tt;
-    entry = λ r n e k h. subst StartReported (sym k) tt;
-    start = λ pool n e s k h. subst StartReported (sym k) (is_reported pool n s ms q h);
-    idle = λ r n t i h. subst StartReported (sym (none_idle r t i)) tt;
-    report = λ pool n s o t h. tt;
-    due_server = λ pool n node x h. tt;
-    look = λ pool n t h. tt;
-    swept_server = λ pool node x t k h. tt;
-    sweep = λ pool node x t h. tt;
-  }
+-- the start of a turn, if there is one, is launched and reported in the moves that come next
+turn_reported : (p q : Phase) (a : Ask) (t : Turn) (ms : List Move) → MayAsk p a → Leads (after_turn p a t) ms q → IfSome (start_made a t) (λ s. IsReported s ms q)
+turn_reported p q a t ms x1 x2 = grind (arith, nat_tests, is_reported)
 
 pub are_reported : (p q : Phase) (ms : List Move) → Leads p ms q → AreReported ms q
 are_reported p q [] h = tt
-are_reported p q (asked a t ∷ ms) h = (of_turn (TurnReported ms q) (turns_reported ms q) p a t h.0 h.1, are_reported (after_turn p a t) q ms h.1)
+are_reported p q (asked a t ∷ ms) h = (turn_reported p q a t ms h.0 h.1, are_reported (after_turn p a t) q ms h.1)
 are_reported p q (move ∷ ms) h = are_reported _ q ms h.1
 
 pub tags_of_launches : (ms : List Move) → tags_launched ms ≡ map (λ (l : Launch). l.tag) (launches_of ms)
@@ -182,32 +139,13 @@ stage_at _ = 3
 ask_stage : (p : Phase) (a : Ask) → MayAsk p a → stage_of a ≡ stage_at p
 ask_stage p a x1 = grind (arith, nat_tests)
 
-end_is_last : (p : Phase) → stage_at p ≤ 3
-end_is_last p = grind (arith, nat_tests)
-
-role_later : (r : Role) (n : ℕ) → stage_of (Ask.Act r) ≤ stage_at (acting r n)
-role_later r n = grind (arith, nat_tests)
-
 -- no turn leads to an earlier stage
-abbrev IsLater : Phase → Ask → Turn → Phase → Type 0
-IsLater p a t s = stage_at p ≤ stage_at s
-
-turns_later : TurnCases IsLater
-turns_later = record {
-  full = λ p a m. end_is_last p;
-  entry = λ r n e k. role_later r n;
-  start = λ pool n e s k. omega arith;
-  idle = λ r n t i. role_later r 0;
-  report = λ pool n s o t. omega arith;
-  due_server = λ pool n node x. omega arith;
-  look = λ pool n t. omega arith;
-  swept_server = λ pool node x t k. omega arith;
-  sweep = λ pool node x t. omega arith;
-}
+turn_later : (p : Phase) (a : Ask) (t : Turn) → MayAsk p a → stage_at p ≤ stage_at (after_turn p a t)
+turn_later p a t x1 = grind (arith, nat_tests)
 
 in_order_from : (p q : Phase) (ms : List Move) (stage : ℕ) → stage ≤ stage_at p → Leads p ms q → AreInOrder stage ms
 in_order_from p q [] stage l h = tt
-in_order_from p q (asked a t ∷ ms) stage l h = (omega (arith, ask_stage p a h.0), in_order_from (after_turn p a t) q ms (stage_of a) (omega (arith, ask_stage p a h.0, of_turn IsLater turns_later p a t h.0)) h.1)
+in_order_from p q (asked a t ∷ ms) stage l h = (omega (arith, ask_stage p a h.0), in_order_from (after_turn p a t) q ms (stage_of a) (omega (arith, ask_stage p a h.0, turn_later p a t h.0)) h.1)
 in_order_from p q (launched tag o ∷ ms) stage l h = in_order_from (after_launch p o) q ms stage (of_launch (λ u x s. stage ≤ stage_at u → stage ≤ stage_at s) (λ pool n s x k. k) p tag o h.0 l) h.1
 in_order_from p q (removed x ∷ ms) stage l h = in_order_from (after_removal p) q ms stage (of_removal (λ u s. stage ≤ stage_at u → stage ≤ stage_at s) (λ pool n y k. k) (λ pool y k. k) p x h.0 l) h.1
 
@@ -216,25 +154,9 @@ in_order p q ms h = in_order_from p q ms 0 (omega arith) h
 
 -- # Removals, and the turns that named them.
 
-role_removes_none : (r : Role) (n x : ℕ) → MayRemove (acting r n) x → ⊥
-role_removes_none r n x = goes_on (λ s. MayRemove s x → ⊥) (λ q m h. h) (λ pool m h. h) (λ pool h. h) (λ h. h) r n
-
 -- what is removed after a turn is what the turn named
-abbrev Names : Phase → Ask → Turn → Phase → Type 0
-Names p a t s = (x : ℕ) → MayRemove s x → NamesServer a t x
-
-turns_name : TurnCases Names
-turns_name = record {
-  full = λ p a m x h. absurd h;
-  entry = λ r n e k x h. absurd (role_removes_none r n x h);
-  start = λ pool n e s k x h. absurd h;
-  idle = λ r n t i x h. absurd (role_removes_none r 0 x h);
-  report = λ pool n s o t x h. absurd (role_removes_none (Role.Launcher pool) n x h);
-  due_server = λ pool n node y x h. sym h;
-  look = λ pool n t x h. absurd h;
-  swept_server = λ pool node y t k x h. (sym h, k);
-  sweep = λ pool node y t x h. absurd h;
-}
+turn_names : (p : Phase) (a : Ask) (t : Turn) → MayAsk p a → (x : ℕ) → MayRemove (after_turn p a t) x → NamesServer a t x
+turn_names p a t x1 x x2 = grind (arith, nat_tests)
 
 -- each removal is named, except one that comes first, which the phase owes
 abbrev NamedBut : Phase → List Move → Type 0
@@ -255,7 +177,7 @@ named_after a t s _ names h = h
 
 named_but : (p q : Phase) (ms : List Move) → Leads p ms q → NamedBut p ms
 named_but p q [] h = tt
-named_but p q (asked a t ∷ ms) h = named_after a t (after_turn p a t) ms (of_turn Names turns_name p a t h.0) (named_but (after_turn p a t) q ms h.1)
+named_but p q (asked a t ∷ ms) h = named_after a t (after_turn p a t) ms (turn_names p a t h.0) (named_but (after_turn p a t) q ms h.1)
 named_but p q (launched tag o ∷ ms) h = all_named (after_launch p o) ms (of_launch (λ u v s. (x : ℕ) → MayRemove s x → ⊥) (λ pool n s y x m. m) p tag o h.0) (named_but (after_launch p o) q ms h.1)
 named_but p q (removed x ∷ ms) h = (h.0, all_named (after_removal p) ms (of_removal (λ u s. (y : ℕ) → MayRemove s y → ⊥) (λ pool n z y m. m) (λ pool z y m. m) p x h.0) (named_but (after_removal p) q ms h.1))
 
@@ -265,28 +187,15 @@ are_named p q ms free h = all_named p ms (λ x m. free (of_removal (λ u s. Owes
 -- # The end of a round whose turn found no room in the journal.
 
 pub role_goes : (r : Role) (n : ℕ) → acting r n ≡ ended → ⊥
-role_goes r n = goes_on (λ s. s ≡ ended → ⊥) (λ q m e. cc) (λ pool m e. cc) (λ pool e. cc) (λ e. cc) r n
+role_goes r n x1 = grind (arith, nat_tests)
 
 -- only a turn that found the journal full leads to the end
-abbrev EndsBy : Phase → Ask → Turn → Phase → Type 0
-EndsBy p a t s = (t ≡ Turn.Full) ⊎ (s ≡ ended → ⊥)
-
-turns_end : TurnCases EndsBy
-turns_end = record {
-  full = λ p a m. inl refl;
-  entry = λ r n e k. inr (role_goes r n);
-  start = λ pool n e s k. inr (λ f. cc);
-  idle = λ r n t i. inr (role_goes r 0);
-  report = λ pool n s o t. inr (role_goes (Role.Launcher pool) n);
-  due_server = λ pool n node x. inr (λ f. cc);
-  look = λ pool n t. inr (λ f. cc);
-  swept_server = λ pool node x t k. inr (λ f. cc);
-  sweep = λ pool node x t. inr (λ f. cc);
-}
+turn_ends : (p : Phase) (a : Ask) (t : Turn) → MayAsk p a → (t ≡ Turn.Full) ⊎ (after_turn p a t ≡ ended → ⊥)
+turn_ends p a t x1 = grind (arith, nat_tests)
 
 pub ends_full : (p q : Phase) (ms : List Move) → (p ≡ ended → ⊥) → Leads p ms q → q ≡ ended → WasFull ms
 ends_full p q [] free h k = absurd (free (h ∙ k))
-ends_full p q (asked a t ∷ ms) free h k = elim (of_turn EndsBy turns_end p a t h.0) [ inl e ↦ inl e | inr f ↦ inr (ends_full (after_turn p a t) q ms f h.1 k) ]
+ends_full p q (asked a t ∷ ms) free h k = elim (turn_ends p a t h.0) [ inl e ↦ inl e | inr f ↦ inr (ends_full (after_turn p a t) q ms f h.1 k) ]
 ends_full p q (launched tag o ∷ ms) free h k = ends_full (after_launch p o) q ms (of_launch (λ u x s. s ≡ ended → ⊥) (λ pool n s x e. cc) p tag o h.0) h.1 k
 ends_full p q (removed x ∷ ms) free h k = ends_full (after_removal p) q ms (of_removal (λ u s. s ≡ ended → ⊥) (λ pool n y e. cc) (λ pool y e. cc) p x h.0) h.1 k
 
@@ -329,43 +238,17 @@ left test (looks pool n) = left_to test (Role.Janitor pool) (suc n)
 left test (owes_due pool n x) = left_to test (Role.Janitor pool) (suc n)
 left test _ = 0
 
-none_counts : (b d : Bool) (k : ℕ) → b ≡ false → cond (b && d) 1 0 + k ≡ k
-none_counts b d k x1 = grind (arith, nat_tests)
-
-none_left : (b : Bool) (m n k : ℕ) → b ≡ false → cond b m 0 + k ≡ cond b n 0 + k
-none_left b m n k x1 = grind (arith, nat_tests)
-
-one_less : (b : Bool) (n k : ℕ) → cond (b && true) 1 0 + (cond b n 0 + k) ≡ cond b (suc n) 0 + k
-one_less b n k = grind (arith, nat_tests)
-
 taken_on : (d n m k : ℕ) (W V : Type 0) → d + n ≡ k → (m ≡ n) ⊎ W → (d + m ≡ k) ⊎ (V ⊎ W)
 taken_on d n m k W V x1 x2 = grind (arith, nat_tests)
 
 -- a test of what roles do, which no report, look or sweep passes
 module _ (test : Ask → Bool) (no_report : (e : Event) → test (Ask.Do e) ≡ false) (no_look : (pool : PoolId) → test (Ask.Due pool) ≡ false) (no_sweep : (pool : PoolId) (node : NodeId) (x : ℕ) → test (Ask.Sweep pool node x) ≡ false) where
-  left_acting : (r : Role) (n : ℕ) → left test (acting r n) ≡ left_to test r n
-  left_acting r n = grind (arith, nat_tests)
-
   -- a turn takes one of those that are left, or finds the role idle, or the journal full
   abbrev Leaves : Phase → Ask → Turn → Phase → Type 0
   Leaves p a t s = (cond (test a && is_did t) 1 0 + left test s ≡ left test p) ⊎ (((test a ≡ true) × (is_idle t ≡ true)) ⊎ (s ≡ ended))
 
-  idle_leaves : (r : Role) (n : ℕ) (t : Turn) → is_idle t ≡ true → (b : Bool) → test (Ask.Act r) ≡ b → Leaves (acts r n) (Ask.Act r) t (acting r 0)
-  idle_leaves r n t i true h = inr (inl (h, i))
-  idle_leaves r n t i false h = inl (none_counts (test (Ask.Act r)) (is_did t) (left test (acting r 0)) h ∙ (left_acting r 0 ∙ none_left (test (Ask.Act r)) 0 (suc n) (left_after test r) h))
-
-  leaves : TurnCases Leaves
-  leaves = record {
-    full = λ p a m. inr (inr refl);
-    entry = λ r n e k. inl (ap (λ (m : ℕ). cond (test (Ask.Act r) && true) 1 0 + m) (left_acting r n) ∙ one_less (test (Ask.Act r)) n (left_after test r));
-    start = λ pool n e s k. inl (one_less (test (Ask.Act (Role.Launcher pool))) n (left_after test (Role.Launcher pool)));
-    idle = λ r n t i. idle_leaves r n t i (test (Ask.Act r)) refl;
-    report = λ pool n s o t. inl (none_counts (test (Ask.Do (report_of s o))) (is_did t) (left test (acting (Role.Launcher pool) n)) (no_report (report_of s o)) ∙ left_acting (Role.Launcher pool) n);
-    due_server = λ pool n node x. inl (none_counts (test (Ask.Due pool)) false (left test (looks pool n)) (no_look pool));
-    look = λ pool n t. inl (none_counts (test (Ask.Due pool)) (is_did t) (left test (looks pool n)) (no_look pool));
-    swept_server = λ pool node x t k. inl (none_counts (test (Ask.Sweep pool node x)) (is_did t) 0 (no_sweep pool node x));
-    sweep = λ pool node x t. inl (none_counts (test (Ask.Sweep pool node x)) (is_did t) 0 (no_sweep pool node x));
-  }
+  turn_leaves : (p : Phase) (a : Ask) (t : Turn) → MayAsk p a → Leaves p a t (after_turn p a t)
+  turn_leaves p a t x1 = grind (arith, nat_tests, no_report, no_look, no_sweep)
 
   taken_turn : (p s q : Phase) (a : Ask) (t : Turn) (ms : List Move) → Leaves p a t s → Leads s ms q → (q ≡ ended → ⊥) → (did_count test ms ≡ left test s) ⊎ WasIdle test ms → (did_count test (asked a t ∷ ms) ≡ left test p) ⊎ WasIdle test (asked a t ∷ ms)
   taken_turn p s q a t ms (inl e) h free i = taken_on (cond (test a && is_did t) 1 0) (left test s) (did_count test ms) (left test p) (WasIdle test ms) ((test a ≡ true) × (is_idle t ≡ true)) e i
@@ -374,7 +257,7 @@ module _ (test : Ask → Bool) (no_report : (e : Event) → test (Ask.Do e) ≡ 
 
   turns_taken : (p q : Phase) (ms : List Move) → Leads p ms q → left test q ≡ 0 → (q ≡ ended → ⊥) → (did_count test ms ≡ left test p) ⊎ WasIdle test ms
   turns_taken p q [] h z free = inl (sym (ap (left test) h ∙ z))
-  turns_taken p q (asked a t ∷ ms) h z free = taken_turn p (after_turn p a t) q a t ms (of_turn Leaves leaves p a t h.0) h.1 free (turns_taken (after_turn p a t) q ms h.1 z free)
+  turns_taken p q (asked a t ∷ ms) h z free = taken_turn p (after_turn p a t) q a t ms (turn_leaves p a t h.0) h.1 free (turns_taken (after_turn p a t) q ms h.1 z free)
   turns_taken p q (launched tag o ∷ ms) h z free = subst (λ (n : ℕ). (did_count test ms ≡ n) ⊎ WasIdle test ms) (of_launch (λ u x s. left test s ≡ left test u) (λ pool n s x. refl) p tag o h.0) (turns_taken (after_launch p o) q ms h.1 z free)
   turns_taken p q (removed x ∷ ms) h z free = subst (λ (n : ℕ). (did_count test ms ≡ n) ⊎ WasIdle test ms) (of_removal (λ u s. left test s ≡ left test u) (λ pool n y. refl) (λ pool y. refl) p x h.0) (turns_taken (after_removal p) q ms h.1 z free)
 
@@ -401,48 +284,16 @@ reaper_took ms h = lone_took (first_phase of_reaper) ms h refl
 
 -- # Which asks a worker makes.
 
-pub role_ask : (r : Role) → IsAskOf (player r) (Ask.Act r)
-role_ask (Role.Launcher pool) = inl refl
-role_ask (Role.Janitor pool) = inr refl
-role_ask r = refl
-
 module _ (w : Work) where
   pub work_acting : (r : Role) (n : ℕ) → player r ≡ w → IsOfWork w (acting r n)
-  work_acting (Role.Launcher pool) zero h = h
-  work_acting (Role.Janitor pool) zero h = h
-  work_acting r zero h = subst IsLone h tt
-  work_acting (Role.Janitor pool) (suc n) h = h
-  work_acting r (suc n) h = h
-
-  -- a turn of the worker leads to a phase of the worker
-  abbrev Stays : Phase → Ask → Turn → Phase → Type 0
-  Stays p a t s = IsOfWork w p → IsOfWork w s
-
-  turns_stay : TurnCases Stays
-  turns_stay = record {
-    full = λ p a m h. tt;
-    entry = λ r n e k h. work_acting r n h;
-    start = λ pool n e s k h. h;
-    idle = λ r n t i h. work_acting r 0 h;
-    report = λ pool n s o t h. work_acting (Role.Launcher pool) n h;
-    due_server = λ pool n node x h. h;
-    look = λ pool n t h. h;
-    swept_server = λ pool node x t k h. h;
-    sweep = λ pool node x t h. h;
-  }
-
-  ask_from : (v : Work) (a b : Ask) → v ≡ w → a ≡ b → IsAskOf v b → IsAskOf w a
-  ask_from v a b h m i = subst (λ (u : Work). IsAskOf u a) h (subst (IsAskOf v) (sym m) i)
+  work_acting r n x1 = grind (arith, nat_tests)
 
   ask_on : (p : Phase) (a : Ask) → MayAsk p a → IsOfWork w p → IsAskOf w a
-  ask_on (acts r n) a m h = ask_from (player r) a (Ask.Act r) h m (role_ask r)
-  ask_on (owes_report pool n s o) a m h = ask_from (of_pool pool) a _ h m (s, o, refl)
-  ask_on (looks pool n) a m h = ask_from (of_pool pool) a (Ask.Due pool) h m refl
-  ask_on (sweeps pool) a m h = ask_from (of_pool pool) a (Ask.Sweep pool m.0 m.1) h m.2 refl
-  ask_on p a m h = absurd m
+  ask_on p a x1 x2 = grind (arith, nat_tests)
 
+  -- a turn of the worker leads to a phase of the worker
   pub work_after : (p : Phase) (a : Ask) (t : Turn) → MayAsk p a → IsOfWork w p → IsOfWork w (after_turn p a t)
-  work_after p a t may = of_turn Stays turns_stay p a t may
+  work_after p a t x1 x2 = grind (arith, nat_tests)
 
   asks_from : (p q : Phase) (ms : List Move) → IsOfWork w p → Leads p ms q → AreAsksOf w ms
   asks_from p q [] h l = tt
@@ -462,49 +313,16 @@ asks_of w q ms l = asks_from w (first_phase w) q ms (begins w) l
 -- ## what is asked
 
 pub may_ask : (s : Stage) (a : Ask) → ask_of s ≡ Some a → MayAsk (phase_of s) a
-may_ask (Stage.Acts r n) a h = sym (same_Some (Ask.Act r) a h)
-may_ask (Stage.Reports pool n s o) a h = sym (same_Some (Ask.Do (report_of s o)) a h)
-may_ask (Stage.Looks pool n) a h = sym (same_Some (Ask.Due pool) a h)
-may_ask s a h = absurd (none-some a h)
+may_ask s a x1 = grind (arith, nat_tests)
 
 pub asks_no_server : (s : Stage) (a : Ask) → ask_of s ≡ Some a → (servers : List Server) → IsOfServer a servers
-asks_no_server (Stage.Acts r n) a h servers = subst (λ (x : Ask). IsOfServer x servers) (same_Some (Ask.Act r) a h) tt
-asks_no_server (Stage.Reports pool n s o) a h servers = subst (λ (x : Ask). IsOfServer x servers) (same_Some (Ask.Do (report_of s o)) a h) tt
-asks_no_server (Stage.Looks pool n) a h servers = subst (λ (x : Ask). IsOfServer x servers) (same_Some (Ask.Due pool) a h) tt
-asks_no_server s a h servers = absurd (none-some a h)
+asks_no_server s a x1 servers = grind (arith, nat_tests)
 
 -- ## how many steps are left
 
-steps_of_acting : (r : Role) (n : ℕ) → steps_left (acting r n) ≤ steps_acting r n
-steps_of_acting r n = grind (arith, nat_tests)
-
-acting_less : (r : Role) (n : ℕ) → steps_acting r n < steps_act r n
-acting_less r n = grind (arith, nat_tests)
-
--- a turn uses up a step, where some are left
-abbrev IsFewer : Phase → Ask → Turn → Phase → Type 0
-IsFewer p a t s = 0 < steps_left p → steps_left s < steps_left p
-
-turns_fewer : TurnCases IsFewer
-turns_fewer = record {
-  full = λ p a m some. omega arith;
-  entry = λ r n e k some. omega (arith, steps_of_acting r n, acting_less r n);
-  start = λ pool n e s k some. omega arith;
-  idle = λ r n t i some. omega (arith, steps_of_acting r 0, acting_less r 0, more_steps r n);
-  report = λ pool n s o t some. omega (arith, steps_of_acting (Role.Launcher pool) n);
-  due_server = λ pool n node x some. omega arith;
-  look = λ pool n t some. omega arith;
-  swept_server = λ pool node x t k some. absurd (omega arith);
-  sweep = λ pool node x t some. absurd (omega arith);
-} where
-  more_steps : (r : Role) (n : ℕ) → steps_act r 0 ≤ steps_act r n
-  more_steps r n = grind (arith, nat_tests)
-
-some_steps : (s : Stage) (a : Ask) → ask_of s ≡ Some a → 0 < steps_left (phase_of s)
-some_steps s a x1 = grind (arith, nat_tests)
-
+-- a turn uses up a step
 pub steps_after : (s : Stage) (a : Ask) (t : Turn) → ask_of s ≡ Some a → steps_left (after_turn (phase_of s) a t) < steps_left (phase_of s)
-steps_after s a t h = of_turn IsFewer turns_fewer (phase_of s) a t (may_ask s a h) (some_steps s a h)
+steps_after s a t x1 = grind (arith, nat_tests)
 
 -- ## where rounds end
 

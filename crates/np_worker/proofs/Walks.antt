@@ -1,5 +1,6 @@
 -- the walk of a round: its parts one after the other, their traces and drivers, and the history that it gains
-use Rattle.np_worker.proofs.Prelude.{All, All-cons, All-contains, All-from_recursion, All-head, All-nil, All-tail, AllByRecursion, Answered, Answers, AreKept, AreOrderly, AreRising, AreSoundAlone, Ask, Asked, Bool, Comes, Configuration, Contains, Contains-append_left, Contains-append_right, Contains-push, Counts, Drives, Driving, Drove, EndsAs, Entry, Err, FailFull, FailsFull, FollowsPlan, Gains, Goes, HasMoves, Heard, Hears, IfSome, IsAsPlanned, IsDealtWith, IsOfDriver, IsOfServer, IsOfWork, IsOver, IsReplied, IsSoundAlone, IsTrue, KeepsCounts, Launch, LaunchFault, Leads, List, MatchResult, MayAsk, MayLaunch, MayRemove, Move, Next, NoMemory, None, Ok, Option, Outcome, OwesRemoval, Part, Phase, Playing, PoolId, Records, RemovalEnds, RemovalFailed, Rests, Result, RolesTook, Rose, Server, Sight, Some, Soundness, Stage, StandAt, StartsWith, SweepsAll, SweepsOne, SweepsServers, Tag, Took, Turn, Turned, Unturned, Walk, Walked, WasKept, WentFar, WentOn, Work, after_launch, after_removal, after_sweep, after_turn, all-filter_to, all-weaker, answers, ap, append-nil, append_assoc, arith, ask_of, asked, asks, by_bool, cond, drop, drop-past, drop-there, drop_all, entries_of, entry_count, eq-eqb, false, filter, first_phase, get_or, inl, inr, is_full, is_number, is_unwanted, launched, launches_of, length, length-append, map, nat_tests, not, numbers_of, of_pool, of_reaper, of_requester, option_map, or_left, or_right, owed_tags, owes_swept, phase_of, recorded, refl, removed, rests, rising_more, servers_after, slice_get, starts_more, starts_on, starts_same, steps_left, subst, suc, sweeps, sym, tags_launched, true, with_launch, with_launched, without_number, zero, ℕ, [], ⊎_elim, ◌++◌, ◌+◌, ◌<◌, ◌==◌, ◌^◌, ◌∙◌, ◌∷◌, ◌≡◌, ◌≤◌, ◌⊎◌}
+use Rattle.np_worker.proofs.Prelude.{All, All-cons, All-contains, All-from_recursion, All-head, All-nil, All-tail, AllByRecursion, Answered, Answers, AreKept, AreOrderly, AreRising, AreSoundAlone, Ask, Asked, Bool, Comes, Configuration, Contains, Contains-append_left, Contains-append_right, Contains-push, Counts, Drives, Driving, Drove, EndsAs, Entry, Err, FailFull, FailsFull, FollowsPlan, Gains, Goes, HasMoves, Heard, Hears, IfSome, IsAsPlanned, IsDealtWith, IsOfDriver, IsOfServer, IsOfWork, IsOver, IsReplied, IsSoundAlone, IsTrue, KeepsCounts, Launch, LaunchFault, Leads, List, MatchResult, MayAsk, MayLaunch, MayRemove, Move, Next, NoMemory, None, Ok, Option, Outcome, OwesRemoval, Part, Phase, Playing, PoolId, Records, RemovalEnds, RemovalFailed, Rests, Result, RolesTook, Server, Sight, Some, Soundness, Stage, StandAt, StartsWith, SweepsAll, SweepsOne, SweepsServers, Tag, Took, Turn, Turned, Unturned, Walk, Walked, WasKept, WentFar, WentOn, Work, after_launch, after_removal, after_sweep, after_turn, all-filter_to, all-weaker, answers, ap, append-nil, append_assoc, arith, ask_of, asked, asks, by_bool, cond, drop, drop-past, drop-there, drop_all, entries_of, entry_count, eq-eqb, false, filter, first_phase, get_or, inl, inr, is_full, is_number, is_unwanted, launched, launches_of, length, length-append, map, nat_tests, not, numbers_of, of_pool, of_reaper, of_requester, option_map, or_left, or_right, owed_tags, owes_swept, phase_of, recorded, refl, removed, rests, rising_more, servers_after, slice_get, starts_more, starts_on, starts_same, steps_left, subst, suc, sweeps, sym, true, with_launch, with_launched, without_number, zero, ℕ, [], ⊎_elim, ◌++◌, ◌+◌, ◌<◌, ◌==◌, ◌^◌, ◌∙◌, ◌∷◌, ◌≡◌, ◌≤◌, ◌⊎◌}
+use Rattle.std.proofs.lemmas.Option.{IfSome_then}
 use Rattle.np_cloud.specs.Sound.{IsFull}
 use Rattle.np_worker.specs.Trace.{starts_of}
 use Rattle.np_worker.proofs.Steps.{are_named, are_reported, asks_no_server, asks_of, ends_where_full, in_order, is_at_end, janitor_took, launcher_took, may_ask, pool_swept, reaper_took, requester_took, starts_launched, steps_after, tags_of_launches, work_after}
@@ -192,10 +193,7 @@ first_owes_none : (work : Work) → OwesRemoval (first_phase work) → ⊥
 first_owes_none work x1 = grind (arith, nat_tests)
 
 first_launches : (work : Work) (trace : List Move) (to : Phase) → Leads (first_phase work) trace to → starts_of trace ≡ map (λ (l : Launch). l.tag) (launches_of trace) ++ owed_tags to
-first_launches work trace to led = by work (starts_launched (first_phase work) to trace led) ∙ ap (λ (l : List Tag). l ++ owed_tags to) (tags_of_launches trace) where
-  by : (w : Work) → owed_tags (first_phase w) ++ starts_of trace ≡ tags_launched trace ++ owed_tags to → starts_of trace ≡ tags_launched trace ++ owed_tags to
-  by of_reaper is = is
-  by w is = is
+first_launches work trace to led = let all = starts_launched (first_phase work) to trace led in let tags = tags_of_launches trace in grind (arith, nat_tests)
 
 roles_took : (work : Work) (trace : List Move) (to : Phase) → Leads (first_phase work) trace to → RolesTook work trace to
 roles_took (of_pool pool) trace to led = (launcher_took pool to trace led, janitor_took pool to trace led)
@@ -307,21 +305,15 @@ module _ {F : Type 0} (answers : F → List Entry → Ask → Turn → Type 0) (
 
 -- # What a part of a round did with its driver.
 
+if_some : {A : Type 0} (o : Option A) (P : A → Type 0) → ((x : A) → P x) → IfSome o P
+if_some None P h = tt
+if_some (Some x) P h = h x
+
 swept_both : (ms ns : List Move) (o : Option (List Server)) → IfSome o (λ s. SweepsServers ms s) → IfSome (option_map (servers_after ms) o) (λ s. SweepsServers ns s) → IfSome o (λ s. SweepsServers (ms ++ ns) s)
-swept_both ms ns None h k = h
-swept_both ms ns (Some s) h k = sweeps-append ms ns s h k
-
-swept_none : (o : Option (List Server)) → IfSome o (λ s. Unit {0})
-swept_none None = tt
-swept_none (Some s) = tt
-
-swept_ask : (a : Ask) (o : Option (List Server)) → IfSome o (λ s. IsOfServer a s) → IfSome o (λ s. IsOfServer a s × Unit {0})
-swept_ask a None h = tt
-swept_ask a (Some s) h = (h, tt)
+swept_both ms ns o x1 x2 = grind (arith, nat_tests, sweeps-append)
 
 alone_both : (sound : List ℕ → Bool) (ms ns : List Move) (o : Option (List Server)) → IfSome o (λ s. AreSoundAlone sound ms) → IfSome (option_map (servers_after ms) o) (λ s. AreSoundAlone sound ns) → IfSome o (λ s. AreSoundAlone sound (ms ++ ns))
-alone_both sound ms ns None h k = h
-alone_both sound ms ns (Some s) h k = alone-append sound ms ns h k
+alone_both sound ms ns o x1 x2 = grind (arith, nat_tests, alone-append)
 
 alone_now : (a b : Driving) (ms ns : List Move) → b.facts.servers ≡ option_map (servers_after ms) a.facts.servers → b.sound ≡ a.sound → IfSome b.facts.servers (λ s. AreSoundAlone b.sound ns) → IfSome (option_map (servers_after ms) a.facts.servers) (λ s. AreSoundAlone a.sound ns)
 alone_now a b ms ns e f h = subst (λ (g : List ℕ → Bool). IfSome (option_map (servers_after ms) a.facts.servers) (λ s. AreSoundAlone g ns)) f (subst (λ (o : Option (List Server)). IfSome o (λ s. AreSoundAlone b.sound ns)) e h)
@@ -376,13 +368,13 @@ same_servers : (o : Option (List Server)) → o ≡ option_map (servers_after []
 same_servers o = map_same (servers_after []) (λ s. refl) o
 
 pub drives_kept : (a b : Driving) → b.facts.answered ≡ a.facts.answered → b.facts.servers ≡ a.facts.servers → StaysSame a b → Drives [] a b
-drives_kept a b h s k = drives_of [] a b (h ∙ none_more a.facts.answered) (s ∙ same_servers a.facts.servers) (swept_none a.facts.servers) tt (swept_none a.facts.servers) tt k
+drives_kept a b h s k = drives_of [] a b (h ∙ none_more a.facts.answered) (s ∙ same_servers a.facts.servers) (if_some a.facts.servers _ (λ s. tt)) tt (if_some a.facts.servers _ (λ s. tt)) tt k
 
 pub drives_none : (d : Driving) → Drives [] d d
 drives_none d = drives_kept d d refl refl (stays_same d)
 
 drives_ask : (d : Driving) (a : Ask) (t : Turn) → IfSome d.facts.servers (λ s. IsOfServer a s) → Drives (asked a t ∷ []) d d
-drives_ask d a t h = drives_of (asked a t ∷ []) d d (none_more d.facts.answered) (same_servers d.facts.servers) (swept_ask a d.facts.servers h) tt (swept_none d.facts.servers) tt (stays_same d)
+drives_ask d a t h = drives_of (asked a t ∷ []) d d (none_more d.facts.answered) (same_servers d.facts.servers) (IfSome_then d.facts.servers h (λ s of. (of, tt))) tt (if_some d.facts.servers _ (λ s. tt)) tt (stays_same d)
 
 pub drove_none : (d : Option Driving) → Drove [] d d
 drove_none None = tt
@@ -392,12 +384,8 @@ pub drove_ask : (d : Option Driving) (a : Ask) (t : Turn) → IsOfDriver a d →
 drove_ask None a t h = tt
 drove_ask (Some d) a t h = drives_ask d a t h
 
-alone_one : (sound : List ℕ → Bool) (o : Outcome) (s : Option (List Server)) → IfSome s (λ _. IsSoundAlone sound o) → IfSome s (λ _. IsSoundAlone sound o × Unit {0})
-alone_one sound o None h = tt
-alone_one sound o (Some s) h = (h, tt)
-
 drives_launched : (a b : Driving) (tag : Tag) (o : Outcome) → Answers a.facts tag o b.facts → IfSome (a.plan tag) (λ planned. planned ≡ o) → IfSome a.facts.servers (λ _. IsSoundAlone a.sound o) → FailsFull a.room o a.facts.answered a.facts.servers → StaysSame a b → Drives (launched tag o ∷ []) a b
-drives_launched a b tag o h p alone full k = drives_of (launched tag o ∷ []) a b h.answered h.servers (swept_none a.facts.servers) (p, tt) (alone_one a.sound o a.facts.servers alone) (full, tt) k
+drives_launched a b tag o h p alone full k = drives_of (launched tag o ∷ []) a b h.answered h.servers (if_some a.facts.servers _ (λ s. tt)) (p, tt) (IfSome_then a.facts.servers alone (λ s sound. (sound, tt))) (full, tt) k
 
 launched_as_planned : (p : Option Outcome) (x : ℕ) → IsAsPlanned p (Ok x) → IfSome p (λ planned. planned ≡ Outcome.Launched x)
 launched_as_planned p x x1 = grind (arith, nat_tests)
@@ -422,19 +410,13 @@ pub drives_launch : (a b : Driving) (tag : Tag) (x : ℕ) → Answers a.facts ta
 drives_launch a b tag x h p sound k = drives_launched a b tag (Outcome.Launched x) h (launched_as_planned (a.plan tag) x p) (alone_launched a b tag x a.facts.servers h.servers k.sound sound) tt k
 
 pub drives_failed : (a b : Driving) (tag : Tag) → Answers a.facts tag Outcome.Failed b.facts → IsAsPlanned (a.plan tag) (Err LaunchFault.Failed) → IsFull a.facts a.room → StaysSame a b → Drives (launched tag Outcome.Failed ∷ []) a b
-drives_failed a b tag h p full k = drives_launched a b tag Outcome.Failed h (failed_as_planned (a.plan tag) p) (swept_none a.facts.servers) full k
+drives_failed a b tag h p full k = drives_launched a b tag Outcome.Failed h (failed_as_planned (a.plan tag) p) (if_some a.facts.servers _ (λ s. tt)) full k
 
 pub drives_removed : (a b : Driving) (x : ℕ) → b.facts.answered ≡ a.facts.answered → b.facts.servers ≡ option_map (without_number x) a.facts.servers → StaysSame a b → Drives (removed x ∷ []) a b
-drives_removed a b x h s k = drives_of (removed x ∷ []) a b (h ∙ none_more a.facts.answered) s (swept_none a.facts.servers) tt (swept_none a.facts.servers) tt k
-
-rose_before : (a b c : ℕ) → a ≤ b → Rose b c → Rose a c
-rose_before a b c h k = omega arith
+drives_removed a b x h s k = drives_of (removed x ∷ []) a b (h ∙ none_more a.facts.answered) s (if_some a.facts.servers _ (λ s. tt)) tt (if_some a.facts.servers _ (λ s. tt)) tt k
 
 pub failed_before : (a b c : Option Driving) (ms : List Move) → Drove ms a b → RemovalFailed b c → RemovalFailed a c
-failed_before (Some a) (Some b) (Some c) ms k h = rose_before a.facts.remove_faults b.facts.remove_faults c.facts.remove_faults k.counts.removals h
-failed_before None (Some b) c ms k h = absurd k
-failed_before (Some a) None c ms k h = absurd k
-failed_before _ _ c ms k h = absurd h
+failed_before a b c ms x1 x2 = grind (arith, nat_tests)
 
 pub same_driving : (a b : Driving) → a.facts ≡ b.facts → a.plan ≡ b.plan → a.sound ≡ b.sound → a.room ≡ b.room → a ≡ b
 same_driving a b x1 x2 x3 x4 = grind (arith, nat_tests)
@@ -480,13 +462,9 @@ kept_all pool ms (Some s) h = All-from_recursion (WasKept pool ms) s h
 pub kept_end : (pool : PoolId) (ms : List Move) (d : Driving) → KeptFrom pool ms 0 d.facts.servers → AreKept pool ms (Some d)
 kept_end pool ms d h = kept_all pool ms d.facts.servers h
 
-kept_before : (pool : PoolId) (ms ns : List Move) (o : Option (List Server)) → IfSome o (λ s. All (WasKept pool ns) s) → IfSome o (λ s. All (WasKept pool (ms ++ ns)) s)
-kept_before pool ms ns None h = tt
-kept_before pool ms ns (Some s) h = λ k d l. was_kept_after pool ms ns (get_or s k d) (h k d l)
-
 -- more moves came before the sweeps
 pub are_kept_after : (pool : PoolId) (ms ns : List Move) (d : Driving) → AreKept pool ns (Some d) → AreKept pool (ms ++ ns) (Some d)
-are_kept_after pool ms ns d h = kept_before pool ms ns d.facts.servers h
+are_kept_after pool ms ns d h = IfSome_then d.facts.servers h (λ s all k e l. was_kept_after pool ms ns (get_or s k e) (all k e l))
 
 pub kept_none : (pool : PoolId) (ms : List Move) (n : ℕ) (o : Option (List Server)) → IfSome o (λ s. None ≡ slice_get s n) → KeptFrom pool ms n o
 kept_none pool ms n None h = tt
@@ -572,10 +550,6 @@ module _ {F : Type 0} (answers : F → List Entry → Ask → Turn → Type 0) w
   pub with_recorded : (r : Ask → Turn → Option Entry) → r ≡ recorded → (f : F) (v w : Sight Entry) (a : Ask) (t : Result Turn NoMemory) → Turned answers r f v a t w → Turned answers recorded f v a t w
   with_recorded r e f v w a t h = subst (λ (s : Ask → Turn → Option Entry). Turned answers s f v a t w) e h
 
-if_some : {A : Type 0} (o : Option A) (P : A → Type 0) → ((x : A) → P x) → IfSome o P
-if_some None P h = tt
-if_some (Some x) P h = h x
-
 -- ## asks, and how parts end
 
 -- an ask that is about no server
@@ -602,13 +576,10 @@ module _ {F : Type 0} {answers : F → List Entry → Ask → Turn → Type 0} {
 -- a part that began with a turn ends as its rest does
 pub sweeps_one_on : (pool : PoolId) (server : Server) (d e : Driving) (n : Next) (trace trace' : List Move) (to : Phase)
     → (n ≡ Next.Go → IsDealtWith pool server d e trace') → SweepsOne pool server d e (Ok n) trace to → SweepsOne pool server d e (Ok n) trace' to
-sweeps_one_on pool server d e Next.Go trace trace' to h l = (l.0, h refl)
-sweeps_one_on pool server d e n trace trace' to h l = l
+sweeps_one_on pool server d e n trace trace' to x1 x2 = grind (arith, nat_tests)
 
 pub removed_deals : (pool : PoolId) (server : Server) (d e : Driving) (n : Next) (trace : List Move) → RemovalEnds server.number d e n → n ≡ Next.Go → IsDealtWith pool server d e trace
-removed_deals pool server d e Next.Go trace r h = inr r.servers
-removed_deals pool server d e Next.Failed trace r h = absurd (cc)
-removed_deals pool server d e n trace r h = absurd r
+removed_deals pool server d e n trace x1 x2 = grind (arith, nat_tests)
 
 pub after_sweep_turn : (pool : PoolId) (x : ℕ) (t : Turn) → (t ≡ Turn.Full → ⊥) → after_sweep pool x t ≡ cond (is_unwanted t) (owes_swept pool x) (sweeps pool)
 after_sweep_turn pool x t x1 = grind (arith, nat_tests)
@@ -616,15 +587,10 @@ after_sweep_turn pool x t x1 = grind (arith, nat_tests)
 -- ## the end of a round
 
 pub sweeps_before : (pool : PoolId) (d0 d e : Driving) (ms ns : List Move) (r : Result Next NoMemory) (to : Phase) → Drove ms (Some d0) (Some d) → SweepsAll pool d e r ns to → SweepsAll pool d0 e r (ms ++ ns) to
-sweeps_before pool d0 d e ms ns (Ok Next.Full) to h l = l
-sweeps_before pool d0 d e ms ns (Ok Next.Failed) to h l = (l.0, failed_before (Some d0) (Some d) (Some e) ms h l.1)
-sweeps_before pool d0 d e ms ns (Ok n) to h l = (l.0, are_kept_after pool ms ns e l.1)
-sweeps_before pool d0 d e ms ns (Err y) to h l = tt
+sweeps_before pool d0 d e ms ns r to x1 x2 = let failed = failed_before (Some d0) (Some d) (Some e) ms x1 in let kept = are_kept_after pool ms ns e in grind (arith, nat_tests)
 
 pub ends_alone : (w : Work) (n : Next) (entries : ℕ) (trace : List Move) (to : Phase) → ((p : Phase) → p ≡ rests → Rests w None None trace p) → Goes rests rests (Ok n) trace to → EndsAs w None None (Ok (record { entries = entries; full = is_full n })) trace to
-ends_alone w Next.Full entries trace to h l = l
-ends_alone w Next.Failed entries trace to h l = absurd l
-ends_alone w n entries trace to h l = h to l
+ends_alone w n entries trace to x1 x2 = grind (arith, nat_tests)
 
 -- an entry is counted once
 pub counts_turn : (n m : ℕ) (a : Ask) (t : Turn) (before : List Entry) (v w : Sight Entry)
@@ -649,17 +615,12 @@ pub comes_to : (go : Phase) (d e : Option Driving) (n : Next) (trace : List Move
 comes_to go d e n trace to x1 x2 x3 = grind (arith, nat_tests)
 
 pub comes_from : (go idle : Phase) (d e : Option Driving) (r : Result Next NoMemory) (trace trace' : List Move) (to : Phase) → Comes go idle d e r trace to → Comes go idle d e r trace' to
-comes_from go idle d e (Ok Next.Go) trace trace' to l = l
-comes_from go idle d e r trace trace' to l = l
+comes_from go idle d e r trace trace' to x1 = grind (arith, nat_tests)
 
 -- ## sweeps of one server
 
-of_contained : (pool : PoolId) (server : Server) (o : Option (List Server)) → IfSome o (λ servers. Contains servers server) → IfSome o (λ servers. IsOfServer (Ask.Sweep pool server.tag.node server.number) servers)
-of_contained pool server None h = tt
-of_contained pool server (Some servers) h = (server, h, refl, refl)
-
 pub of_kept_server : (pool : PoolId) (server : Server) (d : Driving) → IfSome d.facts.servers (λ servers. Contains servers server) → IsOfDriver (Ask.Sweep pool server.tag.node server.number) (Some d)
-of_kept_server pool server d h = of_contained pool server d.facts.servers h
+of_kept_server pool server d h = IfSome_then d.facts.servers h (λ servers there. (server, there, refl, refl))
 
 pub was_kept_now : (pool : PoolId) (server : Server) (t : Turn) (trace : List Move) → trace ≡ asked (Ask.Sweep pool server.tag.node server.number) t ∷ [] → is_unwanted t ≡ false → WasKept pool trace server
 was_kept_now pool server t trace h k = (t, subst (λ (l : List Move). Contains l (asked (Ask.Sweep pool server.tag.node server.number) t)) (sym h) (Contains-push [] (asked (Ask.Sweep pool server.tag.node server.number) t)), k)
@@ -667,10 +628,7 @@ was_kept_now pool server t trace h k = (t, subst (λ (l : List Move). Contains l
 -- the sweep of one server that was cut off or failed ends all
 pub sweeps_one_all : (pool : PoolId) (server : Server) (d0 d e : Driving) (ms : List Move) (n : Next) (trace trace' : List Move) (to : Phase)
     → (n ≡ Next.Go → ⊥) → Drove ms (Some d0) (Some d) → SweepsOne pool server d e (Ok n) trace to → SweepsAll pool d0 e (Ok n) trace' to
-sweeps_one_all pool server d0 d e ms Next.Go trace trace' to h k l = absurd (h refl)
-sweeps_one_all pool server d0 d e ms Next.Idle trace trace' to h k l = absurd l
-sweeps_one_all pool server d0 d e ms Next.Full trace trace' to h k l = l
-sweeps_one_all pool server d0 d e ms Next.Failed trace trace' to h k l = (l.0, failed_before (Some d0) (Some d) (Some e) ms k l.1)
+sweeps_one_all pool server d0 d e ms n trace trace' to x1 x2 x3 = let failed = failed_before (Some d0) (Some d) (Some e) ms x2 in grind (arith, nat_tests)
 
 pub sweeps_one_at : (pool : PoolId) (server : Server) (d e : Driving) (n m : Next) (trace : List Move) (to : Phase) → n ≡ m → SweepsOne pool server d e (Ok n) trace to → SweepsOne pool server d e (Ok m) trace to
 sweeps_one_at pool server d e n m trace to h l = subst (λ (x : Next). SweepsOne pool server d e (Ok x) trace to) h l
@@ -747,10 +705,7 @@ work_at w s t h k = subst (λ (x : Stage). IsOfWork w (phase_of x)) h k
 -- the roles of a pool were played, or the round ends
 pub roles_end : (pool : PoolId) (a b c : Option Driving) (ms : List Move) (n : Next) (from p : Phase) (trace trace' : List Move) (to : Phase) → (n ≡ Next.Go → ⊥) → Drove ms a b → Comes p p b c (Ok n) trace to → WentOn n from p → IsOfWork (of_pool pool) p
     → Comes (sweeps pool) (sweeps pool) a c (Ok n) trace' to
-roles_end pool a b c ms Next.Go from p trace trace' to h k l on w = absurd (h refl)
-roles_end pool a b c ms Next.Idle from p trace trace' to h k l on w = l ∙ pool_swept pool p on w
-roles_end pool a b c ms Next.Full from p trace trace' to h k l on w = l
-roles_end pool a b c ms Next.Failed from p trace trace' to h k l on w = (l.0, failed_before a b c ms k l.1)
+roles_end pool a b c ms n from p trace trace' to x1 x2 x3 x4 x5 = let failed = failed_before a b c ms x2 in let swept = pool_swept pool p in grind (arith, nat_tests)
 
 module _ {F : Type 0} {answers : F → List Entry → Ask → Turn → Type 0} {f : F} where
   pub same_from : {p q : Phase} {u v : Sight Entry} {d e : Option Driving} {P : List Move → Phase → Type 0} → p ≡ q → Part answers f p u v d e P → Part answers f q u v d e P

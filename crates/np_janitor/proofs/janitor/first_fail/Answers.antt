@@ -1,5 +1,5 @@
-use Rattle.np_janitor.proofs.Prelude.{arith, false, lacks_registration, nat_tests, sym, ◌≡◌}
-use Rattle.np_janitor.proofs.Janitors.{no-first, first-refused, first-useful}
+use Rattle.np_janitor.proofs.Prelude.{None, Some, arith, false, lacks_registration, nat_tests, passes-useful, refl, sym, ◌≡◌}
+use Rattle.np_janitor.proofs.Janitors.{first-refused}
 use Rattle.np_janitor.proofs.Undeclined.{none-fails}
 use Rattle.np_janitor.proofs.janitor.first_fail.Goals as goal
 
@@ -10,15 +10,13 @@ returns-then-not-lacks_registration g c =
 
 pub returns-in_default : goal.returns-in_default
 returns-in_default g c =
-    no-first (g.L.Look.site c.args.look.now) (g.L.Look.state c.args.look.now) c.args.session c.args.rows.now.known.pool c.requires.current c.requires.reached
-    (sym c.in_default.ensures)
+    first-refused (g.L.Look.site c.args.look.now) (g.L.Look.state c.args.look.now) c.args.session c.args.rows.now.known.pool c.requires.current c.requires.reached
+    None (sym c.in_default.ensures) refl
 
 pub returns-then-passes : goal.returns-then-passes
-returns-then-passes g c =
-    first-useful (g.L.Look.site c.args.look.now) (g.L.Look.state c.args.look.now) c.args.session c.args.rows.now.known.pool c.requires.current
-    c.in-Some.request (sym c.if-passes.ensures)
+returns-then-passes g c = passes-useful (g.L.Look.site c.args.look.now) (g.L.Look.state c.args.look.now) _ _ (sym c.if-passes.ensures) c.requires.current
 
 pub returns-else-passes : goal.returns-else-passes
 returns-else-passes g c =
     first-refused (g.L.Look.site c.args.look.now) (g.L.Look.state c.args.look.now) c.args.session c.args.rows.now.known.pool c.requires.current c.requires.reached
-    c.in-Some.request (sym c.in-Some.ensures) (sym c.if-passes.ensures)
+    (Some c.in-Some.request) (sym c.in-Some.ensures) (sym c.if-passes.ensures)
