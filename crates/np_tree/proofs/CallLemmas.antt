@@ -1,6 +1,7 @@
 -- the parts of a call, one after another, and what is always true of a tree after each call
-use Rattle.np_tree.proofs.Prelude.{AllByRecursion, AnsweredGoes, AtPart, BeginsKeepTree, Bool, CallsKeepTree, ChecksLeaveTheTree, EndsKeepTree, Err, Goes, GoesAfter, GoesAnswered, GoesEmpty, GoesFront, GoesJoined, GoesUnderOneNumber, GoesUnrefused, HasParts-below, HasRoom, Holds, Inner, IsDated, IsKept, IsOk, IsPart, IsTree, IsTreeUpTo, IsWhole, KeepsStart, Known, List, Mode, NoMemory, Node, NodeLists, None, Ok, OnErr, OnOk, Op, OpDone, Option, OwnerLives, PartsKeepTree, PathsAreTheirParts, RaisesKeepTree, Refused, Result, SessionFault, Some, Stops, TreeRefusal, TreeState, after_begin, after_create_under, after_end, after_loss, after_multi, after_part, after_parts, after_raise, all-change_first, all-filter, all-filter_to, all-insert_before, all-mapped, all-push, all-weaker, and_then, answers_from, ap, arith, at_path, change_node, cond, drop, drop_more, eq-eqb, eqb-true, false, false_from_ne_true, filter, get_or, is_at, is_check, is_ephemeral, is_in, is_owned, is_owner, length, length-take-le, list_any, list_any-append, lit≤, made_path, min, name_of, new_node, new_tree, next_change, nodes_after_end, not, not-false, or_left, or_parts, parent_of, part_answer, path_before, refl, root_node, state_of, subst, suc, sym, take, take-append-drop, take_all, take_more, true, where_found, with_bytes, with_child, with_counter, with_new_child, with_next_number, without, without_child, without_child_above, ℕ, [], ◌++◌, ◌+◌, ◌<◌, ◌==◌, ◌||◌, ◌∙◌, ◌∷◌, ◌≡◌, ◌≤◌}
-use Rattle.np_tree.proofs.WholeLemmas.{HasRoom-after_end, HasRoom-after_part, HasRoom-change_node, HasRoom-new_tree, IsWhole-after_end, IsWhole-after_part, IsWhole-after_raise, IsWhole-new_tree, and_then-ok}
+use Rattle.np_tree.proofs.Prelude.{AllByRecursion, AnsweredGoes, BeginsKeepTree, Bool, CallsKeepTree, ChecksLeaveTheTree, EndsKeepTree, Err, Goes, GoesAfter, GoesAnswered, GoesEmpty, GoesFront, GoesJoined, GoesUnderOneNumber, GoesUnrefused, HasParts-below, HasRoom, Holds, Inner, IsDated, IsKept, IsKept-root, IsOk, IsPart, IsTree, IsTreeUpTo, IsWhole, KeepsStart, Known, List, Mode, NoMemory, Node, NodeLists, None, Ok, OnErr, OnOk, Op, OpDone, Option, OwnerLives, PartsKeepTree, PathsAreTheirParts, RaisesKeepTree, Refused, Result, SessionFault, Some, Stops, TreeRefusal, TreeState, [], after_begin, after_create_under, after_loss, after_multi, after_part, after_parts, all-change_first, all-filter, all-filter_to, all-insert_before, all-mapped, all-push, all-weaker, answers_from, ap, arith, at_path, by_bool, change_node, cond, drop, drop_more, false, filter, get_or, is_at, is_check, is_ephemeral, is_in, is_owned, is_owner, length, length-take-le, list_any, list_any-append, lit≤, made_path, name_of, nat_tests, new_node, new_tree, next_change, not, not-true, or_left, parent_of, part_answer, path_before, refl, state_of, subst, suc, sym, take, take-append-drop, take_all, take_more, true, where_found, with_bytes, with_child, with_counter, with_new_child, with_next_number, without, without_child, ℕ, ◌++◌, ◌+◌, ◌<◌, ◌==◌, ◌∙◌, ◌∷◌, ◌≡◌, ◌≤◌}
+use Rattle.np_tree.proofs.WholeLemmas.{HasRoom-after_end, HasRoom-after_part, HasRoom-change_node, IsWhole-after_end, IsWhole-after_part, IsWhole-after_raise, IsWhole-new_tree, and_then-ok, by-part, parts-keep}
+use Rattle.np_tree.proofs.RowLemmas.{some_same}
 use Rattle.np_session.specs.Known as known
 
 -- # the parts of a call, one after another
@@ -46,45 +47,21 @@ after_parts-append t s (part ∷ parts) more = after_parts-append (after_part t 
 -- ## checks alone
 
 check-nothing : (t : TreeState) (session : ℕ) (part : Op) → is_check part ≡ true → after_part t session part ≡ t
-check-nothing t s (Op.Create path bytes mode) is = absurd cc
-check-nothing t s (Op.CreateUnder parent bytes mode) is = absurd cc
-check-nothing t s (Op.Set path bytes expect) is = absurd cc
-check-nothing t s (Op.Delete path expect) is = absurd cc
 check-nothing t s (Op.Check path expect) is = refl
+check-nothing t s part is = absurd cc
 
 pub after_parts-checks : (t : TreeState) (session : ℕ) (parts : List Op) → list_any (λ part. not (is_check part)) parts ≡ false → after_parts t session parts ≡ t
 after_parts-checks t s [] none = refl
-after_parts-checks t s (part ∷ parts) none =
-    let both = or_parts (not (is_check part)) (list_any (λ p. not (is_check p)) parts) none in
-    let same = check-nothing t s part (not-false (is_check part) both.0) in
-    ap (λ (u : TreeState). after_parts u s parts) same ∙ after_parts-checks t s parts both.1
+after_parts-checks t s (part ∷ parts) none = grind (arith, none, check-nothing t s part, after_parts-checks t s parts)
 
 -- # the parts of a `multi`, one after another
 
--- the first part and those after it were accepted
-record Accepted (r : Result OpDone TreeRefusal) (others : Result (List OpDone) AtPart) (done : List OpDone) : Type 0 where
-  first : OpDone
-  later : List OpDone
-  is_first : r ≡ Ok first
-  is_later : others ≡ Ok later
-  is : done ≡ first ∷ later
-
-and_then-Ok : (at : ℕ) (r : Result OpDone TreeRefusal) (others : Result (List OpDone) AtPart) (done : List OpDone) → and_then at r others ≡ Ok done → Accepted r others done
-and_then-Ok at (Err refusal) others done is = absurd cc
-and_then-Ok at (Ok first) (Err later) done is = absurd cc
-and_then-Ok at (Ok first) (Ok later) done is = record { first = first; later = later; is_first = refl; is_later = refl; is = let same : first ∷ later ≡ done = cc in sym same }
-
-same_done : (xs ys : List OpDone) → (let r : Result (List OpDone) AtPart = Ok xs in r ≡ Ok ys) → xs ≡ ys
-same_done xs ys is = cc
-
 -- one more part was accepted
 pub answers-more : (at : ℕ) (t : TreeState) (s : ℕ) (parts : List Op) (part : Op) (done : List OpDone) (a : OpDone) → answers_from at t s parts ≡ Ok done → part_answer (after_parts t s parts) s part ≡ Ok a → answers_from at t s (parts ++ part ∷ []) ≡ Ok (done ++ a ∷ [])
-answers-more at t s [] part done a so_far accepted = rw (accepted, ← same_done [] done so_far) refl
+answers-more at t s [] part done a so_far accepted = let none : [] ≡ done = cc in rw (accepted, ← none) refl
 answers-more at t s (p ∷ parts) part done a so_far accepted =
-    let both = and_then-Ok at (part_answer t s p) (answers_from (at + 1) (after_part t s p) s parts) done so_far in
-    ap (λ (r : Result OpDone TreeRefusal). and_then at r (answers_from (at + 1) (after_part t s p) s (parts ++ part ∷ []))) both.is_first
-    ∙ ap (and_then at (Ok both.first)) (answers-more (at + 1) (after_part t s p) s parts part both.later a both.is_later accepted)
-    ∙ ap (λ (ds : List OpDone). Ok (ds ++ a ∷ [])) (sym both.is)
+    let both = and_then-ok at (part_answer t s p) (answers_from (at + 1) (after_part t s p) s parts) done so_far in
+    rw (both.1, answers-more (at + 1) (after_part t s p) s parts part both.2.0 a both.2.1 accepted) (ap (λ (ds : List OpDone). Ok (ds ++ a ∷ [])) both.2.2)
 
 -- a part was refused
 pub answers-refused : (at : ℕ) (t : TreeState) (s : ℕ) (parts : List Op) (part : Op) (others : List Op) (done : List OpDone) (refusal : TreeRefusal) → answers_from at t s parts ≡ Ok done → part_answer (after_parts t s parts) s part ≡ Err refusal →
@@ -93,9 +70,9 @@ answers-refused at t s [] part others done refusal so_far refused =
     let here : at + 0 ≡ at = omega arith in
     rw (refused, here) refl
 answers-refused at t s (p ∷ parts) part others done refusal so_far refused =
-    let both = and_then-Ok at (part_answer t s p) (answers_from (at + 1) (after_part t s p) s parts) done so_far in
+    let both = and_then-ok at (part_answer t s p) (answers_from (at + 1) (after_part t s p) s parts) done so_far in
     let there : at + suc (length parts) ≡ at + 1 + length parts = omega arith in
-    rw (both.is_first, answers-refused (at + 1) (after_part t s p) s parts part others both.later refusal both.is_later refused, there) refl
+    rw (both.1, answers-refused (at + 1) (after_part t s p) s parts part others both.2.0 refusal both.2.1 refused, there) refl
 
 -- ## the loop over the parts
 
@@ -147,7 +124,7 @@ SoFar-refused start now s parts i part done refusal so_far within is refused =
     ∙ answers-refused 0 (state_of start) s (take i parts) part (drop (i + 1) parts) done refusal so_far.told (rw so_far.state at refused)
     ∙ ap (λ (k : ℕ). Err (record { index = k; refusal = refusal })) at
 
-ok-by : {A E : Type 0} (r : Result A E) → IsOk r → (a : A) × (r ≡ Ok a)
+pub ok-by : {A E : Type 0} (r : Result A E) → IsOk r → (a : A) × (r ≡ Ok a)
 ok-by (Ok a) is = (a, refl)
 ok-by (Err e) is = absurd cc
 
@@ -191,26 +168,16 @@ pub goes-joined : GoesJoined
 goes-joined t u v s [] more same later = subst (λ (w : TreeState). Goes w s more v) (sym same) later
 goes-joined t u v s (part ∷ parts) more goes later = (goes.0, goes-joined (after_part t s part) u v s parts more goes.1 later)
 
-then-ok : (at : ℕ) (r : Result OpDone TreeRefusal) (others : Result (List OpDone) AtPart) → IsOk r → IsOk others → IsOk (and_then at r others)
-then-ok at (Ok d) (Ok later) first rest = refl
-then-ok at (Ok d) (Err later) first rest = absurd cc
-then-ok at (Err refusal) others first rest = absurd cc
-
 pub goes-answered : GoesAnswered
 goes-answered at t u s [] goes = refl
-goes-answered at t u s (part ∷ parts) goes =
-    then-ok at (part_answer t s part) (answers_from (at + 1) (after_part t s part) s parts) goes.0 (goes-answered (at + 1) (after_part t s part) u s parts goes.1)
+goes-answered at t u s (part ∷ parts) goes = grind (arith, goes.0, goes-answered (at + 1) (after_part t s part) u s parts goes.1)
 
 pub goes-after : GoesAfter
 goes-after t u s [] same = same
 goes-after t u s (part ∷ parts) goes = goes-after (after_part t s part) u s parts goes.1
 
-refused-not : (r : Result (List OpDone) AtPart) (e : AtPart) → IsOk r → r ≡ Err e → ⊥
-refused-not (Ok d) e ok is = cc
-refused-not (Err f) e ok is = cc
-
 pub goes-unrefused : GoesUnrefused
-goes-unrefused t u s parts (Refused index refusal) goes stops = absurd (refused-not (answers_from 0 t s parts) (record { index = index; refusal = refusal }) (goes-answered 0 t u s parts goes) stops)
+goes-unrefused t u s parts (Refused index refusal) goes stops = grind (arith, goes-answered 0 t u s parts goes, stops)
 goes-unrefused t u s parts NoMemory goes stops = refl
 
 pub goes-under-one-number : GoesUnderOneNumber
@@ -221,15 +188,11 @@ checks-leave-the-tree t u s parts goes checks =
     let stays = after_parts-checks t s parts checks in
     (sym (after_multi-checks t s parts checks) ∙ stays, sym (goes-after t u s parts goes) ∙ stays)
 
-ok-is : (r : Result OpDone TreeRefusal) (d : OpDone) → r ≡ Ok d → IsOk r
-ok-is (Ok x) d is = refl
-ok-is (Err refusal) d is = absurd cc
-
 pub answered-goes : AnsweredGoes
 answered-goes at t s [] done is = refl
 answered-goes at t s (part ∷ parts) done is =
     let both = and_then-ok at (part_answer t s part) (answers_from (at + 1) (after_part t s part) s parts) done is in
-    (ok-is (part_answer t s part) both.0 both.1, answered-goes (at + 1) (after_part t s part) s parts both.2.0 both.2.1)
+    (grind (arith, both.1), answered-goes (at + 1) (after_part t s part) s parts both.2.0 both.2.1)
 
 -- ## paths
 
@@ -237,9 +200,7 @@ pub paths-are-their-parts : PathsAreTheirParts
 paths-are-their-parts p q this that is_p is_q named_this named_that same =
     let one = HasParts-below p this is_p named_this in
     let other = HasParts-below q that is_q named_that in
-    (some_path (sym one.above ∙ ap parent_of same ∙ other.above), sym one.last ∙ ap name_of same ∙ other.last) where
-      some_path : {x y : List ℕ} → Some x ≡ Some y → x ≡ y
-      some_path e = cc
+    (some_same (sym one.above ∙ ap parent_of same ∙ other.above), sym one.last ∙ ap name_of same ∙ other.last)
 
 -- # what is always true of a tree, after each call
 
@@ -253,40 +214,20 @@ record Keeps (P : Node → Type 0) (z session : ℕ) : Type 0 where
   child_less : (n : Node) → P n → P (without_child z n)
 
 module _ (P : Node → Type 0) (t : TreeState) (session : ℕ) (keeps : Keeps P (next_change t) session) where
-  under-by : (above name bytes : List ℕ) (mode : Mode) (o : Option Node) → AllByRecursion P t.nodes →
-      AllByRecursion P (where_found o t (λ parent. record t { nodes = with_new_child (next_change t) session above name bytes mode parent t.nodes })).nodes
-  under-by above name bytes mode None all = all
-  under-by above name bytes mode (Some parent) all =
-      all-insert_before P (λ m. path_before (made_path parent name mode) m.path) (new_node (next_change t) session (made_path parent name mode) bytes mode)
-      (change_node above (with_child (next_change t) mode) t.nodes) (keeps.made (made_path parent name mode) bytes mode)
-      (all-change_first P (is_at above) (with_child (next_change t) mode) t.nodes (keeps.child_more mode) all)
-
-  create-by : (path bytes : List ℕ) (mode : Mode) (o : Option (List ℕ)) → AllByRecursion P t.nodes →
-      AllByRecursion P (where_found o t (λ above. after_create_under t session above (name_of path) bytes mode)).nodes
-  create-by path bytes mode None all = all
-  create-by path bytes mode (Some above) all = under-by above (name_of path) bytes mode (at_path t.nodes above) all
-
-  above-by : (o : Option (List ℕ)) → AllByRecursion P t.nodes → AllByRecursion P (without_child_above (next_change t) o t.nodes)
-  above-by None all = all
-  above-by (Some above) all = all-change_first P (is_at above) (without_child (next_change t)) t.nodes keeps.child_less all
-
-  all-after_part : (part : Op) → AllByRecursion P t.nodes → AllByRecursion P (after_part t session part).nodes
-  all-after_part (Op.Create path bytes mode) all = create-by path bytes mode (parent_of path) all
-  all-after_part (Op.CreateUnder parent bytes mode) all = under-by parent [] bytes mode (at_path t.nodes parent) all
-  all-after_part (Op.Set path bytes expect) all = all-change_first P (is_at path) (with_bytes (next_change t) bytes) t.nodes (keeps.other_bytes bytes) all
-  all-after_part (Op.Delete path expect) all =
-      all-filter P (λ n. not (is_at path n)) (without_child_above (next_change t) (parent_of path) t.nodes) (above-by (parent_of path) all)
-  all-after_part (Op.Check path expect) all = all
+  all-after_part : (part : Op) (d : OpDone) → IsPart part → part_answer t session part ≡ Ok d → AllByRecursion P t.nodes → AllByRecursion P (after_part t session part).nodes
+  all-after_part part d proper is all = by-part t session (λ o nodes. AllByRecursion P nodes) (record {
+    made = λ dir name bytes made mode makes may. all-insert_before P (λ m. path_before (made_path may.parent name mode) m.path) (new_node (next_change t) session (made_path may.parent name mode) bytes mode) (change_node dir (with_child (next_change t) mode) t.nodes) (keeps.made (made_path may.parent name mode) bytes mode)
+        (all-change_first P (is_at dir) (with_child (next_change t) mode) t.nodes (keeps.child_more mode) all);
+    other_bytes = λ path bytes. all-change_first P (is_at path) (with_bytes (next_change t) bytes) t.nodes (keeps.other_bytes bytes) all;
+    gone = λ path dir above may. all-filter P (λ n. not (is_at path n)) (change_node dir (without_child (next_change t)) t.nodes) (all-change_first P (is_at dir) (without_child (next_change t)) t.nodes keeps.child_less all);
+    same = all;
+  }) part d proper is
 
 -- ### its owner
 
-owner-by : (b : Bool) (live : List ℕ) (session : ℕ) → is_in live session ≡ true → OwnerLives live (cond b (Some session) None)
-owner-by true live session is = is
-owner-by false live session is = tt
-
 Keeps-owner : (live : List ℕ) (z session : ℕ) → is_in live session ≡ true → Keeps (λ n. OwnerLives live n.facts.owner) z session
 Keeps-owner live z session is = record {
-  made = λ path bytes mode. owner-by (is_ephemeral mode) live session is;
+  made = λ path bytes mode. by_bool (λ b. OwnerLives live (cond b (Some session) None)) (is_ephemeral mode) (λ _. is) (λ _. tt);
   child_more = λ mode n lives. lives;
   other_bytes = λ bytes n lives. lives;
   child_less = λ n lives. lives;
@@ -294,11 +235,7 @@ Keeps-owner live z session is = record {
 
 -- the session that may do a part is live
 alive : (t : TreeState) (session : ℕ) (part : Op) (d : OpDone) → part_answer t session part ≡ Ok d → is_in t.live session ≡ true
-alive t s (Op.Create path bytes mode) d is = grind (arith, is)
-alive t s (Op.CreateUnder parent bytes mode) d is = grind (arith, is)
-alive t s (Op.Set path bytes expect) d is = grind (arith, is)
-alive t s (Op.Delete path expect) d is = grind (arith, is)
-alive t s (Op.Check path expect) d is = grind (arith, is)
+alive t s part d is = grind (arith, is)
 
 -- ### its numbers
 
@@ -320,8 +257,8 @@ IsTreeUpTo-after_part t s part d proper is tree =
       whole = IsWhole-after_part t s part d proper is tree.whole;
       room = HasRoom-after_part t s part d proper is tree.whole tree.room;
       owners = subst (λ (l : List ℕ). AllByRecursion (λ n. OwnerLives l n.facts.owner) (after_part t s part).nodes) (sym live)
-          (all-after_part (λ n. OwnerLives t.live n.facts.owner) t s (Keeps-owner t.live (next_change t) s (alive t s part d is)) part tree.owners);
-      dated = all-after_part (IsDated (next_change t)) t s (Keeps-dated (next_change t) s) part tree.dated;
+          (all-after_part (λ n. OwnerLives t.live n.facts.owner) t s (Keeps-owner t.live (next_change t) s (alive t s part d is)) part d proper is tree.owners);
+      dated = all-after_part (IsDated (next_change t)) t s (Keeps-dated (next_change t) s) part d proper is tree.dated;
       last = tree.last;
     }
 
@@ -341,53 +278,34 @@ pub IsTreeUpTo-of : (z : ℕ) (t u : TreeState) → u.nodes ≡ t.nodes → u.li
 IsTreeUpTo-of z t u nodes live tree = record {
   whole = subst IsWhole (sym nodes) tree.whole;
   room = subst HasRoom (sym nodes) tree.room;
-  owners = subst (λ (l : List ℕ). AllByRecursion (λ n. OwnerLives l n.facts.owner) u.nodes) (sym live)
-      (subst (λ (ns : List Node). AllByRecursion (λ n. OwnerLives t.live n.facts.owner) ns) (sym nodes) tree.owners);
+  owners = rw (live, nodes) tree.owners;
   dated = subst (λ (ns : List Node). AllByRecursion (IsDated z) ns) (sym nodes) tree.dated;
   last = tree.last;
 }
 
-next-later : (n : ℕ) → n ≤ 18_446_744_073_709_551_615 → n ≤ min (n + 1) 18_446_744_073_709_551_615
-next-later n small = omega arith
-
-next-last : (n : ℕ) → min (n + 1) 18_446_744_073_709_551_615 ≤ 18_446_744_073_709_551_615
-next-last n = omega arith
-
 -- while a change is being made
 IsTreeUpTo-next : (t : TreeState) → IsTree t → IsTreeUpTo (next_change t) t
-IsTreeUpTo-next t tree = IsTreeUpTo-later t.changes (next_change t) t (next-later t.changes tree.last) (next-last t.changes) tree
+IsTreeUpTo-next t tree = let small = tree.last in IsTreeUpTo-later t.changes (next_change t) t (omega arith) (omega arith) tree
 
 -- the number is the same for each part
 next-same : (t : TreeState) (session : ℕ) (part : Op) → next_change (after_part t session part) ≡ next_change t
 next-same t s part = ap next_change (after_part-nodes t s part).is
 
-IsTreeUpTo-after_parts : (at : ℕ) (t : TreeState) (session : ℕ) (parts : List Op) (done : List OpDone) → AllByRecursion IsPart parts → answers_from at t session parts ≡ Ok done → IsTreeUpTo (next_change t) t → IsTreeUpTo (next_change t) (after_parts t session parts)
-IsTreeUpTo-after_parts at t s [] done proper is tree = tree
-IsTreeUpTo-after_parts at t s (part ∷ parts) done proper is tree =
-    let both = and_then-ok at (part_answer t s part) (answers_from (at + 1) (after_part t s part) s parts) done is in
-    let same = next-same t s part in
-    let first = IsTreeUpTo-after_part t s part both.0 proper.0 both.1 tree in
-    subst (λ (z : ℕ). IsTreeUpTo z (after_parts (after_part t s part) s parts)) same
-    (IsTreeUpTo-after_parts (at + 1) (after_part t s part) s parts both.2.0 proper.1 both.2.1 (subst (λ (z : ℕ). IsTreeUpTo z (after_part t s part)) (sym same) first))
+IsTreeUpTo-after_parts : (t : TreeState) (session : ℕ) (parts : List Op) (done : List OpDone) → AllByRecursion IsPart parts → answers_from 0 t session parts ≡ Ok done → IsTreeUpTo (next_change t) t → IsTreeUpTo (next_change (after_parts t session parts)) (after_parts t session parts)
+IsTreeUpTo-after_parts t s parts done proper is tree =
+    parts-keep (λ u. IsTreeUpTo (next_change u) u) s (λ u part d proper is has. subst (λ (z : ℕ). IsTreeUpTo z (after_part u s part)) (sym (next-same u s part)) (IsTreeUpTo-after_part u s part d proper is has)) 0 t parts done proper is tree
 
 -- the change took its number
-IsTree-number : (t u : TreeState) → u ≡ with_nodes t u.nodes → IsTreeUpTo (next_change t) u → IsTree (with_next_number u)
-IsTree-number t u same tree =
-    let number : next_change u ≡ next_change t = ap next_change same in
-    let at : IsTreeUpTo (next_change u) u = subst (λ (z : ℕ). IsTreeUpTo z u) (sym number) tree in
-    record { whole = at.whole; room = at.room; owners = at.owners; dated = at.dated; last = at.last }
-
-pub IsTree-call : (t : TreeState) (session : ℕ) (part : Op) (d : OpDone) → IsPart part → part_answer t session part ≡ Ok d → IsTree t → IsTree (with_next_number (after_part t session part))
-IsTree-call t s part d proper is tree = IsTree-number t (after_part t s part) (after_part-nodes t s part).is (IsTreeUpTo-after_part t s part d proper is (IsTreeUpTo-next t tree))
-
-multi-by : (t : TreeState) (session : ℕ) (parts : List Op) (b : Bool) → IsTree t → IsTree (with_next_number (after_parts t session parts)) → IsTree (cond b (with_next_number (after_parts t session parts)) t)
-multi-by t s parts true before after = after
-multi-by t s parts false before after = before
+IsTree-number : (u : TreeState) → IsTreeUpTo (next_change u) u → IsTree (with_next_number u)
+IsTree-number u tree = record { whole = tree.whole; room = tree.room; owners = tree.owners; dated = tree.dated; last = tree.last }
 
 pub IsTree-after_multi : CallsKeepTree
 IsTree-after_multi t s parts done proper is tree =
-    multi-by t s parts (list_any (λ part. not (is_check part)) parts) tree
-    (IsTree-number t (after_parts t s parts) (after_parts-nodes t s parts).is (IsTreeUpTo-after_parts 0 t s parts done proper is (IsTreeUpTo-next t tree)))
+    by_bool (λ b. IsTree (cond b (with_next_number (after_parts t s parts)) t)) (list_any (λ part. not (is_check part)) parts) (λ _. IsTree-number (after_parts t s parts) (IsTreeUpTo-after_parts t s parts done proper is (IsTreeUpTo-next t tree))) (λ _. tree)
+
+pub IsTree-call : (t : TreeState) (session : ℕ) (part : Op) (d : OpDone) → IsPart part → part_answer t session part ≡ Ok d → IsTree t → IsTree (with_next_number (after_part t session part))
+IsTree-call t s part d proper is tree =
+    IsTree-number (after_part t s part) (subst (λ (z : ℕ). IsTreeUpTo z (after_part t s part)) (sym (next-same t s part)) (IsTreeUpTo-after_part t s part d proper is (IsTreeUpTo-next t tree)))
 
 -- ## sessions and counters
 
@@ -404,33 +322,13 @@ IsTree-after_begin t tree = record {
   last = tree.last;
 }
 
-without-by : (x session other : ℕ) (xs : List ℕ) (b : Bool) → (x == session) ≡ b → (other == session) ≡ false → (is_in xs other ≡ true → is_in (without xs session) other ≡ true) → is_in (x ∷ xs) other ≡ true → is_in (cond (not b) (x ∷ without xs session) (without xs session)) other ≡ true
-without-by x session other xs true same apart later has = later (left-out (x == other) (false_from_ne_true (x == other) (λ is.
-    let e : other ≡ session = sym (eqb-true x other is) ∙ eqb-true x session same in
-    let this = eq-eqb other session e in
-    absurd cc)) has) where
-      left-out : {rest : Bool} (b : Bool) → b ≡ false → (b || rest) ≡ true → rest ≡ true
-      left-out true is some = absurd cc
-      left-out false is some = some
-without-by x session other xs false same apart later has = keep-by (x == other) (is_in xs other) (is_in (without xs session) other) later has where
-  keep-by : (b any more : Bool) → (any ≡ true → more ≡ true) → (b || any) ≡ true → (b || more) ≡ true
-  keep-by true any more moves is = refl
-  keep-by false any more moves is = moves is
-
 is_in-without : (xs : List ℕ) (session other : ℕ) → (other == session) ≡ false → is_in xs other ≡ true → is_in (without xs session) other ≡ true
 is_in-without [] session other apart has = absurd cc
-is_in-without (x ∷ xs) session other apart has = without-by x session other xs (x == session) refl apart (is_in-without xs session other apart) has
+is_in-without (x ∷ xs) session other apart has = grind (arith, nat_tests, apart, has, is_in-without xs session other apart)
 
 ended-owner : (live : List ℕ) (session : ℕ) (o : Option ℕ) → not (is_owner session o) ≡ true → OwnerLives live o → OwnerLives (without live session) o
 ended-owner live session None other lives = tt
-ended-owner live session (Some owner) other lives = is_in-without live session owner (not-back (owner == session) other) lives where
-  not-back : (b : Bool) → not b ≡ true → b ≡ false
-  not-back true is = absurd cc
-  not-back false is = refl
-
-loss-by : (b : Bool) (z : ℕ) (n : Node) → IsDated z n → IsDated z (record n { facts = record n.facts { pzxid = cond b z n.facts.pzxid } })
-loss-by true z n dated = record { czxid = dated.czxid; mzxid = dated.mzxid; pzxid = omega arith }
-loss-by false z n dated = dated
+ended-owner live session (Some owner) other lives = is_in-without live session owner (not-true (owner == session) other) lives
 
 pub IsTree-after_end : EndsKeepTree
 IsTree-after_end t s tree =
@@ -442,7 +340,7 @@ IsTree-after_end t s tree =
       room = HasRoom-after_end z s t.nodes tree.room;
       owners = all-mapped (λ n. OwnerLives (without t.live s) n.facts.owner) (λ n. OwnerLives (without t.live s) n.facts.owner) (after_loss t.nodes z s) (filter keep t.nodes) (λ n lives. lives)
           (all-filter_to (λ n. OwnerLives t.live n.facts.owner) (λ n. OwnerLives (without t.live s) n.facts.owner) keep t.nodes (λ n other lives. ended-owner t.live s n.facts.owner other lives) tree.owners);
-      dated = all-mapped (IsDated z) (IsDated z) (after_loss t.nodes z s) (filter keep t.nodes) (λ n dated. loss-by _ z n dated) (all-filter (IsDated z) keep t.nodes next.dated);
+      dated = all-mapped (IsDated z) (IsDated z) (after_loss t.nodes z s) (filter keep t.nodes) (λ n dated. record { czxid = dated.czxid; mzxid = dated.mzxid; pzxid = grind (arith, dated.pzxid) }) (all-filter (IsDated z) keep t.nodes next.dated);
       last = next.last;
     }
 
@@ -458,7 +356,7 @@ IsTree-after_raise t path to tree = record {
 pub IsTree-new_tree : IsTree new_tree
 IsTree-new_tree = record {
   whole = IsWhole-new_tree;
-  room = HasRoom-new_tree;
+  room = IsKept-root.room;
   owners = (tt, tt);
   dated = (record { czxid = lit≤ tt; mzxid = lit≤ tt; pzxid = lit≤ tt }, tt);
   last = lit≤ tt;
@@ -475,39 +373,11 @@ pub Holds-call : (a b : Inner) (session : ℕ) (part : Op) (d : OpDone) → Hold
 Holds-call a b session part d holds proper is kept same undo =
     Holds-tree b (with_next_number (after_part (state_of a) session part)) kept same (IsTree-call (state_of a) session part d proper is holds.tree) undo
 
-pub Holds-new : (b : Inner) → b.changes ≡ 0 → b.lists.nodes ≡ root_node ∷ [] → b.sessions.live ≡ [] → IsKept b.lists.nodes b.lists.marks → b.lists.undo.items ≡ [] → Holds b
-Holds-new b none nodes live kept undo =
-    record { kept = kept; tree = subst (λ (z : ℕ). IsTreeUpTo z (state_of b)) (sym none) (IsTreeUpTo-of 0 new_tree (state_of b) nodes live IsTree-new_tree); undo = undo }
+-- the fields show the nodes, the live sessions and the change number of a tree
+pub Holds-of : (b : Inner) (t : TreeState) → IsTree t → b.changes ≡ t.changes → b.lists.nodes ≡ t.nodes → b.sessions.live ≡ t.live → IsKept b.lists.nodes b.lists.marks → b.lists.undo.items ≡ [] → Holds b
+Holds-of b t tree number nodes live kept undo = record { kept = kept; tree = subst (λ (z : ℕ). IsTreeUpTo z (state_of b)) (sym number) (IsTreeUpTo-of t.changes t (state_of b) nodes live tree); undo = undo }
 
 -- a session begins, or none does
-pub Holds-begin : (a b : Inner) (r : Result ℕ SessionFault) → Holds a → b.lists ≡ a.lists → b.changes ≡ a.changes → OnOk r (b.sessions ≡ known.with_spare (known.after_begin a.sessions) b.sessions.spare) → OnErr r (b.sessions ≡ a.sessions) → Holds b
-Holds-begin a b (Ok id) holds lists changes begun same = record {
-  kept = subst (λ (l : NodeLists). IsKept l.nodes l.marks) (sym lists) holds.kept;
-  tree = subst (λ (z : ℕ). IsTreeUpTo z (state_of b)) (sym changes)
-      (IsTreeUpTo-of a.changes (after_begin (state_of a)) (state_of b) (ap (λ (l : NodeLists). l.nodes) lists) (ap (λ (k : Known). k.live) begun) (IsTree-after_begin (state_of a) holds.tree));
-  undo = ap (λ (l : NodeLists). l.undo.items) lists ∙ holds.undo;
-}
-Holds-begin a b (Err fault) holds lists changes begun same = record {
-  kept = subst (λ (l : NodeLists). IsKept l.nodes l.marks) (sym lists) holds.kept;
-  tree = subst (λ (z : ℕ). IsTreeUpTo z (state_of b)) (sym changes)
-      (IsTreeUpTo-of a.changes (state_of a) (state_of b) (ap (λ (l : NodeLists). l.nodes) lists) (ap (λ (k : Known). k.live) same) holds.tree);
-  undo = ap (λ (l : NodeLists). l.undo.items) lists ∙ holds.undo;
-}
-
--- a session ends
-pub Holds-end : (a b : Inner) (session : ℕ) → Holds a → b.changes ≡ next_change (state_of a) → b.lists.nodes ≡ nodes_after_end b.changes session a.lists.nodes → b.sessions.live ≡ without a.sessions.live session → IsKept b.lists.nodes b.lists.marks → b.lists.undo.items ≡ [] → Holds b
-Holds-end a b session holds number nodes live kept undo = record {
-  kept = kept;
-  tree = subst (λ (z : ℕ). IsTreeUpTo z (state_of b)) (sym number)
-      (IsTreeUpTo-of (next_change (state_of a)) (after_end (state_of a) session) (state_of b) (nodes ∙ ap (λ (z : ℕ). nodes_after_end z session a.lists.nodes) number) live (IsTree-after_end (state_of a) session holds.tree));
-  undo = undo;
-}
-
--- a counter is raised
-pub Holds-raise : (a b : Inner) (path : List ℕ) (to : ℕ) → Holds a → b.changes ≡ a.changes → b.sessions ≡ a.sessions → b.lists.nodes ≡ change_node path (with_counter to) a.lists.nodes → IsKept b.lists.nodes b.lists.marks → b.lists.undo.items ≡ [] → Holds b
-Holds-raise a b path to holds number sessions nodes kept undo = record {
-  kept = kept;
-  tree = subst (λ (z : ℕ). IsTreeUpTo z (state_of b)) (sym number)
-      (IsTreeUpTo-of a.changes (after_raise (state_of a) path to) (state_of b) nodes (ap (λ (k : Known). k.live) sessions) (IsTree-after_raise (state_of a) path to holds.tree));
-  undo = undo;
-}
+pub Holds-begin : (a : Inner) (k : Known) (r : Result ℕ SessionFault) → Holds a → OnOk r (k ≡ known.with_spare (known.after_begin a.sessions) k.spare) → OnErr r (k ≡ a.sessions) → Holds (record a { sessions = k })
+Holds-begin a k (Ok id) holds begun same = Holds-of (record a { sessions = k }) (after_begin (state_of a)) (IsTree-after_begin (state_of a) holds.tree) refl refl (ap (λ (l : Known). l.live) begun) holds.kept holds.undo
+Holds-begin a k (Err fault) holds begun same = Holds-of (record a { sessions = k }) (state_of a) holds.tree refl refl (ap (λ (l : Known). l.live) same) holds.kept holds.undo

@@ -1,6 +1,6 @@
 -- what is always true of nodes and marks, after each change and after a session's end
-use Rattle.np_tree_nodes.proofs.Prelude.{AllByRecursion, AllPaths, AreRanked, Bool, Equal, HasRoom, IsKept, IsPartitionPoint-rises, IsSorted, IsSplit, IsSplit-rises, IsTotalOrder, List, Mark, MarkEphemerals, Node, None, NonePass, Nothing, Option, Ordering, Put, Rises-insert, Rises-keys, Rises-remove, Some, Step, above-apart, after_loss, after_step, all-from_at, all-keys, all-weaker, and-apart, and_left, and_parts, and_right, ap, arith, at_path, bytes_eq, bytes_eq-apart, change_node, children_of, cond, eq-eqb, eqb-true, exact_bytes, false, false_from_ne_true, filter, filter-map, filter-not_none, filter-remove, find-change_first, find-insert, find-none, find-remove, found-change_first, insert, is_at, is_child, is_ephemeral_of, is_lt, is_mark, is_owned, is_owner, is_parent, is_path, length, length-filter-filter, list_any, list_any-insert, list_any-map, list_any-none, list_any-remove, list_any-there, lit≤, map, map-each, map-keys, map-map, map-same, mark_before, mark_place, nat_cmp, nat_cmp_total, nat_list_cmp_total, nat_tests, new_mark, nodes_after_end, none-find, none-list_any, none-remove, not, on_total, option_map, ordering_then, parent_of, path_before, place_of, prefix_len, prefix_len-le-length, refl, remove, root_node, slice_cmp, slice_get, slice_get-map, subst, suc, sym, then_total, true, without_child, ℕ, [], ◌&&◌, ◌+◌, ◌<◌, ◌==◌, ◌||◌, ◌∙◌, ◌∷◌, ◌≡◌, ◌≤◌}
-use Rattle.np_tree_nodes.proofs.PlaceLemmas.{AllPaths-insert, AllPaths-remove, IsSorted-insert, IsSorted-remove, at_path-gone, at_path-there, bytes_eq-from, bytes_eq-is, later-others, length-children-insert, length-children-remove, lt-itself, lt-neither, lt-one_way, lt-trans, then-Equal}
+use Rattle.np_tree_nodes.proofs.Prelude.{by_bool, length-map, length-filter-insert, length-filter-remove, all-insert, all-remove, node_before, Take, TakesMark, AllByRecursion, AllPaths, AreRanked, Bool, Equal, HasRoom, IsKept, IsPartitionPoint-rises, IsSorted, IsSplit, IsSplit-rises, IsTotalOrder, List, Mark, MarkEphemerals, Node, None, NonePass, Nothing, Option, Ordering, Put, Rises-insert, Rises-keys, Rises-remove, Some, Step, above-apart, after_loss, after_step, all-from_at, all-keys, all-weaker, and-apart, and_left, and_parts, and_right, ap, arith, at_path, bytes_eq, bytes_eq-apart, change_node, children_of, cond, eq-eqb, eqb-true, exact_bytes, false, false_from_ne_true, filter, filter-map, filter-not_none, filter-remove, find-change_first, find-insert, find-none, find-remove, found-change_first, insert, is_at, is_child, is_ephemeral_of, is_lt, is_mark, is_owned, is_owner, is_parent, is_path, length, length-filter-filter, list_any, list_any-insert, list_any-map, list_any-none, list_any-remove, list_any-there, lit≤, map, map-each, map-keys, map-map, map-same, mark_before, mark_place, nat_cmp, nat_cmp_total, nat_list_cmp_total, nat_tests, new_mark, nodes_after_end, none-find, none-list_any, none-remove, not, on_total, option_map, ordering_then, parent_of, path_before, place_of, prefix_len, prefix_len-le-length, refl, remove, root_node, slice_cmp, slice_get, slice_get-map, subst, suc, sym, then_total, true, without_child, ℕ, [], ◌&&◌, ◌+◌, ◌<◌, ◌==◌, ◌∙◌, ◌∷◌, ◌≡◌, ◌≤◌}
+use Rattle.np_tree_nodes.proofs.PlaceLemmas.{IsSorted-insert, at_path-gone, at_path-there, bytes_eq-from, bytes_eq-is, later-others, lt-itself, lt-neither, lt-one_way, lt-trans, then-Equal}
 
 -- # changes that keep each node's path
 
@@ -19,13 +19,9 @@ KeepsOwner f = (n : Node) → (f n).facts.owner ≡ n.facts.owner
 pub paths_of-map : (f : Node → Node) → KeepsPath f → (nodes : List Node) → paths_of (map f nodes) ≡ paths_of nodes
 paths_of-map f keeps nodes = sym (map-keys (λ n. n.path) f nodes keeps)
 
-paths_of-change-by : (p : List ℕ) (f : Node → Node) → KeepsPath f → (n : Node) (nodes : List Node) (b : Bool) → is_at p n ≡ b → paths_of (change_node p f nodes) ≡ paths_of nodes → paths_of (change_node p f (n ∷ nodes)) ≡ paths_of (n ∷ nodes)
-paths_of-change-by p f keeps n nodes true is later = rw is (ap (λ (q : List ℕ). q ∷ paths_of nodes) (keeps n))
-paths_of-change-by p f keeps n nodes false is later = rw is (ap (λ (ps : List (List ℕ)). n.path ∷ ps) later)
-
 pub paths_of-change_node : (p : List ℕ) (f : Node → Node) → KeepsPath f → (nodes : List Node) → paths_of (change_node p f nodes) ≡ paths_of nodes
 paths_of-change_node p f keeps [] = refl
-paths_of-change_node p f keeps (n ∷ nodes) = paths_of-change-by p f keeps n nodes (is_at p n) refl (paths_of-change_node p f keeps nodes)
+paths_of-change_node p f keeps (n ∷ nodes) = grind (arith, keeps n, paths_of-change_node p f keeps nodes)
 
 -- ## what the paths alone decide
 
@@ -35,50 +31,26 @@ AllPaths-paths ns ms same all = all-keys (λ n. n.path) (λ p. is_path p ≡ tru
 pub IsSorted-paths : (ns ms : List Node) → paths_of ns ≡ paths_of ms → IsSorted ns → IsSorted ms
 IsSorted-paths ns ms same sorted = Rises-keys path_before (λ n. n.path) ns ms same sorted
 
--- a count up to the first path that fails
-pub prefix_len-paths : (p : List ℕ → Bool) (ns ms : List Node) → paths_of ns ≡ paths_of ms → prefix_len (λ n. p n.path) ns ≡ prefix_len (λ n. p n.path) ms
-prefix_len-paths p [] [] same = refl
-prefix_len-paths p [] (m ∷ ms) same = absurd cc
-prefix_len-paths p (n ∷ ns) [] same = absurd cc
-prefix_len-paths p (n ∷ ns) (m ∷ ms) same =
-    let head : n.path ≡ m.path = cc in
-    let tail : paths_of ns ≡ paths_of ms = cc in
-    ap (λ (q : List ℕ). cond (p q) (1 + prefix_len (λ x. p x.path) ns) 0) head ∙ ap (λ (k : ℕ). cond (p m.path) (1 + k) 0) (prefix_len-paths p ns ms tail)
+-- a count up to the first path that fails, and how many paths pass
+prefix_len-paths : (p : List ℕ → Bool) (nodes : List Node) → prefix_len (λ n. p n.path) nodes ≡ prefix_len p (paths_of nodes)
+prefix_len-paths p [] = refl
+prefix_len-paths p (n ∷ nodes) = ap (λ (k : ℕ). cond (p n.path) (1 + k) 0) (prefix_len-paths p nodes)
 
-pub place_of-paths : (p : List ℕ) (ns ms : List Node) → paths_of ns ≡ paths_of ms → place_of p ns ≡ place_of p ms
-place_of-paths p ns ms same = prefix_len-paths (λ q. path_before q p) ns ms same
-
--- how many paths pass
-length-filter-by : (p : List ℕ → Bool) (n m : Node) (ns ms : List Node) (b : Bool) → length ns ≡ length ms → length (cond b (n ∷ ns) ns) ≡ length (cond b (m ∷ ms) ms)
-length-filter-by p n m ns ms true same = omega arith
-length-filter-by p n m ns ms false same = same
-
-pub length-filter-paths : (p : List ℕ → Bool) (ns ms : List Node) → paths_of ns ≡ paths_of ms → length (filter (λ n. p n.path) ns) ≡ length (filter (λ n. p n.path) ms)
-length-filter-paths p [] [] same = refl
-length-filter-paths p [] (m ∷ ms) same = absurd cc
-length-filter-paths p (n ∷ ns) [] same = absurd cc
-length-filter-paths p (n ∷ ns) (m ∷ ms) same =
-    let head : n.path ≡ m.path = cc in
-    let tail : paths_of ns ≡ paths_of ms = cc in
-    ap (λ (q : List ℕ). length (cond (p q) (n ∷ filter (λ x. p x.path) ns) (filter (λ x. p x.path) ns))) head
-    ∙ length-filter-by p n m (filter (λ x. p x.path) ns) (filter (λ x. p x.path) ms) (p m.path) (length-filter-paths p ns ms tail)
+length-filter-paths : (p : List ℕ → Bool) (nodes : List Node) → length (filter (λ n. p n.path) nodes) ≡ length (filter p (paths_of nodes))
+length-filter-paths p [] = refl
+length-filter-paths p (n ∷ nodes) = grind (arith, length-filter-paths p nodes)
 
 -- how many children a node has
 pub length-children-paths : (p : List ℕ) (ns ms : List Node) → paths_of ns ≡ paths_of ms → length (children_of ns p) ≡ length (children_of ms p)
-length-children-paths p ns ms same = length-filter-paths (λ q. is_parent p (parent_of q)) ns ms same
+length-children-paths p ns ms same =
+    let child : List ℕ → Bool = λ q. is_parent p (parent_of q) in length-filter-paths child ns ∙ ap (λ ps. length (filter child ps)) same ∙ sym (length-filter-paths child ms)
 
 pub length-paths : (ns ms : List Node) → paths_of ns ≡ paths_of ms → length ns ≡ length ms
-length-paths [] [] same = refl
-length-paths [] (m ∷ ms) same = absurd cc
-length-paths (n ∷ ns) [] same = absurd cc
-length-paths (n ∷ ns) (m ∷ ms) same = let tail : paths_of ns ≡ paths_of ms = cc in ap suc (length-paths ns ms tail)
+length-paths ns ms same = sym (length-map (λ n. n.path) ns) ∙ ap length same ∙ length-map (λ n. n.path) ms
 
 -- whether there is a node at a path
-none-paths : (p : List ℕ) (ns ms : List Node) → paths_of ns ≡ paths_of ms → NonePass (is_at p) ns → NonePass (is_at p) ms
-none-paths p ns ms same none = all-keys (λ n. n.path) (λ q. bytes_eq q p ≡ false) ns ms same none
-
 pub at_path-paths-none : (p : List ℕ) (ns ms : List Node) → paths_of ns ≡ paths_of ms → at_path ns p ≡ None → at_path ms p ≡ None
-at_path-paths-none p ns ms same none = find-none (is_at p) ms (none-paths p ns ms same (none-find (is_at p) ns none))
+at_path-paths-none p ns ms same none = find-none (is_at p) ms (all-keys (λ n. n.path) (λ q. bytes_eq q p ≡ false) ns ms same (none-find (is_at p) ns none))
 
 -- ## a change at a path
 
@@ -95,24 +67,17 @@ pub AllPaths-map : (f : Node → Node) → KeepsPath f → (nodes : List Node) �
 AllPaths-map f keeps nodes paths = AllPaths-paths nodes (map f nodes) (sym (paths_of-map f keeps nodes)) paths
 
 pub place_of-change_node : (q p : List ℕ) (f : Node → Node) → KeepsPath f → (nodes : List Node) → place_of q (change_node p f nodes) ≡ place_of q nodes
-place_of-change_node q p f keeps nodes = place_of-paths q (change_node p f nodes) nodes (paths_of-change_node p f keeps nodes)
+place_of-change_node q p f keeps nodes =
+    prefix_len-paths (λ r. path_before r q) (change_node p f nodes) ∙ ap (prefix_len (λ r. path_before r q)) (paths_of-change_node p f keeps nodes) ∙ sym (prefix_len-paths (λ r. path_before r q) nodes)
 
 -- the changed node is found in its place
 pub at_path-change_here : (p : List ℕ) (f : Node → Node) → KeepsPath f → (nodes : List Node) (n : Node) → at_path nodes p ≡ Some n → at_path (change_node p f nodes) p ≡ Some (f n)
 at_path-change_here p f keeps nodes n found = find-change_first (is_at p) f (λ m. ap (λ (q : List ℕ). bytes_eq q p) (keeps m)) nodes n found
 
 -- another node stays
-change-other-by : (p q : List ℕ) (f : Node → Node) → KeepsPath f → (p ≡ q → ⊥) → (m : Node) (nodes : List Node) (b : Bool) → is_at p m ≡ b → at_path (change_node p f nodes) q ≡ at_path nodes q → at_path (change_node p f (m ∷ nodes)) q ≡ at_path (m ∷ nodes) q
-change-other-by p q f keeps other m nodes true is later =
-    let at : m.path ≡ p = bytes_eq-is m.path p is in
-    let not_before : is_at q m ≡ false = bytes_eq-apart m.path q (λ e. other (sym at ∙ e)) in
-    let not_after : is_at q (f m) ≡ false = bytes_eq-apart (f m).path q (λ e. other (sym at ∙ sym (keeps m) ∙ e)) in
-    rw (is, not_after, not_before) refl
-change-other-by p q f keeps other m nodes false is later = rw is (ap (λ (o : Option Node). cond (is_at q m) (Some m) o) later)
-
 pub at_path-change_other : (p q : List ℕ) (f : Node → Node) → KeepsPath f → (p ≡ q → ⊥) → (nodes : List Node) → at_path (change_node p f nodes) q ≡ at_path nodes q
 at_path-change_other p q f keeps other [] = refl
-at_path-change_other p q f keeps other (m ∷ nodes) = change-other-by p q f keeps other m nodes (is_at p m) refl (at_path-change_other p q f keeps other nodes)
+at_path-change_other p q f keeps other (m ∷ nodes) = grind (arith, keeps m, bytes_eq-is m.path p, bytes_eq-is m.path q, other, at_path-change_other p q f keeps other nodes)
 
 -- # marks in their order, and each is an ephemeral's
 
@@ -145,10 +110,7 @@ is_mark-is session path mark is =
     (eqb-true mark.session session parts.0, bytes_eq-is mark.path path parts.1)
 
 is_mark-from : (session : ℕ) (path : List ℕ) (mark : Mark) → mark.session ≡ session → mark.path ≡ path → is_mark session path mark ≡ true
-is_mark-from session path mark same_session same_path =
-    let owned = eq-eqb mark.session session same_session in
-    let at = bytes_eq-from mark.path path same_path in
-    rw (owned, at) refl
+is_mark-from session path mark same_session same_path = rw (eq-eqb mark.session session same_session, bytes_eq-from mark.path path same_path) refl
 
 -- it isn't before its own place
 is_mark-not_less : (session : ℕ) (path : List ℕ) (mark : Mark) → is_mark session path mark ≡ true → mark_before session path mark ≡ false
@@ -165,19 +127,14 @@ mark-beyond session path m n order not_less = false_from_ne_true (is_mark sessio
     let less : mark_before session path m ≡ true = subst (λ (s : ℕ). mark_before s path m ≡ true) same.0 (subst (λ (q : List ℕ). mark_before n.session q m ≡ true) same.1 order) in
     absurd cc)
 
-exact-nat : (a b : ℕ) → nat_cmp a b ≡ Equal → a ≡ b
-exact-nat a b tied = grind (arith, nat_tests)
-
 -- of two marks that differ, one comes before the other
-some_way-by : (m n : Mark) (b : Bool) → ranks_before n m ≡ b → ranks_before m n ≡ false → is_mark n.session n.path m ≡ false → ranks_before n m ≡ true
-some_way-by m n true is not_less other = is
-some_way-by m n false is not_less other =
-    let tied = then-Equal (nat_cmp m.session n.session) (slice_cmp nat_cmp m.path n.path) (lt-neither pair_cmp_total (key_of m) (key_of n) not_less is) in
-    let is_n = is_mark-from n.session n.path m (exact-nat m.session n.session tied.0) (exact_bytes m.path n.path tied.1) in
-    absurd cc
-
 ranks-some_way : (m n : Mark) → ranks_before m n ≡ false → is_mark n.session n.path m ≡ false → ranks_before n m ≡ true
-ranks-some_way m n not_less other = some_way-by m n (ranks_before n m) refl not_less other
+ranks-some_way m n not_less other =
+    by_bool (λ (b : Bool). b ≡ true) (ranks_before n m) (λ _. refl) (λ is.
+    let tied = then-Equal (nat_cmp m.session n.session) (slice_cmp nat_cmp m.path n.path) (lt-neither pair_cmp_total (key_of m) (key_of n) not_less is) in
+    let sessions : nat_cmp m.session n.session ≡ Equal = tied.0 in
+    let is_n = is_mark-from n.session n.path m (grind (arith, nat_tests, sessions)) (exact_bytes m.path n.path tied.1) in
+    absurd cc)
 
 -- ### what keeps the order
 
@@ -191,30 +148,19 @@ AreRanked-insert new marks fresh ranked =
     (IsPartitionPoint-rises ranks_before (mark_before new.session new.path) (ranks-trans new.session new.path) marks ranked)
     (none-list_any (is_mark new.session new.path) marks fresh) ranked
 
-pub AreRanked-remove : (marks : List Mark) (k : ℕ) → AreRanked marks → AreRanked (remove marks k)
-AreRanked-remove marks k ranked = Rises-remove ranks_before marks k ranked
-
 -- ### a mark is found at its place
-
-there-by : (session : ℕ) (path : List ℕ) (m : Mark) (marks : List Mark) (b c : Bool) → mark_before session path m ≡ b → is_mark session path m ≡ c → AreRanked (m ∷ marks) → (c || list_any (is_mark session path) marks) ≡ true →
-    (list_any (is_mark session path) marks ≡ true → slice_get marks (mark_place session path marks) ≡ Some (new_mark session path)) → slice_get (m ∷ marks) (cond b (1 + mark_place session path marks) 0) ≡ Some (new_mark session path)
-there-by session path m marks true true less is ranked has later = let apart = mark-apart session path m less in absurd cc
-there-by session path m marks true false less is ranked has later =
-    let step : 1 + mark_place session path marks ≡ suc (mark_place session path marks) = omega arith in
-    rw step (later has)
-there-by session path m marks false true less is ranked has later =
-    let same = is_mark-is session path m is in
-    let with_session : ℕ → Option Mark = λ s. Some (new_mark s m.path) in
-    let with_path : List ℕ → Option Mark = λ q. Some (new_mark session q) in
-    ap with_session same.0 ∙ ap with_path same.1
-there-by session path m marks false false less is ranked has later =
-    let none = list_any-none (is_mark session path) marks (all-weaker (λ n. ranks_before m n ≡ true) (λ n. is_mark session path n ≡ false) (λ n order. mark-beyond session path m n order less) marks ranked.0) in
-    absurd (let e : true ≡ false = sym has ∙ none in cc)
 
 pub mark-there : (session : ℕ) (path : List ℕ) (marks : List Mark) → AreRanked marks → list_any (is_mark session path) marks ≡ true → slice_get marks (mark_place session path marks) ≡ Some (new_mark session path)
 mark-there session path [] ranked has = absurd cc
 mark-there session path (m ∷ marks) ranked has =
-    there-by session path m marks (mark_before session path m) (is_mark session path m) refl refl ranked has (λ some. mark-there session path marks ranked.1 some)
+    by_bool (λ (b : Bool). slice_get (m ∷ marks) (cond b (1 + mark_place session path marks) 0) ≡ Some (new_mark session path)) (mark_before session path m)
+    (λ less.
+    let step : 1 + mark_place session path marks ≡ suc (mark_place session path marks) = omega arith in
+    rw step (mark-there session path marks ranked.1 (rw (mark-apart session path m less) at has)))
+    (λ less.
+    let none = list_any-none (is_mark session path) marks (all-weaker (λ n. ranks_before m n ≡ true) (λ n. is_mark session path n ≡ false) (λ n order. mark-beyond session path m n order less) marks ranked.0) in
+    let same = is_mark-is session path m (grind (arith, has, none)) in
+    ap (λ s. Some (new_mark s m.path)) same.0 ∙ ap (λ q. Some (new_mark session q)) same.1)
 
 -- ## each mark is an ephemeral's
 
@@ -232,55 +178,27 @@ at_path-insert n nodes k q none =
 none-here : (n : Node) (nodes : List Node) (q : List ℕ) → is_at q n ≡ true → at_path nodes n.path ≡ None → at_path nodes q ≡ None
 none-here n nodes q here none = subst (λ (r : List ℕ). at_path nodes r ≡ None) (bytes_eq-is n.path q here) none
 
-free-by : (n : Node) (nodes : List Node) (session : ℕ) (q : List ℕ) (b : Bool) → is_at q n ≡ b → n.facts.owner ≡ None → at_path nodes n.path ≡ None → is_ephemeral_of session (at_path nodes q) ≡ is_ephemeral_of session (cond b (Some n) (at_path nodes q))
-free-by n nodes session q true here free none = ap (is_ephemeral_of session) (none-here n nodes q here none) ∙ sym (ap (is_owner session) free)
-free-by n nodes session q false here free none = refl
-
 -- one that no session owns
 pub MarkEphemerals-insert_free : (marks : List Mark) (n : Node) (nodes : List Node) (k : ℕ) → n.facts.owner ≡ None → at_path nodes n.path ≡ None → MarkEphemerals marks nodes → MarkEphemerals marks (insert nodes k n)
-MarkEphemerals-insert_free marks n nodes k free none all session q =
-    all session q ∙ free-by n nodes session q (is_at q n) refl free none ∙ sym (ap (is_ephemeral_of session) (at_path-insert n nodes k q none))
-
-or-and : (s any : Bool) → any ≡ false → ((s && true) || any) ≡ s
-or-and true any none = refl
-or-and false any none = none
-
-nor-and : (s b any : Bool) → b ≡ false → ((s && b) || any) ≡ any
-nor-and true b any is = rw is refl
-nor-and false b any is = refl
-
-owned-by : (marks : List Mark) (mark : Mark) (n : Node) (nodes : List Node) (session : ℕ) (q : List ℕ) (b : Bool) → is_at q n ≡ b → n.facts.owner ≡ Some mark.session → mark.path ≡ n.path → at_path nodes n.path ≡ None → MarkEphemerals marks nodes →
-    (is_mark session q mark || list_any (is_mark session q) marks) ≡ is_ephemeral_of session (cond b (Some n) (at_path nodes q))
-owned-by marks mark n nodes session q true here owned same none all =
-    let at : bytes_eq mark.path q ≡ true = ap (λ (r : List ℕ). bytes_eq r q) same ∙ here in
-    let no_mark : list_any (is_mark session q) marks ≡ false = all session q ∙ ap (is_ephemeral_of session) (none-here n nodes q here none) in
-    ap (λ (c : Bool). ((mark.session == session) && c) || list_any (is_mark session q) marks) at
-    ∙ or-and (mark.session == session) (list_any (is_mark session q) marks) no_mark
-    ∙ sym (ap (is_owner session) owned)
-owned-by marks mark n nodes session q false here owned same none all =
-    nor-and (mark.session == session) (bytes_eq mark.path q) (list_any (is_mark session q) marks) (ap (λ (r : List ℕ). bytes_eq r q) same ∙ here) ∙ all session q
+MarkEphemerals-insert_free marks n nodes k free none all session q = grind (arith, all session q, none-here n nodes q, at_path-insert n nodes k q none)
 
 -- an ephemeral, with its mark
 pub MarkEphemerals-insert : (marks : List Mark) (j : ℕ) (mark : Mark) (n : Node) (nodes : List Node) (k : ℕ) → n.facts.owner ≡ Some mark.session → mark.path ≡ n.path → at_path nodes n.path ≡ None → MarkEphemerals marks nodes →
     MarkEphemerals (insert marks j mark) (insert nodes k n)
-MarkEphemerals-insert marks j mark n nodes k owned same none all session q =
-    list_any-insert (is_mark session q) marks j mark
-    ∙ owned-by marks mark n nodes session q (is_at q n) refl owned same none all
-    ∙ sym (ap (is_ephemeral_of session) (at_path-insert n nodes k q none))
+MarkEphemerals-insert marks j mark n nodes k owned same none all session q = grind (arith, list_any-insert (is_mark session q) marks j mark, all session q, none-here n nodes q, at_path-insert n nodes k q none)
 
 -- ### one node less
 
-lost-by : (n : Node) (nodes : List Node) (k session : ℕ) (q : List ℕ) (b : Bool) → is_at q n ≡ b → IsSorted nodes → slice_get nodes k ≡ Some n → (is_at q n ≡ true → is_owned session n ≡ false) →
+lost-by : (n : Node) (nodes : List Node) (k session : ℕ) (q : List ℕ) → IsSorted nodes → slice_get nodes k ≡ Some n → (is_at q n ≡ true → is_owned session n ≡ false) →
     is_ephemeral_of session (at_path (remove nodes k) q) ≡ is_ephemeral_of session (at_path nodes q)
-lost-by n nodes k session q true here sorted there other =
-    ap (is_ephemeral_of session) (at_path-gone q nodes k n sorted there here)
-    ∙ sym (other here)
-    ∙ sym (ap (is_ephemeral_of session) (at_path-there q nodes k n sorted there here))
-lost-by n nodes k session q false here sorted there other = ap (is_ephemeral_of session) (find-remove (is_at q) nodes k n there here)
+lost-by n nodes k session q sorted there other =
+    by_bool (λ _. is_ephemeral_of session (at_path (remove nodes k) q) ≡ is_ephemeral_of session (at_path nodes q)) (is_at q n)
+    (λ here. ap (is_ephemeral_of session) (at_path-gone q nodes k n sorted there here) ∙ sym (other here) ∙ sym (ap (is_ephemeral_of session) (at_path-there q nodes k n sorted there here)))
+    (λ here. ap (is_ephemeral_of session) (find-remove (is_at q) nodes k n there here))
 
 pub MarkEphemerals-remove_free : (marks : List Mark) (n : Node) (nodes : List Node) (k : ℕ) → IsSorted nodes → slice_get nodes k ≡ Some n → n.facts.owner ≡ None → MarkEphemerals marks nodes → MarkEphemerals marks (remove nodes k)
 MarkEphemerals-remove_free marks n nodes k sorted there free all session q =
-    all session q ∙ sym (lost-by n nodes k session q (is_at q n) refl sorted there (λ here. ap (is_owner session) free))
+    all session q ∙ sym (lost-by n nodes k session q sorted there (λ here. ap (is_owner session) free))
 
 -- a mark that is taken out, and its node
 pub record AreTaken (marks : List Mark) (j : ℕ) (mark : Mark) (nodes : List Node) (k : ℕ) (n : Node) : Type 0 where
@@ -303,7 +221,7 @@ taken-by marks j mark nodes k n session q true is taken all =
 taken-by marks j mark nodes k n session q false is taken all =
     list_any-remove (is_mark session q) marks j mark taken.mark_there is
     ∙ all session q
-    ∙ sym (lost-by n nodes k session q (is_at q n) refl taken.sorted taken.node_there
+    ∙ sym (lost-by n nodes k session q taken.sorted taken.node_there
     (λ here. ap (is_owner session) taken.owned ∙ and-apart (mark.session == session) (bytes_eq mark.path q) is (ap (λ (r : List ℕ). bytes_eq r q) taken.path ∙ here)))
 
 pub MarkEphemerals-remove : (marks : List Mark) (j : ℕ) (mark : Mark) (nodes : List Node) (k : ℕ) (n : Node) → AreTaken marks j mark nodes k n → MarkEphemerals marks nodes → MarkEphemerals (remove marks j) (remove nodes k)
@@ -375,50 +293,39 @@ not_owned session marks nodes none sorted all =
 
 -- # what is always true of nodes and marks, after each change
 
--- ## how many children there are
-
-pub HasRoom-remove : (k : ℕ) (nodes : List Node) → HasRoom nodes → HasRoom (remove nodes k)
-HasRoom-remove k nodes room path = let room_here = room path in omega (arith, length-children-remove path k nodes)
-
 pub HasRoom-filter : (keep : Node → Bool) (nodes : List Node) → HasRoom nodes → HasRoom (filter keep nodes)
 HasRoom-filter keep nodes room path = let room_here = room path in omega (arith, length-filter-filter (is_child path) keep nodes)
-
-room-by : (path above : List ℕ) (nodes : List Node) (b : Bool) → bytes_eq above path ≡ b → HasRoom nodes → length (children_of nodes above) < 4_294_967_295 → length (children_of nodes path) + cond b 1 0 ≤ 4_294_967_295
-room-by path above nodes true is room below =
-    let same : above ≡ path = bytes_eq-is above path is in
-    let here : length (children_of nodes path) < 4_294_967_295 = subst (λ (p : List ℕ). length (children_of nodes p) < 4_294_967_295) same below in
-    omega arith
-room-by path above nodes false is room below = let room_here = room path in omega arith
 
 -- one more child of a path that has room
 pub HasRoom-insert : (n : Node) (above : List ℕ) (k : ℕ) (nodes : List Node) → parent_of n.path ≡ Some above → length (children_of nodes above) < 4_294_967_295 → HasRoom nodes → HasRoom (insert nodes k n)
 HasRoom-insert n above k nodes has below room path =
-    let count = length-children-insert path n k nodes in
     let child : is_child path n ≡ bytes_eq above path = ap (is_parent path) has in
-    let total : length (children_of (insert nodes k n) path) ≡ length (children_of nodes path) + cond (bytes_eq above path) 1 0 = count ∙ ap (λ (b : Bool). length (children_of nodes path) + cond b 1 0) child in
-    let most = room-by path above nodes (bytes_eq above path) refl room below in
-    rw total most
+    let most : length (children_of nodes path) + cond (bytes_eq above path) 1 0 ≤ 4_294_967_295 = by_bool (λ (b : Bool). length (children_of nodes path) + cond b 1 0 ≤ 4_294_967_295) (bytes_eq above path)
+    (λ is. let here = subst (λ (p : List ℕ). length (children_of nodes p) < 4_294_967_295) (bytes_eq-is above path is) below in omega arith)
+    (λ is. let room_here = room path in omega arith) in
+    rw (length-filter-insert (is_child path) n k nodes, child) most
 
--- ## one node less
+-- ## one node less, and its mark if it has one
 
-pub IsKept-remove_free : (k : ℕ) (n : Node) (nodes : List Node) (marks : List Mark) → slice_get nodes k ≡ Some n → n.facts.owner ≡ None → IsKept nodes marks → IsKept (remove nodes k) marks
-IsKept-remove_free k n nodes marks there free kept = record {
-  sorted = IsSorted-remove nodes k kept.sorted;
-  paths = AllPaths-remove nodes k kept.paths;
-  room = HasRoom-remove k nodes kept.room;
-  ranked = kept.ranked;
-  marked = MarkEphemerals-remove_free marks n nodes k kept.sorted there free kept.marked;
-}
+marks-taken : (k : ℕ) (n : Node) (nodes : List Node) (marks : List Mark) (mark : Step Mark) → slice_get nodes k ≡ Some n → TakesMark n.facts.owner n.path marks mark → IsKept nodes marks →
+    AreRanked (after_step mark marks) × MarkEphemerals (after_step mark marks) (remove nodes k)
+marks-taken k n nodes marks Nothing there takes kept = (kept.ranked, MarkEphemerals-remove_free marks n nodes k kept.sorted there takes kept.marked)
+marks-taken k n nodes marks (Take j) there takes kept = (
+  Rises-remove ranks_before marks j kept.ranked,
+  MarkEphemerals-remove marks j (new_mark takes.0 n.path) nodes k n (record { ranked = kept.ranked; sorted = kept.sorted; mark_there = takes.2; node_there = there; owned = takes.1; path = refl }) kept.marked,
+)
+marks-taken k n nodes marks (Put j mark) there takes kept = absurd takes
 
--- with its mark
-pub IsKept-remove : (k j session : ℕ) (n : Node) (nodes : List Node) (marks : List Mark) → slice_get nodes k ≡ Some n → n.facts.owner ≡ Some session → slice_get marks j ≡ Some (new_mark session n.path) → IsKept nodes marks → IsKept (remove nodes k) (remove marks j)
-IsKept-remove k j session n nodes marks there owned mark kept = record {
-  sorted = IsSorted-remove nodes k kept.sorted;
-  paths = AllPaths-remove nodes k kept.paths;
-  room = HasRoom-remove k nodes kept.room;
-  ranked = AreRanked-remove marks j kept.ranked;
-  marked = MarkEphemerals-remove marks j (new_mark session n.path) nodes k n (record { ranked = kept.ranked; sorted = kept.sorted; mark_there = mark; node_there = there; owned = owned; path = refl }) kept.marked;
-}
+pub IsKept-remove : (k : ℕ) (n : Node) (nodes : List Node) (marks : List Mark) (mark : Step Mark) → slice_get nodes k ≡ Some n → TakesMark n.facts.owner n.path marks mark → IsKept nodes marks → IsKept (remove nodes k) (after_step mark marks)
+IsKept-remove k n nodes marks mark there takes kept =
+    let taken = marks-taken k n nodes marks mark there takes kept in
+    record {
+      sorted = Rises-remove node_before nodes k kept.sorted;
+      paths = all-remove (λ m. is_path m.path ≡ true) nodes k kept.paths;
+      room = λ path. let room_here = kept.room path in omega (arith, length-filter-remove (is_child path) k nodes);
+      ranked = taken.0;
+      marked = taken.1;
+    }
 
 -- ## one node more
 
@@ -439,14 +346,14 @@ IsKept-insert true session n above nodes marks owned may kept =
     let fresh : list_any (is_mark session n.path) marks ≡ false = kept.marked session n.path ∙ ap (is_ephemeral_of session) may.new in
     record {
       sorted = IsSorted-insert n nodes may.path kept.paths may.new kept.sorted;
-      paths = AllPaths-insert n nodes (place_of n.path nodes) may.path kept.paths;
+      paths = all-insert (λ m. is_path m.path ≡ true) n nodes (place_of n.path nodes) may.path kept.paths;
       room = HasRoom-insert n above (place_of n.path nodes) nodes may.parent may.room kept.room;
       ranked = AreRanked-insert (new_mark session n.path) marks fresh kept.ranked;
       marked = MarkEphemerals-insert marks (mark_place session n.path marks) (new_mark session n.path) n nodes (place_of n.path nodes) owned refl may.new kept.marked;
     }
 IsKept-insert false session n above nodes marks owned may kept = record {
   sorted = IsSorted-insert n nodes may.path kept.paths may.new kept.sorted;
-  paths = AllPaths-insert n nodes (place_of n.path nodes) may.path kept.paths;
+  paths = all-insert (λ m. is_path m.path ≡ true) n nodes (place_of n.path nodes) may.path kept.paths;
   room = HasRoom-insert n above (place_of n.path nodes) nodes may.parent may.room kept.room;
   ranked = kept.ranked;
   marked = MarkEphemerals-insert_free marks n nodes (place_of n.path nodes) owned may.new kept.marked;
@@ -455,8 +362,7 @@ IsKept-insert false session n above nodes marks owned may kept = record {
 -- ## the root alone
 
 root-free : (session : ℕ) (b : Bool) → false ≡ is_ephemeral_of session (cond b (Some root_node) None)
-root-free session true = refl
-root-free session false = refl
+root-free session b = grind arith
 
 few-by : (b : Bool) → length (cond b (root_node ∷ []) []) ≤ 4_294_967_295
 few-by true = lit≤ tt
@@ -482,21 +388,14 @@ map-nowhere : (p : List ℕ) (f : Node → Node) (nodes : List Node) → NonePas
 map-nowhere p f [] none = refl
 map-nowhere p f (n ∷ nodes) none = rw (none.0) (ap (λ (ms : List Node). n ∷ ms) (map-nowhere p f nodes none.1))
 
-map-where-by : (p : List ℕ) (f : Node → Node) (n : Node) (nodes : List Node) (b : Bool) → is_at p n ≡ b → IsSorted (n ∷ nodes) → change_node p f nodes ≡ map (changed_where p f) nodes → change_node p f (n ∷ nodes) ≡ map (changed_where p f) (n ∷ nodes)
-map-where-by p f n nodes true is sorted later = rw is (ap (λ (ms : List Node). f n ∷ ms) (sym (map-nowhere p f nodes (later-others p n nodes is sorted.0))))
-map-where-by p f n nodes false is sorted later = rw is (ap (λ (ms : List Node). n ∷ ms) later)
-
 pub change_node-where : (p : List ℕ) (f : Node → Node) (nodes : List Node) → IsSorted nodes → change_node p f nodes ≡ map (changed_where p f) nodes
 change_node-where p f [] sorted = refl
-change_node-where p f (n ∷ nodes) sorted = map-where-by p f n nodes (is_at p n) refl sorted (change_node-where p f nodes sorted.1)
+change_node-where p f (n ∷ nodes) sorted =
+    by_bool (λ (b : Bool). cond b (f n ∷ nodes) (n ∷ change_node p f nodes) ≡ cond b (f n) n ∷ map (changed_where p f) nodes) (is_at p n)
+    (λ is. ap (λ (ms : List Node). f n ∷ ms) (sym (map-nowhere p f nodes (later-others p n nodes is sorted.0)))) (λ is. ap (λ (ms : List Node). n ∷ ms) (change_node-where p f nodes sorted.1))
 
-where-path : (p : List ℕ) (f : Node → Node) → KeepsPath f → (n : Node) (b : Bool) → (cond b (f n) n).path ≡ n.path
-where-path p f keeps n true = keeps n
-where-path p f keeps n false = refl
-
-where-owner : (p : List ℕ) (f : Node → Node) → KeepsOwner f → (n : Node) (b : Bool) → (cond b (f n) n).facts.owner ≡ n.facts.owner
-where-owner p f keeps n true = keeps n
-where-owner p f keeps n false = refl
+where-same : {A : Type 0} (g : Node → A) (p : List ℕ) (f : Node → Node) → ((n : Node) → g (f n) ≡ g n) → (n : Node) → g (changed_where p f n) ≡ g n
+where-same g p f keeps n = by_bool (λ (b : Bool). g (cond b (f n) n) ≡ g n) (is_at p n) (λ _. keeps n) (λ _. refl)
 
 -- ## one step
 
@@ -516,10 +415,10 @@ pub record IsOwnedAt (session : ℕ) (above : List ℕ) (k : ℕ) (nodes : List 
 
 module _ (z session : ℕ) (above : List ℕ) (k : ℕ) (nodes : List Node) (m : Node) (sorted : IsSorted nodes) (is : IsOwnedAt session above k nodes m) where
   same-owned : (n : Node) → is_owned session (changed_where above (without_child z) n) ≡ is_owned session n
-  same-owned n = ap (is_owner session) (where-owner above (without_child z) (λ _. refl) n (is_at above n))
+  same-owned n = where-same (is_owned session) above (without_child z) (λ _. refl) n
 
   same-child : (path : List ℕ) (n : Node) → is_child path (changed_where above (without_child z) n) ≡ is_child path n
-  same-child path n = ap (λ (q : List ℕ). is_parent path (parent_of q)) (where-path above (without_child z) (λ _. refl) n (is_at above n))
+  same-child path n = where-same (is_child path) above (without_child z) (λ _. refl) n
 
   moved : slice_get (map (changed_where above (without_child z)) nodes) k ≡ Some (changed_where above (without_child z) m)
   moved = slice_get-map (changed_where above (without_child z)) nodes k ∙ ap (option_map (changed_where above (without_child z))) is.there
@@ -547,8 +446,7 @@ module _ (z session : ℕ) (above : List ℕ) (k : ℕ) (nodes : List Node) (m :
       list_any-there (λ n. is_owned session n && is_child path n) nodes k m is.there (rw (is.owned, passes) refl)
 
   cond-both : (b : Bool) → cond b z z ≡ z
-  cond-both true = refl
-  cond-both false = refl
+  cond-both b = grind arith
 
   left-by : (n : Node) (b : Bool) → is_at above n ≡ b → after_loss (one_less z above k nodes) z session (cond b (without_child z n) n) ≡ after_loss nodes z session n
   left-by n true at =
@@ -567,11 +465,9 @@ module _ (z session : ℕ) (above : List ℕ) (k : ℕ) (nodes : List Node) (m :
 
 -- a node that has no parent
 module _ (z session k : ℕ) (nodes : List Node) (m : Node) (there : slice_get nodes k ≡ Some m) (owned : is_owned session m ≡ true) (top : parent_of m.path ≡ None) where
-  loses-same : (path : List ℕ) → loses session path (remove nodes k) ≡ loses session path nodes
-  loses-same path = list_any-remove (λ n. is_owned session n && is_child path n) nodes k m there (and_right (is_owned session m) (is_child path m) (ap (is_parent path) top))
-
   left-same : (n : Node) → after_loss (remove nodes k) z session n ≡ after_loss nodes z session n
-  left-same n = ap (λ (b : Bool). record n { facts = record n.facts { pzxid = cond b z n.facts.pzxid } }) (loses-same n.path)
+  left-same n = ap (λ (b : Bool). record n { facts = record n.facts { pzxid = cond b z n.facts.pzxid } })
+      (list_any-remove (λ x. is_owned session x && is_child n.path x) nodes k m there (and_right (is_owned session m) (is_child n.path m) (ap (is_parent n.path) top)))
 
   pub nodes_after_end-top : nodes_after_end z session (remove nodes k) ≡ nodes_after_end z session nodes
   nodes_after_end-top =
@@ -581,12 +477,9 @@ module _ (z session k : ℕ) (nodes : List Node) (m : Node) (there : slice_get n
 -- ## the end is reached
 
 module _ (z session : ℕ) (nodes : List Node) (none : NonePass (is_owned session) nodes) where
-  loses-none : (path : List ℕ) (ms : List Node) → NonePass (is_owned session) ms → loses session path ms ≡ false
-  loses-none path [] over = refl
-  loses-none path (m ∷ ms) over = rw (over.0) (loses-none path ms over.1)
-
   left-none : (n : Node) → after_loss nodes z session n ≡ n
-  left-none n = ap (λ (b : Bool). record n { facts = record n.facts { pzxid = cond b z n.facts.pzxid } }) (loses-none n.path nodes none)
+  left-none n = ap (λ (b : Bool). record n { facts = record n.facts { pzxid = cond b z n.facts.pzxid } })
+      (list_any-none (λ m. is_owned session m && is_child n.path m) nodes (all-weaker (λ m. is_owned session m ≡ false) (λ m. (is_owned session m && is_child n.path m) ≡ false) (λ m other. and_left (is_owned session m) (is_child n.path m) other) nodes none))
 
   pub nodes_after_end-none : nodes_after_end z session nodes ≡ nodes
   nodes_after_end-none = map-same (after_loss nodes z session) (filter (λ n. not (is_owned session n)) nodes) left-none ∙ filter-not_none (is_owned session) nodes none

@@ -1,5 +1,5 @@
 -- nodes in the order of their paths: the node at a path, its children, and where a path is free
-use Rattle.np_tree_nodes.proofs.Prelude.{AllByRecursion, AllPaths, Bool, Equal, FindsGap, FirstAt, Greater, IsBetween, IsChild-of, IsPartitionPoint, IsPartitionPoint-rises, IsSorted, IsSplit, IsSplit-rises, IsStretch, IsTotalOrder, Less, List, Node, None, NonePass, Option, Ordering, Rises-between, Rises-filter, Rises-remove, Some, absent, all-at, all-filter, all-get_or, all-insert, all-insert_before, all-remove, all-weaker, and_from, and_parts, ap, append-nil, arith, at_path, before_of, begins_with_slash, below, bytes_eq, bytes_eq-Decides, bytes_eq-apart, change_at, change_first-at, change_first-none, change_node, children_of, cond, drop, exact_bytes, false, filter, filter-between, filter-not_none, find-first, find-none, get_or, halves-whole, insert, insert_before-point, insert_node, is_at, is_child, is_element, is_le, is_lt, is_parent, is_path, is_slash, is_some, length, length-filter-insert, length-filter-remove, list_any, name_of, nat_cmp, nat_cmp_total, nat_list_cmp_total, nat_tests, node_before, none-find, none-remove, not, on_total, or_root, ordering_reverse, ordering_then, parent_of, path_before, place_of, prefix_len, prefix_len-le, prefix_len-le-length, refl, remove, root, root-of, root_node, slice_cmp, slice_get, slice_get-get_or, stands_before, subst, suc, sym, take, then-assoc, then_total, tied_itself, true, without_node, zero, ℕ, [], ◌&&◌, ◌++◌, ◌+◌, ◌-◌, ◌<◌, ◌==◌, ◌∙◌, ◌∷◌, ◌≡◌, ◌≤◌}
+use Rattle.np_tree_nodes.proofs.Prelude.{and_true, by_bool, false_from_ne_true, AllByRecursion, AllPaths, Bool, Equal, FindsGap, FirstAt, IsBetween, IsChild-of, IsPartitionPoint, IsPartitionPoint-rises, IsSorted, IsSplit, IsSplit-rises, IsStretch, IsTotalOrder, Less, List, Node, None, NonePass, Option, Ordering, Rises-between, Rises-filter, Some, absent, all-at, all-filter, all-get_or, all-insert_before, all-weaker, and_from, and_parts, ap, append-nil, arith, at_path, before_of, begins_with_slash, below, bytes_eq, bytes_eq-Decides, bytes_eq-apart, change_at, change_first-at, change_first-none, change_node, children_of, exact_bytes, false, filter, filter-between, filter-not_none, find-first, find-none, get_or, halves-whole, insert, insert_before-point, insert_node, is_at, is_child, is_element, is_le, is_lt, is_parent, is_path, is_slash, length, list_any, name_of, nat_cmp, nat_cmp_total, nat_list_cmp_total, nat_tests, node_before, none-find, none-remove, not, on_total, or_root, ordering_then, parent_of, path_before, place_of, prefix_len, prefix_len-le, prefix_len-le-length, refl, remove, root, root-of, root_node, slice_cmp, slice_get, slice_get-get_or, stands_before, subst, suc, sym, then-assoc, then_total, tied_itself, true, without_node, zero, ℕ, [], ◌&&◌, ◌++◌, ◌<◌, ◌==◌, ◌∙◌, ◌∷◌, ◌≡◌}
 
 -- # names of two parts
 
@@ -21,54 +21,24 @@ slice_cmp-append (x ∷ xs) (y ∷ ys) us vs same =
 
 -- ## any total order
 
-is_lt-Less : (o : Ordering) → is_lt o ≡ true → o ≡ Less
-is_lt-Less Less is = refl
-is_lt-Less Equal is = absurd cc
-is_lt-Less Greater is = absurd cc
-
-is_lt-reverse : (o : Ordering) → is_lt o ≡ true → is_lt (ordering_reverse o) ≡ false
-is_lt-reverse Less is = refl
-is_lt-reverse Equal is = refl
-is_lt-reverse Greater is = absurd cc
-
-neither-Equal : (o : Ordering) → is_lt o ≡ false → is_lt (ordering_reverse o) ≡ false → o ≡ Equal
-neither-Equal Less this that = absurd cc
-neither-Equal Equal this that = refl
-neither-Equal Greater this that = absurd cc
-
-some_same : (x y : List ℕ) → Some x ≡ Some y → x ≡ y
-some_same x y is = cc
-
 module _ {K : Type 0} {R : K → K → Ordering} (order : IsTotalOrder R) where
   pub lt-itself : (x : K) → is_lt (R x x) ≡ false
   lt-itself x = ap is_lt (tied_itself order x)
 
   pub lt-trans : (x y z : K) → is_lt (R x y) ≡ true → is_lt (R y z) ≡ true → is_lt (R x z) ≡ true
-  lt-trans x y z this that = ap is_lt (order.trans x y z (is_lt-Less _ this) (is_lt-Less _ that))
+  lt-trans x y z this that = grind (arith, order.trans x y z)
 
   pub lt-one_way : (x y : K) → is_lt (R x y) ≡ true → is_lt (R y x) ≡ false
-  lt-one_way x y this = ap is_lt (order.antisymm y x) ∙ is_lt-reverse _ this
+  lt-one_way x y this = grind (arith, order.antisymm y x)
 
   pub lt-neither : (x y : K) → is_lt (R x y) ≡ false → is_lt (R y x) ≡ false → R x y ≡ Equal
-  lt-neither x y this that = neither-Equal _ this (sym (ap is_lt (order.antisymm y x)) ∙ that)
-
-  lt_le-by : (x y z : K) (o : Ordering) → R y z ≡ o → is_lt (R x y) ≡ true → is_le o ≡ true → is_le (R x z) ≡ true
-  lt_le-by x y z Less is this that = ap is_le (order.trans x y z (is_lt-Less _ this) is)
-  lt_le-by x y z Equal is this that =
-      let turned : R z x ≡ R y x = sym (order.congr y z x is) in
-      ap is_le (order.antisymm x z ∙ ap ordering_reverse turned ∙ sym (order.antisymm x y) ∙ is_lt-Less _ this)
-  lt_le-by x y z Greater is this that = absurd cc
+  lt-neither x y this that = grind (arith, order.antisymm y x)
 
   pub lt_le-trans : (x y z : K) → is_lt (R x y) ≡ true → is_le (R y z) ≡ true → is_le (R x z) ≡ true
-  lt_le-trans x y z this that = lt_le-by x y z (R y z) refl this that
-
-  le_le-by : (x y z : K) (o : Ordering) → R x y ≡ o → is_le o ≡ true → is_le (R y z) ≡ true → is_le (R x z) ≡ true
-  le_le-by x y z Less is this that = lt_le-trans x y z (ap is_lt is) that
-  le_le-by x y z Equal is this that = ap is_le (order.congr x y z is) ∙ that
-  le_le-by x y z Greater is this that = absurd cc
+  lt_le-trans x y z this that = grind (arith, order.trans x y z, order.congr y z x, order.antisymm x z, order.antisymm x y)
 
   pub le-trans : (x y z : K) → is_le (R x y) ≡ true → is_le (R y z) ≡ true → is_le (R x z) ≡ true
-  le-trans x y z this that = le_le-by x y z (R x y) refl this that
+  le-trans x y z this that = grind (arith, lt_le-trans x y z, order.congr x y z)
 
 -- ## two halves
 
@@ -83,14 +53,11 @@ pub halves_cmp_total : IsTotalOrder halves_cmp
 halves_cmp_total = then_total (on_total (λ (x : List ℕ × List ℕ). x.0) nat_list_cmp_total) (on_total (λ (x : List ℕ × List ℕ). x.1) nat_list_cmp_total)
 
 pub then-Equal : (o p : Ordering) → ordering_then o p ≡ Equal → (o ≡ Equal) × (p ≡ Equal)
-then-Equal Less p is = absurd cc
 then-Equal Equal p is = (refl, is)
-then-Equal Greater p is = absurd cc
+then-Equal o p is = absurd cc
 
 then-le : (o p : Ordering) → is_lt (ordering_then o p) ≡ true → is_le o ≡ true
-then-le Less p is = refl
-then-le Equal p is = refl
-then-le Greater p is = absurd cc
+then-le o p is = grind arith
 
 -- ## the order of paths
 
@@ -112,14 +79,7 @@ path_before-neither p q has_p has_q this that =
     let tied = then-Equal _ _ (lt-neither halves_cmp_total (halves_of p) (halves_of q) this that) in
     same_halves p q has_p has_q (exact_bytes _ _ tied.0) (exact_bytes _ _ tied.1)
 
--- if a path comes before another, it comes before what that other comes before, and its first half
--- isn't greater
-pub path_before-halves : (p q : List ℕ) (h : List ℕ × List ℕ) → path_before p q ≡ true → is_lt (halves_cmp (halves_of q) h) ≡ true → is_lt (halves_cmp (halves_of p) h) ≡ true
-path_before-halves p q h this that = lt-trans halves_cmp_total (halves_of p) (halves_of q) h this that
-
-pub path_before-halves_le : (p q : List ℕ) (h : List ℕ × List ℕ) → path_before p q ≡ true → is_le (halves_cmp (halves_of q) h) ≡ true → is_le (halves_cmp (halves_of p) h) ≡ true
-path_before-halves_le p q h this that = lt_le-trans halves_cmp_total (halves_of p) (halves_of q) h this that
-
+-- if a path comes before another, its first half isn't greater
 pub path_before-first_le : (p q key : List ℕ) → path_before p q ≡ true → is_le (slice_cmp nat_cmp (before_of q) key) ≡ true → is_le (slice_cmp nat_cmp (before_of p) key) ≡ true
 path_before-first_le p q key this that = le-trans nat_list_cmp_total (before_of p) (before_of q) key (then-le _ _ this) that
 
@@ -127,14 +87,10 @@ path_before-first_le p q key this that = le-trans nat_list_cmp_total (before_of 
 pub has_slash : (p : List ℕ) → is_path p ≡ true → list_any is_slash p ≡ true
 has_slash p is = let begun = begins_with_slash p is in rw begun.1 refl
 
-path_before-some_by : (p q : List ℕ) (b : Bool) → path_before q p ≡ b → (path_before q p ≡ false → p ≡ q) → (p ≡ q → ⊥) → path_before q p ≡ true
-path_before-some_by p q true is same other = is
-path_before-some_by p q false is same other = absurd (other (same is))
-
 -- of two paths that differ, one comes before the other
 pub path_before-some_way : (p q : List ℕ) → is_path p ≡ true → is_path q ≡ true → path_before p q ≡ false → (p ≡ q → ⊥) → path_before q p ≡ true
 path_before-some_way p q is_p is_q this other =
-    path_before-some_by p q (path_before q p) refl (path_before-neither p q (has_slash p is_p) (has_slash q is_q) this) other
+    by_bool (λ (b : Bool). b ≡ true) (path_before q p) (λ _. refl) (λ that. absurd (other (path_before-neither p q (has_slash p is_p) (has_slash q is_q) this that)))
 
 -- ## a parent and its child
 
@@ -144,8 +100,7 @@ slice_cmp-longer (x ∷ xs) y ys = rw (tied_itself nat_cmp_total x) (slice_cmp-l
 
 first_by : (before name : List ℕ) → (before ≡ [] → name ≡ [] → ⊥) → is_lt (halves_cmp ([], []) (before, name)) ≡ true
 first_by [] [] other = absurd (other refl refl)
-first_by [] (n ∷ name) other = refl
-first_by (b ∷ before) name other = refl
+first_by before name other = refl
 
 -- the root comes before all other paths
 pub root-first : (q : List ℕ) → is_path q ≡ true → (q ≡ root → ⊥) → path_before root q ≡ true
@@ -153,9 +108,8 @@ root-first q is other = first_by (before_of q) (name_of q) (λ before name. othe
 
 -- what is before the last slash of a child
 pub parent-half : (p q : List ℕ) → parent_of q ≡ Some p → p ≡ or_root (before_of q)
-parent-half p [] above = absurd cc
-parent-half p (b ∷ []) above = absurd cc
-parent-half p (b ∷ c ∷ bs) above = sym (some_same _ _ above)
+parent-half p (b ∷ c ∷ bs) above = cc
+parent-half p q above = absurd cc
 
 parent-by : (p q before : List ℕ) → is_path p ≡ true → is_path q ≡ true → (q ≡ root → ⊥) → p ≡ or_root before → before_of q ≡ before → path_before p q ≡ true
 parent-by p q [] is_p is other same half = subst (λ (r : List ℕ). path_before r q ≡ true) (sym same) (root-first q is other)
@@ -167,9 +121,7 @@ parent-by p q (b ∷ bs) is_p is other same half =
 -- a parent comes before its child
 pub parent-first : (p q : List ℕ) → is_path q ≡ true → parent_of q ≡ Some p → path_before p q ≡ true
 parent-first p q is above =
-    parent-by p q (before_of q) (IsChild-of q p is above).is is (λ same. absurd (root-none (sym (ap parent_of same) ∙ above))) (parent-half p q above) refl where
-      root-none : {x : List ℕ} → parent_of root ≡ Some x → ⊥
-      root-none e = cc
+    parent-by p q (before_of q) (IsChild-of q p is above).is is (λ same. let none : parent_of root ≡ Some p = sym (ap parent_of same) ∙ above in absurd cc) (parent-half p q above) refl
 
 -- # a node by its path is the node at its place
 
@@ -190,15 +142,10 @@ less-down : (p : List ℕ) (m n : Node) → node_before m n ≡ true → less_th
 less-down p m n order less = path_before-trans m.path n.path p order less
 
 less-apart : (p : List ℕ) (n : Node) → less_than p n ≡ true → is_at p n ≡ false
-less-apart p n less = bytes_eq-apart n.path p (λ same.
-    let this : path_before p p ≡ true = subst (λ (q : List ℕ). path_before q p ≡ true) same less in
-    let that = path_before-itself p in
-    absurd cc)
+less-apart p n less = bytes_eq-apart n.path p (λ same. let itself = path_before-itself n.path in absurd cc)
 
 less-beyond : (p : List ℕ) (m n : Node) → node_before m n ≡ true → less_than p m ≡ false → is_at p n ≡ false
-less-beyond p m n order not_less = bytes_eq-apart n.path p (λ same.
-    let this : path_before m.path p ≡ true = subst (λ (q : List ℕ). path_before m.path q ≡ true) same order in
-    absurd cc)
+less-beyond p m n order not_less = bytes_eq-apart n.path p (λ same. absurd cc)
 
 -- ## the node at a path
 
@@ -213,47 +160,39 @@ at_path-absent p nodes sorted other =
     (λ within. (root_node, other (get_or nodes (place_of p nodes) root_node) (slice_get-get_or nodes (place_of p nodes) root_node within))))
 
 pub at_path-other : (p : List ℕ) (nodes : List Node) (n : Node) → IsSorted nodes → slice_get nodes (place_of p nodes) ≡ Some n → is_at p n ≡ false → at_path nodes p ≡ None
-at_path-other p nodes n sorted is other =
-    at_path-absent p nodes sorted (λ m there. let same : n ≡ m = some_node (sym is ∙ there) in ap (is_at p) (sym same) ∙ other) where
-      some_node : {x y : Node} → Some x ≡ Some y → x ≡ y
-      some_node e = cc
+at_path-other p nodes n sorted is other = at_path-absent p nodes sorted (λ m there. cc)
 
 pub at_path-past : (p : List ℕ) (nodes : List Node) → IsSorted nodes → slice_get nodes (place_of p nodes) ≡ None → at_path nodes p ≡ None
-at_path-past p nodes sorted past = at_path-absent p nodes sorted (λ m there. absurd (let e : Some m ≡ None = sym there ∙ past in cc))
+at_path-past p nodes sorted past = at_path-absent p nodes sorted (λ m there. absurd cc)
 
 -- ### at any place
 
 first-there : (p : List ℕ) (nodes : List Node) (k : ℕ) (n : Node) → IsSorted nodes → slice_get nodes k ≡ Some n → is_at p n ≡ true → FirstAt (is_at p) nodes k
 first-there p [] k n sorted is here = absurd cc
-first-there p (m ∷ nodes) zero n sorted is here = let same : m ≡ n = cc in ap (is_at p) same ∙ here
-first-there p (m ∷ nodes) (suc k) n sorted is here = (
-  let order : node_before m n ≡ true = all-at (λ x. node_before m x ≡ true) nodes k n sorted.0 is in
-      less-apart p m (subst (λ (q : List ℕ). path_before m.path q ≡ true) (bytes_eq-is n.path p here) order),
-  first-there p nodes k n sorted.1 is here,
-)
+first-there p (m ∷ nodes) zero n sorted is here = cc
+first-there p (m ∷ nodes) (suc k) n sorted is here =
+    let order : node_before m n ≡ true = all-at (λ x. node_before m x ≡ true) nodes k n sorted.0 is in
+    (less-apart p m (rw (← bytes_eq-is n.path p here) order), first-there p nodes k n sorted.1 is here)
 
 pub at_path-there : (p : List ℕ) (nodes : List Node) (k : ℕ) (n : Node) → IsSorted nodes → slice_get nodes k ≡ Some n → is_at p n ≡ true → at_path nodes p ≡ Some n
 at_path-there p nodes k n sorted is here = find-first (is_at p) nodes k (first-there p nodes k n sorted is here) ∙ is
 
 -- a text with no slash is no node's path
-no-slash-at : (p : List ℕ) (n : Node) → list_any is_slash p ≡ false → is_path n.path ≡ true → is_at p n ≡ false
-no-slash-at p n without is = bytes_eq-apart n.path p (λ same. let has = ap (list_any is_slash) (sym same) ∙ has_slash n.path is in absurd cc)
-
 pub at_path-no_slash : (p : List ℕ) (nodes : List Node) → list_any is_slash p ≡ false → AllPaths nodes → at_path nodes p ≡ None
 at_path-no_slash p nodes without paths =
-    find-none (is_at p) nodes (all-weaker (λ n. is_path n.path ≡ true) (λ n. is_at p n ≡ false) (λ n is. no-slash-at p n without is) nodes paths)
+    find-none (is_at p) nodes (all-weaker (λ n. is_path n.path ≡ true) (λ n. is_at p n ≡ false) (λ n is. bytes_eq-apart n.path p (λ same. let has = has_slash n.path is in absurd cc)) nodes paths)
 
 -- ### probes by two halves
 
 pub IsSplit-halves : (before name : List ℕ) (nodes : List Node) → IsSorted nodes →
     IsSplit (λ n. is_lt (ordering_then (slice_cmp nat_cmp (before_of n.path) before) (slice_cmp nat_cmp (name_of n.path) name))) nodes
 IsSplit-halves before name nodes sorted =
-    IsSplit-rises node_before (λ n. is_lt (halves_cmp (halves_of n.path) (before, name))) (λ m n order less. path_before-halves m.path n.path (before, name) order less) nodes sorted
+    IsSplit-rises node_before (λ n. is_lt (halves_cmp (halves_of n.path) (before, name))) (λ m n order less. lt-trans halves_cmp_total (halves_of m.path) (halves_of n.path) (before, name) order less) nodes sorted
 
 pub IsSplit-halves_le : (before name : List ℕ) (nodes : List Node) → IsSorted nodes →
     IsSplit (λ n. is_le (ordering_then (slice_cmp nat_cmp (before_of n.path) before) (slice_cmp nat_cmp (name_of n.path) name))) nodes
 IsSplit-halves_le before name nodes sorted =
-    IsSplit-rises node_before (λ n. is_le (halves_cmp (halves_of n.path) (before, name))) (λ m n order less. path_before-halves_le m.path n.path (before, name) order less) nodes sorted
+    IsSplit-rises node_before (λ n. is_le (halves_cmp (halves_of n.path) (before, name))) (λ m n order less. lt_le-trans halves_cmp_total (halves_of m.path) (halves_of n.path) (before, name) order less) nodes sorted
 
 pub IsSplit-first_le : (key : List ℕ) (nodes : List Node) → IsSorted nodes → IsSplit (λ n. is_le (slice_cmp nat_cmp (before_of n.path) key)) nodes
 IsSplit-first_le key nodes sorted =
@@ -308,13 +247,10 @@ between n nodes is paths none sorted =
           (all-get_or (λ m. is_at n.path m ≡ false) nodes k d (none-find (is_at n.path) nodes none) high) (point.1 k d low high),
     )
 
-place-within : (p : List ℕ) (nodes : List Node) → place_of p nodes ≤ length nodes
-place-within p nodes = prefix_len-le-length (less_than p) nodes
-
 pub insert_node-at : (n : Node) (nodes : List Node) → is_path n.path ≡ true → AllPaths nodes → at_path nodes n.path ≡ None → IsSorted nodes → insert_node n nodes ≡ insert nodes (place_of n.path nodes) n
 insert_node-at n nodes is paths none sorted =
     let point = between n nodes is paths none sorted in
-    insert_before-point (λ m. node_before n m) n nodes (place_of n.path nodes) (place-within n.path nodes)
+    insert_before-point (λ m. node_before n m) n nodes (place_of n.path nodes) (prefix_len-le-length (less_than n.path) nodes)
     (λ k d low high. path_before-one_way (get_or nodes k d).path n.path (point.0 k d low high), point.1)
 
 -- ## what keeps the order
@@ -322,7 +258,7 @@ insert_node-at n nodes is paths none sorted =
 pub IsSorted-insert : (n : Node) (nodes : List Node) → is_path n.path ≡ true → AllPaths nodes → at_path nodes n.path ≡ None → IsSorted nodes → IsSorted (insert nodes (place_of n.path nodes) n)
 IsSorted-insert n nodes is paths none sorted =
     Rises-between node_before n (λ m k first order. path_before-trans n.path m.path k.path first order)
-    nodes (place_of n.path nodes) (place-within n.path nodes) (between n nodes is paths none sorted) sorted
+    nodes (place_of n.path nodes) (prefix_len-le-length (less_than n.path) nodes) (between n nodes is paths none sorted) sorted
 
 pub IsSorted-insert_node : (n : Node) (nodes : List Node) → is_path n.path ≡ true → AllPaths nodes → at_path nodes n.path ≡ None → IsSorted nodes → IsSorted (insert_node n nodes)
 IsSorted-insert_node n nodes is paths none sorted = subst IsSorted (sym (insert_node-at n nodes is paths none sorted)) (IsSorted-insert n nodes is paths none sorted)
@@ -342,15 +278,6 @@ IsSorted-filter keep nodes sorted = Rises-filter node_before keep nodes sorted
 pub AllPaths-filter : (keep : Node → Bool) (nodes : List Node) → AllPaths nodes → AllPaths (filter keep nodes)
 AllPaths-filter keep nodes paths = all-filter (λ m. is_path m.path ≡ true) keep nodes paths
 
-pub AllPaths-insert : (n : Node) (nodes : List Node) (k : ℕ) → is_path n.path ≡ true → AllPaths nodes → AllPaths (insert nodes k n)
-AllPaths-insert n nodes k is paths = all-insert (λ m. is_path m.path ≡ true) n nodes k is paths
-
-pub IsSorted-remove : (nodes : List Node) (k : ℕ) → IsSorted nodes → IsSorted (remove nodes k)
-IsSorted-remove nodes k sorted = Rises-remove node_before nodes k sorted
-
-pub AllPaths-remove : (nodes : List Node) (k : ℕ) → AllPaths nodes → AllPaths (remove nodes k)
-AllPaths-remove nodes k paths = all-remove (λ m. is_path m.path ≡ true) nodes k paths
-
 -- # a path that is free, by its two halves
 
 -- the place of two halves
@@ -361,10 +288,7 @@ pub record IsGapAt (path before name : List ℕ) (nodes : List Node) (k : ℕ) :
   pub place : k ≡ prefix_len (λ n. stands_before before name n.path) nodes
 
 place : (path before name : List ℕ) (nodes : List Node) (k : ℕ) → IsGapAt path before name nodes k → k ≡ place_of path nodes
-place path before name nodes k gap =
-    gap.place
-    ∙ ap (λ (first : List ℕ). prefix_len (λ n. stands_before first name n.path) nodes) (sym gap.half)
-    ∙ ap (λ (last : List ℕ). prefix_len (λ n. stands_before (before_of path) last n.path) nodes) (sym gap.last)
+place path before name nodes k gap = rw (gap.half, gap.last) gap.place
 
 -- past the last node
 pub FindsGap-past : (path before name : List ℕ) (nodes : List Node) (k : ℕ) → IsGapAt path before name nodes k → IsSorted nodes → slice_get nodes k ≡ None → FindsGap nodes path (Some k)
@@ -382,9 +306,6 @@ FindsGap-other path before name nodes k n gap sorted there differ =
     cc) in
     (at_path-other path nodes n sorted (rw at at there) other, at)
 
-some-node : (nodes : List Node) (path : List ℕ) (n : Node) → at_path nodes path ≡ Some n → is_some (at_path nodes path) ≡ true
-some-node nodes path n found = rw found refl
-
 -- the path's node is at the place
 pub FindsGap-none : (path before name : List ℕ) (nodes : List Node) (k : ℕ) (n : Node) → IsGapAt path before name nodes k → IsSorted nodes → AllPaths nodes → slice_get nodes k ≡ Some n →
     true ≡ (bytes_eq (before_of n.path) before && bytes_eq (name_of n.path) name) → FindsGap nodes path None
@@ -393,7 +314,7 @@ FindsGap-none path before name nodes k n gap sorted paths there agree =
     let is_n = all-at (λ m. is_path m.path ≡ true) nodes k n paths there in
     let same = same_halves n.path path (has_slash n.path is_n) (has_slash path gap.is)
     (bytes_eq-is (before_of n.path) before halves.0 ∙ sym gap.half) (bytes_eq-is (name_of n.path) name halves.1 ∙ sym gap.last) in
-    some-node nodes path n (at_path-there path nodes k n sorted there (bytes_eq-from n.path path same))
+    rw (at_path-there path nodes k n sorted there (bytes_eq-from n.path path same)) refl
 
 -- # the children of a path are one stretch of the nodes
 
@@ -408,9 +329,7 @@ abbrev pub is_upto : List ℕ → Node → Bool
 is_upto key n = is_le (slice_cmp nat_cmp (before_of n.path) key)
 
 above-upto-by : (o p : Ordering) → is_le (ordering_then o p) ≡ true → is_le o ≡ true
-above-upto-by Less p is = refl
-above-upto-by Equal p is = refl
-above-upto-by Greater p is = absurd cc
+above-upto-by o p is = grind arith
 
 pub above-upto : (key : List ℕ) (n : Node) → is_above key n ≡ true → is_upto key n ≡ true
 above-upto key n is = above-upto-by _ _ is
@@ -446,9 +365,8 @@ child-half key p n (Some above) is_key is has child =
     or_root-same (before_of n.path) key (half-not_root n.path above is has) is_key.other same
 
 -- a node with another half is not a child
-other-half : (key p : List ℕ) (n : Node) (b : Bool) → is_child p n ≡ b → IsKey key p → is_path n.path ≡ true → (before_of n.path ≡ key → ⊥) → is_child p n ≡ false
-other-half key p n true is is_key path other = absurd (other (child-half key p n (parent_of n.path) is_key path refl is))
-other-half key p n false is is_key path other = is
+other-half : (key p : List ℕ) (n : Node) → IsKey key p → is_path n.path ≡ true → (before_of n.path ≡ key → ⊥) → is_child p n ≡ false
+other-half key p n is_key path other = false_from_ne_true (is_child p n) (λ is. other (child-half key p n (parent_of n.path) is_key path refl is))
 
 -- the root has no name, and each other path has one
 name-root : (path above : List ℕ) → is_path path ≡ true → parent_of path ≡ Some above → name_of path ≡ [] → ⊥
@@ -465,17 +383,9 @@ same-half-by key p n (Some above) (c ∷ name) is_key is half has named =
 -- a child is what is between the two probes
 child-by : (key p : List ℕ) (n : Node) (o : Ordering) → IsKey key p → is_path n.path ≡ true → slice_cmp nat_cmp (before_of n.path) key ≡ o →
     is_child p n ≡ (not (is_le (ordering_then o (slice_cmp nat_cmp (name_of n.path) []))) && is_le o)
-child-by key p n Less is_key is at = other-half key p n (is_child p n) refl is_key is (λ same. let e : slice_cmp nat_cmp (before_of n.path) key ≡ Equal = ap (λ (b : List ℕ). slice_cmp nat_cmp b key) same ∙ tied_itself nat_list_cmp_total key in absurd (let f : Less ≡ Equal = sym at ∙ e in cc))
-child-by key p n Greater is_key is at = other-half key p n (is_child p n) refl is_key is (λ same. let e : slice_cmp nat_cmp (before_of n.path) key ≡ Equal = ap (λ (b : List ℕ). slice_cmp nat_cmp b key) same ∙ tied_itself nat_list_cmp_total key in absurd (let f : Greater ≡ Equal = sym at ∙ e in cc))
 child-by key p n Equal is_key is at =
-    same-half-by key p n (parent_of n.path) (name_of n.path) is_key is (exact_bytes _ _ at) refl refl
-    ∙ and_true (not (is_le (slice_cmp nat_cmp (name_of n.path) []))) where
-      and_true : (b : Bool) → b ≡ (b && true)
-      and_true true = refl
-      and_true false = refl
-
-IsBetween-child : (key p : List ℕ) (n : Node) → IsKey key p → is_path n.path ≡ true → IsBetween (is_above key) (is_upto key) (is_child p) n
-IsBetween-child key p n is_key is = record { both = above-upto key n; is = child-by key p n (slice_cmp nat_cmp (before_of n.path) key) is_key is refl }
+    same-half-by key p n (parent_of n.path) (name_of n.path) is_key is (exact_bytes _ _ at) refl refl ∙ sym (and_true (not (is_le (slice_cmp nat_cmp (name_of n.path) []))))
+child-by key p n o is_key is at = other-half key p n is_key is (λ same. let tied = tied_itself nat_list_cmp_total key in absurd cc)
 
 -- where the children begin, and where they end
 abbrev pub children_from : List ℕ → List Node → ℕ
@@ -484,35 +394,11 @@ children_from key nodes = prefix_len (is_above key) nodes
 abbrev pub children_to : List ℕ → List Node → ℕ
 children_to key nodes = prefix_len (is_upto key) nodes
 
-pub children-le : (key : List ℕ) (nodes : List Node) → children_from key nodes ≤ children_to key nodes
-children-le key nodes = prefix_len-le (is_above key) (is_upto key) nodes (above-upto key)
-
-pub children_of-stretch : (key p : List ℕ) (nodes : List Node) → IsKey key p → IsSorted nodes → AllPaths nodes →
-    children_of nodes p ≡ take (children_to key nodes - children_from key nodes) (drop (children_from key nodes) nodes)
-children_of-stretch key p nodes is_key sorted paths =
-    filter-between node_before (is_above key) (is_upto key) (is_child p)
-    (λ m n order above. path_before-halves_le m.path n.path (key, []) order above)
-    (λ m n order upto. path_before-first_le m.path n.path key order upto)
-    nodes
-    (all-weaker (λ n. is_path n.path ≡ true) (IsBetween (is_above key) (is_upto key) (is_child p)) (λ n is. IsBetween-child key p n is_key is) nodes paths)
-    sorted
-
--- ## how many there are after a change
-
-pub length-children-insert : (p : List ℕ) (n : Node) (k : ℕ) (nodes : List Node) → length (children_of (insert nodes k n) p) ≡ length (children_of nodes p) + cond (is_child p n) 1 0
-length-children-insert p n k nodes = length-filter-insert (is_child p) n k nodes
-
-pub length-children-remove : (p : List ℕ) (k : ℕ) (nodes : List Node) → length (children_of (remove nodes k) p) ≤ length (children_of nodes p)
-length-children-remove p k nodes = length-filter-remove (is_child p) k nodes
-
 -- # what a search finds
 
 -- a path's place is that of its two halves
 pub place_of-halves : (p before name : List ℕ) (nodes : List Node) (k : ℕ) → k ≡ prefix_len (λ n. stands_before before (name ++ []) n.path) nodes → before ≡ before_of p → name ≡ name_of p → k ≡ place_of p nodes
-place_of-halves p before name nodes k at node_before is_name =
-    at
-    ∙ ap (λ (last : List ℕ). prefix_len (λ n. stands_before before last n.path) nodes) (append-nil name ∙ is_name)
-    ∙ ap (λ (first : List ℕ). prefix_len (λ n. stands_before first (name_of p) n.path) nodes) node_before
+place_of-halves p before name nodes k place node_before is_name = rw (append-nil name, node_before, is_name) at place
 
 -- no node is the child of an empty text
 not_empty : (path : List ℕ) → is_parent [] (parent_of path) ≡ false
@@ -531,8 +417,16 @@ pub IsStretch-empty : (path : List ℕ) (nodes : List Node) → path ≡ [] → 
 IsStretch-empty path nodes is = record { ordered = omega arith; within = omega arith; children = rw is (children_of-empty nodes) }
 
 pub IsStretch-key : (key p : List ℕ) (nodes : List Node) → IsKey key p → IsSorted nodes → AllPaths nodes → IsStretch nodes p (children_from key nodes) (children_to key nodes)
-IsStretch-key key p nodes is sorted paths =
-    record { ordered = children-le key nodes; within = prefix_len-le-length (is_upto key) nodes; children = children_of-stretch key p nodes is sorted paths }
+IsStretch-key key p nodes is sorted paths = record {
+  ordered = prefix_len-le (is_above key) (is_upto key) nodes (above-upto key);
+  within = prefix_len-le-length (is_upto key) nodes;
+  children = filter-between node_before (is_above key) (is_upto key) (is_child p)
+      (λ m n order above. lt_le-trans halves_cmp_total (halves_of m.path) (halves_of n.path) (key, []) order above)
+      (λ m n order upto. path_before-first_le m.path n.path key order upto)
+      nodes
+      (all-weaker (λ n. is_path n.path ≡ true) (IsBetween (is_above key) (is_upto key) (is_child p)) (λ n path. record { both = above-upto key n; is = child-by key p n (slice_cmp nat_cmp (before_of n.path) key) is path refl }) nodes paths)
+      sorted;
+}
 
 -- a text that is neither empty nor the root
 pub IsKey-itself : (p : List ℕ) → (p ≡ [] → ⊥) → (p ≡ root → ⊥) → IsKey p p
@@ -549,9 +443,7 @@ empty-not [] is same = cc
 empty-not (b ∷ bs) is same = cc
 
 pub true-not : (b : Bool) → true ≡ not b → b ≡ false
-true-not true is = absurd cc
-true-not false is = refl
+true-not b is = grind arith
 
 pub false-not : (b : Bool) → false ≡ not b → b ≡ true
-false-not true is = refl
-false-not false is = absurd cc
+false-not b is = grind arith

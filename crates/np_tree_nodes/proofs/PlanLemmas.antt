@@ -1,6 +1,6 @@
 -- planned edits: those that make, remove and change nodes, and what undoing the last one leaves
-use Rattle.np_tree_nodes.proofs.Prelude.{AllPaths, AtKept, Bool, CanStep, CanTakeBack, CanTouch, CanUndo, Edit, EndsOne, Facts, HasParts-below, HasRoom, IsChild-of, IsKept, IsNameAt-below, IsPlace, IsSorted, IsSpot, List, MakesName, Mark, Mode, Node, None, Nothing, Option, Plans, Put, Some, Spot, Step, Swap, Take, TakesMark, Touch, after_removal, after_step, after_undo, all-at, and_false, ap, append-nil, arith, at_path, before_last-at, before_of, below, both-second, change_at, change_at-back, change_at-same, change_node, cond, eqb-true, false, false_from_ne_true, half_of, insert, insert_node, is_at, is_element, is_element-numbered, is_ephemeral, is_kept, is_owned, is_owner, is_path, is_path-below, is_sequential, is_slash-is, kept_of, length, length-append, length-change_at, length-remove, list_all, made_path, mark_before, mark_place, mark_step, marks_before, name_of, new_mark, new_node, nodes_after_end, nodes_before, option_map, parent_of, path_before, place_of, prefix_len-le-length, refl, remove, slashed, slice_get, slice_get-change_first, slice_get_within, subst, sym, take, ten_digits_of, then_some, true, with_child, with_new_child, with_swap, with_touch, without_child, without_child_above, ℕ, [], ◌++◌, ◌-◌, ◌<◌, ◌==◌, ◌∙◌, ◌∷◌, ◌≡◌}
-use Rattle.np_tree_nodes.proofs.KeptLemmas.{AllPaths-change_node, IsKept-insert, IsKept-remove, IsKept-remove_free, IsSorted-change_node, KeepsOwner, KeepsPath, MarkEphemerals-change_node, MayStand, at_path-paths-none, length-children-paths, length-paths, mark-owned, no_marks, nodes_after_end-none, nodes_after_end-step, nodes_after_end-top, not_owned, paths_of, paths_of-change_node, place_of-change_node, step_for}
+use Rattle.np_tree_nodes.proofs.Prelude.{by_bool, AllPaths, AtKept, Bool, CanStep, CanTakeBack, CanTouch, CanUndo, Edit, EndsOne, Facts, HasParts-below, HasRoom, IsChild-of, IsKept, IsNameAt-below, IsPlace, IsSorted, IsSpot, List, MakesName, Mark, Mode, Node, None, Nothing, Option, Plans, Put, Some, Spot, Step, Swap, Take, TakesMark, Touch, after_removal, after_step, after_undo, all-at, and_false, ap, append-nil, arith, at_path, before_last-at, before_of, below, both-second, change_at, change_at-back, change_at-same, change_node, cond, eqb-true, false, false_from_ne_true, half_of, insert, insert_node, is_at, is_element, is_element-numbered, is_ephemeral, is_kept, is_owned, is_owner, is_path, is_path-below, is_sequential, is_slash-is, kept_of, length, length-append, length-change_at, length-remove, list_all, made_path, mark_before, mark_place, mark_step, marks_before, name_of, new_mark, new_node, nodes_after_end, nodes_before, option_map, parent_of, path_before, place_of, prefix_len-le-length, refl, remove, slashed, slice_get, slice_get-change_first, slice_get_within, subst, sym, take, ten_digits_of, then_some, true, with_child, with_new_child, with_swap, with_touch, without_child, without_child_above, ℕ, [], ◌++◌, ◌-◌, ◌<◌, ◌==◌, ◌∙◌, ◌∷◌, ◌≡◌}
+use Rattle.np_tree_nodes.proofs.KeptLemmas.{AllPaths-change_node, IsKept-insert, IsKept-remove, IsSorted-change_node, KeepsOwner, KeepsPath, MarkEphemerals-change_node, MayStand, at_path-paths-none, length-children-paths, length-paths, mark-owned, no_marks, nodes_after_end-none, nodes_after_end-step, nodes_after_end-top, not_owned, paths_of, paths_of-change_node, place_of-change_node, step_for}
 use Rattle.np_tree_nodes.proofs.PlaceLemmas.{bytes_eq-from, insert_node-at, without_node-there, change_node-there, bytes_eq-is, change_node-none}
 
 -- # what planned edits do, and that everything is kept
@@ -44,21 +44,6 @@ after_removal-at z k n nodes marks kept there =
     let still = still-there z (parent_of n.path) k n nodes there in
     without_node-there n.path (without_child_above z (parent_of n.path) nodes) k still.member (IsKept-without_child_above z (parent_of n.path) nodes marks kept).sorted still.there
     (bytes_eq-from still.member.path n.path (ap (λ (x : List ℕ × Option ℕ). x.0) still.same))
-
-pub IsKept-removal_free : (z k : ℕ) (n : Node) (nodes : List Node) (marks : List Mark) → IsKept nodes marks → slice_get nodes k ≡ Some n → n.facts.owner ≡ None → IsKept (after_removal z n.path nodes) marks
-IsKept-removal_free z k n nodes marks kept there free =
-    let still = still-there z (parent_of n.path) k n nodes there in
-    subst (λ (ns : List Node). IsKept ns marks) (sym (after_removal-at z k n nodes marks kept there))
-    (IsKept-remove_free k still.member (without_child_above z (parent_of n.path) nodes) marks still.there (ap (λ (x : List ℕ × Option ℕ). x.1) still.same ∙ free) (IsKept-without_child_above z (parent_of n.path) nodes marks kept))
-
--- with its mark
-pub IsKept-removal : (z k j session : ℕ) (n : Node) (nodes : List Node) (marks : List Mark) → IsKept nodes marks → slice_get nodes k ≡ Some n → n.facts.owner ≡ Some session → slice_get marks j ≡ Some (new_mark session n.path) →
-    IsKept (after_removal z n.path nodes) (remove marks j)
-IsKept-removal z k j session n nodes marks kept there owned mark =
-    let still = still-there z (parent_of n.path) k n nodes there in
-    subst (λ (ns : List Node). IsKept ns (remove marks j)) (sym (after_removal-at z k n nodes marks kept there))
-    (IsKept-remove k j session still.member (without_child_above z (parent_of n.path) nodes) marks still.there (ap (λ (x : List ℕ × Option ℕ). x.1) still.same ∙ owned)
-    (mark ∙ sym (ap (λ (x : List ℕ × Option ℕ). Some (new_mark session x.0)) still.same)) (IsKept-without_child_above z (parent_of n.path) nodes marks kept))
 
 -- ## a step of a session's end
 
@@ -135,12 +120,10 @@ pub IsMade-made_path : (parent : Node) (name : List ℕ) (mode : Mode) → is_pa
 IsMade-made_path parent name mode is makes = made-by (is_sequential mode) parent.path name parent.facts.counter is makes
 
 -- an element may be a name, and may begin one
-names-by : (b : Bool) (name : List ℕ) → is_element name ≡ true → cond b (list_all is_kept name) (is_element name) ≡ true
-names-by true name element = both-second _ _ element
-names-by false name element = element
-
 pub MakesName-child : (path above : List ℕ) (mode : Mode) → is_path path ≡ true → parent_of path ≡ Some above → MakesName (name_of path) mode
-MakesName-child path above mode is top = names-by (is_sequential mode) (name_of path) (IsChild-of path above is top).named
+MakesName-child path above mode is top =
+    let named = (IsChild-of path above is top).named in
+    by_bool (λ (b : Bool). cond b (list_all is_kept (name_of path)) (is_element (name_of path)) ≡ true) (is_sequential mode) (λ _. both-second _ _ named) (λ _. named)
 
 -- # the edit that makes a child
 
@@ -148,55 +131,26 @@ can-mark : (b : Bool) (session : ℕ) (path : List ℕ) (marks : List Mark) → 
 can-mark true session path marks small = (prefix_len-le-length (mark_before session path) marks, small)
 can-mark false session path marks small = tt
 
--- what is made, and where
-pub record Makes (z session : ℕ) (name bytes : List ℕ) (mode : Mode) (spot : Spot) (nodes : List Node) (marks : List Mark) (s : Swap) : Type 0 where
-  pub kept : IsKept nodes marks
-  pub spot_is : IsSpot nodes spot.parent.node.now.path name mode spot
-  pub path : is_path (made_path spot.parent.node.now name mode) ≡ true
-  pub parent : parent_of (made_path spot.parent.node.now name mode) ≡ Some spot.parent.node.now.path
-  pub swap : with_swap s spot.parent.node.now ≡ with_child z mode spot.parent.node.now
-  pub few_nodes : length nodes < 18_446_744_073_709_551_615
-  pub few_marks : length marks < 18_446_744_073_709_551_615
-
-pub Plans-creation : (z session : ℕ) (name bytes : List ℕ) (mode : Mode) (spot : Spot) (nodes : List Node) (marks : List Mark) (s : Swap) → Makes z session name bytes mode spot nodes marks s →
+pub Plans-creation : (z session : ℕ) (name bytes : List ℕ) (mode : Mode) (spot : Spot) (nodes : List Node) (marks : List Mark) (s : Swap) → IsKept nodes marks → MakesName name mode → IsSpot nodes spot.parent.node.now.path name mode spot →
+    with_swap s spot.parent.node.now ≡ with_child z mode spot.parent.node.now → length nodes < 18_446_744_073_709_551_615 → length marks < 18_446_744_073_709_551_615 →
     Plans nodes marks (with_new_child z session spot.parent.node.now.path name bytes mode spot.parent.node.now nodes)
     (record { touch = Some (record { place = spot.parent.place; swap = s }); node = Put spot.place (new_node z session (made_path spot.parent.node.now name mode) bytes mode); mark = mark_step mode session (made_path spot.parent.node.now name mode) marks })
-Plans-creation z session name bytes mode spot nodes marks s makes =
+Plans-creation z session name bytes mode spot nodes marks s kept names is_spot swap few_nodes few_marks =
     let k = spot.parent.place in
     let parent = spot.parent.node.now in
     let path = made_path parent name mode in
     let new = new_node z session path bytes mode in
+    let made = IsMade-made_path parent name mode (all-at (λ n. is_path n.path ≡ true) nodes k parent kept.paths is_spot.parent.item) names in
     let long = length-change_at k (with_swap s) nodes in
     let place = prefix_len-le-length (λ n. path_before n.path path) nodes in
-    let small = makes.few_nodes in
-    let there = makes.spot_is.place in
-    let touched_is = change_at-same (with_swap s) (with_child z mode) k nodes parent makes.spot_is.parent.item makes.swap
-    ∙ sym (change_node-there parent.path (with_child z mode) nodes k parent makes.kept.sorted makes.spot_is.parent.item makes.spot_is.parent.at) in
+    let there = is_spot.place in
+    let touched_is = change_at-same (with_swap s) (with_child z mode) k nodes parent is_spot.parent.item swap
+    ∙ sym (change_node-there parent.path (with_child z mode) nodes k parent kept.sorted is_spot.parent.item is_spot.parent.at) in
     record {
-      can = record { touch = makes.spot_is.parent.within; node = (omega arith, omega arith); mark = can-mark (is_ephemeral mode) session path marks makes.few_marks };
-      made =
-          ap (λ (ns : List Node). insert ns spot.place new) touched_is
-          ∙ ap (λ (at : ℕ). insert (change_node parent.path (with_child z mode) nodes) at new) there
-          ∙ sym (made-at parent.path (with_child z mode) (λ _. refl) new nodes makes.kept.sorted makes.kept.paths makes.path makes.spot_is.free);
+      can = record { touch = is_spot.parent.within; node = (omega arith, omega arith); mark = can-mark (is_ephemeral mode) session path marks few_marks };
+      made = rw (touched_is, there) (sym (made-at parent.path (with_child z mode) (λ _. refl) new nodes kept.sorted kept.paths made.is is_spot.free));
       kept = IsKept-child (is_ephemeral mode) session parent.path (with_child z mode) (λ _. refl) (λ _. refl) new parent.path nodes marks refl
-          (record { path = makes.path; new = makes.spot_is.free; parent = makes.parent; room = makes.spot_is.room }) makes.kept;
-    }
-
--- what the code knows of a spot determines that path and parent
-pub Makes-spot : (z session : ℕ) (name bytes : List ℕ) (mode : Mode) (spot : Spot) (nodes : List Node) (marks : List Mark) (s : Swap) → IsKept nodes marks → MakesName name mode → IsSpot nodes spot.parent.node.now.path name mode spot →
-    with_swap s spot.parent.node.now ≡ with_child z mode spot.parent.node.now → length nodes < 18_446_744_073_709_551_615 → length marks < 18_446_744_073_709_551_615 → Makes z session name bytes mode spot nodes marks s
-Makes-spot z session name bytes mode spot nodes marks s kept names is_spot swap few_nodes few_marks =
-    let parent = spot.parent.node.now in
-    let is = all-at (λ n. is_path n.path ≡ true) nodes spot.parent.place parent kept.paths is_spot.parent.item in
-    let made = IsMade-made_path parent name mode is names in
-    record {
-      kept = kept;
-      spot_is = is_spot;
-      path = made.is;
-      parent = made.above;
-      swap = swap;
-      few_nodes = few_nodes;
-      few_marks = few_marks;
+          (record { path = made.is; new = is_spot.free; parent = made.above; room = is_spot.room }) kept;
     }
 
 -- the new node, by its parts
@@ -206,8 +160,7 @@ pub new_node-parts : (z session : ℕ) (path made bytes copy : List ℕ) (mode :
 new_node-parts z session path made bytes copy mode facts owner is_path is_bytes is_facts is_owner = rw (is_path, is_bytes, is_facts, is_owner) refl
 
 pub then_some-cond : (b : Bool) (session : ℕ) → then_some b session ≡ cond b (Some session) None
-then_some-cond true session = refl
-then_some-cond false session = refl
+then_some-cond b session = grind arith
 
 -- # the edits that remove nodes
 
@@ -228,20 +181,19 @@ can-take owner path marks Nothing takes = tt
 can-take owner path marks (Take j) takes = slice_get_within marks j (new_mark takes.0 path) takes.2
 can-take owner path marks (Put j mark) takes = absurd takes
 
-kept-take : (z : ℕ) (k : ℕ) (n : Node) (nodes : List Node) (marks : List Mark) (mark : Step Mark) → IsKept nodes marks → slice_get nodes k ≡ Some n → TakesMark n.facts.owner n.path marks mark → IsKept (after_removal z n.path nodes) (after_step mark marks)
-kept-take z k n nodes marks Nothing kept there takes = IsKept-removal_free z k n nodes marks kept there takes
-kept-take z k n nodes marks (Take j) kept there takes = IsKept-removal z k j takes.0 n nodes marks kept there takes.1 takes.2
-kept-take z k n nodes marks (Put j mark) kept there takes = absurd takes
-
 pub Plans-removal : (z k : ℕ) (n : Node) (nodes : List Node) (marks : List Mark) (touch : Option Touch) (mark : Step Mark) → IsKept nodes marks → slice_get nodes k ≡ Some n → TakesMark n.facts.owner n.path marks mark →
     with_touch touch nodes ≡ without_child_above z (parent_of n.path) nodes → CanTouch touch nodes → Plans nodes marks (after_removal z n.path nodes) (record { touch = touch; node = Take k; mark = mark })
 Plans-removal z k n nodes marks touch mark kept there takes above can =
-    let long = length-paths (without_child_above z (parent_of n.path) nodes) nodes (paths_of-without_child_above z (parent_of n.path) nodes) in
+    let left = without_child_above z (parent_of n.path) nodes in
+    let long = length-paths left nodes (paths_of-without_child_above z (parent_of n.path) nodes) in
     let within = slice_get_within nodes k n there in
+    let still = still-there z (parent_of n.path) k n nodes there in
+    let takes_still = subst (λ (x : List ℕ × Option ℕ). TakesMark x.1 x.0 marks mark) (sym still.same) takes in
+    let gone = after_removal-at z k n nodes marks kept there in
     record {
       can = record { touch = can; node = rw above (omega arith); mark = can-take n.facts.owner n.path marks mark takes };
-      made = rw above (sym (after_removal-at z k n nodes marks kept there));
-      kept = kept-take z k n nodes marks mark kept there takes;
+      made = rw above (sym gone);
+      kept = rw gone (IsKept-remove k still.member left marks mark still.there takes_still (IsKept-without_child_above z (parent_of n.path) nodes marks kept));
     }
 
 -- ## a session's end
@@ -267,9 +219,6 @@ TakesMark-first j mark n nodes marks kept there found here = (
   there ∙ ap (λ (q : List ℕ). Some (new_mark mark.session q)) (sym (bytes_eq-is n.path mark.path here)),
 )
 
-fewer : (marks : List Mark) (j : ℕ) (mark : Mark) → slice_get marks j ≡ Some mark → length (remove marks j) < length marks
-fewer marks j mark there = let within = slice_get_within marks j mark there in omega (arith, length-remove marks j within)
-
 pub EndsOne-removal : (z session j k : ℕ) (n : Node) (mark : Mark) (nodes : List Node) (marks : List Mark) (e : Edit) → IsKept nodes marks → slice_get marks j ≡ Some mark → slice_get nodes k ≡ Some n → is_owned session n ≡ true →
     Plans nodes marks (after_removal z n.path nodes) e → e.mark ≡ Take j → EndsOne z session nodes marks e
 EndsOne-removal z session j k n mark nodes marks e kept mark_there there owned plan takes =
@@ -277,7 +226,7 @@ EndsOne-removal z session j k n mark nodes marks e kept mark_there there owned p
       can = plan.can;
       ended = ap (nodes_after_end z session) plan.made ∙ nodes_after_end-removal z session k n nodes marks kept there owned;
       kept = rw plan.made plan.kept;
-      fewer = rw takes (fewer marks j mark mark_there);
+      fewer = let within = slice_get_within marks j mark mark_there in rw takes (omega (arith, length-remove marks j within));
     }
 
 -- no mark of the session is left

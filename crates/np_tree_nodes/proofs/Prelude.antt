@@ -1,6 +1,6 @@
 -- The names from elsewhere that the proofs cite, passed on from one place. Declares nothing.
 pub use Rattle.np_lists.proofs.Changes.{AtKept, IsBetween, Rises-between, Rises-filter, Rises-insert, Rises-keys, Rises-remove, all-at, all-filter, all-from_at, all-get_or, all-insert, all-insert_before, all-keys, all-remove, all-weaker, change_at-back, change_at-same, filter-between, filter-map, filter-not_none, filter-remove, find-change_first, find-insert, find-remove, found-change_first, insert-remove, insert_before-point, length-change_at, length-filter-filter, length-filter-insert, length-filter-remove, list_any-insert, list_any-map, list_any-none, list_any-remove, list_any-there, map-each, map-keys, map-map, map-same, none-list_any, none-remove, prefix_len-le, remove-insert, slice_get-change_first}
-pub use Rattle.np_lists.proofs.Plain.{above-apart, and-apart, and_false, bytes_eq-apart}
+pub use Rattle.np_lists.proofs.Plain.{above-apart, and-apart, and_false, and_true, by_bool, bytes_eq-apart, length-map}
 pub use Rattle.np_lists.proofs.Searches.{IsPartitionPoint-rises, IsSplit-rises, absent, change_first-at, change_first-none, find-first, find-none, none-find}
 pub use Rattle.np_lists.specs.Change.{change_at}
 pub use Rattle.np_lists.specs.Rising.{FirstAt, IsSplit, NonePass}
