@@ -1,5 +1,5 @@
 -- the plan of an accepted event: who makes it, what it has tested and found, and that its changes are its effect
-use Rattle.np_changes.proofs.Prelude.{Ok, Option, Some, arith, found, nat_tests, ◌≡◌, Changes, Err, None, Refusal, Result, Role, SessionId, made_by, refl, same, with_found, with_given, Bool, Declined, JobRecord, List, NodeId, PoolId, Reason, Registration, RequestEdit, RequestEntry, RequestId, RequestRecord, RequestsChange, [], all_declined, ap, change_at, change_at-set, change_first, change_first-absent, change_first-nowhere, change_first-position, change_first-same, declined_with, edited, end_in, false, is_declined_by, is_last_pool, is_marked, jobs_changed, new_job, option_map, owner_of, position, position-Some, put_request, request_entry, request_in, requests_changed, same_request, suc, sym, true, with_mark, zero, ℕ, ◌++◌, ◌==◌, ◌||◌, ◌∙◌, ◌∷◌, Janitor, Launcher, Requester, RequesterId, SessionFacts, State, as_janitor, as_launcher, as_requester, is_ok, janitor, launcher, maker, requester, role_of, session_of, ◌>>=◌, Configuration, EndAs, Event, Growth, HandlesChange, Job, JobId, LabelId, NodeRecord, Outcome, accepted, acting, after_found, all_freed, changed, create_for, created, declined, effect, effect_accept, effect_acquire, effect_crash, effect_create, effect_decline, effect_done, effect_end_node, effect_expire, effect_fail_declined, effect_finish, effect_free_node, effect_fulfil, effect_gone, effect_lock_node, effect_lock_request, effect_mark_deleting, effect_min_ready, effect_register, effect_release, effect_reset, effect_revise, effect_start, effect_submit, effect_sweep, effect_take, effect_take_ready, effect_unlock_node, effect_unlock_request, effect_withdraw, failed, fulfilled, given_back, if◌then◌else◌, is_some, is_wanted, judge, judge_accept, judge_acquire, judge_create, judge_decline, judge_done, judge_end_node, judge_fail_declined, judge_finish, judge_free_node, judge_fulfil, judge_gone, judge_lock_node, judge_lock_request, judge_mark_deleting, judge_min_ready, judge_register, judge_release, judge_reset, judge_revise, judge_start, judge_submit, judge_sweep, judge_take, judge_take_ready, judge_unlock_node, judge_unlock_request, judge_withdraw, next, next_label, node_at, node_in, own_job, plan, request_of_job, revise_request, revised, slice_get, started, took_ready, with_act, withdrawn, need, not, vacant, ◌&&◌, ◌>>◌, IsHeard, IsWorkedOn, Premises, is_session_of, registered, request_holder, Done, is_building, is_role, judge_open, ahead_of, count_of, is_pending_by, is_short, node_holder, node_queue, place_reply, quota_short, wrong_request, Answer, Entry, Reply, is_done, replayed, reply_of, JobsStand, Maker, NodesChange, given_back_by, is_gone, is_request_end, maker_of, ◌⊎◌}
+use Rattle.np_changes.proofs.Prelude.{Ok, Option, Some, arith, found, nat_tests, ◌≡◌, Changes, Err, None, Refusal, Result, Role, SessionId, made_by, refl, same, with_found, with_given, Bool, Declined, JobRecord, List, NodeId, PoolId, Reason, Registration, RequestEdit, RequestEntry, RequestId, RequestRecord, RequestsChange, [], all_declined, ap, change_at, change_at-set, change_first, change_first-absent, change_first-nowhere, change_first-position, change_first-same, declined_with, edited, end_in, false, is_declined_by, is_last_pool, is_marked, jobs_changed, new_job, option_map, owner_of, position, position-Some, put_request, request_in, requests_changed, same_request, suc, sym, true, with_mark, zero, ℕ, ◌++◌, ◌==◌, ◌||◌, ◌∙◌, ◌∷◌, Janitor, Launcher, Requester, RequesterId, State, is_ok, janitor, launcher, maker, requester, role_of, ◌>>=◌, Configuration, Event, Growth, Job, JobId, LabelId, NodeRecord, accepted, acting, after_found, all_freed, changed, create_for, created, declined, effect, failed, fulfilled, given_back, if◌then◌else◌, is_some, judge, judge_create, judge_decline, judge_done, judge_lock_request, judge_start, judge_take_ready, next, next_label, node_in, own_job, plan, request_of_job, revise_request, revised, slice_get, took_ready, with_act, need, not, vacant, ◌&&◌, ◌>>◌, IsHeard, IsWorkedOn, Premises, is_session_of, registered, request_holder, Done, is_building, is_role, judge_open, count_of, is_pending_by, is_short, quota_short, wrong_request, Entry, is_done, replayed, reply_of, JobsStand, Maker, NodesChange, given_back_by, is_gone, is_request_end, maker_of, ◌⊎◌}
 use Rattle.np_changes.specs.Plan
 
 -- # what a test that passed has found
@@ -18,25 +18,15 @@ module _ (P : Changes → Type 0) (nothing : P same) where
   plan-given (Ok a) f each = each a refl
   plan-given (Err why) f each = nothing
 
--- the same for what a session makes
-pub plan-made : (P : Changes → Type 0) (session : SessionId) (role : Role) → P (made_by session role same) → {A : Type 0} (o : Option A) (f : A → Changes) → ((a : A) → o ≡ Some a → P (made_by session role (f a))) → P (made_by session role (with_found o f))
-plan-made P session role nothing o f each = plan-found (λ ch. P (made_by session role ch)) nothing o f each
-
 -- # an edit of the request that is found
-
-kept_is : (o : Option RequestEntry) (k : RequestRecord) (e : RequestEntry) → option_map (λ (x : RequestEntry). x.kept) o ≡ Some k → o ≡ Some e → e.kept ≡ k
-kept_is x0 k e has is = grind (arith, nat_tests)
 
 -- the record that is found, edited, is the record that is put
 pub edit-put : (r : RequestId) (edit : RequestEdit) (rows : List RequestEntry) (k : RequestRecord) → request_in r rows ≡ Some k → requests_changed None (RequestsChange.Edit r edit) rows ≡ put_request r (edited edit k) rows
-edit-put r edit rows k has = grind (arith, nat_tests, change_first-same, kept_is)
-
-none_is : (o : Option RequestEntry) → option_map (λ (x : RequestEntry). x.kept) o ≡ None → o ≡ None
-none_is x0 has = grind (arith, nat_tests)
+edit-put r edit rows k has = grind (arith, nat_tests, change_first-same)
 
 -- if none is found, nothing changes
 pub edit-absent : (r : RequestId) (edit : RequestEdit) (rows : List RequestEntry) → request_in r rows ≡ None → requests_changed None (RequestsChange.Edit r edit) rows ≡ rows
-edit-absent r edit rows none = change_first-absent (λ (e : RequestEntry). same_request e.id r) (λ e. record e { kept = edited edit e.kept }) rows (none_is (request_entry r rows) none)
+edit-absent r edit rows none = change_first-absent (λ (e : RequestEntry). same_request e.id r) (λ e. record e { kept = edited edit e.kept }) rows (grind (arith, nat_tests))
 
 -- two changes of one member are one change
 pub change_at-twice : {X : Type 0} (i : ℕ) (f g : X → X) (xs : List X) → change_at i f (change_at i g xs) ≡ change_at i (λ x. f (g x)) xs
@@ -57,14 +47,8 @@ end-first n rows = end_by n rows (position (is_marked n) rows) refl
 -- ## the last pool declines
 
 declined_too : (g p : PoolId) (why : Reason) (declined : List Declined) → is_declined_by g (declined ++ record { pool = p; reason = why } ∷ []) ≡ (is_declined_by g declined || (p.0 == g.0))
-declined_too g p why [] = by (p.0 == g.0) where
-  by : (b : Bool) → (b || false) ≡ (false || b)
-  by true = refl
-  by false = refl
-declined_too g p why (d ∷ declined) = by (d.pool.0 == g.0) (declined_too g p why declined) where
-  by : (b : Bool) → is_declined_by g (declined ++ record { pool = p; reason = why } ∷ []) ≡ (is_declined_by g declined || (p.0 == g.0)) → (b || is_declined_by g (declined ++ record { pool = p; reason = why } ∷ [])) ≡ ((b || is_declined_by g declined) || (p.0 == g.0))
-  by true same = refl
-  by false same = same
+declined_too g p why [] = grind arith
+declined_too g p why (d ∷ declined) = grind (arith, nat_tests, declined_too g p why declined)
 
 -- with this decline every registered pool has declined
 pub last-declines : (registrations : List Registration) (request : RequestRecord) (p : PoolId) (why : Reason) → all_declined registrations (declined_with request p why) ≡ is_last_pool registrations request p
@@ -77,36 +61,17 @@ last-declines (g ∷ registrations) request p why = rw (declined_too g.pool p wh
 pub bind-ok : {A B E : Type 0} (o : Result A E) (f : A → Result B E) → is_ok (o >>= f) ≡ true → is_ok o ≡ true
 bind-ok x0 f is = grind (arith, nat_tests)
 
-maker_facts : (s : State) (session : SessionId) (role : Role) (facts : SessionFacts) → session_of session s ≡ Some facts → maker s session ≡ Ok role → facts.role ≡ role
-maker_facts s session role facts has is = grind (arith, nat_tests)
-
-maker_by : (s : State) (session : SessionId) (role : Role) (o : Option SessionFacts) → session_of session s ≡ o → maker s session ≡ Ok role → role_of session s ≡ Some role
-maker_by s session role x3 has is = grind (arith, nat_tests, maker_facts)
-
 pub maker-role : (s : State) (session : SessionId) (role : Role) → maker s session ≡ Ok role → role_of session s ≡ Some role
-maker-role s session role is = maker_by s session role (session_of session s) refl is
-
-is_launcher : (role : Role) (p : PoolId) → as_launcher role ≡ Ok p → role ≡ Launcher p
-is_launcher x0 p is = grind (arith, nat_tests)
-
-is_janitor : (role : Role) (p : PoolId) → as_janitor role ≡ Ok p → role ≡ Janitor p
-is_janitor x0 p is = grind (arith, nat_tests)
-
-is_requester : (role : Role) (q : RequesterId) → as_requester role ≡ Ok q → role ≡ Requester q
-is_requester x0 q is = grind (arith, nat_tests)
-
--- what a role is found as
-made_as : {A : Type 0} (as_what : Role → Result A Refusal) (what : A → Role) (a : A) (o : Result Role Refusal) → ((role : Role) → as_what role ≡ Ok a → role ≡ what a) → (o >>= as_what) ≡ Ok a → o ≡ Ok (what a)
-made_as as_what what a x3 same is = grind (arith, nat_tests)
+maker-role s session role is = grind (arith, nat_tests)
 
 pub launcher-maker : (s : State) (session : SessionId) (p : PoolId) → launcher s session ≡ Ok p → maker s session ≡ Ok (Launcher p)
-launcher-maker s session p is = made_as as_launcher Launcher p (maker s session) (λ role. is_launcher role p) is
+launcher-maker s session p is = grind (arith, nat_tests)
 
 pub janitor-maker : (s : State) (session : SessionId) (p : PoolId) → janitor s session ≡ Ok p → maker s session ≡ Ok (Janitor p)
-janitor-maker s session p is = made_as as_janitor Janitor p (maker s session) (λ role. is_janitor role p) is
+janitor-maker s session p is = grind (arith, nat_tests)
 
 pub requester-maker : (s : State) (session : SessionId) (q : RequesterId) → requester s session ≡ Ok q → maker s session ≡ Ok (Requester q)
-requester-maker s session q is = made_as as_requester Requester q (maker s session) (λ role. is_requester role q) is
+requester-maker s session q is = grind (arith, nat_tests)
 
 pub launcher-role : (s : State) (session : SessionId) (p : PoolId) → launcher s session ≡ Ok p → role_of session s ≡ Some (Launcher p)
 launcher-role s session p is = maker-role s session (Launcher p) (launcher-maker s session p is)
@@ -121,15 +86,8 @@ requester-role s session q is = maker-role s session (Requester q) (requester-ma
 
 -- ## what was found, and who makes it
 
--- the changes say nothing of a maker
-abbrev IsBare : {A : Type 0} → (A → Changes) → Type 0
-IsBare {A} f = (a : A) → record (f a) { maker = None; deed = None } ≡ f a
-
 found-in : {A : Type 0} (c : Configuration) (session : SessionId) (role : Role) (s : State) (o : Option A) (f : A → Changes) (g : A → State) → ((a : A) → o ≡ Some a → changed c (made_by session role (f a)) s ≡ with_act (Some role) (g a)) → changed c (made_by session role (with_found o f)) s ≡ with_act (Some role) (after_found o s g)
 found-in c session role s x4 f g each = grind (arith, nat_tests)
-
-found-too : {A : Type 0} (c : Configuration) (session : SessionId) (role : Role) (s : State) (o : Option A) (f : A → Changes) (g : A → State) → IsBare f → ((a : A) → o ≡ Some a → changed c (made_by session role (f a)) s ≡ with_act (Some role) (g a)) → changed c (made_by session role (with_found o f)) s ≡ with_act (Some role) (after_found o s g)
-found-too c session role s o f g bare each = found-in c session role s o f g each
 
 edit-too : (c : Configuration) (session : SessionId) (role : Role) (s : State) (r : RequestId) (change : RequestEdit) (o : Option RequestRecord) (g : RequestRecord → State) → request_in r s.requests ≡ o → ((k : RequestRecord) → g k ≡ record s { requests = put_request r (edited change k) s.requests }) → changed c (made_by session role (record same { requests = RequestsChange.Edit r change })) s ≡ with_act (Some role) (after_found o s g)
 edit-too c session role s r change x6 g is same = grind (arith, nat_tests, edit-absent, edit-put)
@@ -138,176 +96,68 @@ edit-too c session role s r change x6 g is same = grind (arith, nat_tests, edit-
 makes : {A : Type 0} (c : Configuration) (s t : State) (session : SessionId) (o : Result A Refusal) (what : A → Role) (f : A → Changes) → is_ok o ≡ true → ((a : A) → o ≡ Ok a → role_of session s ≡ Some (what a)) → ((a : A) → o ≡ Ok a → changed c (f a) s ≡ with_act (Some (what a)) t) → changed c (with_given o f) s ≡ with_act (role_of session s) t
 makes c s t session x4 what f ok role each = grind (arith, nat_tests)
 
--- ## sessions
-
-crash-effect : (c : Configuration) (s : State) (session : SessionId) (o : Option SessionFacts) → session_of session s ≡ o → changed c (Plan.plan_crash s session) s ≡ effect_crash s session
-crash-effect c s session x3 is = grind (arith, nat_tests)
-
-expire-effect : (c : Configuration) (s : State) (session : SessionId) (o : Option SessionFacts) → session_of session s ≡ o → changed c (Plan.plan_expire s session) s ≡ effect_expire s session
-expire-effect c s session x3 is = grind (arith, nat_tests)
-
--- ## requests
-
-module _ (c : Configuration) (s : State) (session : SessionId) where
-  register-effect : is_ok (judge_register s session) ≡ true → changed c (Plan.plan_register s session) s ≡ with_act (role_of session s) (effect_register s session)
-  register-effect ok = makes c s _ session (launcher s session) Launcher _ (bind-ok (launcher s session) _ ok) (launcher-role s session) (λ p is. rw is refl)
-
-  submit-effect : (j : JobId) → is_ok (judge_submit c s session j) ≡ true → changed c (Plan.plan_submit c s session j) s ≡ with_act (role_of session s) (effect_submit c s j)
-  submit-effect j ok = grind (arith, nat_tests, makes, bind-ok, requester-role, found-in, found-too)
-
-  revise-effect : (j : JobId) (relative : ℕ) → is_ok (judge_revise c s session j) ≡ true → changed c (Plan.plan_revise s session j relative) s ≡ with_act (role_of session s) (effect_revise s j relative)
-  revise-effect j relative ok =
-      makes c s _ session (requester s session) Requester _ (bind-ok (requester s session) _ (bind-ok (own_job c s session j) _ ok)) (requester-role s session) (λ q is.
-      found-in c session (Requester q) s (request_of_job j s) (Plan.revise_to relative) (revise_request s relative) (λ r _.
-      edit-too c session (Requester q) s r (RequestEdit.Revise relative) (request_in r s.requests) (revised s relative r) refl (λ k. refl)))
-
-  min_ready-effect : (l : LabelId) → is_ok (judge_min_ready c s session l) ≡ true → changed c (Plan.plan_min_ready s session l) s ≡ with_act (role_of session s) (effect_min_ready s session l)
-  min_ready-effect l ok = makes c s _ session (launcher s session) Launcher _ (bind-ok (launcher s session) _ ok) (launcher-role s session) (λ p is. rw is refl)
-
-  lock_request-effect : (r : RequestId) → is_ok (judge_lock_request c s session r) ≡ true → changed c (Plan.plan_lock_request s session r) s ≡ with_act (role_of session s) (effect_lock_request s session r)
-  lock_request-effect r ok = makes c s _ session (maker s session) (λ role. role) _ (bind-ok (maker s session) _ ok) (maker-role s session) (λ role is. refl)
-
-  unlock_request-effect : (r : RequestId) → is_ok (judge_unlock_request s session r) ≡ true → changed c (Plan.plan_unlock_request s session r) s ≡ with_act (role_of session s) (effect_unlock_request s session r)
-  unlock_request-effect r ok = makes c s _ session (maker s session) (λ role. role) _ (bind-ok (maker s session) _ ok) (maker-role s session) (λ role is. refl)
-
-  accept-effect : (r : RequestId) → is_ok (judge_accept c s session r) ≡ true → changed c (Plan.plan_accept s session r) s ≡ with_act (role_of session s) (effect_accept s session r)
-  accept-effect r ok =
-      makes c s _ session (launcher s session) Launcher _ (bind-ok (launcher s session) _ ok) (launcher-role s session) (λ p is.
-      rw is (edit-too c session (Launcher p) s r (RequestEdit.Serve p) (request_in r s.requests) (accepted s r p) refl (λ k. refl)))
-
-  decline-effect : (r : RequestId) (why : Reason) → is_ok (judge_decline c s session r why) ≡ true → changed c (Plan.plan_decline s session r why) s ≡ with_act (role_of session s) (effect_decline s session r why)
-  decline-effect r why ok =
-      makes c s _ session (launcher s session) Launcher _ (bind-ok (launcher s session) _ ok) (launcher-role s session) (λ p is.
-      rw is (found-too c session (Launcher p) s (request_in r s.requests) _ (declined s r why p) (λ request. refl) (λ request has.
-      rw (last-declines s.registrations request p why) (ap (λ (rows : List RequestEntry). with_act (Some (Launcher p)) (record s { requests = rows; nodes = all_freed r s.nodes }))
-      (edit-put r (RequestEdit.Decline p why (is_some request.pinned || is_last_pool s.registrations request p)) s.requests request has)))))
-
-  fulfil-by : (role : Role) (r : RequestId) (request : RequestRecord) (b : Bool) → is_some request.pinned ≡ b → request_in r s.requests ≡ Some request → changed c (made_by session role (record same { requests = Plan.request_after_fulfil r b; nodes = Plan.nodes_after_fulfil r b })) s ≡ with_act (Some role) (fulfilled s r request)
-  fulfil-by role r request true pinned has = rw pinned refl
-  fulfil-by role r request false pinned has = rw pinned (ap (λ (rows : List RequestEntry). with_act (Some role) (record s { requests = rows })) (edit-put r RequestEdit.Fulfil s.requests request has))
-
-  fulfil-effect : (r : RequestId) → is_ok (judge_fulfil s session r) ≡ true → changed c (Plan.plan_fulfil s session r) s ≡ with_act (role_of session s) (effect_fulfil s r)
-  fulfil-effect r ok = grind (arith, nat_tests, makes, bind-ok, launcher-role, found-too, fulfil-by)
-
-  reset-effect : (r : RequestId) → is_ok (judge_reset s session r) ≡ true → changed c (Plan.plan_reset s session r) s ≡ with_act (role_of session s) (effect_reset s r)
-  reset-effect r ok =
-      makes c s _ session (janitor s session) Janitor _ (bind-ok (janitor s session) _ ok) (janitor-role s session) (λ p is.
-      found-too c session (Janitor p) s (request_in r s.requests) _ (given_back s r) (λ request. refl) (λ request has.
-      ap (λ (rows : List RequestEntry). with_act (Some (Janitor p)) (record (given_back s r request) { requests = rows })) (edit-put r RequestEdit.GiveBack s.requests request has)))
-
-  fail_declined-effect : (r : RequestId) → is_ok (judge_fail_declined s session r) ≡ true → changed c (Plan.plan_fail_declined s session r) s ≡ with_act (role_of session s) (effect_fail_declined s r)
-  fail_declined-effect r ok =
-      makes c s _ session (janitor s session) Janitor _ (bind-ok (janitor s session) _ ok) (janitor-role s session) (λ p is.
-      edit-too c session (Janitor p) s r RequestEdit.Fail (request_in r s.requests) (failed s r) refl (λ k. refl))
-
-  -- ## nodes
-
-  take_ready-effect : (r : RequestId) (n : NodeId) → is_ok (judge_take_ready s session r n) ≡ true → changed c (Plan.plan_take_ready c s session r n) s ≡ with_act (role_of session s) (effect_take_ready c s session r n)
-  take_ready-effect r n ok =
-      makes c s _ session (launcher s session) Launcher _ (bind-ok (launcher s session) _ ok) (launcher-role s session) (λ p is.
-      found-too c session (Launcher p) s (request_in r s.requests) _ (took_ready c s session r n) (λ request. refl) (λ request has.
-      ap (λ (rows : List RequestEntry). with_act (Some (Launcher p)) (record (took_ready c s session r n request) { requests = rows })) (edit-put r (RequestEdit.AddNode n) s.requests request has)))
-
-  create-effect : (r : RequestId) → is_ok (judge_create c s session r) ≡ true → changed c (Plan.plan_create c s session r) s ≡ with_act (role_of session s) (effect_create c s session r)
-  create-effect r ok =
-      makes c s _ session (launcher s session) Launcher _ (bind-ok (launcher s session) _ ok) (launcher-role s session) (λ p is.
-      rw is (found-in c session (Launcher p) s (request_in r s.requests) (Plan.create_for_next c s r p) (create_for c s session r p) (λ request has.
-      found-too c session (Launcher p) s (next_label request) _ (created c s session r p request) (λ l. refl) (λ l _.
-      ap (λ (rows : List RequestEntry). with_act (Some (Launcher p)) (record (created c s session r p request l) { requests = rows })) (edit-put r (RequestEdit.AddNode (record { 0 = s.next_node })) s.requests request has)))))
-
-  start-by : (n : NodeId) (p : PoolId) (o : Option NodeRecord) → node_in n s.nodes ≡ o → is_ok (node_at s n) ≡ true → changed c (with_found o (Plan.start_change s session n p)) s ≡ with_act (Some (Launcher p)) (after_found o s (started s n p))
-  start-by n p x2 is ok = grind (arith, nat_tests, change_at-twice)
-
-  start-effect : (n : NodeId) → is_ok (judge_start s session n) ≡ true → changed c (Plan.plan_start s session n) s ≡ with_act (role_of session s) (effect_start s session n)
-  start-effect n ok = grind (arith, nat_tests, makes, bind-ok, launcher-role, start-by)
-
-  done-effect : (n : NodeId) (attempt : ℕ) (o : Outcome) → is_ok (judge_done s session n attempt) ≡ true → changed c (Plan.plan_done c s session n o) s ≡ with_act (role_of session s) (effect_done c s n o)
-  done-effect n attempt o ok = grind (arith, nat_tests, makes, bind-ok, launcher-role, found-too)
-
-  lock_node-effect : (n : NodeId) → is_ok (judge_lock_node s session n) ≡ true → changed c (Plan.plan_lock_node s session n) s ≡ with_act (role_of session s) (effect_lock_node s session n)
-  lock_node-effect n ok = makes c s _ session (maker s session) (λ role. role) _ (bind-ok (maker s session) _ ok) (maker-role s session) (λ role is. refl)
-
-  unlock_node-effect : (n : NodeId) → is_ok (judge_unlock_node s session n) ≡ true → changed c (Plan.plan_unlock_node s session n) s ≡ with_act (role_of session s) (effect_unlock_node s session n)
-  unlock_node-effect n ok = makes c s _ session (maker s session) (λ role. role) _ (bind-ok (maker s session) _ ok) (maker-role s session) (λ role is. refl)
-
-  end_node-effect : (n : NodeId) (as_what : EndAs) → is_ok (judge_end_node c s session n) ≡ true → changed c (Plan.plan_end_node s session n as_what) s ≡ with_act (role_of session s) (effect_end_node s n as_what)
-  end_node-effect n as_what ok = grind (arith, nat_tests, makes, bind-ok, requester-role, found-too, end-first)
-
-  mark_deleting-effect : (n : NodeId) → is_ok (judge_mark_deleting c s session n) ≡ true → changed c (Plan.plan_mark_deleting s session n) s ≡ with_act (role_of session s) (effect_mark_deleting s n)
-  mark_deleting-effect n ok = grind (arith, nat_tests, makes, bind-ok, janitor-role, found-too)
-
-  gone-effect : (n : NodeId) → is_ok (judge_gone s session n) ≡ true → changed c (Plan.plan_gone s session n) s ≡ with_act (role_of session s) (effect_gone s n)
-  gone-effect n ok = makes c s _ session (janitor s session) Janitor _ (bind-ok (janitor s session) _ ok) (janitor-role s session) (λ p is. refl)
-
-  free_node-effect : (n : NodeId) → is_ok (judge_free_node s session n) ≡ true → changed c (Plan.plan_free_node s session n) s ≡ with_act (role_of session s) (effect_free_node s n)
-  free_node-effect n ok = grind (arith, nat_tests, makes, bind-ok, janitor-role, found-too)
-
-  sweep-by : (role : Role) (n : NodeId) (x : ℕ) (b : Bool) → is_wanted s n x ≡ b → changed c (made_by session role (record same { grows = if b then Growth.Nothing else Growth.Swept n x })) s ≡ with_act (Some role) (effect_sweep s n x)
-  sweep-by role n x x3 is = grind (arith, nat_tests)
-
-  sweep-effect : (n : NodeId) (x : ℕ) → is_ok (judge_sweep s session n x) ≡ true → changed c (Plan.plan_sweep s session n x) s ≡ with_act (role_of session s) (effect_sweep s n x)
-  sweep-effect n x ok = makes c s _ session (janitor s session) Janitor _ (bind-ok (janitor s session) _ ok) (janitor-role s session) (λ p is. sweep-by (Janitor p) n x (is_wanted s n x) refl)
-
-  -- ## semaphores and jobs
-
-  acquire-by : (role : Role) (j : JobId) (o : Option Job) → slice_get c.jobs j.0 ≡ o → changed c (made_by session role (record same { grows = Growth.Handles j })) s ≡ with_act (Some role) (effect_acquire c s j)
-  acquire-by role j x2 is = grind (arith, nat_tests)
-
-  acquire-effect : (j : JobId) → is_ok (judge_acquire c s session j) ≡ true → changed c (Plan.plan_acquire s session j) s ≡ with_act (role_of session s) (effect_acquire c s j)
-  acquire-effect j ok = grind (arith, nat_tests, makes, bind-ok, requester-role, acquire-by)
-
-  take-effect : (j : JobId) → is_ok (judge_take c s session j) ≡ true → changed c (Plan.plan_take s session j) s ≡ with_act (role_of session s) (effect_take s j)
-  take-effect j ok = grind (arith, nat_tests, makes, bind-ok, requester-role, found-in, found-too)
-
-  finish-effect : (j : JobId) → is_ok (judge_finish c s session j) ≡ true → changed c (Plan.plan_finish s session j) s ≡ with_act (role_of session s) (effect_finish s j)
-  finish-effect j ok = grind (arith, nat_tests, makes, bind-ok, maker-role, found-too)
-
-  withdraw-by : (role : Role) (j : JobId) (kept : JobRecord) (o : Option RequestId) → kept.request ≡ o → changed c (made_by session role (record same { requests = Plan.request_after_withdraw o; jobs = Plan.job_after_withdraw j kept })) s ≡ with_act (Some role) (withdrawn s j kept)
-  withdraw-by role j kept x3 is = grind (arith, nat_tests)
-
-  withdraw-effect : (j : JobId) → is_ok (judge_withdraw c s session j) ≡ true → changed c (Plan.plan_withdraw s session j) s ≡ with_act (role_of session s) (effect_withdraw s j)
-  withdraw-effect j ok = grind (arith, nat_tests, makes, bind-ok, requester-role, found-too, withdraw-by)
-
-  release-by : (role : Role) (j : JobId) (o : Option Job) → slice_get c.jobs j.0 ≡ o → changed c (made_by session role (record same { handles = HandlesChange.Release j })) s ≡ with_act (Some role) (effect_release c s j)
-  release-by role j x2 is = grind (arith, nat_tests)
-
-  release-effect : (j : JobId) → is_ok (judge_release c s session j) ≡ true → changed c (Plan.plan_release s session j) s ≡ with_act (role_of session s) (effect_release c s j)
-  release-effect j ok = makes c s _ session (maker s session) (λ role. role) _ (bind-ok (maker s session) _ ok) (maker-role s session) (λ role is. release-by role j (slice_get c.jobs j.0) refl)
+-- a fulfilled request of a job is kept, and one that was asked to keep a node ready goes
+fulfil-by : (c : Configuration) (s : State) (session : SessionId) (role : Role) (r : RequestId) (request : RequestRecord) (b : Bool) → is_some request.pinned ≡ b → request_in r s.requests ≡ Some request → changed c (made_by session role (record same { requests = Plan.request_after_fulfil r b; nodes = Plan.nodes_after_fulfil r b })) s ≡ with_act (Some role) (fulfilled s r request)
+fulfil-by c s session role r request true pinned has = rw pinned refl
+fulfil-by c s session role r request false pinned has = rw pinned (ap (λ (rows : List RequestEntry). with_act (Some role) (record s { requests = rows })) (edit-put r RequestEdit.Fulfil s.requests request has))
 
 -- ## all events
 
 plan-effect : (c : Configuration) (s : State) (e : Event) → is_ok (judge c s e) ≡ true → changed c (plan c s e) s ≡ with_act (acting s e) (effect c s e)
 plan-effect c s Event.Tick ok = refl
 plan-effect c s (Event.OpenSession role) ok = refl
-plan-effect c s (Event.Crash session) ok = crash-effect c s session (session_of session s) refl
-plan-effect c s (Event.Expire session) ok = expire-effect c s session (session_of session s) refl
-plan-effect c s (Event.Register session) ok = register-effect c s session ok
-plan-effect c s (Event.Submit session j) ok = submit-effect c s session j ok
-plan-effect c s (Event.Revise session j relative) ok = revise-effect c s session j relative ok
-plan-effect c s (Event.MinReady session l) ok = min_ready-effect c s session l ok
-plan-effect c s (Event.LockRequest session r) ok = lock_request-effect c s session r ok
-plan-effect c s (Event.UnlockRequest session r) ok = unlock_request-effect c s session r ok
-plan-effect c s (Event.Accept session r) ok = accept-effect c s session r ok
-plan-effect c s (Event.Decline session r why) ok = decline-effect c s session r why ok
-plan-effect c s (Event.TakeReady session r n) ok = take_ready-effect c s session r n ok
-plan-effect c s (Event.Create session r) ok = create-effect c s session r ok
-plan-effect c s (Event.Start session n) ok = start-effect c s session n ok
-plan-effect c s (Event.Done session n attempt o) ok = done-effect c s session n attempt o ok
-plan-effect c s (Event.Fulfil session r) ok = fulfil-effect c s session r ok
-plan-effect c s (Event.LockNode session n) ok = lock_node-effect c s session n ok
-plan-effect c s (Event.UnlockNode session n) ok = unlock_node-effect c s session n ok
-plan-effect c s (Event.Acquire session j) ok = acquire-effect c s session j ok
-plan-effect c s (Event.Take session j) ok = take-effect c s session j ok
-plan-effect c s (Event.EndNode session n as_what) ok = end_node-effect c s session n as_what ok
-plan-effect c s (Event.Finish session j) ok = finish-effect c s session j ok
-plan-effect c s (Event.Withdraw session j) ok = withdraw-effect c s session j ok
-plan-effect c s (Event.Release session j) ok = release-effect c s session j ok
-plan-effect c s (Event.MarkDeleting session n) ok = mark_deleting-effect c s session n ok
-plan-effect c s (Event.Gone session n) ok = gone-effect c s session n ok
-plan-effect c s (Event.Reset session r) ok = reset-effect c s session r ok
-plan-effect c s (Event.FreeNode session n) ok = free_node-effect c s session n ok
-plan-effect c s (Event.FailDeclined session r) ok = fail_declined-effect c s session r ok
-plan-effect c s (Event.Sweep session n x) ok = sweep-effect c s session n x ok
+plan-effect c s (Event.Crash session) ok = grind (arith, nat_tests)
+plan-effect c s (Event.Expire session) ok = grind (arith, nat_tests)
+plan-effect c s (Event.Register session) ok = makes c s _ session (launcher s session) Launcher _ (bind-ok (launcher s session) _ ok) (launcher-role s session) (λ p is. rw is refl)
+plan-effect c s (Event.Submit session j) ok = grind (arith, nat_tests, makes, bind-ok, requester-role, found-in)
+plan-effect c s (Event.Revise session j relative) ok =
+    makes c s _ session (requester s session) Requester _ (bind-ok (requester s session) _ (bind-ok (own_job c s session j) _ ok)) (requester-role s session) (λ q is.
+    found-in c session (Requester q) s (request_of_job j s) (Plan.revise_to relative) (revise_request s relative) (λ r _.
+    edit-too c session (Requester q) s r (RequestEdit.Revise relative) (request_in r s.requests) (revised s relative r) refl (λ k. refl)))
+plan-effect c s (Event.MinReady session l) ok = makes c s _ session (launcher s session) Launcher _ (bind-ok (launcher s session) _ ok) (launcher-role s session) (λ p is. rw is refl)
+plan-effect c s (Event.LockRequest session r) ok = makes c s _ session (maker s session) (λ role. role) _ (bind-ok (maker s session) _ ok) (maker-role s session) (λ role is. refl)
+plan-effect c s (Event.UnlockRequest session r) ok = makes c s _ session (maker s session) (λ role. role) _ (bind-ok (maker s session) _ ok) (maker-role s session) (λ role is. refl)
+plan-effect c s (Event.Accept session r) ok =
+    makes c s _ session (launcher s session) Launcher _ (bind-ok (launcher s session) _ ok) (launcher-role s session) (λ p is.
+    rw is (edit-too c session (Launcher p) s r (RequestEdit.Serve p) (request_in r s.requests) (accepted s r p) refl (λ k. refl)))
+plan-effect c s (Event.Decline session r why) ok =
+    makes c s _ session (launcher s session) Launcher _ (bind-ok (launcher s session) _ ok) (launcher-role s session) (λ p is.
+    rw is (found-in c session (Launcher p) s (request_in r s.requests) _ (declined s r why p) (λ request has.
+    rw (last-declines s.registrations request p why) (ap (λ (rows : List RequestEntry). with_act (Some (Launcher p)) (record s { requests = rows; nodes = all_freed r s.nodes }))
+    (edit-put r (RequestEdit.Decline p why (is_some request.pinned || is_last_pool s.registrations request p)) s.requests request has)))))
+plan-effect c s (Event.TakeReady session r n) ok =
+    makes c s _ session (launcher s session) Launcher _ (bind-ok (launcher s session) _ ok) (launcher-role s session) (λ p is.
+    found-in c session (Launcher p) s (request_in r s.requests) _ (took_ready c s session r n) (λ request has.
+    ap (λ (rows : List RequestEntry). with_act (Some (Launcher p)) (record (took_ready c s session r n request) { requests = rows })) (edit-put r (RequestEdit.AddNode n) s.requests request has)))
+plan-effect c s (Event.Create session r) ok =
+    makes c s _ session (launcher s session) Launcher _ (bind-ok (launcher s session) _ ok) (launcher-role s session) (λ p is.
+    rw is (found-in c session (Launcher p) s (request_in r s.requests) (Plan.create_for_next c s r p) (create_for c s session r p) (λ request has.
+    found-in c session (Launcher p) s (next_label request) _ (created c s session r p request) (λ l _.
+    ap (λ (rows : List RequestEntry). with_act (Some (Launcher p)) (record (created c s session r p request l) { requests = rows })) (edit-put r (RequestEdit.AddNode (record { 0 = s.next_node })) s.requests request has)))))
+plan-effect c s (Event.Start session n) ok = grind (arith, nat_tests, makes, bind-ok, launcher-role, change_at-twice)
+plan-effect c s (Event.Done session n attempt o) ok = grind (arith, nat_tests, makes, bind-ok, launcher-role, found-in)
+plan-effect c s (Event.Fulfil session r) ok =
+    makes c s _ session (launcher s session) Launcher _ (bind-ok (launcher s session) _ ok) (launcher-role s session) (λ p is.
+    found-in c session (Launcher p) s (request_in r s.requests) _ (fulfilled s r) (λ request has. fulfil-by c s session (Launcher p) r request (is_some request.pinned) refl has))
+plan-effect c s (Event.LockNode session n) ok = makes c s _ session (maker s session) (λ role. role) _ (bind-ok (maker s session) _ ok) (maker-role s session) (λ role is. refl)
+plan-effect c s (Event.UnlockNode session n) ok = makes c s _ session (maker s session) (λ role. role) _ (bind-ok (maker s session) _ ok) (maker-role s session) (λ role is. refl)
+plan-effect c s (Event.Acquire session j) ok = grind (arith, nat_tests, makes, bind-ok, requester-role)
+plan-effect c s (Event.Take session j) ok = grind (arith, nat_tests, makes, bind-ok, requester-role, found-in)
+plan-effect c s (Event.EndNode session n as_what) ok = grind (arith, nat_tests, makes, bind-ok, requester-role, found-in, end-first)
+plan-effect c s (Event.Finish session j) ok = grind (arith, nat_tests, makes, bind-ok, maker-role, found-in)
+plan-effect c s (Event.Withdraw session j) ok = grind (arith, nat_tests, makes, bind-ok, requester-role, found-in)
+plan-effect c s (Event.Release session j) ok = makes c s _ session (maker s session) (λ role. role) _ (bind-ok (maker s session) _ ok) (maker-role s session) (λ role is. grind (arith, nat_tests))
+plan-effect c s (Event.MarkDeleting session n) ok = grind (arith, nat_tests, makes, bind-ok, janitor-role, found-in)
+plan-effect c s (Event.Gone session n) ok = makes c s _ session (janitor s session) Janitor _ (bind-ok (janitor s session) _ ok) (janitor-role s session) (λ p is. refl)
+plan-effect c s (Event.Reset session r) ok =
+    makes c s _ session (janitor s session) Janitor _ (bind-ok (janitor s session) _ ok) (janitor-role s session) (λ p is.
+    found-in c session (Janitor p) s (request_in r s.requests) _ (given_back s r) (λ request has.
+    ap (λ (rows : List RequestEntry). with_act (Some (Janitor p)) (record (given_back s r request) { requests = rows })) (edit-put r RequestEdit.GiveBack s.requests request has)))
+plan-effect c s (Event.FreeNode session n) ok = grind (arith, nat_tests, makes, bind-ok, janitor-role, found-in)
+plan-effect c s (Event.FailDeclined session r) ok =
+    makes c s _ session (janitor s session) Janitor _ (bind-ok (janitor s session) _ ok) (janitor-role s session) (λ p is.
+    edit-too c session (Janitor p) s r RequestEdit.Fail (request_in r s.requests) (failed s r) refl (λ k. refl))
+plan-effect c s (Event.Sweep session n x) ok = makes c s _ session (janitor s session) Janitor _ (bind-ok (janitor s session) _ ok) (janitor-role s session) (λ p is. grind (arith, nat_tests))
 
 pub plan-next : (c : Configuration) (s : State) (e : Event) → is_ok (judge c s e) ≡ true → changed c (plan c s e) s ≡ next c s e
 plan-next c s e ok = grind (arith, nat_tests, plan-effect)
@@ -413,9 +263,6 @@ module _ (c : Configuration) (s : State) (by : SessionId) (what : Done) where
   pub take_ready-stands : (r : RequestId) (n : NodeId) → judge_take_ready s by r n ≡ Ok what → node_in n s.nodes ≡ None → ⊥
   take_ready-stands r n is none = grind (arith, nat_tests)
 
-  pub take_ready-free : (r : RequestId) (n : NodeId) (other : SessionId) → judge_take_ready s by r n ≡ Ok what → node_holder n s.nodes ≡ Some other → ⊥
-  take_ready-free r n other is held = grind (arith, nat_tests)
-
   pub lock_request-stands : (r : RequestId) → judge_lock_request c s by r ≡ Ok what → request_in r s.requests ≡ None → ⊥
   lock_request-stands r is none = grind (arith, nat_tests)
 
@@ -436,19 +283,6 @@ module _ (c : Configuration) (s : State) (by : SessionId) (what : Done) where
       four-passed (is_session_of by (registered p s.registrations)) (is_session_of by (request_holder r s.requests)) (is_pending_by p request) (not (is_short c s p l)) Refusal.NotRegistered Refusal.NotHeld (wrong_request request) (quota_short (count_of c s p))
       (Done.Node (record { 0 = s.next_node })) what tests
 
-  -- ## a place in the queue
-
-  pub lock_node-place : (n : NodeId) → judge_lock_node s by n ≡ Ok what → what ≡ place_reply (ahead_of by (node_queue n s.nodes))
-  lock_node-place n is = grind (arith, nat_tests)
-
-  -- ## the nodes of a fulfilled request
-
-  pub take-asked : (j : JobId) (kept : JobRecord) → judge_take c s by j ≡ Ok what → slice_get s.jobs j.0 ≡ Some kept → kept.request ≡ None → ⊥
-  take-asked j kept is stands none = grind (arith, nat_tests)
-
-  pub take-request : (j : JobId) (kept : JobRecord) (r : RequestId) → judge_take c s by j ≡ Ok what → slice_get s.jobs j.0 ≡ Some kept → kept.request ≡ Some r → request_in r s.requests ≡ None → ⊥
-  take-request j kept r is stands asks none = grind (arith, nat_tests)
-
 -- # the replies in a journal are those of the machine, and what an accepted event leads to
 
 -- an accepted event leads to its effect
@@ -462,13 +296,8 @@ head-reply c s e journal is = let head : record { event = e.event; reply = reply
 pub tail-replies : (c : Configuration) (s : State) (e : Entry) (journal : List Entry) → replayed c s (e ∷ journal) ≡ e ∷ journal → replayed c (next c s e.event) journal ≡ journal
 tail-replies c s e journal is = cc
 
--- the reply says that the event is done if and only if it was accepted
-reply-done : (a : Answer) → is_done (reply_of a) ≡ is_ok a
-reply-done (Ok what) = refl
-reply-done (Err why) = refl
-
 pub done-accepted : (c : Configuration) (s : State) (e : Entry) → reply_of (judge c s e.event) ≡ e.reply → is_done e.reply ≡ is_ok (judge c s e.event)
-done-accepted c s e says = ap (λ (x : Reply). is_done x) (sym says) ∙ reply-done (judge c s e.event)
+done-accepted c s e says = grind (arith, nat_tests)
 
 pub accepted-reply : (c : Configuration) (s : State) (e : Entry) → reply_of (judge c s e.event) ≡ e.reply → is_ok (judge c s e.event) ≡ true → is_done e.reply ≡ true
 accepted-reply c s e says ok = done-accepted c s e says ∙ ok
@@ -478,40 +307,26 @@ accepted-reply c s e says ok = done-accepted c s e says ∙ ok
 -- ## the maker
 
 -- the maker of the changes is the maker of the event
-abbrev pub MakesEvent : Event → Changes → Type 0
-MakesEvent e ch = (m : Maker) → ch.maker ≡ Some m → maker_of e ≡ Some m.session
-
-pub plan-maker : (c : Configuration) (s : State) (e : Event) → MakesEvent e (plan c s e)
+pub plan-maker : (c : Configuration) (s : State) (e : Event) → (m : Maker) → (plan c s e).maker ≡ Some m → maker_of e ≡ Some m.session
 plan-maker c s _ = λ m at. grind (arith, nat_tests)
 
 -- ## what is removed
 
 -- no request and no node is removed, and no request is given back
 abbrev pub gives_back : RequestEdit → Bool
-gives_back (RequestEdit.Serve p) = false
-gives_back (RequestEdit.AddNode n) = false
 gives_back (RequestEdit.Decline p why failed) = true
-gives_back RequestEdit.Fulfil = false
 gives_back RequestEdit.GiveBack = true
-gives_back RequestEdit.Fail = false
-gives_back (RequestEdit.Revise relative) = false
+gives_back _ = false
 
 abbrev keeps_requests : RequestsChange → Bool
-keeps_requests RequestsChange.Same = true
 keeps_requests (RequestsChange.Edit r e) = not (gives_back e)
 keeps_requests (RequestsChange.Remove r) = false
-keeps_requests (RequestsChange.Leave r) = true
+keeps_requests _ = true
 
 abbrev keeps_nodes : NodesChange → Bool
-keeps_nodes NodesChange.Same = true
-keeps_nodes (NodesChange.Put n kept) = true
 keeps_nodes (NodesChange.Remove n) = false
-keeps_nodes (NodesChange.Leave n) = true
 keeps_nodes (NodesChange.FreeAll r) = false
-keeps_nodes (NodesChange.TakeOver numbers) = true
-
-abbrev IsCalm : Changes → Type 0
-IsCalm ch = (keeps_requests ch.requests ≡ true) × (keeps_nodes ch.nodes ≡ true)
+keeps_nodes _ = true
 
 -- an event that removes a request ends it, one that removes a node is its `gone`, and one that
 -- gives a request back says so
@@ -521,8 +336,8 @@ pub record Goes (s : State) (e : Event) (ch : Changes) : Type 0 where
   pub edit : (r : RequestId) (how : RequestEdit) → ch.requests ≡ RequestsChange.Edit r how → gives_back how ≡ true → given_back_by e ≡ Some r
   pub back : (r : RequestId) → given_back_by e ≡ Some r → (ch.grows ≡ Growth.Nothing) × ((ch.nodes ≡ NodesChange.Same) ⊎ (ch.nodes ≡ NodesChange.FreeAll r))
 
-calm : (s : State) (e : Event) (ch : Changes) → given_back_by e ≡ None → IsCalm ch → Goes s e ch
-calm s e ch none is = grind (arith, nat_tests)
+calm : (s : State) (e : Event) (ch : Changes) → given_back_by e ≡ None → keeps_requests ch.requests ≡ true → keeps_nodes ch.nodes ≡ true → Goes s e ch
+calm s e ch none requests nodes = grind (arith, nat_tests)
 
 -- ### events by which something is removed
 
@@ -533,4 +348,4 @@ plan-goes c s (Event.Take session j) old ok = grind (arith, nat_tests)
 plan-goes c s (Event.Withdraw session j) old ok = grind (arith, nat_tests)
 plan-goes c s (Event.Gone session n) old ok = grind (arith, nat_tests)
 plan-goes c s (Event.Reset session r) old ok = grind (arith, nat_tests)
-plan-goes c s e old ok = calm s e _ refl (grind (arith, nat_tests), grind (arith, nat_tests))
+plan-goes c s e old ok = calm s e _ refl (grind (arith, nat_tests)) (grind (arith, nat_tests))

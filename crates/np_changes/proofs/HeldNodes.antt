@@ -1,5 +1,5 @@
 -- who is first in a queue, what takes a hold away, and who is first at a node stays first
-use Rattle.np_changes.proofs.Prelude.{Bool, List, None, Option, SessionId, Some, [], ahead_of, ap, arith, eq-eqb, eqb-true, false, holder, is_held, is_session, is_session_of, joined, left, nat_tests, place_reply, refl, sym, true, ℕ, ◌==◌, ◌∙◌, ◌∷◌, ◌≡◌, Changes, Configuration, Event, Growth, Maker, NodeId, NodesChange, RequestId, RequestsChange, SessionsChange, State, is_ending, is_unlocking, maker, plan, same_request, ◌&&◌, NodeEntry, NodeRecord, TenantId, allocated, and-apart, change_first, changed, cond, grown, node_holder, node_in, node_queue, nodes_changed, nodes_left, put_node_queue, subst, ◌++◌}
+use Rattle.np_changes.proofs.Prelude.{Bool, List, None, Option, SessionId, Some, [], ahead_of, ap, arith, eq-eqb, false, holder, is_held, is_session, is_session_of, joined, left, nat_tests, place_reply, refl, sym, true, ℕ, ◌==◌, ◌∙◌, ◌∷◌, ◌≡◌, Changes, Configuration, Event, Growth, Maker, NodeId, NodesChange, RequestId, RequestsChange, SessionsChange, State, is_ending, is_unlocking, maker, plan, same_request, ◌&&◌, NodeEntry, NodeRecord, TenantId, allocated, and-apart, change_first, changed, grown, node_holder, node_in, node_queue, nodes_changed, nodes_left, put_node_queue, some-unless, subst, ◌++◌}
 use Rattle.np_changes.proofs.Lookups.{same_node-is, node_queue-put, node_queue-freed, node_queue-in_use, node_queue-allocated, node_queue-queue, node_queue-nowhere, node_queue-left, node_queue-push, node_queue-remove}
 
 -- # who is first in a queue
@@ -8,8 +8,7 @@ use Rattle.np_changes.proofs.Lookups.{same_node-is, node_queue-put, node_queue-f
 
 -- at most one session is named
 pub one-named : (a b : SessionId) (o : Option SessionId) → is_session_of a o ≡ true → is_session_of b o ≡ true → a.0 ≡ b.0
-one-named a b None first second = absurd cc
-one-named a b (Some other) first second = sym (eqb-true other.0 a.0 first) ∙ eqb-true other.0 b.0 second
+one-named a b o first second = grind (arith, nat_tests)
 
 -- ## the first of a queue
 
@@ -51,12 +50,9 @@ LeavesOther session n None m = Unit {0}
 LeavesOther session n (Some by) m = (is_session by.session session && (m.0 == n.0)) ≡ false
 
 abbrev pub NodeStays : SessionId → NodeId → Option Maker → NodesChange → Type 0
-NodeStays session n maker NodesChange.Same = Unit {0}
-NodeStays session n maker (NodesChange.Put m kept) = Unit {0}
 NodeStays session n maker (NodesChange.Remove m) = (m.0 == n.0) ≡ false
 NodeStays session n maker (NodesChange.Leave m) = LeavesOther session n maker m
-NodeStays session n maker (NodesChange.FreeAll r) = Unit {0}
-NodeStays session n maker (NodesChange.TakeOver numbers) = Unit {0}
+NodeStays session n maker _ = Unit {0}
 
 -- another session leaves, or the session leaves another request
 abbrev pub UnlocksOther : SessionId → RequestId → Option Maker → RequestId → Type 0
@@ -65,16 +61,14 @@ UnlocksOther session r (Some by) q = (is_session by.session session && same_requ
 
 -- a request may be removed if nothing grows at the same time
 abbrev pub RequestStays : SessionId → RequestId → Option Maker → Growth → RequestsChange → Type 0
-RequestStays session r maker grows RequestsChange.Same = Unit {0}
-RequestStays session r maker grows (RequestsChange.Edit q change) = Unit {0}
 RequestStays session r maker grows (RequestsChange.Remove q) = grows ≡ Growth.Nothing
 RequestStays session r maker grows (RequestsChange.Leave q) = UnlocksOther session r maker q
+RequestStays session r maker grows _ = Unit {0}
 
 -- another session ends, or none does
 abbrev pub SessionStays : SessionId → SessionsChange → Type 0
-SessionStays session SessionsChange.Same = Unit {0}
-SessionStays session (SessionsChange.Mute other) = Unit {0}
 SessionStays session (SessionsChange.End other) = is_session other session ≡ false
+SessionStays session _ = Unit {0}
 
 pub record KeepsNode (session : SessionId) (n : NodeId) (ch : Changes) : Type 0 where
   pub place : NodeStays session n ch.maker ch.nodes
@@ -92,33 +86,24 @@ pub record TakesAsSaid (e : Event) (ch : Changes) : Type 0 where
 -- ## changes that take nothing from anybody
 
 abbrev is_quiet_node : NodesChange → Bool
-is_quiet_node NodesChange.Same = true
-is_quiet_node (NodesChange.Put m kept) = true
 is_quiet_node (NodesChange.Remove m) = false
 is_quiet_node (NodesChange.Leave m) = false
-is_quiet_node (NodesChange.FreeAll r) = true
-is_quiet_node (NodesChange.TakeOver numbers) = true
+is_quiet_node _ = true
 
 abbrev is_quiet_request : RequestsChange → Bool
-is_quiet_request RequestsChange.Same = true
-is_quiet_request (RequestsChange.Edit q change) = true
 is_quiet_request (RequestsChange.Remove q) = false
 is_quiet_request (RequestsChange.Leave q) = false
+is_quiet_request _ = true
 
 abbrev is_quiet_session : SessionsChange → Bool
-is_quiet_session SessionsChange.Same = true
-is_quiet_session (SessionsChange.Mute other) = true
 is_quiet_session (SessionsChange.End other) = false
+is_quiet_session _ = true
 
 abbrev is_quiet : Changes → Bool
 is_quiet ch = is_quiet_node ch.nodes && is_quiet_request ch.requests && is_quiet_session ch.sessions
 
 quiet : (e : Event) (ch : Changes) → is_quiet ch ≡ true → TakesAsSaid e ch
 quiet e ch is = grind (arith, nat_tests)
-
--- ## what was found
-
--- ## requests that go
 
 -- ## all events
 
@@ -140,10 +125,7 @@ module _ (session : SessionId) (n : NodeId) where
 
   -- if somebody is first, the node exists
   stands : (rows : List NodeEntry) → IsFirstAt rows → (k : NodeRecord) × (node_in n rows ≡ Some k)
-  stands rows held = by (node_in n rows) refl where
-    by : (o : Option NodeRecord) → node_in n rows ≡ o → (k : NodeRecord) × (node_in n rows ≡ Some k)
-    by None is = absurd (let nobody : is_first session [] ≡ true = first-in session (sym (node_queue-nowhere n rows is)) held.first in cc)
-    by (Some k) is = (k, is)
+  stands rows held = some-unless (node_in n rows) (λ none. let nobody : is_first session [] ≡ true = first-in session (sym (node_queue-nowhere n rows none)) held.first in cc)
 
   pub same-queue : (rows later : List NodeEntry) → node_queue n later ≡ node_queue n rows → IsFirstAt rows → IsFirstAt later
   same-queue rows later same held = record { first = first-in session same held.first }
@@ -152,10 +134,7 @@ module _ (session : SessionId) (n : NodeId) where
   queue-put : (m : NodeId) (queue : List SessionId) (rows : List NodeEntry) → ((m.0 == n.0) ≡ true → is_first session queue ≡ true) → IsFirstAt rows → IsFirstAt (put_node_queue m queue rows)
   queue-put m queue rows new held =
       let found : (k : NodeRecord) × (node_in n rows ≡ Some k) = stands rows held in
-      record { first = first-in session (node_queue-queue m n queue found.0 rows found.1) (by (m.0 == n.0) refl) } where
-        by : (b : Bool) → (m.0 == n.0) ≡ b → is_first session (cond b queue (node_queue n rows)) ≡ true
-        by true is = new is
-        by false is = held.first
+      record { first = first-in session (node_queue-queue m n queue found.0 rows found.1) (grind (arith, nat_tests, held.first)) }
 
   -- the same for the queue that is found
   at-node : (m : NodeId) (rows : List NodeEntry) → IsFirstAt rows → (m.0 == n.0) ≡ true → is_first session (node_queue m rows) ≡ true
@@ -164,22 +143,14 @@ module _ (session : SessionId) (n : NodeId) where
   allocated-first : (m : NodeId) (r : RequestId) (tenant : Option TenantId) (by : SessionId) (rows : List NodeEntry) → IsFirstAt rows → IsFirstAt (change_first (λ e. e.id.0 == m.0) (allocated r tenant by) rows)
   allocated-first m r tenant by rows held =
       let found : (k : NodeRecord) × (node_in n rows ≡ Some k) = stands rows held in
-      record { first = first-in session (node_queue-allocated m n r tenant by found.0 rows found.1) (place (m.0 == n.0)) } where
-        place : (b : Bool) → is_first session (cond b (joined by (node_queue n rows)) (node_queue n rows)) ≡ true
-        place true = first-joined session by (node_queue n rows) held.first
-        place false = held.first
-
-  pushed-first : (new : NodeEntry) (rows : List NodeEntry) → IsFirstAt rows → IsFirstAt (rows ++ new ∷ [])
-  pushed-first new rows held =
-      let found : (k : NodeRecord) × (node_in n rows ≡ Some k) = stands rows held in
-      same-queue rows (rows ++ new ∷ []) (node_queue-push new n found.0 rows found.1) held
+      let joins : is_first session (joined by (node_queue n rows)) ≡ true = first-joined session by (node_queue n rows) held.first in
+      record { first = first-in session (node_queue-allocated m n r tenant by found.0 rows found.1) (grind (arith, nat_tests, joins, held.first)) }
 
   -- ## by the kind of change
 
   grown-first : (c : Configuration) (s : State) (maker : Option Maker) (growth : Growth) → IsFirstAt s.nodes → IsFirstAt (grown c maker growth s).nodes
-  grown-first c s None (Growth.Registration p) held = held
-  grown-first c s (Some by) (Growth.Registration p) held = held
-  grown-first c s maker (Growth.Node kept) held = pushed-first _ s.nodes held
+  grown-first c s maker (Growth.Registration p) held = grind (arith, nat_tests)
+  grown-first c s maker (Growth.Node kept) held = let found = stands s.nodes held in same-queue s.nodes _ (node_queue-push _ n found.0 s.nodes found.1) held
   grown-first c s (Some by) (Growth.JoinNode m) held =
       queue-put m (joined by.session (node_queue m s.nodes)) s.nodes (λ is. first-joined session by.session (node_queue m s.nodes) (at-node m s.nodes held is)) held
   grown-first c s (Some by) (Growth.Allocate m r tenant) held = allocated-first m r tenant by.session s.nodes held

@@ -1,5 +1,5 @@
 -- who locked a request stays first at it while it exists, if the changes do not take that away
-use Rattle.np_changes.proofs.Prelude.{Bool, Changes, Configuration, Growth, List, Maker, None, Option, RequestEdit, RequestEntry, RequestId, RequestRecord, RequestsChange, Rises, SessionId, SessionsChange, Some, State, and-apart, ap, arith, changed, edited, false, grown, is_id_before, is_session, is_session_of, is_some, joined, left, map-some, nat_tests, next_id, put_request_queue, refl, remove_request, request-equal, request_holder, request_in, request_queue, requests_changed, requests_left, same_request, some-of, subst, sym, true, ◌<◌, ◌∙◌, ◌≡◌}
+use Rattle.np_changes.proofs.Prelude.{Changes, Configuration, Growth, List, Maker, Option, RequestEntry, RequestId, RequestRecord, RequestsChange, Rises, SessionId, SessionsChange, Some, State, and-apart, ap, arith, changed, edited, false, grown, is_id_before, is_session, is_session_of, is_some, joined, left, map-some, nat_tests, next_id, put_request_queue, remove_request, request-equal, request_holder, request_in, request_queue, requests_changed, requests_left, same_request, some-of, subst, sym, true, ◌<◌, ◌∙◌, ◌≡◌}
 use Rattle.np_changes.proofs.Lookups.{request_in-edit, request_in-queue, request_in-left, request_in-insert, request_in-remove, request_in-removed, request_queue-edit, request_queue-queue, request_queue-left, request_queue-insert, request_queue-remove}
 use Rattle.np_changes.proofs.HeldNodes.{KeepsRequest, RequestStays, SessionStays, first-in, first-joined, first-left, is_first}
 
@@ -19,21 +19,13 @@ module _ (session : SessionId) (r : RequestId) where
   at-request : (q : RequestId) (rows : List RequestEntry) → same_request q r ≡ true → is_first session (request_queue r rows) ≡ true → is_first session (request_queue q rows) ≡ true
   at-request q rows is first = subst (λ (x : RequestId). is_first session (request_queue x rows) ≡ true) (sym (request-equal q r is)) first
 
-  edited-first : (q : RequestId) (change : RequestEdit) (maker : Option Maker) (rows : List RequestEntry) → IsFirstThere rows → IsFirstThere (requests_changed maker (RequestsChange.Edit q change) rows)
-  edited-first q change maker rows held =
-      same-row rows _ (ap (λ (o : Option RequestRecord). is_some o) (request_in-edit q r (edited change) rows) ∙ map-some _ (request_in r rows)) (request_queue-edit q r (edited change) rows) held
-
   removed-first : (q : RequestId) (rows : List RequestEntry) → Rises (λ a b. is_id_before a.id b.id) rows → IsFirstThere rows → IsFirstThere (remove_request q rows)
-  removed-first q rows rises held = by (same_request q r) refl where
-    by : (b : Bool) → same_request q r ≡ b → IsFirstThere (remove_request q rows)
-    by true is = record { first = λ there. absurd (let gone : is_some {T = RequestRecord} None ≡ true = sym (ap (λ (o : Option RequestRecord). is_some o) (request_in-removed q r rows rises is)) ∙ there in cc) }
-    by false is = same-row rows (remove_request q rows) (ap (λ (o : Option RequestRecord). is_some o) (request_in-remove q r rows is)) (request_queue-remove q r rows is) held
+  removed-first q rows rises held = grind (arith, nat_tests, request_in-removed q r rows rises, request_in-remove q r rows, request_queue-remove q r rows, same-row)
 
   -- ## by the kind of change
 
   grown-first : (c : Configuration) (s : State) (maker : Option Maker) (growth : Growth) → r.seq < s.next_request → IsFirstThere s.requests → IsFirstThere (grown c maker growth s).requests
-  grown-first c s None (Growth.Registration p) before held = held
-  grown-first c s (Some by) (Growth.Registration p) before held = held
+  grown-first c s maker (Growth.Registration p) before held = grind (arith, nat_tests)
   grown-first c s maker (Growth.Request priority asked) before held =
       let other : same_request (next_id priority s) r ≡ false = grind (arith, nat_tests) in
       same-row s.requests _ (ap (λ (o : Option RequestRecord). is_some o) (request_in-insert _ r s.requests other)) (request_queue-insert _ r s.requests other) held
@@ -43,7 +35,9 @@ module _ (session : SessionId) (r : RequestId) where
 
   requests-first : (c : Configuration) (s : State) (maker : Option Maker) (growth : Growth) (change : RequestsChange) → Rises (λ a b. is_id_before a.id b.id) s.requests → RequestStays session r maker growth change
       → IsFirstThere (grown c maker growth s).requests → IsFirstThere (requests_changed maker change (grown c maker growth s).requests)
-  requests-first c s maker growth (RequestsChange.Edit q change) rises stays held = edited-first q change maker (grown c maker growth s).requests held
+  requests-first c s maker growth (RequestsChange.Edit q change) rises stays held =
+      let rows : List RequestEntry = (grown c maker growth s).requests in
+      same-row rows _ (ap (λ (o : Option RequestRecord). is_some o) (request_in-edit q r (edited change) rows) ∙ map-some _ (request_in r rows)) (request_queue-edit q r (edited change) rows) held
   requests-first c s maker growth (RequestsChange.Remove q) rises stays held =
       let still : Rises (λ a b. is_id_before a.id b.id) (grown c maker growth s).requests = subst (λ (g : Growth). Rises (λ a b. is_id_before a.id b.id) (grown c maker g s).requests) (sym stays) rises in
       removed-first q (grown c maker growth s).requests still held
@@ -54,11 +48,8 @@ module _ (session : SessionId) (r : RequestId) where
   requests-first c s maker growth _ rises stays held = held
 
   left-first : (change : SessionsChange) (rows : List RequestEntry) → SessionStays session change → IsFirstThere rows → IsFirstThere (requests_left change rows)
-  left-first (SessionsChange.End other) rows lives held = record {
-    first = λ is.
-        let there : is_some (request_in r rows) ≡ true = sym (ap (λ (o : Option RequestRecord). is_some o) (request_in-left other r rows)) ∙ is in
-        first-in session (request_queue-left other r rows) (first-left session other (request_queue r rows) lives (held.first there));
-  }
+  left-first (SessionsChange.End other) rows lives held =
+      record { first = λ is. first-in session (request_queue-left other r rows) (first-left session other (request_queue r rows) lives (held.first (rw (request_in-left other r rows) at is))) }
   left-first _ rows lives held = held
 
   -- ## all of it

@@ -1,5 +1,5 @@
 -- who holds a node or a request by the journal is the first of its queue
-use Rattle.np_changes.proofs.Prelude.{AllByRecursion, Answer, Bool, Configuration, Done, Event, JobId, JobRecord, LabelId, List, NodeEntry, NodeId, NodeRecord, None, Ok, Option, Phase, PoolId, RequestEntry, RequestId, RequestRecord, Rises, SessionId, Some, State, [], acting, ahead_of, allocated, and_parts, ap, arith, change_first, cond, cond-true, effect, effect_create, effect_lock_node, effect_lock_request, effect_take, effect_take_ready, eq-eqb, eqb-true, false, has_node, is_ending, is_held, is_holding, is_id_before, is_locking, is_marked, is_new_node, is_node, is_ok, is_session, is_session_of, is_unlocking, joined, judge, judge_create, judge_lock_node, judge_lock_request, judge_take, judge_take_ready, launcher, le_of_eq, list_any, made, map, nat_tests, next, next_label, node_holder, node_in, node_queue, not, option_map_or, place_reply, plan, put_job, refl, request-equal, request-itself, request_holder, request_in, request_queue, same_request, session-equal, set-here, slice_get, some-unless, subst, sum_by-cons, sym, tenant_of_request, true, unended, unheld, with_act, ◌&&◌, ◌++◌, ◌+◌, ◌<◌, ◌==◌, ◌||◌, ◌∙◌, ◌∷◌, ◌≡◌, Entry, Err, HoldersHold, Invariant, IsLiveHolder, OneHolder, Reply, RisesFrom-next, Runs, Runs-prefix, after, append-nil, append_assoc, holds_after, holds_from, is_some, locks_after, locks_from, replayed, reply_of, start, state_after, state_after-push}
+use Rattle.np_changes.proofs.Prelude.{AllByRecursion, Answer, Bool, Configuration, Done, Event, JobId, JobRecord, LabelId, List, NodeEntry, NodeId, NodeRecord, None, Ok, Option, Phase, PoolId, RequestEntry, RequestId, RequestRecord, Rises, SessionId, Some, State, [], acting, ahead_of, and_from, and_parts, ap, arith, cond, effect, effect_create, effect_lock_node, effect_lock_request, effect_take, effect_take_ready, eq-eqb, eqb-true, false, has_node, is_ending, is_held, is_holding, is_id_before, is_locking, is_marked, is_new_node, is_node, is_ok, is_session, is_session_of, is_unlocking, joined, judge, judge_create, judge_lock_node, judge_lock_request, judge_take, judge_take_ready, launcher, le_of_eq, list_any, made, map, nat_tests, next, next_label, node_holder, node_in, node_queue, not, option_map_or, place_reply, plan, put_job, refl, request-equal, request-itself, request_holder, request_in, request_queue, same_request, session-equal, set-here, slice_get, some-unless, subst, sum_by-cons, sym, tenant_of_request, true, unended, unheld, with_act, ◌&&◌, ◌++◌, ◌+◌, ◌<◌, ◌==◌, ◌||◌, ◌∙◌, ◌∷◌, ◌≡◌, Entry, Err, HoldersHold, Invariant, IsLiveHolder, OneHolder, RisesFrom-next, Runs, Runs-prefix, after, append-nil, append_assoc, holds_after, holds_from, is_some, locks_after, locks_from, replayed, reply_of, start, state_after, state_after-push}
 use Rattle.np_changes.proofs.Accepted.{accepted-state, plan-next}
 use Rattle.np_changes.proofs.Lookups.{node_in-later, node_queue-allocated, node_queue-new, node_queue-queue, none-unless, request_in-below, request_queue-queue, same_node-is}
 use Rattle.np_changes.proofs.HeldNodes.{IsFirstAt, first-alone, first-held, first-in, one-named, takes-as_said}
@@ -13,95 +13,68 @@ use Rattle.np_changes.proofs.Accepted
 -- ## an accepted event
 
 module _ (c : Configuration) (s : State) (e : Event) (what : Done) (is : judge c s e ≡ Ok what) where
-  is_accepted : is_ok (judge c s e) ≡ true
-  is_accepted = ap (λ (a : Answer). is_ok a) is
-
   accepted-next : next c s e ≡ with_act (acting s e) (effect c s e)
-  accepted-next = accepted-state c s e is_accepted
-
-  nodes-next : (next c s e).nodes ≡ (effect c s e).nodes
-  nodes-next = ap (λ (t : State). t.nodes) accepted-next
-
-  requests-next : (next c s e).requests ≡ (effect c s e).requests
-  requests-next = ap (λ (t : State). t.requests) accepted-next
-
-  jobs-next : (next c s e).jobs ≡ (effect c s e).jobs
-  jobs-next = ap (λ (t : State). t.jobs) accepted-next
+  accepted-next = accepted-state c s e (ap (λ (a : Answer). is_ok a) is)
 
   -- who is first stays first, unless the event says otherwise
   pub stays-first : (session : SessionId) (n : NodeId) → is_ending session n e ≡ false → IsFirstAt session n s.nodes → IsFirstAt session n (next c s e).nodes
   stays-first session n on held =
-      subst (λ (t : State). IsFirstAt session n t.nodes) (plan-next c s e is_accepted)
+      subst (λ (t : State). IsFirstAt session n t.nodes) (plan-next c s e (ap (λ (a : Answer). is_ok a) is))
       (HeldNodes.changed-first session n c s (plan c s e) ((takes-as_said c s e).of_node session n on) held)
 
   pub stays-there : (session : SessionId) (r : RequestId) → is_unlocking session r e ≡ false → r.seq < s.next_request → Rises (λ a b. is_id_before a.id b.id) s.requests → IsFirstThere session r s.requests → IsFirstThere session r (next c s e).requests
   stays-there session r on before rises held =
-      subst (λ (t : State). IsFirstThere session r t.requests) (plan-next c s e is_accepted)
+      subst (λ (t : State). IsFirstThere session r t.requests) (plan-next c s e (ap (λ (a : Answer). is_ok a) is))
       (HeldRequests.changed-first session r c s (plan c s e) before rises ((takes-as_said c s e).of_request session r on) held)
 
   -- the same for a session and a node with the same numbers
-  same-names : (by session : SessionId) (m n : NodeId) (rows : List NodeEntry) → is_session by session ≡ true → is_node n m ≡ true → IsFirstAt by m rows → IsFirstAt session n rows
-  same-names by session m n rows one other held = grind (arith, nat_tests)
+  same-names : (by session : SessionId) (m n : NodeId) (rows : List NodeEntry) → (is_session by session && is_node n m) ≡ true → IsFirstAt by m rows → IsFirstAt session n rows
+  same-names by session m n rows names held = grind (arith, nat_tests)
+
+  -- the same for a session that is first in what the event leads to
+  first-next : (by session : SessionId) (m n : NodeId) (rest : Bool) → (is_session by session && is_node n m && rest) ≡ true → (rest ≡ true → IsFirstAt by m (effect c s e).nodes) → IsFirstAt session n (next c s e).nodes
+  first-next by session m n rest holds first =
+      let parts = and_parts (is_session by session && is_node n m) rest holds in
+      same-names by session m n (next c s e).nodes parts.0 (subst (λ (rows : List NodeEntry). IsFirstAt by m rows) (sym (ap (λ (t : State). t.nodes) accepted-next)) (first parts.1))
 
   still : (by session : SessionId) (m n : NodeId) → is_ending by m e ≡ false → is_session_of by (node_holder m s.nodes) ≡ true → (is_session by session && is_node n m) ≡ true → IsFirstAt session n (next c s e).nodes
-  still by session m n on held names =
-      let parts = and_parts (is_session by session) (is_node n m) names in
-      same-names by session m n (next c s e).nodes parts.0 parts.1 (stays-first by m on (record { first = held }))
+  still by session m n on held names = same-names by session m n (next c s e).nodes names (stays-first by m on (record { first = held }))
 
 -- ## a ready node that is taken, and a node that is made
 
-take_ready-rows : (c : Configuration) (s : State) (by : SessionId) (r : RequestId) (n : NodeId) (request : RequestRecord) → request_in r s.requests ≡ Some request → (effect_take_ready c s by r n).nodes ≡ change_first (λ e. e.id.0 == n.0) (allocated r (tenant_of_request c request) by) s.nodes
-take_ready-rows c s by r n request has = rw has refl
-
-take_ready-joined : (c : Configuration) (s : State) (by : SessionId) (r : RequestId) (n : NodeId) (request : RequestRecord) (k : NodeRecord) → request_in r s.requests ≡ Some request → node_in n s.nodes ≡ Some k → node_queue n (effect_take_ready c s by r n).nodes ≡ joined by (node_queue n s.nodes)
-take_ready-joined c s by r n request k has stands =
-    ap (λ (rows : List NodeEntry). node_queue n rows) (take_ready-rows c s by r n request has)
-    ∙ node_queue-allocated n n r (tenant_of_request c request) by k s.nodes stands
-    ∙ cond-true (n.0 == n.0) (joined by (node_queue n s.nodes)) (node_queue n s.nodes) (eq-eqb n.0 n.0 refl)
-
 take_ready-first : (c : Configuration) (s : State) (by : SessionId) (r : RequestId) (n : NodeId) (what : Done) → judge_take_ready s by r n ≡ Ok what → IsFirstAt by n (effect_take_ready c s by r n).nodes
 take_ready-first c s by r n what is =
+    let free : node_holder n s.nodes ≡ None = none-unless (node_holder n s.nodes) (λ other held. grind (arith, nat_tests)) in
     let asked : (request : RequestRecord) × (request_in r s.requests ≡ Some request) = some-unless (request_in r s.requests) (λ none. grind (arith, nat_tests)) in
     let there : (k : NodeRecord) × (node_in n s.nodes ≡ Some k) = some-unless (node_in n s.nodes) (Accepted.take_ready-stands c s by what r n is) in
-    let free : node_holder n s.nodes ≡ None = none-unless (node_holder n s.nodes) (λ other held. Accepted.take_ready-free c s by what r n other is held) in
-    record { first = first-in by (take_ready-joined c s by r n asked.0 there.0 asked.1 there.1) (first-alone by (node_queue n s.nodes) free) }
-
-create-rows : (c : Configuration) (s : State) (by : SessionId) (r : RequestId) (p : PoolId) (request : RequestRecord) (l : LabelId) → launcher s by ≡ Ok p → request_in r s.requests ≡ Some request → next_label request ≡ Some l → (effect_create c s by r).nodes ≡ s.nodes ++ made c s by r p request l ∷ []
-create-rows c s by r p request l who has wants = rw (who, has, wants) refl
+    let joins : node_queue n (effect_take_ready c s by r n).nodes ≡ joined by (node_queue n s.nodes) =
+    grind (arith, nat_tests, asked.1, node_queue-allocated n n r (tenant_of_request c asked.0) by there.0 s.nodes there.1) in
+    record { first = first-in by joins (first-alone by (node_queue n s.nodes) free) }
 
 -- the maker alone is in the queue of the node that is made
 create-queue : (c : Configuration) (s : State) (by : SessionId) (r : RequestId) (n : NodeId) (p : PoolId) (request : RequestRecord) (l : LabelId) → AllByRecursion (λ e. e.id.0 < s.next_node) s.nodes → launcher s by ≡ Ok p → request_in r s.requests ≡ Some request → next_label request ≡ Some l → (s.next_node == n.0) ≡ true → node_queue n (effect_create c s by r).nodes ≡ by ∷ []
 create-queue c s by r n p request l below who has wants number =
     let fresh : node_in n s.nodes ≡ None = node_in-later n s.next_node s.nodes below (le_of_eq (eqb-true s.next_node n.0 number)) in
-    ap (λ (rows : List NodeEntry). node_queue n rows) (create-rows c s by r p request l who has wants)
-    ∙ node_queue-new (made c s by r p request l) n s.nodes number fresh
+    rw (who, has, wants) (node_queue-new (made c s by r p request l) n s.nodes number fresh)
 
 create-first : (c : Configuration) (s : State) (by session : SessionId) (r : RequestId) (n : NodeId) (what : Done) → AllByRecursion (λ e. e.id.0 < s.next_node) s.nodes → judge_create c s by r ≡ Ok what → is_session by session ≡ true → is_new_node n what ≡ true → IsFirstAt session n (effect_create c s by r).nodes
 create-first c s by session r n what below is one new = grind (arith, nat_tests, some-unless, Accepted.create-asked, Accepted.create-next, Accepted.create-maker, Accepted.create-number, first-in, create-queue)
 
 -- ## a place in a queue
 
-lock_node-joined : (s : State) (by : SessionId) (n : NodeId) (k : NodeRecord) → node_in n s.nodes ≡ Some k → node_queue n (effect_lock_node s by n).nodes ≡ joined by (node_queue n s.nodes)
-lock_node-joined s by n k stands =
-    node_queue-queue n n (joined by (node_queue n s.nodes)) k s.nodes stands
-    ∙ cond-true (n.0 == n.0) (joined by (node_queue n s.nodes)) (node_queue n s.nodes) (eq-eqb n.0 n.0 refl)
-
 lock_node-first : (c : Configuration) (s : State) (by : SessionId) (n : NodeId) (what : Done) → judge_lock_node s by n ≡ Ok what → is_held what ≡ true → IsFirstAt by n (effect_lock_node s by n).nodes
 lock_node-first c s by n what is held =
     let there : (k : NodeRecord) × (node_in n s.nodes ≡ Some k) = some-unless (node_in n s.nodes) (λ none. grind (arith, nat_tests)) in
-    let place : is_held (place_reply (ahead_of by (node_queue n s.nodes))) ≡ true = sym (ap (λ (w : Done). is_held w) (Accepted.lock_node-place c s by what n is)) ∙ held in
-    record { first = first-in by (lock_node-joined s by n there.0 there.1) (first-held by (node_queue n s.nodes) place) }
-
-lock_request-joined : (s : State) (by : SessionId) (r : RequestId) (request : RequestRecord) → request_in r s.requests ≡ Some request → request_queue r (effect_lock_request s by r).requests ≡ joined by (request_queue r s.requests)
-lock_request-joined s by r request stands =
-    request_queue-queue r r (joined by (request_queue r s.requests)) request s.requests stands
-    ∙ cond-true (same_request r r) (joined by (request_queue r s.requests)) (request_queue r s.requests) (request-itself r)
+    let place : is_held (place_reply (ahead_of by (node_queue n s.nodes))) ≡ true = grind (arith, nat_tests) in
+    let joins : node_queue n (effect_lock_node s by n).nodes ≡ joined by (node_queue n s.nodes) = grind (arith, nat_tests, node_queue-queue n n (joined by (node_queue n s.nodes)) there.0 s.nodes there.1) in
+    record { first = first-in by joins (first-held by (node_queue n s.nodes) place) }
 
 lock_request-first : (c : Configuration) (s : State) (by : SessionId) (r : RequestId) (what : Done) → judge_lock_request c s by r ≡ Ok what → IsFirstThere by r (effect_lock_request s by r).requests
 lock_request-first c s by r what is =
     let there : (request : RequestRecord) × (request_in r s.requests ≡ Some request) = some-unless (request_in r s.requests) (Accepted.lock_request-stands c s by what r is) in
     let free : request_holder r s.requests ≡ None = none-unless (request_holder r s.requests) (λ other held. grind (arith, nat_tests)) in
-    record { first = λ _. first-in by (lock_request-joined s by r there.0 there.1) (first-alone by (request_queue r s.requests) free) }
+    let joins : request_queue r (effect_lock_request s by r).requests ≡ joined by (request_queue r s.requests) = grind (arith, nat_tests, request-itself r, request_queue-queue r r (joined by (request_queue r s.requests)) there.0 s.requests there.1) in
+    record { first = λ _. first-in by joins (first-alone by (request_queue r s.requests) free) }
 
 -- ## the nodes of a job
 
@@ -110,27 +83,20 @@ pub one-held : (s : State) (by : SessionId) (n : NodeId) (numbers : List NodeId)
 one-held s by n [] marked none = absurd cc
 one-held s by n (m ∷ numbers) marked none =
     let step : unheld s by (m ∷ numbers) ≡ cond (not (is_session_of by (node_holder m s.nodes))) 1 0 + unheld s by numbers = sum_by-cons (λ (x : NodeId). cond (not (is_session_of by (node_holder x s.nodes))) 1 0) m numbers in
-    here (m.0 == n.0) refl (is_session_of by (node_holder m s.nodes)) refl marked (sym step ∙ none) (one-held s by n numbers) where
-      here : (a : Bool) → (m.0 == n.0) ≡ a → (b : Bool) → is_session_of by (node_holder m s.nodes) ≡ b → (a || list_any (λ x. x.node.0 == n.0) (map unended numbers)) ≡ true → cond (not b) 1 0 + unheld s by numbers ≡ 0
-          → (list_any (λ x. x.node.0 == n.0) (map unended numbers) ≡ true → unheld s by numbers ≡ 0 → is_session_of by (node_holder n s.nodes) ≡ true) → is_session_of by (node_holder n s.nodes) ≡ true
-      here a is false other marks none_now later = absurd (omega arith)
-      here true is true held marks none_now later = subst (λ (x : NodeId). is_session_of by (node_holder x s.nodes) ≡ true) (same_node-is m n is) held
-      here false is true held marks none_now later = later marks (omega arith)
-
-take-rows : (s : State) (j : JobId) (kept : JobRecord) (r : RequestId) (request : RequestRecord) → slice_get s.jobs j.0 ≡ Some kept → kept.request ≡ Some r → request_in r s.requests ≡ Some request → (effect_take s j).jobs ≡ put_job j (record kept { nodes = map unended request.nodes; phase = Phase.Using; pool = request.pool }) s.jobs
-take-rows s j kept r request stands asks has = rw (stands, asks, has) refl
+    grind (arith, nat_tests, step, one-held s by n numbers, same_node-is m n)
 
 take-marked : (c : Configuration) (s : State) (by : SessionId) (j : JobId) (n : NodeId) (what : Done) (kept : JobRecord) (r : RequestId) (request : RequestRecord) → judge_take c s by j ≡ Ok what → slice_get s.jobs j.0 ≡ Some kept → kept.request ≡ Some r → request_in r s.requests ≡ Some request → has_node n j (next c s (Event.Take by j)) ≡ list_any (λ m. m.node.0 == n.0) (map unended request.nodes)
 take-marked c s by j n what kept r request is stands asks has =
     let later : JobRecord = record kept { nodes = map unended request.nodes; phase = Phase.Using; pool = request.pool } in
-    ap (λ (jobs : List JobRecord). option_map_or (is_marked n) (slice_get jobs j.0) false) (jobs-next c s (Event.Take by j) what is ∙ take-rows s j kept r request stands asks has)
+    let rows : (effect_take s j).jobs ≡ put_job j later s.jobs = rw (stands, asks, has) refl in
+    ap (λ (jobs : List JobRecord). option_map_or (is_marked n) (slice_get jobs j.0) false) (ap (λ (t : State). t.jobs) (accepted-next c s (Event.Take by j) what is) ∙ rows)
     ∙ ap (λ (o : Option JobRecord). option_map_or (is_marked n) o false) (set-here s.jobs j.0 later kept stands)
 
 take-first : (c : Configuration) (s : State) (by : SessionId) (j : JobId) (n : NodeId) (what : Done) → judge_take c s by j ≡ Ok what → has_node n j (next c s (Event.Take by j)) ≡ true → is_session_of by (node_holder n s.nodes) ≡ true
 take-first c s by j n what is has =
     let job : (kept : JobRecord) × (slice_get s.jobs j.0 ≡ Some kept) = some-unless (slice_get s.jobs j.0) (λ none. grind (arith, nat_tests)) in
-    let asked : (r : RequestId) × (job.0.request ≡ Some r) = some-unless job.0.request (Accepted.take-asked c s by what j job.0 is job.1) in
-    let there : (request : RequestRecord) × (request_in asked.0 s.requests ≡ Some request) = some-unless (request_in asked.0 s.requests) (Accepted.take-request c s by what j job.0 asked.0 is job.1 asked.1) in
+    let asked : (r : RequestId) × (job.0.request ≡ Some r) = some-unless job.0.request (λ none. grind (arith, nat_tests, job.1)) in
+    let there : (request : RequestRecord) × (request_in asked.0 s.requests ≡ Some request) = some-unless (request_in asked.0 s.requests) (λ none. grind (arith, nat_tests, job.1, asked.1)) in
     by_parts job.0 asked.0 there.0 job.1 asked.1 there.1 where
       by_parts : (kept : JobRecord) (r : RequestId) (request : RequestRecord) → slice_get s.jobs j.0 ≡ Some kept → kept.request ≡ Some r → request_in r s.requests ≡ Some request → is_session_of by (node_holder n s.nodes) ≡ true
       by_parts kept r request stands asks found = one-held s by n request.nodes (sym (take-marked c s by j n what kept r request is stands asks found) ∙ has) (grind (arith, nat_tests))
@@ -138,28 +104,17 @@ take-first c s by j n what is has =
 -- ## all events
 
 pub holding-first : (c : Configuration) (s : State) (session : SessionId) (n : NodeId) (e : Event) (what : Done) → AllByRecursion (λ x. x.id.0 < s.next_node) s.nodes → judge c s e ≡ Ok what → is_holding session n (next c s e) e what ≡ true → IsFirstAt session n (next c s e).nodes
-holding-first c s session n (Event.TakeReady by r m) what below is holds =
-    let e : Event = Event.TakeReady by r m in
-    let parts = and_parts (is_session by session && is_node n m) (is_held what) holds in
-    let names = and_parts (is_session by session) (is_node n m) parts.0 in
-    same-names c s e what is by session m n (next c s e).nodes names.0 names.1
-    (subst (λ (rows : List NodeEntry). IsFirstAt by m rows) (sym (nodes-next c s e what is)) (take_ready-first c s by r m what is))
+holding-first c s session n (Event.TakeReady by r m) what below is holds = first-next c s (Event.TakeReady by r m) what is by session m n (is_held what) holds (λ _. take_ready-first c s by r m what is)
 holding-first c s session n (Event.Create by r) what below is holds =
-    let e : Event = Event.Create by r in
     let parts = and_parts (is_session by session) (is_new_node n what) holds in
-    subst (λ (rows : List NodeEntry). IsFirstAt session n rows) (sym (nodes-next c s e what is)) (create-first c s by session r n what below is parts.0 parts.1)
+    subst (λ (rows : List NodeEntry). IsFirstAt session n rows) (sym (ap (λ (t : State). t.nodes) (accepted-next c s (Event.Create by r) what is))) (create-first c s by session r n what below is parts.0 parts.1)
 holding-first c s session n (Event.Start by m) what below is holds = still c s (Event.Start by m) what is by session m n refl (grind (arith, nat_tests)) holds
 holding-first c s session n (Event.Done by m attempt o) what below is holds = still c s (Event.Done by m attempt o) what is by session m n refl (grind (arith, nat_tests)) holds
-holding-first c s session n (Event.LockNode by m) what below is holds =
-    let e : Event = Event.LockNode by m in
-    let parts = and_parts (is_session by session && is_node n m) (is_held what) holds in
-    let names = and_parts (is_session by session) (is_node n m) parts.0 in
-    same-names c s e what is by session m n (next c s e).nodes names.0 names.1
-    (subst (λ (rows : List NodeEntry). IsFirstAt by m rows) (sym (nodes-next c s e what is)) (lock_node-first c s by m what is parts.1))
+holding-first c s session n (Event.LockNode by m) what below is holds = first-next c s (Event.LockNode by m) what is by session m n (is_held what) holds (lock_node-first c s by m what is)
 holding-first c s session n (Event.Take by j) what below is holds =
     let e : Event = Event.Take by j in
     let parts = and_parts (is_session by session) (has_node n j (next c s e)) holds in
-    same-names c s e what is by session n n (next c s e).nodes parts.0 (eq-eqb n.0 n.0 refl) (stays-first c s e what is by n refl (record { first = take-first c s by j n what is parts.1 }))
+    same-names c s e what is by session n n (next c s e).nodes (and_from (is_session by session) (is_node n n) parts.0 (eq-eqb n.0 n.0 refl)) (stays-first c s e what is by n refl (record { first = take-first c s by j n what is parts.1 }))
 holding-first c s session n (Event.EndNode by m as_what) what below is holds = still c s (Event.EndNode by m as_what) what is by session m n refl (grind (arith, nat_tests)) holds
 holding-first c s session n (Event.MarkDeleting by m) what below is holds = still c s (Event.MarkDeleting by m) what is by session m n refl (grind (arith, nat_tests)) holds
 holding-first c s session n (Event.FreeNode by m) what below is holds = still c s (Event.FreeNode by m) what is by session m n refl (grind (arith, nat_tests)) holds
@@ -170,12 +125,9 @@ locking-first c s session r (Event.LockRequest by q) what is locks =
     let e : Event = Event.LockRequest by q in
     let parts = and_parts (is_session by session && same_request q r) (is_held what) locks in
     let names = and_parts (is_session by session) (same_request q r) parts.0 in
-    let held : IsFirstThere by q (next c s e).requests = subst (λ (rows : List RequestEntry). IsFirstThere by q rows) (sym (requests-next c s e what is)) (lock_request-first c s by q what is) in
+    let held : IsFirstThere by q (next c s e).requests = subst (λ (rows : List RequestEntry). IsFirstThere by q rows) (sym (ap (λ (t : State). t.requests) (accepted-next c s e what is))) (lock_request-first c s by q what is) in
     let there : (request : RequestRecord) × (request_in q s.requests ≡ Some request) = some-unless (request_in q s.requests) (Accepted.lock_request-stands c s by what q is) in
-    let id : q ≡ r = request-equal q r names.1 in (
-      subst (λ (x : RequestId). IsFirstThere session x (next c s e).requests) id (subst (λ (x : SessionId). IsFirstThere x q (next c s e).requests) (session-equal by session names.0) held),
-      subst (λ (x : RequestId). (request : RequestRecord) × (request_in x s.requests ≡ Some request)) id there,
-    )
+    rw (sym (session-equal by session names.0), sym (request-equal q r names.1)) (held, there)
 locking-first c s session r _ what is locks = absurd cc
 
 -- # who holds a node or a request by the journal is the first of its queue, in every run
@@ -201,26 +153,19 @@ record IsLocked (session : SessionId) (r : RequestId) (s : State) : Type 0 where
 module _ (c : Configuration) (s : State) (invariant : Invariant c s) (e : Event) where
   node-step : (session : SessionId) (n : NodeId) (held : Bool) → (held ≡ true → IsFirstAt session n s.nodes) → (a : Answer) → judge c s e ≡ a → holds_after session n held (next c s e) e (reply_of a) ≡ true → IsFirstAt session n (next c s e).nodes
   node-step session n held was (Err why) is now = rw is (was now)
-  node-step session n held was (Ok what) is now = by (is_ending session n e) refl (is_holding session n (next c s e) e what) refl now where
-    by : (ends : Bool) → is_ending session n e ≡ ends → (holds : Bool) → is_holding session n (next c s e) e what ≡ holds → cond ends false (cond holds true held) ≡ true → IsFirstAt session n (next c s e).nodes
-    by true ends holds here there = absurd cc
-    by false ends true here there = holding-first c s session n e what invariant.numbered.nodes_below is here
-    by false ends false here there = stays-first c s e what is session n ends (was there)
+  node-step session n held was (Ok what) is now = grind (arith, nat_tests, holding-first c s session n e what invariant.numbered.nodes_below is, stays-first c s e what is session n, was)
 
   rises : (r : RequestId) → r.seq < s.next_request → r.seq < (next c s e).next_request
   rises r before = let more = (RisesFrom-next c s e).requests in omega arith
 
   request-step : (session : SessionId) (r : RequestId) (held : Bool) → (held ≡ true → IsLocked session r s) → (a : Answer) → judge c s e ≡ a → locks_after session r held e (reply_of a) ≡ true → IsLocked session r (next c s e)
   request-step session r held was (Err why) is now = rw is (was now)
-  request-step session r held was (Ok what) is now = by (is_unlocking session r e) refl (is_locking session r e what) refl now where
-    by : (ends : Bool) → is_unlocking session r e ≡ ends → (locks : Bool) → is_locking session r e what ≡ locks → cond ends false (cond locks true held) ≡ true → IsLocked session r (next c s e)
-    by true ends locks here there = absurd cc
-    by false ends true here there =
-        let locked : IsFirstThere session r (next c s e).requests × ((request : RequestRecord) × (request_in r s.requests ≡ Some request)) = locking-first c s session r e what is here in
-        record { before = rises r (request_in-below r s.next_request locked.1.0 s.requests invariant.numbered.requests_below locked.1.1); there = locked.0 }
-    by false ends false here there =
-        let old : IsLocked session r s = was there in
-        record { before = rises r old.before; there = stays-there c s e what is session r ends old.before invariant.numbered.requests_rise old.there }
+  request-step session r held was (Ok what) is now =
+      let new : is_locking session r e what ≡ true → IsLocked session r (next c s e) = λ here.
+      let locked = locking-first c s session r e what is here in
+      record { before = rises r (request_in-below r s.next_request locked.1.0 s.requests invariant.numbered.requests_below locked.1.1); there = locked.0 } in
+      let stays : is_unlocking session r e ≡ false → IsLocked session r s → IsLocked session r (next c s e) = λ on old. record { before = rises r old.before; there = stays-there c s e what is session r on old.before invariant.numbered.requests_rise old.there } in
+      grind (arith, nat_tests, new, stays, was)
 
 pub holders-next : (c : Configuration) (journal : List Entry) (s : State) (entry : Entry) → Invariant c s → s ≡ after c journal → entry.reply ≡ reply_of (judge c s entry.event) → HoldersHold c journal s → HoldersHold c (journal ++ entry ∷ []) (next c s entry.event)
 holders-next c journal s entry invariant at replied old = record { of_node = node; of_request = request } where
@@ -229,17 +174,14 @@ holders-next c journal s entry invariant at replied old = record { of_node = nod
       let held : Bool = holds_from c (start c) session n false journal in
       let pushed : holds_after session n held (next c (after c journal) entry.event) entry.event entry.reply ≡ true = sym (holds_from-push c session n (start c) false journal entry) ∙ live in
       let here : holds_after session n held (next c s entry.event) entry.event entry.reply ≡ true = subst (λ (t : State). holds_after session n held (next c t entry.event) entry.event entry.reply ≡ true) (sym at) pushed in
-      let now : holds_after session n held (next c s entry.event) entry.event (reply_of (judge c s entry.event)) ≡ true = subst (λ (x : Reply). holds_after session n held (next c s entry.event) entry.event x ≡ true) replied here in
-      let first : IsFirstAt session n (next c s entry.event).nodes = node-step c s invariant entry.event session n held (λ is. record { first = old.of_node session n is }) (judge c s entry.event) refl now in
-      first.first
+      (node-step c s invariant entry.event session n held (λ is. record { first = old.of_node session n is }) (judge c s entry.event) refl (rw replied at here)).first
 
   request : (session : SessionId) (r : RequestId) → locks_from session r false (journal ++ entry ∷ []) ≡ true
       → (r.seq < (next c s entry.event).next_request) × (is_some (request_in r (next c s entry.event).requests) ≡ true → is_session_of session (request_holder r (next c s entry.event).requests) ≡ true)
   request session r live =
       let held : Bool = locks_from session r false journal in
       let pushed : locks_after session r held entry.event entry.reply ≡ true = sym (locks_from-push session r false journal entry) ∙ live in
-      let now : locks_after session r held entry.event (reply_of (judge c s entry.event)) ≡ true = subst (λ (x : Reply). locks_after session r held entry.event x ≡ true) replied pushed in
-      let locked = request-step c s invariant entry.event session r held (λ is. record { before = (old.of_request session r is).0; there = record { first = (old.of_request session r is).1 } }) (judge c s entry.event) refl now in
+      let locked = request-step c s invariant entry.event session r held (λ is. record { before = (old.of_request session r is).0; there = record { first = (old.of_request session r is).1 } }) (judge c s entry.event) refl (rw replied at pushed) in
       (locked.before, locked.there.first)
 
 -- ## every run

@@ -1,31 +1,17 @@
 -- each job is as its phase says, with its handles of semaphores and its one request
-use Rattle.np_changes.proofs.Prelude.{AllByRecursion, Bool, Changes, Configuration, Growth, GrowthPremise, HandlesChange, HasRoom, Invariant, Job, JobId, List, NoRepeat, None, Option, Premises, Sem, SemId, Some, State, WithinMax, [], all-filter, all-from_at, all-weaker, ap, arith, change_at, changed, cond, false, filter, first_full, fold, grown, handles_changed, handles_of, has_handle, inl, inr, insert_before, is_among, is_full, length, length-filter_at_most, length-insert_before, list_any-insert_before, list_any-none, map, nat_lt, nat_tests, none-find, none-list_any, not, option_map_or, or_from, or_parts, refl, semaphores_of, slice_get, start, subst, suc, sym, true, unwrap_or, with_handle, without_handle, zero, ℕ, ◌&&◌, ◌<◌, ◌==◌, ◌∙◌, ◌∷◌, ◌≡◌, ◌≤◌, ◌⊎◌, JobRecord, JobsChange, JobsPremise, Maker, NodeId, PutsJob, jobs_changed, option_map, registers, set-here, set-other, slice_set, with_mark, ◌≢◌, Asked, AsksForJob, AsksToKeep, Ending, FinishesJob, IsAsking, IsNumbered, JobIn, JobsOrPinned, JobsStand, Phase, RequestEdit, RequestEntry, RequestId, RequestRecord, RequestsChange, RequestsPremise, RequestsStand, TakesOver, Withdraws, asked_for, edited, is_asked, is_new, is_none, is_some, left, new_record, next_id, request-equal, request-itself, request_after_withdraw, request_in, request_queue, requests_changed, same_request, unended, ◌||◌}
+use Rattle.np_changes.proofs.Prelude.{AllByRecursion, Bool, Changes, Configuration, Growth, GrowthPremise, HandlesChange, HasRoom, Invariant, Job, JobId, List, NoRepeat, None, Option, Premises, Sem, SemId, Some, State, WithinMax, [], all-filter, all-from_at, all-weaker, ap, arith, change_at, changed, cond, false, filter, first_full, fold, grown, handles_changed, handles_of, has_handle, inl, inr, insert_before, is_among, is_full, length, length-filter_at_most, length-insert_before, kept-change_at, list_any-insert_before, list_any-none, map, nat_lt, nat_tests, none-find, none-list_any, not, option_map_or, refl, semaphores_of, slice_get, start, subst, suc, sym, true, unwrap_or, with_handle, without_handle, zero, ℕ, ◌&&◌, ◌<◌, ◌==◌, ◌∙◌, ◌∷◌, ◌≡◌, ◌≤◌, ◌⊎◌, JobRecord, JobsChange, JobsPremise, Maker, NodeId, PutsJob, jobs_changed, option_map, registers, set-here, set-other, slice_set, with_mark, Asked, AsksForJob, AsksToKeep, FinishesJob, IsAsking, IsNumbered, JobIn, JobsOrPinned, JobsStand, Phase, RequestEdit, RequestEntry, RequestId, RequestRecord, RequestsChange, RequestsPremise, RequestsStand, TakesOver, Withdraws, edited, is_asked, is_new, is_none, is_some, left, new_record, next_id, request-equal, request-itself, request_after_withdraw, request_in, request_queue, requests_changed, same_request, ◌||◌}
 use Rattle.np_changes.proofs.Lookups.{found-grown, left-request, made-look, request_in-below, request_in-edit, request_in-later, request_in-new, request_in-queue, request_in-remove, same_semaphore}
 use Rattle.np_changes.proofs.Shapes.{among-insert}
 use Rattle.np_changes.proofs.Turns.{CameBy, came}
+use Rattle.np_lists.proofs.Plain.{by_bool}
 
 -- # no semaphore exceeds its max, and no job has two handles of one
 
 -- ## a job more, a job less
 
-other_way : (a b : ℕ) → (a == b) ≡ false → (b == a) ≡ false
-other_way a b other = grind (arith, nat_tests)
-
-repeat-by : (j k : JobId) (jobs rest : List JobId) (b : Bool) → is_among j (k ∷ jobs) ≡ false → NoRepeat (k ∷ jobs) → is_among k rest ≡ false → NoRepeat rest → NoRepeat (cond b (j ∷ k ∷ jobs) (k ∷ rest))
-repeat-by j k jobs rest true out apart first later = (out, apart)
-repeat-by j k jobs rest false out apart first later = (first, later)
-
 NoRepeat-insert_before : (p : JobId → Bool) (j : JobId) (jobs : List JobId) → is_among j jobs ≡ false → NoRepeat jobs → NoRepeat (insert_before p j jobs)
 NoRepeat-insert_before p j [] out apart = (refl, tt)
-NoRepeat-insert_before p j (k ∷ jobs) out apart =
-    let parts = or_parts (k.0 == j.0) (is_among j jobs) out in
-    repeat-by j k jobs (insert_before p j jobs) (p k) out apart
-    (list_any-insert_before (λ (other : JobId). other.0 == k.0) p j jobs ∙ or_from (j.0 == k.0) (is_among k jobs) (other_way k.0 j.0 parts.0) apart.0)
-    (NoRepeat-insert_before p j jobs parts.1 apart.1)
-
-filter-by : (k : JobId) (rest : List JobId) (b : Bool) → is_among k rest ≡ false → NoRepeat rest → NoRepeat (cond b (k ∷ rest) rest)
-filter-by k rest true first later = (first, later)
-filter-by k rest false first later = later
+NoRepeat-insert_before p j (k ∷ jobs) out apart = grind (arith, nat_tests, list_any-insert_before (λ (other : JobId). other.0 == k.0) p j jobs, NoRepeat-insert_before p j jobs, apart.0, apart.1)
 
 is_among-filter : (p : JobId → Bool) (k : JobId) (jobs : List JobId) → is_among k jobs ≡ false → is_among k (filter p jobs) ≡ false
 is_among-filter p k jobs out =
@@ -34,7 +20,7 @@ is_among-filter p k jobs out =
 
 NoRepeat-filter : (p : JobId → Bool) (jobs : List JobId) → NoRepeat jobs → NoRepeat (filter p jobs)
 NoRepeat-filter p [] apart = tt
-NoRepeat-filter p (k ∷ jobs) apart = filter-by k (filter p jobs) (p k) (is_among-filter p k jobs apart.0) (NoRepeat-filter p jobs apart.1)
+NoRepeat-filter p (k ∷ jobs) apart = grind (arith, nat_tests, is_among-filter p k jobs, NoRepeat-filter p jobs, apart.0, apart.1)
 
 -- ## the jobs of one semaphore, when jobs of some change
 
@@ -52,17 +38,14 @@ changed-all P f x [] rows each old = old
 changed-all P f x (y ∷ semaphores) rows each old = changed-all P f x semaphores (change_at y.0 f rows) each.1 (change-at P f y.0 x.0 rows each.0 old)
 
 -- each job once, and no more jobs than allowed
-record AreFew (most : ℕ) (jobs : List JobId) : Type 0 where
-  apart : NoRepeat jobs
-  few : length jobs ≤ most
+abbrev AreFew : ℕ → List JobId → Type 0
+AreFew most jobs = NoRepeat jobs × (length jobs ≤ most)
 
 -- ## a job gives its handles back
 
 without-within : (most : ℕ) (j : JobId) (jobs : List JobId) → AreFew most jobs → AreFew most (without_handle j jobs)
-without-within most j jobs within = record {
-  apart = NoRepeat-filter (λ (other : JobId). not (other.0 == j.0)) jobs within.apart;
-  few = let fewer = length-filter_at_most (λ (other : JobId). not (other.0 == j.0)) jobs in omega (arith, fewer, within.few);
-}
+without-within most j jobs within =
+    (NoRepeat-filter (λ (other : JobId). not (other.0 == j.0)) jobs within.0, let fewer = length-filter_at_most (λ (other : JobId). not (other.0 == j.0)) jobs in omega (arith, fewer, within.1))
 
 settled-within : (c : Configuration) (x : SemId) (most : ℕ) (change : HandlesChange) (rows : List (List JobId)) → AreFew most (handles_of x rows) → AreFew most (handles_of x (handles_changed c change rows))
 settled-within c x most HandlesChange.Same rows within = within
@@ -85,19 +68,13 @@ module _ (j : JobId) (most : ℕ) (Ready : Type 0) where
   new-by : (jobs : List JobId) → is_among j jobs ≡ false → AreFew most jobs → HasPlace j most jobs → MayTake (insert_before (λ other. nat_lt j.0 other.0) j jobs)
   new-by jobs out within (inl there) = absurd cc
   new-by jobs out within (inr room) = record {
-    within = record {
-      apart = NoRepeat-insert_before (λ (other : JobId). nat_lt j.0 other.0) j jobs out within.apart;
-      few = let longer = length-insert_before (λ (other : JobId). nat_lt j.0 other.0) j jobs in omega (arith, longer, room);
-    };
+    within = (NoRepeat-insert_before (λ (other : JobId). nat_lt j.0 other.0) j jobs out within.0, let longer = length-insert_before (λ (other : JobId). nat_lt j.0 other.0) j jobs in omega (arith, longer, room));
     place = λ _. inl (among-insert (λ (other : JobId). nat_lt j.0 other.0) j jobs);
   }
 
-  with-by : (jobs : List JobId) (b : Bool) → is_among j jobs ≡ b → Ready → MayTake jobs → MayTake (cond b jobs (insert_before (λ other. nat_lt j.0 other.0) j jobs))
-  with-by jobs true there ready old = old
-  with-by jobs false out ready old = new-by jobs out old.within (old.place ready)
-
   with-may : (jobs : List JobId) → Ready → MayTake jobs → MayTake (with_handle j jobs)
-  with-may jobs ready old = with-by jobs (is_among j jobs) refl ready old
+  with-may jobs ready old =
+      by_bool (λ b. MayTake (cond b jobs (insert_before (λ other. nat_lt j.0 other.0) j jobs))) (is_among j jobs) (λ _. old) (λ out. new-by jobs out old.within (old.place ready))
 
 -- a semaphore that is not full of others has a place for the job
 place-by : (c : Configuration) (s : State) (j : JobId) (x : SemId) (sem : Sem) → slice_get c.semaphores x.0 ≡ Some sem → (not (has_handle j s.handles x) && is_full c s x) ≡ false → HasPlace j sem.max (handles_of x s.handles)
@@ -131,9 +108,7 @@ module _ (c : Configuration) (s : State) (x : SemId) (sem : Sem) (row : slice_ge
 
 pub within-max : (c : Configuration) (s : State) (ch : Changes) → Invariant c s → Premises c s ch → WithinMax c (changed c ch s)
 within-max c s ch invariant premises = λ x sem row.
-    let old : AreFew sem.max (handles_of x s.handles) = record { apart = (invariant.within.max x sem row).0; few = (invariant.within.max x sem row).1 } in
-    let now = settled-within c x sem.max ch.handles (grown c ch.maker ch.grows s).handles (grown-within c s x sem row ch ch.grows premises.grows old) in
-    (now.apart, now.few)
+    settled-within c x sem.max ch.handles (grown c ch.maker ch.grows s).handles (grown-within c s x sem row ch ch.grows premises.grows (invariant.within.max x sem row))
 
 -- ## the first state
 
@@ -146,34 +121,18 @@ first-handles zero (sem ∷ semaphores) = refl
 first-handles (suc i) (sem ∷ semaphores) = first-handles i semaphores
 
 pub within-max_first : (c : Configuration) → WithinMax c (start c)
-within-max_first c = λ x sem row.
-    let none : handles_of x (start c).handles ≡ [] = first-handles x.0 c.semaphores in
-    let within : AreFew sem.max (handles_of x (start c).handles) = subst (AreFew sem.max) (sym none) (record { apart = tt; few = omega arith }) in
-    (within.apart, within.few)
+within-max_first c = λ x sem row. subst (λ (jobs : List JobId). AreFew sem.max jobs) (sym (first-handles x.0 c.semaphores)) (tt, omega arith)
 
 -- # what a job was before the changes of an event, and what it becomes by them
 
 -- ## one job more or less changed
-
-get-set : {X : Type 0} (xs : List X) (i j : ℕ) (x y : X) → slice_get (slice_set xs i x) j ≡ Some y → ((i ≡ j) × (x ≡ y)) ⊎ ((i ≢ j) × (slice_get xs j ≡ Some y))
-get-set [] i j x y is = absurd cc
-get-set (z ∷ xs) zero zero x y is = let same : x ≡ y = cc in inl (refl, same)
-get-set (z ∷ xs) (suc i) (suc j) x y is = by (get-set xs i j x y is) where
-  by : ((i ≡ j) × (x ≡ y)) ⊎ ((i ≢ j) × (slice_get xs j ≡ Some y)) → ((suc i ≡ suc j) × (x ≡ y)) ⊎ ((suc i ≢ suc j) × (slice_get xs j ≡ Some y))
-  by (inl (at, same)) = inl (ap suc at, same)
-  by (inr (other, there)) = inr (λ same. other (let e : i ≡ j = cc in e), there)
-get-set (z ∷ xs) _ _ x y is = inr (λ same. absurd cc, is)
 
 -- a job without its nodes
 abbrev pub bare : JobRecord → JobRecord
 bare job = record job { nodes = [] }
 
 get-marked : (n : NodeId) (rows : List JobRecord) (i j : ℕ) → option_map bare (slice_get (change_at i (with_mark n) rows) j) ≡ option_map bare (slice_get rows j)
-get-marked n [] i j = refl
-get-marked n (job ∷ rows) zero zero = refl
-get-marked n (job ∷ rows) zero (suc j) = refl
-get-marked n (job ∷ rows) (suc i) zero = refl
-get-marked n (job ∷ rows) (suc i) (suc j) = get-marked n rows i j
+get-marked n rows i j = kept-change_at (λ (o : Option JobRecord). option_map bare o) i j (with_mark n) rows (λ job. refl)
 
 some-bare : (o : Option JobRecord) (job : JobRecord) → option_map bare o ≡ Some (bare job) → (x : JobRecord) × ((o ≡ Some x) × (bare x ≡ bare job))
 some-bare None job is = absurd cc
@@ -184,18 +143,28 @@ abbrev pub JobLater : Configuration → State → Changes → JobId → JobRecor
 JobLater c s ch j job later =
     ((bare later ≡ bare job) × ((put : JobRecord) → ch.jobs ≡ JobsChange.Put j put → ⊥)) ⊎ ((put : PutsJob c s ch j later) × ((ch.jobs ≡ JobsChange.Put j later) × (put.kept ≡ job)))
 
+number-id : (i j : JobId) → (i.0 == j.0) ≡ true → i ≡ j
+number-id i j which = let number : i.0 ≡ j.0 = grind (arith, nat_tests) in ap (λ (n : ℕ). record { 0 = n }) number
+
 module _ (c : Configuration) (s : State) (ch : Changes) where
+  -- the job that is put, and one that is not
+  put-later : (i : JobId) (put : JobRecord) → ch.jobs ≡ JobsChange.Put i put → (premise : PutsJob c s ch i put) (j : JobId) → i ≡ j → JobLater c s ch j premise.kept put
+  put-later i put at premise j id = subst (λ (x : JobId). JobLater c s ch x premise.kept put) id (inr (premise, (at, refl)))
+
+  not-put : (i : JobId) (put : JobRecord) → ch.jobs ≡ JobsChange.Put i put → (j : JobId) → (i.0 == j.0) ≡ false → (x : JobRecord) → ch.jobs ≡ JobsChange.Put j x → ⊥
+  not-put i put at j other x puts = grind (arith, nat_tests)
+
   -- what a job was
   pub job-back : (change : JobsChange) → ch.jobs ≡ change → JobsPremise c s ch change → (j : JobId) (later : JobRecord) → slice_get (jobs_changed change s.jobs) j.0 ≡ Some later → (job : JobRecord) × ((slice_get s.jobs j.0 ≡ Some job) × JobLater c s ch j job later)
   job-back JobsChange.Same at premise j later is = (later, (is, inl (refl, λ put puts. let e : JobsChange.Same ≡ JobsChange.Put j put = sym at ∙ puts in absurd cc)))
-  job-back (JobsChange.Put i put) at premise j later is = by (get-set s.jobs i.0 j.0 put later is) where
-    by : ((i.0 ≡ j.0) × (put ≡ later)) ⊎ ((i.0 ≢ j.0) × (slice_get s.jobs j.0 ≡ Some later)) → (job : JobRecord) × ((slice_get s.jobs j.0 ≡ Some job) × JobLater c s ch j job later)
-    by (inl (number, same)) =
-        let id : i ≡ j = ap (λ (n : ℕ). record { 0 = n }) number in
-        let puts : PutsJob c s ch j later = subst (λ (x : JobId). PutsJob c s ch x later) id (subst (λ (x : JobRecord). PutsJob c s ch i x) same premise) in
-        let at_j : ch.jobs ≡ JobsChange.Put j later = at ∙ ap (λ (x : JobId). JobsChange.Put x put) id ∙ ap (λ (x : JobRecord). JobsChange.Put j x) same in
-        (puts.kept, (puts.stands, inr (puts, (at_j, refl))))
-    by (inr (other, there)) = (later, (there, inl (refl, λ x puts. let e : JobsChange.Put i put ≡ JobsChange.Put j x = sym at ∙ puts in let same : i ≡ j = cc in other (ap (λ (k : JobId). k.0) same))))
+  job-back (JobsChange.Put i put) at premise j later is =
+      by_bool (λ _. (job : JobRecord) × ((slice_get s.jobs j.0 ≡ Some job) × JobLater c s ch j job later)) (i.0 == j.0)
+      (λ which.
+      let id : i ≡ j = number-id i j which in
+      let both : Some put ≡ Some later = sym (set-here s.jobs i.0 put premise.kept premise.stands) ∙ ap (λ (x : JobId). slice_get (slice_set s.jobs i.0 put) x.0) id ∙ is in
+      let same : put ≡ later = cc in
+      (premise.kept, (ap (λ (x : JobId). slice_get s.jobs x.0) (sym id) ∙ premise.stands, subst (λ (x : JobRecord). JobLater c s ch j premise.kept x) same (put-later i put at premise j id))))
+      (λ which. (later, (sym (set-other s.jobs i.0 j.0 put (λ same. absurd (grind (arith, nat_tests)))) ∙ is, inl (refl, not-put i put at j which))))
   job-back (JobsChange.EndNode i n) at premise j later is = by (some-bare (slice_get s.jobs j.0) later (sym (get-marked n s.jobs i.0 j.0) ∙ ap (λ (o : Option JobRecord). option_map bare o) is)) where
     by : (x : JobRecord) × ((slice_get s.jobs j.0 ≡ Some x) × (bare x ≡ bare later)) → (job : JobRecord) × ((slice_get s.jobs j.0 ≡ Some job) × JobLater c s ch j job later)
     by (x, (there, same)) = (x, (there, inl (sym same, λ put puts. let e : JobsChange.EndNode i n ≡ JobsChange.Put j put = sym at ∙ puts in absurd cc)))
@@ -203,15 +172,14 @@ module _ (c : Configuration) (s : State) (ch : Changes) where
   -- what a job becomes
   pub job-on : (change : JobsChange) → ch.jobs ≡ change → JobsPremise c s ch change → (j : JobId) (job : JobRecord) → slice_get s.jobs j.0 ≡ Some job → (later : JobRecord) × ((slice_get (jobs_changed change s.jobs) j.0 ≡ Some later) × JobLater c s ch j job later)
   job-on JobsChange.Same at premise j job is = (job, (is, inl (refl, λ put puts. let e : JobsChange.Same ≡ JobsChange.Put j put = sym at ∙ puts in absurd cc)))
-  job-on (JobsChange.Put i put) at premise j job is = by (i.0 == j.0) refl where
-    by : (b : Bool) → (i.0 == j.0) ≡ b → (later : JobRecord) × ((slice_get (slice_set s.jobs i.0 put) j.0 ≡ Some later) × JobLater c s ch j job later)
-    by true which =
-        let number : i.0 ≡ j.0 = grind (arith, nat_tests) in
-        let id : i ≡ j = ap (λ (n : ℕ). record { 0 = n }) number in
-        let puts : PutsJob c s ch j put = subst (λ (x : JobId). PutsJob c s ch x put) id premise in
-        let at_j : ch.jobs ≡ JobsChange.Put j put = at ∙ ap (λ (x : JobId). JobsChange.Put x put) id in
-        (put, (subst (λ (n : ℕ). slice_get (slice_set s.jobs n put) j.0 ≡ Some put) (sym number) (set-here s.jobs j.0 put job is), inr (puts, (at_j, (let both : Some puts.kept ≡ Some job = sym puts.stands ∙ is in let same : puts.kept ≡ job = cc in same)))))
-    by false which = (job, (set-other s.jobs i.0 j.0 put (λ same. absurd (grind (arith, nat_tests))) ∙ is, inl (refl, λ x puts. let e : JobsChange.Put i put ≡ JobsChange.Put j x = sym at ∙ puts in let same : i ≡ j = cc in let number : i.0 ≡ j.0 = ap (λ (k : JobId). k.0) same in absurd (grind (arith, nat_tests)))))
+  job-on (JobsChange.Put i put) at premise j job is =
+      by_bool (λ _. (later : JobRecord) × ((slice_get (slice_set s.jobs i.0 put) j.0 ≡ Some later) × JobLater c s ch j job later)) (i.0 == j.0)
+      (λ which.
+      let id : i ≡ j = number-id i j which in
+      let both : Some premise.kept ≡ Some job = sym premise.stands ∙ ap (λ (x : JobId). slice_get s.jobs x.0) id ∙ is in
+      let same : premise.kept ≡ job = cc in
+      (put, (subst (λ (x : JobId). slice_get (slice_set s.jobs x.0 put) j.0 ≡ Some put) (sym id) (set-here s.jobs j.0 put job is), subst (λ (x : JobRecord). JobLater c s ch j x put) same (put-later i put at premise j id))))
+      (λ which. (job, (set-other s.jobs i.0 j.0 put (λ same. absurd (grind (arith, nat_tests))) ∙ is, inl (refl, not-put i put at j which))))
   job-on (JobsChange.EndNode i n) at premise j job is = by (some-bare (slice_get (change_at i.0 (with_mark n) s.jobs) j.0) job (get-marked n s.jobs i.0 j.0 ∙ ap (λ (o : Option JobRecord). option_map bare o) is)) where
     by : (x : JobRecord) × ((slice_get (change_at i.0 (with_mark n) s.jobs) j.0 ≡ Some x) × (bare x ≡ bare job)) → (later : JobRecord) × ((slice_get (change_at i.0 (with_mark n) s.jobs) j.0 ≡ Some later) × JobLater c s ch j job later)
     by (x, (there, same)) = (x, (there, inl (same, λ put puts. let e : JobsChange.EndNode i n ≡ JobsChange.Put j put = sym at ∙ puts in absurd cc)))
@@ -233,40 +201,22 @@ module _ (c : Configuration) (s : State) (ch : Changes) (numbered : IsNumbered s
   named-by : (r : RequestId) (q : RequestRecord) (j i : JobId) (kept : JobRecord) → request_in r s.requests ≡ Some q → q.job ≡ Some j → slice_get s.jobs i.0 ≡ Some kept → kept.request ≡ Some r → (is_new kept.phase || is_asked kept.phase) ≡ true → i ≡ j
   named-by r q j i kept there names stands of_job early = grind (arith, nat_tests)
 
-  asked_open : (kept : JobRecord) → is_asked kept.phase ≡ true → (is_new kept.phase || is_asked kept.phase) ≡ true
-  asked_open kept is = grind (arith, nat_tests)
-
   -- a request that is removed is no request of a job whose record stays
   goes-not : (r : RequestId) (q : RequestRecord) (j : JobId) → ((later : JobRecord) → ch.jobs ≡ JobsChange.Put j later → ⊥) → request_in r s.requests ≡ Some q → q.job ≡ Some j → RequestsPremise c s ch (RequestsChange.Remove r) → ⊥
-  goes-not r q j stays there names (inl goes) =
-      let found : Some goes.fulfils.request ≡ Some q = sym goes.fulfils.worked_on.stands ∙ there in
-      let same : goes.fulfils.request ≡ q = cc in
-      let pinned : is_some q.pinned ≡ true = ap (λ (x : RequestRecord). is_some x.pinned) (sym same) ∙ goes.pinned in
-      let job : is_some q.job ≡ true = ap (λ (o : Option JobId). is_some o) names in
-      let either : is_some q.job ≡ is_none q.pinned = whose r q there in
-      by q.pinned pinned (sym job ∙ either)
-    where
-      by : {X : Type 0} (o : Option X) → is_some o ≡ true → true ≡ is_none o → ⊥
-      by None some none = absurd cc
-      by (Some x) some none = absurd cc
-  goes-not r q j stays there names (inr (inl takes)) =
-      let same : takes.number ≡ j = named-by r q j takes.number takes.kept there names takes.stands takes.of_job (asked_open takes.kept takes.asked) in
-      stays _ (takes.puts ∙ ap (λ (x : JobId). JobsChange.Put x (record takes.kept { nodes = map unended takes.request.nodes; phase = Phase.Using; pool = takes.request.pool })) same)
-  goes-not r q j stays there names (inr (inr goes)) =
-      let same : goes.number ≡ j = named-by r q j goes.number goes.kept there names goes.withdraws.stands goes.of_job goes.withdraws.unstarted in
-      stays _ (goes.withdraws.puts ∙ ap (λ (x : JobId). JobsChange.Put x (record goes.kept { ending = Some Ending.Withdrawn; phase = Phase.Over })) same)
+  goes-not r q j stays there names (inl goes) = grind (arith, nat_tests, whose r q there, goes.pinned, goes.fulfils.worked_on.stands)
+  goes-not r q j stays there names (inr (inl takes)) = grind (arith, nat_tests, stays, takes.puts, takes.stands, takes.of_job, takes.asked, named-by r q j takes.number takes.kept)
+  goes-not r q j stays there names (inr (inr goes)) = grind (arith, nat_tests, stays, goes.withdraws.puts, goes.withdraws.stands, goes.of_job, goes.withdraws.unstarted, named-by r q j goes.number goes.kept)
 
   -- if the record of a job stays, its request stays
   request-on : (maker : Option Maker) (rows : List RequestEntry) (r : RequestId) (q : RequestRecord) (j : JobId) → ((later : JobRecord) → ch.jobs ≡ JobsChange.Put j later → ⊥) → request_in r rows ≡ request_in r s.requests → request_in r s.requests ≡ Some q → q.job ≡ Some j
       → (change : RequestsChange) → RequestsPremise c s ch change → (later : RequestRecord) × ((request_in r (requests_changed maker change rows) ≡ Some later) × (later.job ≡ Some j))
-  request-on maker rows r q j stays same there names (RequestsChange.Edit x e) premise = by (same_request x r) refl where
-    by : (b : Bool) → same_request x r ≡ b → (later : RequestRecord) × ((request_in r (requests_changed maker (RequestsChange.Edit x e) rows) ≡ Some later) × (later.job ≡ Some j))
-    by true which = (edited e q, (request_in-edit x r (edited e) rows ∙ ap (λ (o : Option RequestRecord). option_map (λ k. cond (same_request x r) (edited e k) k) o) (same ∙ there) ∙ ap (λ (b : Bool). Some (cond b (edited e q) q)) which, edited-job e q ∙ names))
-    by false which = (q, (request_in-edit x r (edited e) rows ∙ ap (λ (o : Option RequestRecord). option_map (λ k. cond (same_request x r) (edited e k) k) o) (same ∙ there) ∙ ap (λ (b : Bool). Some (cond b (edited e q) q)) which, names))
-  request-on maker rows r q j stays same there names (RequestsChange.Remove x) premise = by (same_request x r) refl where
-    by : (b : Bool) → same_request x r ≡ b → (later : RequestRecord) × ((request_in r (requests_changed maker (RequestsChange.Remove x) rows) ≡ Some later) × (later.job ≡ Some j))
-    by true which = absurd (goes-not r q j stays there names (subst (λ (y : RequestId). RequestsPremise c s ch (RequestsChange.Remove y)) (request-equal x r which) premise))
-    by false which = (q, (request_in-remove x r rows which ∙ same ∙ there, names))
+  request-on maker rows r q j stays same there names (RequestsChange.Edit x e) premise =
+      let job = by_bool (λ b. (cond b (edited e q) q).job ≡ Some j) (same_request x r) (λ _. edited-job e q ∙ names) (λ _. names) in
+      (cond (same_request x r) (edited e q) q, (request_in-edit x r (edited e) rows ∙ ap (λ (o : Option RequestRecord). option_map (λ k. cond (same_request x r) (edited e k) k) o) (same ∙ there), job))
+  request-on maker rows r q j stays same there names (RequestsChange.Remove x) premise =
+      by_bool (λ _. (later : RequestRecord) × ((request_in r (requests_changed maker (RequestsChange.Remove x) rows) ≡ Some later) × (later.job ≡ Some j))) (same_request x r)
+      (λ which. absurd (goes-not r q j stays there names (subst (λ (y : RequestId). RequestsPremise c s ch (RequestsChange.Remove y)) (request-equal x r which) premise)))
+      (λ which. (q, (request_in-remove x r rows which ∙ same ∙ there, names)))
   request-on (Some maker) rows r q j stays same there names (RequestsChange.Leave x) premise = (q, (request_in-queue x r (left maker.session (request_queue x rows)) rows ∙ same ∙ there, names))
   request-on maker rows r q j stays same there names _ premise = (q, (same ∙ there, names))
 
@@ -279,14 +229,6 @@ module _ (c : Configuration) (s : State) (ch : Changes) (numbered : IsNumbered s
 
   -- ## each job
 
-  bare-in : (j : JobId) (job : JobRecord) (p : Phase) → JobIn t j job p → JobIn t j (bare job) p
-  bare-in j job Phase.Asked is = (record { id = is.0.id; request = is.0.request; asks = is.0.asks; stands = is.0.stands; names = is.0.names }, is.1)
-  bare-in j job _ is = is
-
-  in-bare : (j : JobId) (job : JobRecord) (p : Phase) → JobIn t j (bare job) p → JobIn t j job p
-  in-bare j job Phase.Asked is = (record { id = is.0.id; request = is.0.request; asks = is.0.asks; stands = is.0.stands; names = is.0.names }, is.1)
-  in-bare j job _ is = is
-
   asking-on : (j : JobId) (job : JobRecord) → ((put : JobRecord) → ch.jobs ≡ JobsChange.Put j put → ⊥) → IsAsking s j job → IsAsking t j job
   asking-on j job stays is =
       let g : State = grown c ch.maker ch.grows s in
@@ -295,12 +237,7 @@ module _ (c : Configuration) (s : State) (ch : Changes) (numbered : IsNumbered s
       record { id = is.id; request = on.0; asks = is.asks; stands = left-request ch.sessions is.id (requests_changed ch.maker ch.requests g.requests) ∙ on.1.0; names = on.1.1 }
 
   in-on : (j : JobId) (job : JobRecord) (p : Phase) → ((put : JobRecord) → ch.jobs ≡ JobsChange.Put j put → ⊥) → JobIn s j job p → JobIn t j job p
-  in-on j job Phase.Asked stays is = (asking-on j job stays is.0, is.1)
-  in-on j job _ stays is = is
-
-  new_phase : (p : Phase) → is_new p ≡ true → p ≡ Phase.New
-  new_phase Phase.New is = refl
-  new_phase _ is = absurd cc
+  in-on j job p stays is = grind (arith, nat_tests, asking-on j job stays)
 
   -- a new request is there later
   asks-in : (priority : ℕ) (asked : Asked) → AsksForJob c s ch priority asked → ch.grows ≡ Growth.Request priority asked → request_in (next_id priority s) t.requests ≡ Some (new_record asked)
@@ -313,27 +250,10 @@ module _ (c : Configuration) (s : State) (ch : Changes) (numbered : IsNumbered s
       left-request ch.sessions id (requests_changed ch.maker ch.requests g.requests) ∙ ap (λ (rows : List RequestEntry). request_in id rows) same ∙ now
 
   asked-in : (j : JobId) (later : JobRecord) (priority : ℕ) (asked : Asked) (asks : AsksForJob c s ch priority asked) → ch.grows ≡ Growth.Request priority asked → asks.number ≡ j → ch.jobs ≡ JobsChange.Put j later → JobIn t j later later.phase
-  asked-in j later priority asked asks grows number at =
-      let both : JobsChange.Put j later ≡ JobsChange.Put asks.number (record asks.kept { phase = Phase.Asked; request = Some (next_id asks.job.priority s) }) = sym at ∙ asks.puts in
-      let same : later ≡ record asks.kept { phase = Phase.Asked; request = Some (next_id asks.job.priority s) } = cc in
-      let was : JobIn s asks.number asks.kept Phase.New = subst (λ (p : Phase). JobIn s asks.number asks.kept p) (new_phase asks.kept.phase asks.new) (old.each asks.number asks.kept asks.stands) in
-      let there : request_in (next_id asks.job.priority s) t.requests ≡ Some (new_record (asked_for asks.number asks.job)) =
-      ap (λ (p : ℕ). request_in (next_id p s) t.requests) (sym asks.of_job) ∙ asks-in priority asked asks grows ∙ ap (λ (a : Asked). Some (new_record a)) asks.asks in
-      subst (λ (x : JobRecord). JobIn t j x x.phase) (sym same)
-      (record { id = next_id asks.job.priority s; request = new_record (asked_for asks.number asks.job); asks = refl; stands = there; names = ap Some number }, (was.1.0, was.1.1))
-
-  taken-in : RequestsStand s → (j : JobId) (later : JobRecord) (r : RequestId) (takes : TakesOver c s ch r) → ch.jobs ≡ JobsChange.Put j later → JobIn t j later later.phase
-  taken-in stand j later r takes at = grind (arith, nat_tests)
-
-  finished-in : (j : JobId) (kept later : JobRecord) → slice_get s.jobs j.0 ≡ Some kept → FinishesJob c s ch j kept later → JobIn t j later later.phase
-  finished-in j kept later there finishes = grind (arith, nat_tests)
-
-  withdrawn-in : (j : JobId) (kept later : JobRecord) → Withdraws s ch j kept → ch.jobs ≡ JobsChange.Put j later → JobIn t j later later.phase
-  withdrawn-in j kept later withdraws at = grind (arith, nat_tests)
+  asked-in j later priority asked asks grows number at = let was = old.each asks.number asks.kept asks.stands in grind (arith, nat_tests, asks-in priority asked asks grows, was)
 
   later-in : RequestsStand s → (j : JobId) (job later : JobRecord) → slice_get s.jobs j.0 ≡ Some job → JobLater c s ch j job later → JobIn t j later later.phase
-  later-in stand j job later there (inl (same, stays)) =
-      in-bare j later later.phase (subst (λ (b : JobRecord). JobIn t j b b.phase) (sym same) (bare-in j job job.phase (in-on j job job.phase stays (old.each j job there))))
+  later-in stand j job later there (inl (same, stays)) = let was = in-on j job job.phase stays (old.each j job there) in grind (arith, nat_tests, same, was)
   later-in stand j job later there (inr (put, (at, was))) = by put.way where
     by : ((priority : ℕ) × (asked : Asked) × (asks : AsksForJob c s ch priority asked) × ((ch.grows ≡ Growth.Request priority asked) × (asks.number ≡ j)))
         ⊎ (((r : RequestId) × (takes : TakesOver c s ch r) × ((ch.requests ≡ RequestsChange.Remove r) × (takes.number ≡ j)))
@@ -341,9 +261,9 @@ module _ (c : Configuration) (s : State) (ch : Changes) (numbered : IsNumbered s
         ⊎ (Withdraws s ch j put.kept × (ch.requests ≡ request_after_withdraw put.kept.request))))
         → JobIn t j later later.phase
     by (inl (priority, asked, asks, (grows, number))) = asked-in j later priority asked asks grows number at
-    by (inr (inl (r, takes, (removes, number)))) = taken-in stand j later r takes at
-    by (inr (inr (inl finishes))) = finished-in j put.kept later put.stands finishes
-    by (inr (inr (inr (withdraws, change)))) = withdrawn-in j put.kept later withdraws at
+    by (inr (inl (r, takes, (removes, number)))) = grind (arith, nat_tests)
+    by (inr (inr (inl finishes))) = grind (arith, nat_tests)
+    by (inr (inr (inr (withdraws, change)))) = grind (arith, nat_tests)
 
   -- ## each request
 
@@ -390,18 +310,9 @@ module _ (c : Configuration) (s : State) (ch : Changes) (numbered : IsNumbered s
 abbrev IsWhose : RequestRecord → Type 0
 IsWhose q = is_some q.job ≡ is_none q.pinned
 
-edited-whose : (e : RequestEdit) (q : RequestRecord) → IsWhose q → IsWhose (edited e q)
-edited-whose x0 q whose = grind (arith, nat_tests)
-
-asked-whose : (c : Configuration) (s : State) (ch : Changes) (priority : ℕ) (asked : Asked) → AsksForJob c s ch priority asked ⊎ AsksToKeep c s ch priority asked → IsWhose (new_record asked)
-asked-whose c s ch priority asked (inl asks) = subst (λ (a : Asked). IsWhose (new_record a)) (sym asks.asks) refl
-asked-whose c s ch priority asked (inr asks) = subst (λ (a : Asked). IsWhose (new_record a)) (sym asks.asks) refl
-
 pub jobs_or_pinned : (c : Configuration) (s : State) (ch : Changes) → Invariant c s → Premises c s ch → JobsOrPinned (changed c ch s)
 jobs_or_pinned c s ch inv pre r q is = by (came c s ch inv.numbered pre r q is) where
   by : CameBy s ch r q → IsWhose q
   by (inl there) = inv.owned.whose r q there
-  by (inr (inl was)) = subst (λ (x : RequestRecord). IsWhose x) (sym was.is) (edited-whose was.how was.old (inv.owned.whose r was.old was.stood))
-  by (inr (inr new)) =
-      let asks = subst (λ (g : Growth). GrowthPremise c s ch g) new.grows pre.grows in
-      subst (λ (x : RequestRecord). IsWhose x) (sym new.is) (asked-whose c s ch new.priority new.asked asks)
+  by (inr (inl was)) = subst (λ (x : RequestRecord). IsWhose x) (sym was.is) (grind (arith, nat_tests, inv.owned.whose r was.old was.stood))
+  by (inr (inr new)) = let asks = subst (λ (g : Growth). GrowthPremise c s ch g) new.grows pre.grows in grind (arith, nat_tests, new.is, asks)

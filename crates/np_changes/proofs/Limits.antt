@@ -1,10 +1,15 @@
 -- no pool and no tenant exceeds its limit, and no node has more attempts than its provider allows
-use Rattle.np_changes.proofs.Prelude.{Amount, Bool, Changes, Configuration, GainsNew, Growth, GrowthPremise, Invariant, IsAtMost, IsAtMost-refl, LabelId, Limit, List, Maker, NodeEntry, NodeId, NodeRecord, None, Option, Pool, PoolId, Premises, RequestId, Some, State, TenantId, WithinQuota, [], allocated, amount_of, ap, arith, by_maker, change_first, changed, cond, count_of, false, fits, fits-less, grown, is_short, joined, limit_of, nat_tests, no_limit, not-false, nothing, option_map_or, plus, refl, registers, slice_get, start, subst, subst₂, sym, true, ◌++◌, ◌==◌, ◌∷◌, ◌≡◌, Asked, AsksForJob, AsksToKeep, Gains, IsAtMost-part, IsAtMost-plus, IsAtMost-trans, IsMade, IsTaken, MayServe, RequestEdit, RequestEntry, RequestRecord, RequestsChange, RequestsPremise, Tenant, WithinTenantQuota, amount_of_all, amount_of_node, ap₂, blocking, count_of_tenant, first_unoffered, inl, inr, is_none, is_pending, is_pending_of, is_some, is_tenant, left, limit_of_tenant, never_fits, new_node, new_record, next_id, node_entry, node_in, requests_changed, rest_of_request, tenant_never_fits, tenant_of, tenant_of_request, ℕ, ◌∙◌, ◌⊎◌, AllByRecursion, IsAttempted, NodesChange, NodesPremise, PutsNode, SessionsChange, all-change_first, all-find, all-mapped, all-push, all-remove_first, all_in_use, freed_from, in_use, node_left, node_queue, nodes_changed, nodes_left, option_map}
+use Rattle.np_changes.proofs.Prelude.{Amount, Bool, Changes, Configuration, Growth, GrowthPremise, Invariant, IsAtMost, IsAtMost-refl, LabelId, Limit, List, Maker, NodeEntry, NodeId, NodeRecord, None, Option, Pool, PoolId, Premises, RequestId, Some, State, TenantId, WithinQuota, [], allocated, amount_of, ap, arith, by_maker, change_first, changed, cond, count_of, false, fits, fits-less, grown, is_short, joined, limit_of, nat_tests, no_limit, not-false, nothing, option_map_or, plus, refl, slice_get, start, subst, subst₂, sym, true, ◌++◌, ◌==◌, ◌∷◌, ◌≡◌, Gains, IsAtMost-part, IsAtMost-plus, IsAtMost-trans, IsMade, IsTaken, MayServe, RequestEdit, RequestEntry, RequestRecord, RequestsChange, RequestsPremise, Tenant, WithinTenantQuota, amount_of_all, amount_of_node, ap₂, blocking, count_of_tenant, first_unoffered, inl, inr, is_none, is_pending_of, is_some, is_tenant, left, limit_of_tenant, never_fits, new_node, new_record, next_id, node_entry, node_in, requests_changed, rest_of_request, tenant_never_fits, tenant_of, tenant_of_request, ℕ, ◌∙◌, ◌⊎◌, AllByRecursion, IsAttempted, NodesChange, NodesPremise, PutsNode, SessionsChange, all-change_first, all-find, all-mapped, all-push, all-remove_first, all_in_use, freed_from, from-map_some, in_use, node_left, node_queue, nodes_changed, nodes_left}
 use Rattle.np_changes.proofs.Lookups.{same_pool, same_label, kept-is}
 use Rattle.np_changes.proofs.NodeAmounts.{IsLeastFree, Measure, at_most-same, fits-nothing, nothing-at_most, part-at_most, plus-nothing, queue-keeps, second-rises, settled-keeps, sum_of-filter, sum_of-keep, sum_of-push, sum_of-rise, taken, takes, traded}
-use Rattle.np_changes.proofs.Waits.{waited, whole, part, edited_in, insert-keeps, left-keeps, remove-keeps, decline-keeps, fulfil-keeps, give_back-keeps, fail-keeps, revise-keeps, gain-falls, serve-rises}
+use Rattle.np_changes.proofs.Waits.{waited, whole, part, edited_in, insert-keeps, left-keeps, remove-keeps, edit-keeps, gain-falls, serve-rises}
 use Rattle.np_changes.proofs.NodeAmounts
 use Rattle.np_changes.proofs.Waits
+
+-- what is counted only if a test passes, for which there is room
+fits-if : (a more : Amount) (limit : Limit) (b : Bool) → fits a limit ≡ true → (b ≡ true → fits (plus a more) limit ≡ true) → fits (plus a (cond b more nothing)) limit ≡ true
+fits-if a more limit true old room = room refl
+fits-if a more limit false old room = fits-less (plus a nothing) a limit (at_most-same (plus a nothing) a (plus-nothing a)) old
 
 -- # no pool exceeds a limit
 
@@ -18,11 +23,6 @@ count-taken c s p = sum_of-filter (λ (e : NodeEntry). e.kept.pool.0 == p.0) (λ
 pool-limit-is : (c : Configuration) (p : PoolId) (pool : Pool) → slice_get c.pools p.0 ≡ Some pool → limit_of c p ≡ pool.limit
 pool-limit-is c p pool row = ap (λ (o : Option Pool). option_map_or (λ (x : Pool). x.limit) o no_limit) row
 
--- a registration leaves the nodes as they are
-registered-nodes : (maker : Option Maker) (q : PoolId) (s : State) → (by_maker maker (λ session t. registers t session q) s).nodes ≡ s.nodes
-registered-nodes None q s = refl
-registered-nodes (Some maker) q s = refl
-
 -- an allocation leaves each node's pool and label as they are
 allocated-keeps : (c : Configuration) (p : PoolId) (maker : Option Maker) (n : NodeId) (r : RequestId) (tenant : Option TenantId) (rows : List NodeEntry)
     → IsAtMost (taken (at_pool c p) (by_maker maker (λ session old. change_first (λ e. e.id.0 == n.0) (allocated r tenant session) old) rows)) (taken (at_pool c p) rows)
@@ -35,30 +35,18 @@ module _ (c : Configuration) (s : State) (ch : Changes) (p : PoolId) (pool : Poo
   abbrev Fits : List NodeEntry → Type 0
   Fits rows = fits (taken (at_pool c p) rows) pool.limit ≡ true
 
-  -- one more node, for which its pool has room
-  room-by : (q : PoolId) (l : LabelId) (b : Bool) → (q.0 == p.0) ≡ b → Fits s.nodes → is_short c s q l ≡ false
-      → fits (plus (taken (at_pool c p) s.nodes) (cond b (amount_of c p l) nothing)) pool.limit ≡ true
-  room-by q l true same old room =
-      let here : is_short c s p l ≡ false = subst (λ (z : PoolId). is_short c s z l ≡ false) (same_pool q p same) room in
-      let fit : fits (plus (count_of c s p) (amount_of c p l)) (limit_of c p) ≡ true = not-false (fits (plus (count_of c s p) (amount_of c p l)) (limit_of c p)) here in
-      subst₂ (λ (a : Amount) (limit : Limit). fits (plus a (amount_of c p l)) limit ≡ true) (count-taken c s p) (pool-limit-is c p pool row) fit
-  room-by q l false other old room =
-      fits-less (plus (taken (at_pool c p) s.nodes) nothing) (taken (at_pool c p) s.nodes) pool.limit
-      (at_most-same (plus (taken (at_pool c p) s.nodes) nothing) (taken (at_pool c p) s.nodes) (plus-nothing (taken (at_pool c p) s.nodes))) old
-
   more-fits : (e : NodeEntry) → Fits s.nodes → is_short c s e.kept.pool e.kept.label ≡ false → Fits (s.nodes ++ e ∷ [])
   more-fits e old room =
       subst (λ (a : Amount). fits a pool.limit ≡ true) (sym (sum_of-push (takes (at_pool c p)) s.nodes e))
-      (room-by e.kept.pool e.kept.label (e.kept.pool.0 == p.0) refl old room)
-
-  -- the node that grows is one for which its pool has room
-  has_room : (kept : NodeRecord) → ch.grows ≡ Growth.Node kept → GainsNew c s ch kept → is_short c s kept.pool kept.label ≡ false
-  has_room kept is new = grind (arith, nat_tests)
+      (fits-if (taken (at_pool c p) s.nodes) (amount_of c p e.kept.label) pool.limit (e.kept.pool.0 == p.0) old (λ same.
+      let here : is_short c s p e.kept.label ≡ false = subst (λ (z : PoolId). is_short c s z e.kept.label ≡ false) (same_pool e.kept.pool p same) room in
+      let fit : fits (plus (count_of c s p) (amount_of c p e.kept.label)) (limit_of c p) ≡ true = not-false (fits (plus (count_of c s p) (amount_of c p e.kept.label)) (limit_of c p)) here in
+      subst₂ (λ (a : Amount) (limit : Limit). fits (plus a (amount_of c p e.kept.label)) limit ≡ true) (count-taken c s p) (pool-limit-is c p pool row) fit))
 
   grown-fits : (g : Growth) → ch.grows ≡ g → GrowthPremise c s ch g → Fits s.nodes → Fits (grown c ch.maker g s).nodes
-  grown-fits (Growth.Registration q) is premise old = subst (λ (rows : List NodeEntry). Fits rows) (sym (registered-nodes ch.maker q s)) old
+  grown-fits (Growth.Registration q) is premise old = grind (arith, nat_tests)
   grown-fits (Growth.Node kept) is premise old =
-      more-fits (record { id = record { 0 = s.next_node }; kept = kept; queue = by_maker ch.maker (λ session queue. queue ++ session ∷ []) [] }) old (has_room kept is premise)
+      more-fits (record { id = record { 0 = s.next_node }; kept = kept; queue = by_maker ch.maker (λ session queue. queue ++ session ∷ []) [] }) old (grind (arith, nat_tests))
   grown-fits (Growth.JoinNode n) is premise old =
       fits-less (taken (at_pool c p) (grown c ch.maker (Growth.JoinNode n) s).nodes) (taken (at_pool c p) s.nodes) pool.limit (queue-keeps (at_pool c p) ch.maker joined n s.nodes) old
   grown-fits (Growth.Allocate n r tenant) is premise old =
@@ -67,8 +55,7 @@ module _ (c : Configuration) (s : State) (ch : Changes) (p : PoolId) (pool : Poo
 
   pool-changed-fits : Premises c s ch → Fits s.nodes → Fits (changed c ch s).nodes
   pool-changed-fits premises old =
-      fits-less (taken (at_pool c p) (changed c ch s).nodes) (taken (at_pool c p) (grown c ch.maker ch.grows s).nodes) pool.limit
-      (settled-keeps (at_pool c p) (λ q l t. IsAtMost-refl (at_pool c p q l t)) c s ch premises) (grown-fits ch.grows refl premises.grows old)
+      fits-less _ _ pool.limit (settled-keeps (at_pool c p) (λ q l t. IsAtMost-refl (at_pool c p q l t)) c s ch premises) (grown-fits ch.grows refl premises.grows old)
 
 pub within-quota : (c : Configuration) (s : State) (ch : Changes) → Invariant c s → Premises c s ch → WithinQuota c (changed c ch s)
 within-quota c s ch invariant premises = λ p pool row.
@@ -112,11 +99,6 @@ module _ (c : Configuration) (s : State) (p : PoolId) (request : RequestRecord) 
 
 -- ## what grows
 
--- a request of a job, or of a pool to keep a node ready, is not pending
-asked-idle : (c : Configuration) (s : State) (ch : Changes) (priority : ℕ) (asked : Asked) → AsksForJob c s ch priority asked ⊎ AsksToKeep c s ch priority asked → is_pending asked.state ≡ false
-asked-idle c s ch priority asked (inl asks) = ap (λ (a : Asked). is_pending a.state) asks.asks
-asked-idle c s ch priority asked (inr asks) = ap (λ (a : Asked). is_pending a.state) asks.asks
-
 module _ (c : Configuration) (s : State) (ch : Changes) (t : TenantId) where
   -- what is used after a growth
   abbrev used_after : Growth → Amount
@@ -128,23 +110,14 @@ module _ (c : Configuration) (s : State) (ch : Changes) (t : TenantId) where
     node : NodeId
     gains : Gains c s ch request node
 
-  registration-keeps : (maker : Option Maker) (q : PoolId) → IsAtMost (used c t (grown c maker (Growth.Registration q) s).nodes (grown c maker (Growth.Registration q) s).requests) (used c t s.nodes s.requests)
-  registration-keeps None q = IsAtMost-refl (used c t s.nodes s.requests)
-  registration-keeps (Some maker) q = IsAtMost-refl (used c t s.nodes s.requests)
-
   growth-keeps : (g : Growth) → GrowthPremise c s ch g → AGain ⊎ IsAtMost (used_after g) (used c t s.nodes s.requests)
-  growth-keeps (Growth.Registration q) premise = inr (registration-keeps ch.maker q)
+  growth-keeps (Growth.Registration q) premise = grind (arith, nat_tests, IsAtMost-refl (used c t s.nodes s.requests))
   growth-keeps (Growth.Request priority asked) premise =
-      inr (IsAtMost-plus (taken (of_tenant c t) s.nodes) (taken (of_tenant c t) s.nodes) (waited c t (grown c ch.maker (Growth.Request priority asked) s).requests) (waited c t s.requests)
-      (IsAtMost-refl (taken (of_tenant c t) s.nodes))
-      (insert-keeps c t (record { id = next_id priority s; kept = new_record asked; queue = [] }) s.requests (asked-idle c s ch priority asked premise)))
+      inr (IsAtMost-plus _ _ _ _ (IsAtMost-refl (taken (of_tenant c t) s.nodes))
+      (insert-keeps c t (record { id = next_id priority s; kept = new_record asked; queue = [] }) s.requests (grind (arith, nat_tests))))
   growth-keeps (Growth.Node kept) premise = inl (record { request = premise.request; node = record { 0 = s.next_node }; gains = premise.gains })
-  growth-keeps (Growth.JoinRequest r) premise =
-      inr (IsAtMost-plus (taken (of_tenant c t) s.nodes) (taken (of_tenant c t) s.nodes) (waited c t (grown c ch.maker (Growth.JoinRequest r) s).requests) (waited c t s.requests)
-      (IsAtMost-refl (taken (of_tenant c t) s.nodes)) (Waits.queue-keeps c t ch.maker joined r s.requests))
-  growth-keeps (Growth.JoinNode n) premise =
-      inr (IsAtMost-plus (taken (of_tenant c t) (grown c ch.maker (Growth.JoinNode n) s).nodes) (taken (of_tenant c t) s.nodes) (waited c t s.requests) (waited c t s.requests)
-      (NodeAmounts.queue-keeps (of_tenant c t) ch.maker joined n s.nodes) (IsAtMost-refl (waited c t s.requests)))
+  growth-keeps (Growth.JoinRequest r) premise = inr (IsAtMost-plus _ _ _ _ (IsAtMost-refl (taken (of_tenant c t) s.nodes)) (Waits.queue-keeps c t ch.maker joined r s.requests))
+  growth-keeps (Growth.JoinNode n) premise = inr (IsAtMost-plus _ _ _ _ (NodeAmounts.queue-keeps (of_tenant c t) ch.maker joined n s.nodes) (IsAtMost-refl (waited c t s.requests)))
   growth-keeps (Growth.Allocate n r tenant) premise = inl (record { request = r; node = n; gains = premise })
   growth-keeps _ premise = inr (IsAtMost-refl (used c t s.nodes s.requests))
 
@@ -181,40 +154,23 @@ module _ (c : Configuration) (s : State) (ch : Changes) (t : TenantId) where
         → IsAtMost (used_then (RequestsChange.Edit r (RequestEdit.AddNode n)) ch.grows) (used c t s.nodes s.requests)
     by (inl given) =
         subst (λ (g : Growth). IsAtMost (used_then (RequestsChange.Edit r (RequestEdit.AddNode n)) g) (used c t s.nodes s.requests)) (sym given.grows)
-        (traded (taken (of_tenant c t) (grown c ch.maker (Growth.Allocate n r (tenant_of_request c gains.request)) s).nodes) (waited c t (edited_in (RequestEdit.AddNode n) r s.requests))
-        (taken (of_tenant c t) s.nodes) (waited c t s.requests) (part c t gains.pool gains.label gains.request)
-        (allocate-rises c t ch.maker n r gains.pool gains.label gains.request given.node s.nodes given.stands given.of_pool given.of_label) fewer)
+        (traded _ _ _ _ (part c t gains.pool gains.label gains.request) (allocate-rises c t ch.maker n r gains.pool gains.label gains.request given.node s.nodes given.stands given.of_pool given.of_label) fewer)
     by (inr made) =
         subst (λ (g : Growth). IsAtMost (used_then (RequestsChange.Edit r (RequestEdit.AddNode n)) g) (used c t s.nodes s.requests)) (sym made.grows)
-        (traded (taken (of_tenant c t) (grown c ch.maker (Growth.Node (new_node c s r gains.pool gains.request gains.label)) s).nodes) (waited c t (edited_in (RequestEdit.AddNode n) r s.requests))
-        (taken (of_tenant c t) s.nodes) (waited c t s.requests) (part c t gains.pool gains.label gains.request)
-        (at_most-same (taken (of_tenant c t) (grown c ch.maker (Growth.Node (new_node c s r gains.pool gains.request gains.label)) s).nodes) (plus (taken (of_tenant c t) s.nodes) (part c t gains.pool gains.label gains.request))
-        (sum_of-push (takes (of_tenant c t)) s.nodes (record {
-          id = record { 0 = s.next_node };
-          kept = new_node c s r gains.pool gains.request gains.label;
-          queue = by_maker ch.maker (λ session queue. queue ++ session ∷ []) [];
-        }))) fewer)
+        (traded (taken (of_tenant c t) (grown c ch.maker (Growth.Node (new_node c s r gains.pool gains.request gains.label)) s).nodes) _ (taken (of_tenant c t) s.nodes) _ (part c t gains.pool gains.label gains.request)
+        (at_most-same _ _ (sum_of-push (takes (of_tenant c t)) s.nodes (record { id = record { 0 = s.next_node }; kept = new_node c s r gains.pool gains.request gains.label; queue = by_maker ch.maker (λ session queue. queue ++ session ∷ []) [] }))) fewer)
 
   -- ## a pool begins to serve a request
-
-  serve-by : (p : PoolId) (request : RequestRecord) (limit : Limit) (b : Bool) → is_tenant t (tenant_of_request c request) ≡ b → limit_of_tenant c t ≡ limit → fits (used c t s.nodes s.requests) limit ≡ true
-      → (is_tenant t (tenant_of_request c request) ≡ true → HasRoom c s p request t)
-      → fits (plus (used c t s.nodes s.requests) (cond b (amount_of_all c p request.labels) nothing)) limit ≡ true
-  serve-by p request limit true own is old room =
-      subst₂ (λ (a : Amount) (m : Limit). fits (plus a (amount_of_all c p request.labels)) m ≡ true) (count-used c s t) is (room own)
-  serve-by p request limit false own is old room =
-      fits-less (plus (used c t s.nodes s.requests) nothing) (used c t s.nodes s.requests) limit
-      (at_most-same (plus (used c t s.nodes s.requests) nothing) (used c t s.nodes s.requests) (plus-nothing (used c t s.nodes s.requests))) old
 
   serve-fits : (r : RequestId) (p : PoolId) (limit : Limit) → limit_of_tenant c t ≡ limit → fits (used c t s.nodes s.requests) limit ≡ true → Invariant c s → MayServe c s ch r p
       → fits (used_then (RequestsChange.Edit r (RequestEdit.Serve p)) ch.grows) limit ≡ true
   serve-fits r p limit is old invariant serves =
       subst (λ (g : Growth). fits (used_then (RequestsChange.Edit r (RequestEdit.Serve p)) g) limit ≡ true) (sym serves.same_size)
       (fits-less (used_then (RequestsChange.Edit r (RequestEdit.Serve p)) Growth.Nothing) (plus (used c t s.nodes s.requests) (whole c t p serves.request)) limit
-      (second-rises (taken (of_tenant c t) s.nodes) (waited c t (edited_in (RequestEdit.Serve p) r s.requests)) (waited c t s.requests) (whole c t p serves.request)
-      (serve-rises c t p r serves.request s.requests serves.worked_on.stands))
-      (serve-by p serves.request limit (is_tenant t (tenant_of_request c serves.request)) refl is old
-      (served-room c s p serves.request t (invariant.owned.whose r serves.request serves.worked_on.stands) serves.offered serves.fits_pool serves.fits_tenant serves.unblocked)))
+      (second-rises _ _ _ (whole c t p serves.request) (serve-rises c t p r serves.request s.requests serves.worked_on.stands))
+      (fits-if (used c t s.nodes s.requests) (amount_of_all c p serves.request.labels) limit (is_tenant t (tenant_of_request c serves.request)) old (λ own.
+      subst₂ (λ (a : Amount) (m : Limit). fits (plus a (amount_of_all c p serves.request.labels)) m ≡ true) (count-used c s t) is
+      (served-room c s p serves.request t (invariant.owned.whose r serves.request serves.worked_on.stands) serves.offered serves.fits_pool serves.fits_tenant serves.unblocked own))))
 
   -- ## all changes of requests
 
@@ -232,16 +188,7 @@ module _ (c : Configuration) (s : State) (ch : Changes) (t : TenantId) where
     change-fits RequestsChange.Same premise less = lower-fits (grown c ch.maker ch.grows s).requests less (IsAtMost-refl (waited c t (grown c ch.maker ch.grows s).requests))
     change-fits (RequestsChange.Edit r (RequestEdit.Serve p)) premise less = serve-fits r p limit is old invariant premise
     change-fits (RequestsChange.Edit r (RequestEdit.AddNode n)) premise less = gain-fits r n premise.0
-    change-fits (RequestsChange.Edit r (RequestEdit.Decline p why failed)) premise less =
-        lower-fits (edited_in (RequestEdit.Decline p why failed) r (grown c ch.maker ch.grows s).requests) less (decline-keeps c t p why failed r (grown c ch.maker ch.grows s).requests)
-    change-fits (RequestsChange.Edit r RequestEdit.Fulfil) premise less =
-        lower-fits (edited_in RequestEdit.Fulfil r (grown c ch.maker ch.grows s).requests) less (fulfil-keeps c t r (grown c ch.maker ch.grows s).requests)
-    change-fits (RequestsChange.Edit r RequestEdit.GiveBack) premise less =
-        lower-fits (edited_in RequestEdit.GiveBack r (grown c ch.maker ch.grows s).requests) less (give_back-keeps c t r (grown c ch.maker ch.grows s).requests)
-    change-fits (RequestsChange.Edit r RequestEdit.Fail) premise less =
-        lower-fits (edited_in RequestEdit.Fail r (grown c ch.maker ch.grows s).requests) less (fail-keeps c t r (grown c ch.maker ch.grows s).requests)
-    change-fits (RequestsChange.Edit r (RequestEdit.Revise relative)) premise less =
-        lower-fits (edited_in (RequestEdit.Revise relative) r (grown c ch.maker ch.grows s).requests) less (revise-keeps c t relative r (grown c ch.maker ch.grows s).requests)
+    change-fits (RequestsChange.Edit r how) premise less = lower-fits (edited_in how r (grown c ch.maker ch.grows s).requests) less (edit-keeps c t how r (grown c ch.maker ch.grows s).requests refl)
     change-fits (RequestsChange.Remove r) premise less =
         lower-fits (requests_changed ch.maker (RequestsChange.Remove r) (grown c ch.maker ch.grows s).requests) less (remove-keeps c t r (grown c ch.maker ch.grows s).requests)
     change-fits (RequestsChange.Leave r) premise less =
@@ -255,9 +202,7 @@ module _ (c : Configuration) (s : State) (ch : Changes) (t : TenantId) where
     changed-fits : Premises c s ch → fits (used c t (changed c ch s).nodes (changed c ch s).requests) limit ≡ true
     changed-fits premises =
         fits-less (used c t (changed c ch s).nodes (changed c ch s).requests) (used_then ch.requests ch.grows) limit
-        (IsAtMost-plus (taken (of_tenant c t) (changed c ch s).nodes) (taken (of_tenant c t) (grown c ch.maker ch.grows s).nodes) (waited c t (changed c ch s).requests)
-        (waited c t (requests_changed ch.maker ch.requests (grown c ch.maker ch.grows s).requests))
-        (settled-keeps (of_tenant c t) (least-free c t) c s ch premises) (left-keeps c t ch.sessions (requests_changed ch.maker ch.requests (grown c ch.maker ch.grows s).requests)))
+        (IsAtMost-plus _ _ _ _ (settled-keeps (of_tenant c t) (least-free c t) c s ch premises) (left-keeps c t ch.sessions (requests_changed ch.maker ch.requests (grown c ch.maker ch.grows s).requests)))
         (then-fits premises (growth-keeps c s ch t ch.grows premises.grows))
 
 pub within-tenant_quota : (c : Configuration) (s : State) (ch : Changes) → Invariant c s → Premises c s ch → WithinTenantQuota c (changed c ch s)
@@ -276,10 +221,9 @@ module _ (c : Configuration) where
 
   -- the same for the node that is found
   found-attempted : (n : NodeId) (node : NodeRecord) (rows : List NodeEntry) → AreAttempted rows → node_in n rows ≡ Some node → IsAttempted c node
-  found-attempted n node rows all is = by (node_entry n rows) refl is where
-    by : (o : Option NodeEntry) → node_entry n rows ≡ o → option_map (λ (e : NodeEntry). e.kept) o ≡ Some node → IsAttempted c node
-    by None at none = absurd cc
-    by (Some e) at there = let same : e.kept ≡ node = cc in subst (IsAttempted c) same (all-find (λ (x : NodeEntry). IsAttempted c x.kept) (λ x. x.id.0 == n.0) rows e all at)
+  found-attempted n node rows all is =
+      let found = from-map_some (λ (e : NodeEntry). e.kept) (node_entry n rows) node is in
+      subst (IsAttempted c) found.2 (all-find (λ (x : NodeEntry). IsAttempted c x.kept) (λ x. x.id.0 == n.0) rows found.0 all found.1)
 
   -- ## a node's record that is put
 
@@ -288,13 +232,9 @@ module _ (c : Configuration) where
 
   -- ## growth
 
-  made-attempted : (s : State) (ch : Changes) (r : RequestId) (n : NodeId) (gains : Gains c s ch r n) (kept : NodeRecord) → ch.grows ≡ Growth.Node kept → IsAttempted c kept
-  made-attempted s ch r n gains kept grows = grind (arith, nat_tests)
-
   attempted-grown : (s : State) (ch : Changes) (maker : Option Maker) (growth : Growth) → ch.grows ≡ growth → GrowthPremise c s ch growth → AreAttempted s.nodes → AreAttempted (grown c maker growth s).nodes
-  attempted-grown s ch None (Growth.Registration p) at premise old = old
-  attempted-grown s ch (Some maker) (Growth.Registration p) at premise old = old
-  attempted-grown s ch maker (Growth.Node kept) at premise old = all-push (λ (e : NodeEntry). IsAttempted c e.kept) s.nodes _ old (made-attempted s ch premise.request _ premise.gains kept at)
+  attempted-grown s ch maker (Growth.Registration p) at premise old = grind (arith, nat_tests)
+  attempted-grown s ch maker (Growth.Node kept) at premise old = all-push (λ (e : NodeEntry). IsAttempted c e.kept) s.nodes _ old (let gains = premise.gains in grind (arith, nat_tests))
   attempted-grown s ch (Some maker) (Growth.JoinNode n) at premise old =
       all-change_first (λ (e : NodeEntry). IsAttempted c e.kept) (λ e. e.id.0 == n.0) (λ e. record e { queue = joined maker.session (node_queue n s.nodes) }) s.nodes (λ e is. is) old
   attempted-grown s ch (Some maker) (Growth.Allocate n r tenant) at premise old =
@@ -302,9 +242,6 @@ module _ (c : Configuration) where
   attempted-grown s ch maker _ at premise old = old
 
   -- ## what happens to nodes
-
-  freed-attempted : (r : RequestId) (e : NodeEntry) → IsAttempted c e.kept → IsAttempted c (freed_from r e).kept
-  freed-attempted r e is = grind (arith, nat_tests)
 
   attempted-in_use : (tick : ℕ) (numbers : List NodeId) (rows : List NodeEntry) → AreAttempted rows → AreAttempted (all_in_use tick numbers rows)
   attempted-in_use tick [] rows old = old
@@ -319,7 +256,7 @@ module _ (c : Configuration) where
   attempted-settled s ch maker tick (NodesChange.Remove n) rows premise first old = all-remove_first (λ (e : NodeEntry). IsAttempted c e.kept) (λ e. e.id.0 == n.0) rows old
   attempted-settled s ch (Some maker) tick (NodesChange.Leave n) rows premise first old =
       all-change_first (λ (e : NodeEntry). IsAttempted c e.kept) (λ e. e.id.0 == n.0) (λ e. record e { queue = left maker.session (node_queue n rows) }) rows (λ e is. is) old
-  attempted-settled s ch maker tick (NodesChange.FreeAll r) rows premise first old = all-mapped (λ (e : NodeEntry). IsAttempted c e.kept) (λ (e : NodeEntry). IsAttempted c e.kept) (freed_from r) rows (freed-attempted r) old
+  attempted-settled s ch maker tick (NodesChange.FreeAll r) rows premise first old = all-mapped (λ (e : NodeEntry). IsAttempted c e.kept) (λ (e : NodeEntry). IsAttempted c e.kept) (freed_from r) rows (λ e is. grind (arith, nat_tests)) old
   attempted-settled s ch maker tick (NodesChange.TakeOver numbers) rows premise first old = attempted-in_use tick numbers rows old
   attempted-settled s ch maker tick _ rows premise first old = old
 

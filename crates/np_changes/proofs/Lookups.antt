@@ -1,5 +1,6 @@
 -- what a look-up of a request or a node finds after changes, and the order of their numbers
-use Rattle.np_changes.proofs.Prelude.{None, Option, Some, arith, nat_tests, ◌≡◌, LabelId, PoolId, SemId, ap, eqb-true, option_map, refl, sym, true, ℕ, ◌==◌, ◌∙◌, RequestId, request-equal, same_request, ◌+◌, ◌<◌, ◌≤◌, AllByRecursion, Bool, List, Rises, [], all-insert_before, all-push, all-remove_first, all-weaker, cond, false, insert_before, remove_first, ◌++◌, ◌∷◌, Locked, SessionId, all-find, change_first, find, find-insert_before, find-map, find-none, find-passes, map, option_map_or, subst, NodeEntry, NodeId, NodeRecord, NodeState, RequestEntry, RequestRecord, TenantId, all_freed, all_in_use, allocated, freed, freed_from, in_use, insert_request, is_id_before, is_request, joined, left, list_any, nat_lt, node_in, node_left, node_queue, put_node, put_node_queue, put_request_queue, remove_node, remove_request, request_in, request_left, request_queue, ◌||◌, Changes, Configuration, Growth, IsNumbered, Maker, NodesChange, RequestsChange, Rises-keys, SessionsChange, State, all-keys, changed, edited, grown, map-keys, nodes_changed, nodes_left, requests_changed, requests_left, Amount, IsFew, RequestsPremise, SessionFacts, filter, length, session_of, slice_get, slice_get_within, total, ◌*◌, ◌-◌, Asked, by_maker, next_id, registers, EmptiesRequest, NodesPremise, Premises, inl, inr, ◌⊎◌}
+use Rattle.np_changes.proofs.Prelude.{None, Option, Some, arith, nat_tests, ◌≡◌, LabelId, PoolId, SemId, ap, eqb-true, option_map, refl, sym, true, ℕ, ◌==◌, ◌∙◌, RequestId, request-equal, same_request, ◌+◌, ◌<◌, ◌≤◌, AllByRecursion, Bool, List, Rises, [], all-insert_before, all-push, all-remove_first, all-weaker, cond, false, insert_before, remove_first, ◌++◌, ◌∷◌, Locked, SessionId, all-find, change_first, find, find-insert_before, find-map, find-none, find-passes, map, option_map_or, subst, NodeEntry, NodeId, NodeRecord, NodeState, RequestEntry, RequestRecord, TenantId, all_freed, all_in_use, allocated, freed, freed_from, in_use, insert_request, is_id_before, is_request, joined, left, list_any, nat_lt, node_in, node_left, node_queue, put_node, put_node_queue, put_request_queue, remove_node, remove_request, request_in, request_left, request_queue, Changes, Configuration, Growth, IsNumbered, Maker, NodesChange, RequestsChange, Rises-keys, SessionsChange, State, all-keys, changed, grown, map-keys, nodes_changed, nodes_left, requests_changed, requests_left, Amount, IsFew, RequestsPremise, SessionFacts, filter, length, session_of, slice_get_within, total, ◌*◌, ◌-◌, Asked, by_maker, next_id, registers, EmptiesRequest, NodesPremise, Premises, inl, inr, ◌⊎◌}
+use Rattle.np_lists.proofs.Plain.{by_bool}
 
 -- # whether an option has something
 
@@ -38,8 +39,7 @@ row-of kept (Some e) k has = (e, refl)
 
 -- the row that was found has that record
 pub kept-is : {X Y : Type 0} (kept : X → Y) (o : Option X) (k : Y) (e : X) → option_map kept o ≡ Some k → o ≡ Some e → kept e ≡ k
-kept-is kept None k e has is = absurd cc
-kept-is kept (Some x) k e has is = let there : kept x ≡ k = cc in let same : x ≡ e = cc in ap kept (sym same) ∙ there
+kept-is kept o k e has is = grind (arith, nat_tests)
 
 -- # the next numbers of requests and nodes: none has them, and each is below them
 
@@ -57,18 +57,15 @@ same-seq a b same = let is : a.seq ≡ b.seq = ap (λ (x : RequestId). x.seq) (r
 module _ {X : Type 0} (before : X → X → Bool) where
   pub rises-remove_first : (p : X → Bool) (xs : List X) → Rises before xs → Rises before (remove_first p xs)
   rises-remove_first p [] rises = tt
-  rises-remove_first p (x ∷ xs) rises = by (p x) (rises-remove_first p xs rises.1) where
-    by : (b : Bool) → Rises before (remove_first p xs) → Rises before (cond b xs (x ∷ remove_first p xs))
-    by true later = rises.1
-    by false later = (all-remove_first (λ y. before x y ≡ true) p xs rises.0, later)
+  rises-remove_first p (x ∷ xs) rises = grind (arith, nat_tests, all-remove_first (λ y. before x y ≡ true) p xs rises.0, rises-remove_first p xs rises.1, rises.1)
 
   -- inserted before the first member that it is before, if each other one is before it
   pub rises-insert_before : ((a b k : X) → before a b ≡ true → before b k ≡ true → before a k ≡ true) → (new : X) (xs : List X) → AllByRecursion (λ x. before new x ≡ false → before x new ≡ true) xs → Rises before xs → Rises before (insert_before (λ x. before new x) new xs)
   rises-insert_before through new [] apart rises = (tt, tt)
-  rises-insert_before through new (x ∷ xs) apart rises = by (before new x) refl (rises-insert_before through new xs apart.1 rises.1) where
-    by : (b : Bool) → before new x ≡ b → Rises before (insert_before (λ y. before new y) new xs) → Rises before (cond b (new ∷ x ∷ xs) (x ∷ insert_before (λ y. before new y) new xs))
-    by true first rest = ((first, all-weaker (λ y. before x y ≡ true) (λ y. before new y ≡ true) (λ y order. through new x y first order) xs rises.0), rises)
-    by false later rest = (all-insert_before (λ y. before x y ≡ true) (λ y. before new y) new xs (apart.0 later) rises.0, rest)
+  rises-insert_before through new (x ∷ xs) apart rises =
+      by_bool (λ b. Rises before (cond b (new ∷ x ∷ xs) (x ∷ insert_before (λ y. before new y) new xs))) (before new x)
+      (λ first. ((first, all-weaker (λ y. before x y ≡ true) (λ y. before new y ≡ true) (λ y order. through new x y first order) xs rises.0), rises))
+      (λ later. (all-insert_before (λ y. before x y ≡ true) (λ y. before new y) new xs (apart.0 later) rises.0, rises-insert_before through new xs apart.1 rises.1))
 
   -- added at the end, after all others
   pub rises-push : (new : X) (xs : List X) → AllByRecursion (λ x. before x new ≡ true) xs → Rises before xs → Rises before (xs ++ new ∷ [])
@@ -81,61 +78,35 @@ module _ {X : Type 0} (before : X → X → Bool) where
 
 module _ {X : Type 0} (q : X → Bool) where
   -- a member that passes is changed
-  found-by : (p : X → Bool) (f : X → X) (x : X) (xs : List X) (b : Bool) → q x ≡ b → q (f x) ≡ b → find q (change_first p f xs) ≡ option_map f (find q xs) → find q (cond b (f x ∷ xs) (x ∷ change_first p f xs)) ≡ option_map f (find q (x ∷ xs))
-  found-by p f x xs true is kept later = rw (is, kept) refl
-  found-by p f x xs false is kept later = rw is later
-
   pub find-one : (p : X → Bool) (f : X → X) → ((x : X) → q (f x) ≡ q x) → ((x : X) → p x ≡ q x) → (xs : List X) → find q (change_first p f xs) ≡ option_map f (find q xs)
   find-one p f keeps alike [] = refl
-  find-one p f keeps alike (x ∷ xs) = by (p x) (sym (alike x)) (find-one p f keeps alike xs) where
-    by : (b : Bool) → q x ≡ b → find q (change_first p f xs) ≡ option_map f (find q xs) → find q (cond b (f x ∷ xs) (x ∷ change_first p f xs)) ≡ option_map f (find q (x ∷ xs))
-    by b is later = found-by p f x xs b is (keeps x ∙ is) later
+  find-one p f keeps alike (x ∷ xs) = grind (arith, nat_tests, keeps x, alike x, find-one p f keeps alike xs)
 
   -- a member that does not pass is changed
   pub find-others : (p : X → Bool) (f : X → X) → ((x : X) → q (f x) ≡ q x) → ((x : X) → p x ≡ true → q x ≡ false) → (xs : List X) → find q (change_first p f xs) ≡ find q xs
   find-others p f keeps apart [] = refl
-  find-others p f keeps apart (x ∷ xs) = by (p x) refl (find-others p f keeps apart xs) where
-    by : (b : Bool) → p x ≡ b → find q (change_first p f xs) ≡ find q xs → find q (cond b (f x ∷ xs) (x ∷ change_first p f xs)) ≡ find q (x ∷ xs)
-    by true is later = let fails : q x ≡ false = apart x is in let after : q (f x) ≡ false = keeps x ∙ fails in rw (fails, after) refl
-    by false is later = ap (λ (o : Option X). cond (q x) (Some x) o) later
+  find-others p f keeps apart (x ∷ xs) = grind (arith, nat_tests, keeps x, apart x, find-others p f keeps apart xs)
 
   -- a member that does not pass is removed
   pub find-without : (p : X → Bool) → ((x : X) → p x ≡ true → q x ≡ false) → (xs : List X) → find q (remove_first p xs) ≡ find q xs
   find-without p apart [] = refl
-  find-without p apart (x ∷ xs) = by (p x) refl (find-without p apart xs) where
-    by : (b : Bool) → p x ≡ b → find q (remove_first p xs) ≡ find q xs → find q (cond b xs (x ∷ remove_first p xs)) ≡ find q (x ∷ xs)
-    by true is later = rw (apart x is) refl
-    by false is later = ap (λ (o : Option X). cond (q x) (Some x) o) later
+  find-without p apart (x ∷ xs) = grind (arith, nat_tests, apart x, find-without p apart xs)
 
   -- a member that passes is removed, and no two pass
   pub find-gone : (p : X → Bool) (before : X → X → Bool) → ((x : X) → p x ≡ q x) → ((x y : X) → before x y ≡ true → q x ≡ true → q y ≡ false) → (xs : List X) → Rises before xs → find q (remove_first p xs) ≡ None
   find-gone p before alike once [] rises = refl
-  find-gone p before alike once (x ∷ xs) rises = by (p x) (sym (alike x)) (find-gone p before alike once xs rises.1) where
-    by : (b : Bool) → q x ≡ b → find q (remove_first p xs) ≡ None → find q (cond b xs (x ∷ remove_first p xs)) ≡ None
-    by true is later = find-none q xs (all-weaker (λ y. before x y ≡ true) (λ y. q y ≡ false) (λ y order. once x y order is) xs rises.0)
-    by false is later = rw is later
+  find-gone p before alike once (x ∷ xs) rises =
+      let none : q x ≡ true → find q xs ≡ None = λ is. find-none q xs (all-weaker (λ y. before x y ≡ true) (λ y. q y ≡ false) (λ y order. once x y order is) xs rises.0) in
+      grind (arith, nat_tests, alike x, none, find-gone p before alike once xs rises.1)
 
   -- a member that passes is added, and no other passes
   pub find-new : (before : X → Bool) (new : X) (xs : List X) → q new ≡ true → find q xs ≡ None → find q (insert_before before new xs) ≡ Some new
   find-new before new [] is none = rw is refl
-  find-new before new (x ∷ xs) is none = by (q x) refl (λ rest. find-new before new xs is rest) where
-    skips : q x ≡ false → find q (x ∷ xs) ≡ find q xs
-    skips out = rw out refl
-
-    place : (c : Bool) → q x ≡ false → find q (insert_before before new xs) ≡ Some new → find q (cond c (new ∷ x ∷ xs) (x ∷ insert_before before new xs)) ≡ Some new
-    place true fails later = rw is refl
-    place false fails later = rw fails later
-
-    by : (b : Bool) → q x ≡ b → (find q xs ≡ None → find q (insert_before before new xs) ≡ Some new) → find q (cond (before x) (new ∷ x ∷ xs) (x ∷ insert_before before new xs)) ≡ Some new
-    by true passes later = let some : find q (x ∷ xs) ≡ Some x = rw passes refl in absurd (let e : Some x ≡ None = sym some ∙ none in cc)
-    by false fails later = place (before x) fails (later (sym (skips fails) ∙ none))
+  find-new before new (x ∷ xs) is none = grind (arith, nat_tests, find-new before new xs)
 
   pub find-push : (new : X) (x : X) (xs : List X) → find q xs ≡ Some x → find q (xs ++ new ∷ []) ≡ Some x
   find-push new x [] is = absurd cc
-  find-push new x (y ∷ xs) is = by (q y) refl (λ rest. find-push new x xs rest) where
-    by : (b : Bool) → q y ≡ b → (find q xs ≡ Some x → find q (xs ++ new ∷ []) ≡ Some x) → find q (y ∷ xs ++ new ∷ []) ≡ Some x
-    by true here later = let some : find q (y ∷ xs) ≡ Some y = rw here refl in let same : Some y ≡ Some x = sym some ∙ is in rw here same
-    by false here later = let skips : find q (y ∷ xs) ≡ find q xs = rw here refl in rw here (later (sym skips ∙ is))
+  find-push new x (y ∷ xs) is = grind (arith, nat_tests, find-push new x xs)
 
   pub find-push_other : (new : X) (xs : List X) → q new ≡ false → find q (xs ++ new ∷ []) ≡ find q xs
   find-push_other new [] other = rw other refl
@@ -143,10 +114,7 @@ module _ {X : Type 0} (q : X → Bool) where
 
   pub find-push_new : (new : X) (xs : List X) → q new ≡ true → find q xs ≡ None → find q (xs ++ new ∷ []) ≡ Some new
   find-push_new new [] is none = rw is refl
-  find-push_new new (x ∷ xs) is none = by (q x) refl (λ rest. find-push_new new xs is rest) where
-    by : (b : Bool) → q x ≡ b → (find q xs ≡ None → find q (xs ++ new ∷ []) ≡ Some new) → find q (x ∷ xs ++ new ∷ []) ≡ Some new
-    by true here later = let some : find q (x ∷ xs) ≡ Some x = rw here refl in absurd (let e : Some x ≡ None = sym some ∙ none in cc)
-    by false here later = let skips : find q (x ∷ xs) ≡ find q xs = rw here refl in rw here (later (sym skips ∙ none))
+  find-push_new new (x ∷ xs) is none = grind (arith, nat_tests, find-push_new new xs)
 
 -- ## rows by their ids
 
@@ -174,35 +142,19 @@ module _ {I K : Type 0} (same : I → I → Bool) (equal : (a b : I) → same a 
 
   pub kept-changed : (a r : I) (f : Locked I K → Locked I K) (g : K → K) → ((e : Locked I K) → (f e).id ≡ e.id) → ((e : Locked I K) → (f e).kept ≡ g e.kept) → (rows : List (Locked I K)) →
       kept_of r (change_first (λ e. same e.id a) f rows) ≡ option_map (λ k. cond (same a r) (g k) k) (kept_of r rows)
-  kept-changed a r f g ids keeps rows = ap (λ (o : Option (Locked I K)). option_map (λ e. e.kept) o) (row-changed a r f ids rows) ∙ by (same a r) (row_of r rows) where
-    by : (b : Bool) (o : Option (Locked I K)) → option_map (λ e. e.kept) (option_map (λ e. cond b (f e) e) o) ≡ option_map (λ k. cond b (g k) k) (option_map (λ (e : Locked I K). e.kept) o)
-    by b None = refl
-    by true (Some e) = ap Some (keeps e)
-    by false (Some e) = refl
+  kept-changed a r f g ids keeps rows = grind (arith, nat_tests, row-changed a r f ids rows, keeps)
 
   -- a change that keeps records keeps what is found
   pub kept-same : (a r : I) (f : Locked I K → Locked I K) → ((e : Locked I K) → (f e).id ≡ e.id) → ((e : Locked I K) → (f e).kept ≡ e.kept) → (rows : List (Locked I K)) → kept_of r (change_first (λ e. same e.id a) f rows) ≡ kept_of r rows
-  kept-same a r f ids keeps rows = kept-changed a r f (λ k. k) ids keeps rows ∙ by (same a r) (kept_of r rows) where
-    by : (b : Bool) (o : Option K) → option_map (λ k. cond b k k) o ≡ o
-    by b None = refl
-    by true (Some k) = refl
-    by false (Some k) = refl
+  kept-same a r f ids keeps rows = grind (arith, nat_tests, row-changed a r f ids rows, keeps)
 
   pub queue-changed : (a r : I) (f : Locked I K → Locked I K) (g : List SessionId → List SessionId) (k : K) → ((e : Locked I K) → (f e).id ≡ e.id) → ((e : Locked I K) → (f e).queue ≡ g e.queue) → (rows : List (Locked I K)) → kept_of r rows ≡ Some k →
       queue_of r (change_first (λ e. same e.id a) f rows) ≡ cond (same a r) (g (queue_of r rows)) (queue_of r rows)
-  queue-changed a r f g k ids keeps rows is = ap (λ (o : Option (Locked I K)). option_map_or (λ e. e.queue) o []) (row-changed a r f ids rows) ∙ by (same a r) (row_of r rows) is where
-    by : (b : Bool) (o : Option (Locked I K)) → option_map (λ (e : Locked I K). e.kept) o ≡ Some k → option_map_or (λ e. e.queue) (option_map (λ e. cond b (f e) e) o) [] ≡ cond b (g (option_map_or (λ (e : Locked I K). e.queue) o [])) (option_map_or (λ (e : Locked I K). e.queue) o [])
-    by b None none = absurd cc
-    by true (Some e) there = keeps e
-    by false (Some e) there = refl
+  queue-changed a r f g k ids keeps rows is = grind (arith, nat_tests, row-changed a r f ids rows, keeps)
 
   -- a change that keeps queues keeps what is found
   pub queue-same : (a r : I) (f : Locked I K → Locked I K) → ((e : Locked I K) → (f e).id ≡ e.id) → ((e : Locked I K) → (f e).queue ≡ e.queue) → (rows : List (Locked I K)) → queue_of r (change_first (λ e. same e.id a) f rows) ≡ queue_of r rows
-  queue-same a r f ids keeps rows = ap (λ (o : Option (Locked I K)). option_map_or (λ e. e.queue) o []) (row-changed a r f ids rows) ∙ by (same a r) (row_of r rows) where
-    by : (b : Bool) (o : Option (Locked I K)) → option_map_or (λ e. e.queue) (option_map (λ e. cond b (f e) e) o) [] ≡ option_map_or (λ (e : Locked I K). e.queue) o []
-    by b None = refl
-    by true (Some e) = keeps e
-    by false (Some e) = refl
+  queue-same a r f ids keeps rows = grind (arith, nat_tests, row-changed a r f ids rows, keeps)
 
   pub queue-nowhere : (r : I) (rows : List (Locked I K)) → kept_of r rows ≡ None → queue_of r rows ≡ []
   queue-nowhere r rows is = grind (arith, nat_tests)
@@ -224,39 +176,18 @@ module _ {I K : Type 0} (same : I → I → Bool) (equal : (a b : I) → same a 
   row-mapped r f ids rows = find-map (λ (e : Locked I K). same e.id r) f (λ e. ap (λ (x : I). same x r) (ids e)) rows
 
   pub kept-mapped : (r : I) (f : Locked I K → Locked I K) (g : K → K) → ((e : Locked I K) → (f e).id ≡ e.id) → ((e : Locked I K) → (f e).kept ≡ g e.kept) → (rows : List (Locked I K)) → kept_of r (map f rows) ≡ option_map g (kept_of r rows)
-  kept-mapped r f g ids keeps rows = ap (λ (o : Option (Locked I K)). option_map (λ e. e.kept) o) (row-mapped r f ids rows) ∙ by (row_of r rows) where
-    by : (o : Option (Locked I K)) → option_map (λ (e : Locked I K). e.kept) (option_map f o) ≡ option_map g (option_map (λ (e : Locked I K). e.kept) o)
-    by None = refl
-    by (Some e) = ap Some (keeps e)
+  kept-mapped r f g ids keeps rows = grind (arith, nat_tests, row-mapped r f ids rows, keeps)
 
   pub kept-mapped_same : (r : I) (f : Locked I K → Locked I K) → ((e : Locked I K) → (f e).id ≡ e.id) → ((e : Locked I K) → (f e).kept ≡ e.kept) → (rows : List (Locked I K)) → kept_of r (map f rows) ≡ kept_of r rows
-  kept-mapped_same r f ids keeps rows = kept-mapped r f (λ k. k) ids keeps rows ∙ by (kept_of r rows) where
-    by : (o : Option K) → option_map (λ k. k) o ≡ o
-    by None = refl
-    by (Some k) = refl
+  kept-mapped_same r f ids keeps rows = grind (arith, nat_tests, row-mapped r f ids rows, keeps)
 
   pub queue-mapped : (r : I) (f : Locked I K → Locked I K) (g : List SessionId → List SessionId) → ((e : Locked I K) → (f e).id ≡ e.id) → ((e : Locked I K) → (f e).queue ≡ g e.queue) → g [] ≡ [] → (rows : List (Locked I K)) → queue_of r (map f rows) ≡ g (queue_of r rows)
-  queue-mapped r f g ids keeps none rows = ap (λ (o : Option (Locked I K)). option_map_or (λ e. e.queue) o []) (row-mapped r f ids rows) ∙ by (row_of r rows) where
-    by : (o : Option (Locked I K)) → option_map_or (λ (e : Locked I K). e.queue) (option_map f o) [] ≡ g (option_map_or (λ (e : Locked I K). e.queue) o [])
-    by None = sym none
-    by (Some e) = keeps e
+  queue-mapped r f g ids keeps none rows = grind (arith, nat_tests, row-mapped r f ids rows, keeps)
 
   -- ### one more
 
-  pub row-inserted : (before : Locked I K → Bool) (new : Locked I K) (r : I) (rows : List (Locked I K)) → same new.id r ≡ false → row_of r (insert_before before new rows) ≡ row_of r rows
-  row-inserted before new r rows other = find-insert_before (λ (e : Locked I K). same e.id r) before new rows other
-
-  pub row-new : (before : Locked I K → Bool) (new : Locked I K) (r : I) (rows : List (Locked I K)) → same new.id r ≡ true → kept_of r rows ≡ None → row_of r (insert_before before new rows) ≡ Some new
-  row-new before new r rows is none = find-new (λ (e : Locked I K). same e.id r) before new rows is (row-nowhere r rows none)
-
   pub row-pushed : (new : Locked I K) (r : I) (k : K) (rows : List (Locked I K)) → kept_of r rows ≡ Some k → row_of r (rows ++ new ∷ []) ≡ row_of r rows
   row-pushed new r k rows is = let there = row-there r k rows is in find-push (λ (e : Locked I K). same e.id r) new there.0 rows there.1.0 ∙ sym there.1.0
-
-  pub row-pushed_other : (new : Locked I K) (r : I) (rows : List (Locked I K)) → same new.id r ≡ false → row_of r (rows ++ new ∷ []) ≡ row_of r rows
-  row-pushed_other new r rows other = find-push_other (λ (e : Locked I K). same e.id r) new rows other
-
-  pub row-pushed_new : (new : Locked I K) (r : I) (rows : List (Locked I K)) → same new.id r ≡ true → kept_of r rows ≡ None → row_of r (rows ++ new ∷ []) ≡ Some new
-  row-pushed_new new r rows is none = find-push_new (λ (e : Locked I K). same e.id r) new rows is (row-nowhere r rows none)
 
   -- ### one less
 
@@ -273,11 +204,8 @@ module _ {I K : Type 0} (same : I → I → Bool) (equal : (a b : I) → same a 
   module _ (number : I → ℕ) (next : ℕ) (rows : List (Locked I K)) (all : AllByRecursion (λ e. number e.id < next) rows) where
     pub kept-later : (r : I) → next ≤ number r → kept_of r rows ≡ None
     kept-later r late =
-        ap (λ (o : Option (Locked I K)). option_map (λ e. e.kept) o)
-        (find-none (λ (e : Locked I K). same e.id r) rows (all-weaker (λ (e : Locked I K). number e.id < next) (λ e. same e.id r ≡ false) (λ e low. by e low (same e.id r) refl) rows all)) where
-          by : (e : Locked I K) → number e.id < next → (b : Bool) → same e.id r ≡ b → same e.id r ≡ false
-          by e low true is = absurd (let here : number e.id ≡ number r = ap number (equal e.id r is) in omega arith)
-          by e low false is = is
+        let none : find (λ (e : Locked I K). same e.id r) rows ≡ None = find-none _ rows (all-weaker (λ (e : Locked I K). number e.id < next) (λ e. same e.id r ≡ false) (λ e low. grind (arith, nat_tests, equal e.id r)) rows all) in
+        rw none refl
 
     pub kept-below : (r : I) (k : K) → kept_of r rows ≡ Some k → number r < next
     kept-below r k is =
@@ -316,10 +244,10 @@ pub request_in-left : (session : SessionId) (r : RequestId) (rows : List Request
 request_in-left session r rows = kept-mapped_same same_request request-equal r (request_left session) (λ e. refl) (λ e. refl) rows
 
 pub request_in-insert : (new : RequestEntry) (r : RequestId) (rows : List RequestEntry) → same_request new.id r ≡ false → request_in r (insert_request new rows) ≡ request_in r rows
-request_in-insert new r rows other = ap (λ (o : Option RequestEntry). option_map (λ e. e.kept) o) (row-inserted same_request request-equal (λ e. is_id_before new.id e.id) new r rows other)
+request_in-insert new r rows other = ap (λ (o : Option RequestEntry). option_map (λ e. e.kept) o) (find-insert_before (λ e. same_request e.id r) (λ e. is_id_before new.id e.id) new rows other)
 
 pub request_in-new : (new : RequestEntry) (r : RequestId) (rows : List RequestEntry) → same_request new.id r ≡ true → request_in r rows ≡ None → request_in r (insert_request new rows) ≡ Some new.kept
-request_in-new new r rows same none = ap (λ (o : Option RequestEntry). option_map (λ e. e.kept) o) (row-new same_request request-equal (λ e. is_id_before new.id e.id) new r rows same none)
+request_in-new new r rows same none = ap (λ (o : Option RequestEntry). option_map (λ e. e.kept) o) (find-new (λ e. same_request e.id r) (λ e. is_id_before new.id e.id) new rows same (row-nowhere same_request request-equal r rows none))
 
 pub request_in-remove : (r0 r : RequestId) (rows : List RequestEntry) → same_request r0 r ≡ false → request_in r (remove_request r0 rows) ≡ request_in r rows
 request_in-remove r0 r rows other = ap (λ (o : Option RequestEntry). option_map (λ e. e.kept) o) (row-removed_other same_request request-equal r0 r rows other)
@@ -348,10 +276,10 @@ pub request_queue-left : (session : SessionId) (r : RequestId) (rows : List Requ
 request_queue-left session r rows = queue-mapped same_request request-equal r (request_left session) (left session) (λ e. refl) (λ e. refl) refl rows
 
 pub request_queue-insert : (new : RequestEntry) (r : RequestId) (rows : List RequestEntry) → same_request new.id r ≡ false → request_queue r (insert_request new rows) ≡ request_queue r rows
-request_queue-insert new r rows other = ap (λ (o : Option RequestEntry). option_map_or (λ e. e.queue) o []) (row-inserted same_request request-equal (λ e. is_id_before new.id e.id) new r rows other)
+request_queue-insert new r rows other = ap (λ (o : Option RequestEntry). option_map_or (λ e. e.queue) o []) (find-insert_before (λ e. same_request e.id r) (λ e. is_id_before new.id e.id) new rows other)
 
 pub request_queue-new : (new : RequestEntry) (r : RequestId) (rows : List RequestEntry) → same_request new.id r ≡ true → request_in r rows ≡ None → request_queue r (insert_request new rows) ≡ new.queue
-request_queue-new new r rows same none = ap (λ (o : Option RequestEntry). option_map_or (λ e. e.queue) o []) (row-new same_request request-equal (λ e. is_id_before new.id e.id) new r rows same none)
+request_queue-new new r rows same none = ap (λ (o : Option RequestEntry). option_map_or (λ e. e.queue) o []) (find-new (λ e. same_request e.id r) (λ e. is_id_before new.id e.id) new rows same (row-nowhere same_request request-equal r rows none))
 
 pub request_queue-remove : (r0 r : RequestId) (rows : List RequestEntry) → same_request r0 r ≡ false → request_queue r (remove_request r0 rows) ≡ request_queue r rows
 request_queue-remove r0 r rows other = ap (λ (o : Option RequestEntry). option_map_or (λ e. e.queue) o []) (row-removed_other same_request request-equal r0 r rows other)
@@ -376,14 +304,11 @@ node_in-left session n nodes = kept-mapped_same same_node same_node-is n (node_l
 pub freed-id : (r : RequestId) (e : NodeEntry) → (freed_from r e).id ≡ e.id
 freed-id r e = grind (arith, nat_tests)
 
-freed-kept : (r : RequestId) (e : NodeEntry) → (freed_from r e).kept ≡ cond (is_request r e.kept.allocated_to) (freed e.kept) e.kept
-freed-kept r e = grind (arith, nat_tests)
-
 pub freed-queue : (r : RequestId) (e : NodeEntry) → (freed_from r e).queue ≡ e.queue
 freed-queue r e = grind (arith, nat_tests)
 
 pub node_in-freed : (r : RequestId) (n : NodeId) (nodes : List NodeEntry) → node_in n (all_freed r nodes) ≡ option_map (λ k. cond (is_request r k.allocated_to) (freed k) k) (node_in n nodes)
-node_in-freed r n nodes = kept-mapped same_node same_node-is n (freed_from r) (λ k. cond (is_request r k.allocated_to) (freed k) k) (freed-id r) (freed-kept r) nodes
+node_in-freed r n nodes = kept-mapped same_node same_node-is n (freed_from r) (λ k. cond (is_request r k.allocated_to) (freed k) k) (freed-id r) (λ e. grind (arith, nat_tests)) nodes
 
 -- in use from the tick
 abbrev pub used_from : ℕ → NodeRecord → NodeRecord
@@ -392,22 +317,13 @@ used_from tick k = record k { since = tick; state = NodeState.InUse }
 pub node_in-in_use : (tick : ℕ) (numbers : List NodeId) (n : NodeId) (nodes : List NodeEntry) → node_in n (all_in_use tick numbers nodes) ≡ option_map (λ k. cond (list_any (λ m. m.0 == n.0) numbers) (used_from tick k) k) (node_in n nodes)
 node_in-in_use tick [] n nodes = grind (arith, nat_tests)
 node_in-in_use tick (m ∷ numbers) n nodes =
-    node_in-in_use tick numbers n (change_first (λ e. e.id.0 == m.0) (in_use tick) nodes)
-    ∙ ap (λ (o : Option NodeRecord). option_map (λ k. cond (list_any (λ m. m.0 == n.0) numbers) (used_from tick k) k) o) (kept-changed same_node same_node-is m n (in_use tick) (used_from tick) (λ e. refl) (λ e. refl) nodes)
-    ∙ by (m.0 == n.0) (list_any (λ m. m.0 == n.0) numbers) (node_in n nodes)
-  where
-    by : (a b : Bool) (o : Option NodeRecord) → option_map (λ k. cond b (used_from tick k) k) (option_map (λ k. cond a (used_from tick k) k) o) ≡ option_map (λ k. cond (a || b) (used_from tick k) k) o
-    by a b None = refl
-    by true true (Some k) = refl
-    by true false (Some k) = refl
-    by false true (Some k) = refl
-    by false false (Some k) = refl
+    grind (arith, nat_tests, node_in-in_use tick numbers n (change_first (λ e. e.id.0 == m.0) (in_use tick) nodes), kept-changed same_node same_node-is m n (in_use tick) (used_from tick) (λ e. refl) (λ e. refl) nodes)
 
 pub node_in-other : (new : NodeEntry) (n : NodeId) (nodes : List NodeEntry) → (new.id.0 == n.0) ≡ false → node_in n (nodes ++ new ∷ []) ≡ node_in n nodes
-node_in-other new n nodes other = ap (λ (o : Option NodeEntry). option_map (λ e. e.kept) o) (row-pushed_other same_node same_node-is new n nodes other)
+node_in-other new n nodes other = ap (λ (o : Option NodeEntry). option_map (λ e. e.kept) o) (find-push_other (λ e. same_node e.id n) new nodes other)
 
 pub node_in-new : (new : NodeEntry) (n : NodeId) (nodes : List NodeEntry) → (new.id.0 == n.0) ≡ true → node_in n nodes ≡ None → node_in n (nodes ++ new ∷ []) ≡ Some new.kept
-node_in-new new n nodes same none = ap (λ (o : Option NodeEntry). option_map (λ e. e.kept) o) (row-pushed_new same_node same_node-is new n nodes same none)
+node_in-new new n nodes same none = ap (λ (o : Option NodeEntry). option_map (λ e. e.kept) o) (find-push_new (λ e. same_node e.id n) new nodes same (row-nowhere same_node same_node-is n nodes none))
 
 pub node_in-remove : (n0 n : NodeId) (nodes : List NodeEntry) → (n0.0 == n.0) ≡ false → node_in n (remove_node n0 nodes) ≡ node_in n nodes
 node_in-remove n0 n nodes other = ap (λ (o : Option NodeEntry). option_map (λ e. e.kept) o) (row-removed_other same_node same_node-is n0 n nodes other)
@@ -451,10 +367,10 @@ pub node_queue-push : (new : NodeEntry) (n : NodeId) (k : NodeRecord) (nodes : L
 node_queue-push new n k nodes is = ap (λ (o : Option NodeEntry). option_map_or (λ e. e.queue) o []) (row-pushed same_node same_node-is new n k nodes is)
 
 pub node_queue-other : (new : NodeEntry) (n : NodeId) (nodes : List NodeEntry) → (new.id.0 == n.0) ≡ false → node_queue n (nodes ++ new ∷ []) ≡ node_queue n nodes
-node_queue-other new n nodes other = ap (λ (o : Option NodeEntry). option_map_or (λ e. e.queue) o []) (row-pushed_other same_node same_node-is new n nodes other)
+node_queue-other new n nodes other = ap (λ (o : Option NodeEntry). option_map_or (λ e. e.queue) o []) (find-push_other (λ e. same_node e.id n) new nodes other)
 
 pub node_queue-new : (new : NodeEntry) (n : NodeId) (nodes : List NodeEntry) → (new.id.0 == n.0) ≡ true → node_in n nodes ≡ None → node_queue n (nodes ++ new ∷ []) ≡ new.queue
-node_queue-new new n nodes same none = ap (λ (o : Option NodeEntry). option_map_or (λ e. e.queue) o []) (row-pushed_new same_node same_node-is new n nodes same none)
+node_queue-new new n nodes same none = ap (λ (o : Option NodeEntry). option_map_or (λ e. e.queue) o []) (find-push_new (λ e. same_node e.id n) new nodes same (row-nowhere same_node same_node-is n nodes none))
 
 pub node_queue-remove : (n0 n : NodeId) (nodes : List NodeEntry) → (n0.0 == n.0) ≡ false → node_queue n (remove_node n0 nodes) ≡ node_queue n nodes
 node_queue-remove n0 n nodes other = ap (λ (o : Option NodeEntry). option_map_or (λ e. e.queue) o []) (row-removed_other same_node same_node-is n0 n nodes other)
@@ -463,6 +379,12 @@ pub node_queue-removed : (n0 n : NodeId) (nodes : List NodeEntry) → Rises (λ 
 node_queue-removed n0 n nodes rises same = ap (λ (o : Option NodeEntry). option_map_or (λ e. e.queue) o []) (row-removed same_node same_node-is is_node_before later-node-apart n0 n nodes rises same)
 
 -- # the requests and the nodes stay in the order of their numbers, below the next ones
+
+-- ## the same ids
+
+pub ids-change_first : {I K : Type 0} (p : Locked I K → Bool) (f : Locked I K → Locked I K) → ((e : Locked I K) → (f e).id ≡ e.id) → (rows : List (Locked I K)) → map (λ e. e.id) rows ≡ map (λ e. e.id) (change_first p f rows)
+ids-change_first p f keeps [] = refl
+ids-change_first p f keeps (e ∷ rows) = grind (arith, nat_tests, keeps e, ids-change_first p f keeps rows)
 
 -- ## rows in the order of their ids
 
@@ -484,6 +406,14 @@ module _ {I K : Type 0} (before : I → I → Bool) (number : I → ℕ) where
     below = all-remove_first (λ (e : Locked I K). number e.id < next) p rows old.below;
   }
 
+  -- one row changed
+  pub ordered-changed : (next : ℕ) (p : Locked I K → Bool) (f : Locked I K → Locked I K) → ((e : Locked I K) → (f e).id ≡ e.id) → (rows : List (Locked I K)) → IsOrdered next rows → IsOrdered next (change_first p f rows)
+  ordered-changed next p f keeps rows old = ordered-ids next rows (change_first p f rows) (ids-change_first p f keeps rows) old
+
+  -- all rows changed
+  pub ordered-mapped : (next : ℕ) (f : Locked I K → Locked I K) → ((e : Locked I K) → (f e).id ≡ e.id) → (rows : List (Locked I K)) → IsOrdered next rows → IsOrdered next (map f rows)
+  ordered-mapped next f keeps rows old = ordered-ids next rows (map f rows) (map-keys (λ (e : Locked I K). e.id) f rows keeps) old
+
   -- a new row at its place
   pub ordered-inserted : ((a b k : I) → before a b ≡ true → before b k ≡ true → before a k ≡ true) → ((a b : I) → number a < number b → before b a ≡ false → before a b ≡ true)
       → (next : ℕ) (new : Locked I K) (rows : List (Locked I K)) → number new.id ≡ next → IsOrdered next rows → IsOrdered (next + 1) (insert_before (λ e. before new.id e.id) new rows)
@@ -499,97 +429,63 @@ module _ {I K : Type 0} (before : I → I → Bool) (number : I → ℕ) where
     below = all-push (λ (e : Locked I K). number e.id < next + 1) rows new (all-weaker (λ (e : Locked I K). number e.id < next) (λ (e : Locked I K). number e.id < next + 1) (λ e low. omega arith) rows old.below) (omega arith);
   }
 
--- ## the same ids
-
-pub ids-change_first : {I K : Type 0} (p : Locked I K → Bool) (f : Locked I K → Locked I K) → ((e : Locked I K) → (f e).id ≡ e.id) → (rows : List (Locked I K)) → map (λ e. e.id) rows ≡ map (λ e. e.id) (change_first p f rows)
-ids-change_first p f keeps [] = refl
-ids-change_first {I} {K} p f keeps (e ∷ rows) = by (p e) (ids-change_first p f keeps rows) where
-  by : (b : Bool) → map (λ (x : Locked I K). x.id) rows ≡ map (λ (x : Locked I K). x.id) (change_first p f rows) → e.id ∷ map (λ (x : Locked I K). x.id) rows ≡ map (λ (x : Locked I K). x.id) (cond b (f e ∷ rows) (e ∷ change_first p f rows))
-  by true later = ap (λ (i : I). i ∷ map (λ (x : Locked I K). x.id) rows) (sym (keeps e))
-  by false later = ap (λ (is : List I). e.id ∷ is) later
-
 -- ## requests
 
 abbrev RequestsOrdered : ℕ → List RequestEntry → Type 0
 RequestsOrdered next rows = IsOrdered is_id_before (λ (r : RequestId). r.seq) next rows
 
-through_ids : (a b k : RequestId) → is_id_before a b ≡ true → is_id_before b k ≡ true → is_id_before a k ≡ true
-through_ids a b k first second = grind (arith, nat_tests)
-
-past_id : (a b : RequestId) → a.seq < b.seq → is_id_before b a ≡ false → is_id_before a b ≡ true
-past_id a b low out = grind (arith, nat_tests)
-
-edited-rows : (next : ℕ) (p : RequestEntry → Bool) (f : RequestEntry → RequestEntry) → ((e : RequestEntry) → (f e).id ≡ e.id) → (rows : List RequestEntry) → RequestsOrdered next rows → RequestsOrdered next (change_first p f rows)
-edited-rows next p f keeps rows old = ordered-ids is_id_before (λ (r : RequestId). r.seq) next rows (change_first p f rows) (ids-change_first p f keeps rows) old
-
 requests-grown : (c : Configuration) (maker : Option Maker) (growth : Growth) (s : State) → RequestsOrdered s.next_request s.requests → RequestsOrdered (grown c maker growth s).next_request (grown c maker growth s).requests
 requests-grown c None (Growth.Registration p) s old = old
 requests-grown c (Some maker) (Growth.Registration p) s old = old
-requests-grown c maker (Growth.Request priority asked) s old = ordered-inserted is_id_before (λ (r : RequestId). r.seq) through_ids past_id s.next_request _ s.requests refl old
-requests-grown c (Some maker) (Growth.JoinRequest r) s old =
-    edited-rows s.next_request (λ e. same_request e.id r) (λ e. record e { queue = joined maker.session (request_queue r s.requests) }) (λ e. refl) s.requests old
+requests-grown c maker (Growth.Request priority asked) s old =
+    ordered-inserted is_id_before (λ (r : RequestId). r.seq) (λ a b k first second. grind (arith, nat_tests)) (λ a b low out. grind (arith, nat_tests)) s.next_request _ s.requests refl old
+requests-grown c (Some maker) (Growth.JoinRequest r) s old = ordered-changed _ _ _ _ _ (λ e. refl) _ old
 requests-grown c maker _ s old = old
 
 requests-settled : (next : ℕ) (maker : Option Maker) (change : RequestsChange) (rows : List RequestEntry) → RequestsOrdered next rows → RequestsOrdered next (requests_changed maker change rows)
-requests-settled next maker (RequestsChange.Edit r edit) rows old = edited-rows next (λ e. same_request e.id r) (λ e. record e { kept = edited edit e.kept }) (λ e. refl) rows old
-requests-settled next maker (RequestsChange.Remove r) rows old = ordered-removed is_id_before (λ (r : RequestId). r.seq) next (λ e. same_request e.id r) rows old
-requests-settled next (Some maker) (RequestsChange.Leave r) rows old =
-    edited-rows next (λ e. same_request e.id r) (λ e. record e { queue = left maker.session (request_queue r rows) }) (λ e. refl) rows old
+requests-settled next maker (RequestsChange.Edit r edit) rows old = ordered-changed _ _ _ _ _ (λ e. refl) _ old
+requests-settled next maker (RequestsChange.Remove r) rows old = ordered-removed _ _ _ _ _ old
+requests-settled next (Some maker) (RequestsChange.Leave r) rows old = ordered-changed _ _ _ _ _ (λ e. refl) _ old
 requests-settled next maker _ rows old = old
 
 requests-after_end : (next : ℕ) (change : SessionsChange) (rows : List RequestEntry) → RequestsOrdered next rows → RequestsOrdered next (requests_left change rows)
-requests-after_end next (SessionsChange.End session) rows old = ordered-ids is_id_before (λ (r : RequestId). r.seq) next rows (map (request_left session) rows) (map-keys (λ (e : RequestEntry). e.id) (request_left session) rows (λ e. refl)) old
+requests-after_end next (SessionsChange.End session) rows old = ordered-mapped _ _ _ _ (λ e. refl) _ old
 requests-after_end next _ rows old = old
 
 -- ## nodes
 
-abbrev is_node_numbered_before : NodeId → NodeId → Bool
-is_node_numbered_before a b = nat_lt a.0 b.0
-
 abbrev NodesOrdered : ℕ → List NodeEntry → Type 0
-NodesOrdered next rows = IsOrdered is_node_numbered_before (λ (n : NodeId). n.0) next rows
-
-up_node : (a b : NodeId) → a.0 < b.0 → is_node_numbered_before a b ≡ true
-up_node a b low = grind (arith, nat_tests)
-
-node-rows : (next : ℕ) (p : NodeEntry → Bool) (f : NodeEntry → NodeEntry) → ((e : NodeEntry) → (f e).id ≡ e.id) → (rows : List NodeEntry) → NodesOrdered next rows → NodesOrdered next (change_first p f rows)
-node-rows next p f keeps rows old = ordered-ids is_node_numbered_before (λ (n : NodeId). n.0) next rows (change_first p f rows) (ids-change_first p f keeps rows) old
+NodesOrdered next rows = IsOrdered is_node_before (λ (n : NodeId). n.0) next rows
 
 nodes-grown : (c : Configuration) (maker : Option Maker) (growth : Growth) (s : State) → NodesOrdered s.next_node s.nodes → NodesOrdered (grown c maker growth s).next_node (grown c maker growth s).nodes
 nodes-grown c None (Growth.Registration p) s old = old
 nodes-grown c (Some maker) (Growth.Registration p) s old = old
-nodes-grown c maker (Growth.Node kept) s old = ordered-pushed is_node_numbered_before (λ (n : NodeId). n.0) up_node s.next_node _ s.nodes refl old
-nodes-grown c (Some maker) (Growth.JoinNode n) s old =
-    node-rows s.next_node (λ e. e.id.0 == n.0) (λ e. record e { queue = joined maker.session (node_queue n s.nodes) }) (λ e. refl) s.nodes old
-nodes-grown c (Some maker) (Growth.Allocate n r tenant) s old = node-rows s.next_node (λ e. e.id.0 == n.0) (allocated r tenant maker.session) (λ e. refl) s.nodes old
+nodes-grown c maker (Growth.Node kept) s old = ordered-pushed is_node_before (λ (n : NodeId). n.0) (λ a b low. grind (arith, nat_tests)) s.next_node _ s.nodes refl old
+nodes-grown c (Some maker) (Growth.JoinNode n) s old = ordered-changed _ _ _ _ _ (λ e. refl) _ old
+nodes-grown c (Some maker) (Growth.Allocate n r tenant) s old = ordered-changed _ _ _ _ _ (λ e. refl) _ old
 nodes-grown c maker _ s old = old
 
 nodes-in_use : (next tick : ℕ) (numbers : List NodeId) (rows : List NodeEntry) → NodesOrdered next rows → NodesOrdered next (all_in_use tick numbers rows)
 nodes-in_use next tick [] rows old = old
-nodes-in_use next tick (n ∷ numbers) rows old =
-    nodes-in_use next tick numbers (change_first (λ e. e.id.0 == n.0) (in_use tick) rows) (node-rows next (λ e. e.id.0 == n.0) (in_use tick) (λ e. refl) rows old)
+nodes-in_use next tick (n ∷ numbers) rows old = nodes-in_use next tick numbers _ (ordered-changed _ _ _ _ _ (λ e. refl) _ old)
 
 nodes-settled : (next : ℕ) (maker : Option Maker) (tick : ℕ) (change : NodesChange) (rows : List NodeEntry) → NodesOrdered next rows → NodesOrdered next (nodes_changed maker tick change rows)
-nodes-settled next maker tick (NodesChange.Put n kept) rows old = node-rows next (λ e. e.id.0 == n.0) (λ e. record e { kept = kept }) (λ e. refl) rows old
-nodes-settled next maker tick (NodesChange.Remove n) rows old = ordered-removed is_node_numbered_before (λ (n : NodeId). n.0) next (λ e. e.id.0 == n.0) rows old
-nodes-settled next (Some maker) tick (NodesChange.Leave n) rows old =
-    node-rows next (λ e. e.id.0 == n.0) (λ e. record e { queue = left maker.session (node_queue n rows) }) (λ e. refl) rows old
-nodes-settled next maker tick (NodesChange.FreeAll r) rows old = ordered-ids is_node_numbered_before (λ (n : NodeId). n.0) next rows (all_freed r rows) (map-keys (λ (e : NodeEntry). e.id) (freed_from r) rows (freed-id r)) old
+nodes-settled next maker tick (NodesChange.Put n kept) rows old = ordered-changed _ _ _ _ _ (λ e. refl) _ old
+nodes-settled next maker tick (NodesChange.Remove n) rows old = ordered-removed _ _ _ _ _ old
+nodes-settled next (Some maker) tick (NodesChange.Leave n) rows old = ordered-changed _ _ _ _ _ (λ e. refl) _ old
+nodes-settled next maker tick (NodesChange.FreeAll r) rows old = ordered-mapped _ _ _ _ (freed-id r) _ old
 nodes-settled next maker tick (NodesChange.TakeOver numbers) rows old = nodes-in_use next tick numbers rows old
 nodes-settled next maker tick _ rows old = old
 
 nodes-after_end : (next : ℕ) (change : SessionsChange) (rows : List NodeEntry) → NodesOrdered next rows → NodesOrdered next (nodes_left change rows)
-nodes-after_end next (SessionsChange.End session) rows old = ordered-ids is_node_numbered_before (λ (n : NodeId). n.0) next rows (map (node_left session) rows) (map-keys (λ (e : NodeEntry). e.id) (node_left session) rows (λ e. refl)) old
+nodes-after_end next (SessionsChange.End session) rows old = ordered-mapped _ _ _ _ (λ e. refl) _ old
 nodes-after_end next _ rows old = old
 
 -- ## all of it
 
 -- whatever grows
 pub grown-numbered : (c : Configuration) (s : State) (maker : Option Maker) (growth : Growth) → IsNumbered s → IsNumbered (grown c maker growth s)
-grown-numbered c s maker growth old =
-    let requests = requests-grown c maker growth s (record { rise = old.requests_rise; below = old.requests_below }) in
-    let nodes = nodes-grown c maker growth s (record { rise = old.nodes_rise; below = old.nodes_below }) in
-    record { requests_rise = requests.rise; nodes_rise = nodes.rise; requests_below = requests.below; nodes_below = nodes.below }
+grown-numbered c s maker growth old = grind (arith, nat_tests, grown, requests-grown, nodes-grown)
 
 -- whatever changes
 pub numbered : (c : Configuration) (s : State) (ch : Changes) → IsNumbered s → IsNumbered (changed c ch s)
@@ -605,21 +501,13 @@ request-apart a b order = grind (arith, nat_tests)
 
 pub rows-few : {X : Type 0} (f : X → Amount) (test : X → Bool) (xs : List X) → AllByRecursion (λ x. IsFew (f x) 32) xs → IsFew (total (map f (filter test xs))) (length xs * 32)
 rows-few f test [] all = record { instances = omega arith; cores = omega arith; ram = omega arith }
-rows-few f test (x ∷ xs) all = by (test x) refl all.0 (rows-few f test xs all.1) where
-  by : (b : Bool) → test x ≡ b → IsFew (f x) 32 → IsFew (total (map f (filter test xs))) (length xs * 32) → IsFew (total (map f (filter test (x ∷ xs)))) (length (x ∷ xs) * 32)
-  by true is one rest = rw is (record { instances = omega (arith, one.instances, rest.instances); cores = omega (arith, one.cores, rest.cores); ram = omega (arith, one.ram, rest.ram) })
-  by false is one rest = rw is (record { instances = omega (arith, rest.instances); cores = omega (arith, rest.cores); ram = omega (arith, rest.ram) })
+rows-few f test (x ∷ xs) all = grind (arith, nat_tests, all.0, rows-few f test xs all.1)
 
 pub remove-alone : (c : Configuration) (s : State) (ch : Changes) (r : RequestId) → RequestsPremise c s ch (RequestsChange.Remove r) → ch.grows ≡ Growth.Nothing
 remove-alone c s ch r x4 = grind (arith, nat_tests)
 
 pub session-low : (x : SessionId) (s : State) (facts : SessionFacts) → session_of x s ≡ Some facts → x.0 ≤ length s.sessions
-session-low x s facts begun = by (x.0 == 0) refl where
-  by : (b : Bool) → (x.0 == 0) ≡ b → x.0 ≤ length s.sessions
-  by true is = let none : None ≡ Some facts = rw is at begun in absurd cc
-  by false is =
-      let there : slice_get s.sessions (x.0 - 1) ≡ Some facts = rw is at begun in
-      omega (arith, slice_get_within s.sessions (x.0 - 1) facts there)
+session-low x s facts begun = grind (arith, nat_tests, slice_get_within s.sessions (x.0 - 1) facts)
 
 -- # what a look-up finds after all the changes of an event: by the maker, by what grows, and by what happens to requests and nodes
 
@@ -645,9 +533,7 @@ NoNode _ = Unit {0}
 request-grown : (c : Configuration) (maker : Option Maker) (g : Growth) (s : State) (r : RequestId) → ((priority : ℕ) (asked : Asked) → g ≡ Growth.Request priority asked → same_request (next_id priority s) r ≡ false) → request_in r (grown c maker g s).requests ≡ request_in r s.requests
 request-grown c maker (Growth.Request priority asked) s r other = request_in-insert _ r s.requests (other priority asked refl)
 request-grown c maker (Growth.Registration p) s r other = made-look (λ (t : State). request_in r t.requests) maker (λ session t. registers t session p) s (λ session t. refl)
-request-grown c maker (Growth.JoinRequest r0) s r other =
-    made-look (λ (rows : List RequestEntry). request_in r rows) maker (λ session rows. put_request_queue r0 (joined session (request_queue r0 rows)) rows) s.requests (λ session rows.
-    request_in-queue r0 r (joined session (request_queue r0 rows)) rows)
+request-grown c maker (Growth.JoinRequest r0) s r other = made-look (λ (rows : List RequestEntry). request_in r rows) maker _ s.requests (λ session rows. request_in-queue r0 r (joined session (request_queue r0 rows)) rows)
 request-grown c maker _ s r other = refl
 
 pub grown-request : (c : Configuration) (maker : Option Maker) (g : Growth) (s : State) (r : RequestId) → NoRequest g → request_in r (grown c maker g s).requests ≡ request_in r s.requests
@@ -661,9 +547,7 @@ pub grown-node : (c : Configuration) (maker : Option Maker) (g : Growth) (s : St
 grown-node c maker (Growth.Node kept) s n none = absurd none
 grown-node c maker (Growth.Allocate n0 r tenant) s n none = absurd none
 grown-node c maker (Growth.Registration p) s n none = made-look (λ (t : State). node_in n t.nodes) maker (λ session t. registers t session p) s (λ session t. refl)
-grown-node c maker (Growth.JoinNode n0) s n none =
-    made-look (λ (rows : List NodeEntry). node_in n rows) maker (λ session rows. put_node_queue n0 (joined session (node_queue n0 rows)) rows) s.nodes (λ session rows.
-    node_in-queue n0 n (joined session (node_queue n0 rows)) rows)
+grown-node c maker (Growth.JoinNode n0) s n none = made-look (λ (rows : List NodeEntry). node_in n rows) maker _ s.nodes (λ session rows. node_in-queue n0 n (joined session (node_queue n0 rows)) rows)
 grown-node c maker _ s n none = refl
 
 -- the next number of a node does not fall
@@ -684,16 +568,12 @@ IsCalm _ = ⊥
 
 pub calm-request : (maker : Option Maker) (change : RequestsChange) (r : RequestId) (rows : List RequestEntry) → IsCalm change → request_in r (requests_changed maker change rows) ≡ request_in r rows
 calm-request maker RequestsChange.Same r rows calm = refl
-calm-request maker (RequestsChange.Leave r0) r rows calm =
-    made-look (λ (old : List RequestEntry). request_in r old) maker (λ session old. put_request_queue r0 (left session (request_queue r0 old)) old) rows (λ session old.
-    request_in-queue r0 r (left session (request_queue r0 old)) old)
+calm-request maker (RequestsChange.Leave r0) r rows calm = made-look (λ (old : List RequestEntry). request_in r old) maker _ rows (λ session old. request_in-queue r0 r (left session (request_queue r0 old)) old)
 calm-request maker _ r rows calm = absurd calm
 
 -- a session leaves a node's queue
 pub leave-node : (maker : Option Maker) (n0 n : NodeId) (rows : List NodeEntry) → node_in n (by_maker maker (λ session old. put_node_queue n0 (left session (node_queue n0 old)) old) rows) ≡ node_in n rows
-leave-node maker n0 n rows =
-    made-look (λ (old : List NodeEntry). node_in n old) maker (λ session old. put_node_queue n0 (left session (node_queue n0 old)) old) rows (λ session old.
-    node_in-queue n0 n (left session (node_queue n0 old)) old)
+leave-node maker n0 n rows = made-look (λ (old : List NodeEntry). node_in n old) maker _ rows (λ session old. node_in-queue n0 n (left session (node_queue n0 old)) old)
 
 -- ## all of it
 
@@ -708,40 +588,16 @@ left-node _ n rows = refl
 module _ (c : Configuration) (s : State) (ch : Changes) (maker : Option Maker) (g : Growth) where
   pub requests-after : (change : RequestsChange) → ch.maker ≡ maker → ch.grows ≡ g → ch.requests ≡ change → (r : RequestId)
       → request_in r (changed c ch s).requests ≡ request_in r (requests_changed maker change (grown c maker g s).requests)
-  requests-after change made grows to r =
-      left-request ch.sessions r (requests_changed ch.maker ch.requests (grown c ch.maker ch.grows s).requests)
-      ∙ ap (λ (m : Option Maker). request_in r (requests_changed m ch.requests (grown c m ch.grows s).requests)) made
-      ∙ ap (λ (x : Growth). request_in r (requests_changed maker ch.requests (grown c maker x s).requests)) grows
-      ∙ ap (λ (x : RequestsChange). request_in r (requests_changed maker x (grown c maker g s).requests)) to
+  requests-after change made grows to r = rw (sym made, sym grows, sym to) (left-request ch.sessions r (requests_changed ch.maker ch.requests (grown c ch.maker ch.grows s).requests))
 
   pub nodes-after : (change : NodesChange) → ch.maker ≡ maker → ch.grows ≡ g → ch.nodes ≡ change → (n : NodeId)
       → node_in n (changed c ch s).nodes ≡ node_in n (nodes_changed maker (grown c maker g s).tick change (grown c maker g s).nodes)
-  nodes-after change made grows to n =
-      left-node ch.sessions n (nodes_changed ch.maker (grown c ch.maker ch.grows s).tick ch.nodes (grown c ch.maker ch.grows s).nodes)
-      ∙ ap (λ (m : Option Maker). node_in n (nodes_changed m (grown c m ch.grows s).tick ch.nodes (grown c m ch.grows s).nodes)) made
-      ∙ ap (λ (x : Growth). node_in n (nodes_changed maker (grown c maker x s).tick ch.nodes (grown c maker x s).nodes)) grows
-      ∙ ap (λ (x : NodesChange). node_in n (nodes_changed maker (grown c maker g s).tick x (grown c maker g s).nodes)) to
+  nodes-after change made grows to n = rw (sym made, sym grows, sym to) (left-node ch.sessions n (nodes_changed ch.maker (grown c ch.maker ch.grows s).tick ch.nodes (grown c ch.maker ch.grows s).nodes))
 
   pub next-after : ch.maker ≡ maker → ch.grows ≡ g → (changed c ch s).next_node ≡ (grown c maker g s).next_node
-  next-after made grows = ap (λ (m : Option Maker). (grown c m ch.grows s).next_node) made ∙ ap (λ (x : Growth). (grown c maker x s).next_node) grows
+  next-after made grows = rw (sym made, sym grows) refl
 
 -- # how a look-up of a node after the changes of an event differs from one before it
-
--- ## options
-
--- what was mapped, where it passed a test
-record IsMapped {A : Type 0} (p : A → Bool) (f : A → A) (o : Option A) : Type 0 where
-  old : A
-  was : o ≡ Some old
-  passed : p old ≡ true
-  now : option_map (λ k. cond (p k) (f k) k) o ≡ Some (f old)
-
-mapped : {A : Type 0} (p : A → Bool) (f : A → A) (o : Option A) → (option_map (λ k. cond (p k) (f k) k) o ≡ o) ⊎ IsMapped p f o
-mapped p f None = inl refl
-mapped {A} p f (Some k) = by (p k) refl where
-  by : (b : Bool) → p k ≡ b → (option_map (λ (x : A). cond (p x) (f x) x) (Some k) ≡ Some k) ⊎ IsMapped p f (Some k)
-  by true passes = inr (record { old = k; was = refl; passed = passes; now = rw passes refl })
-  by false fails = inl (rw fails refl)
 
 -- ## steps
 
@@ -764,17 +620,19 @@ module _ (c : Configuration) (s : State) (ch : Changes) (numbered : IsNumbered s
   Step rows = NodeStep s ch n (node_in n s.nodes) (node_in n rows)
 
   step-mapped : (rows : List NodeEntry) (p : NodeRecord → Bool) (f : NodeRecord → NodeRecord) → node_in n rows ≡ option_map (λ k. cond (p k) (f k) k) (node_in n s.nodes) → ((old : NodeRecord) → p old ≡ true → NodeChange s ch n old (f old)) → Step rows
-  step-mapped rows p f looks how = by (mapped p f (node_in n s.nodes)) where
-    by : (option_map (λ k. cond (p k) (f k) k) (node_in n s.nodes) ≡ node_in n s.nodes) ⊎ IsMapped p f (node_in n s.nodes) → Step rows
-    by (inl same) = Stays (looks ∙ same)
-    by (inr one) = Altered one.old (f one.old) one.was (looks ∙ one.now) (how one.old one.passed)
+  step-mapped rows p f looks how = by (node_in n s.nodes) refl where
+    by : (o : Option NodeRecord) → node_in n s.nodes ≡ o → Step rows
+    by None none = Stays (looks ∙ ap (λ (o : Option NodeRecord). option_map (λ k. cond (p k) (f k) k) o) none ∙ sym none)
+    by (Some old) is =
+        let now = looks ∙ ap (λ (o : Option NodeRecord). option_map (λ k. cond (p k) (f k) k) o) is in
+        by_bool (λ _. Step rows) (p old) (λ passes. Altered old (f old) is (now ∙ ap (λ (b : Bool). Some (cond b (f old) old)) passes) (how old passes))
+        (λ fails. Stays (now ∙ ap (λ (b : Bool). Some (cond b (f old) old)) fails ∙ sym is))
 
   step-grown : (g : Growth) → ch.grows ≡ g → Step (grown c ch.maker g s).nodes
   step-grown (Growth.Node kept) at = by (s.next_node == n.0) refl where
     by : (b : Bool) → (s.next_node == n.0) ≡ b → Step (grown c ch.maker (Growth.Node kept) s).nodes
     by true same =
-        let late : s.next_node ≤ n.0 = grind (arith, nat_tests) in
-        let none : node_in n s.nodes ≡ None = node_in-later n s.next_node s.nodes numbered.nodes_below late in
+        let none : node_in n s.nodes ≡ None = node_in-later n s.next_node s.nodes numbered.nodes_below (grind (arith, nat_tests)) in
         Added kept none (node_in-new _ n s.nodes same none) at (sym (same_node-is (record { 0 = s.next_node }) n same))
     by false other = Stays (node_in-other _ n s.nodes other)
   step-grown (Growth.Allocate m r tenant) at = by ch.maker where
@@ -800,18 +658,14 @@ module _ (c : Configuration) (s : State) (ch : Changes) (numbered : IsNumbered s
   step-changed _ at = Stays refl
 
   -- where nodes change, nothing grows
-  emptied-alone : Premises c s ch → (r : RequestId) → EmptiesRequest r ch.requests → ch.grows ≡ Growth.Nothing
-  emptied-alone pre r (inl removes) = remove-alone c s ch r (subst (λ (x : RequestsChange). RequestsPremise c s ch x) removes pre.requests)
-  emptied-alone pre r (inr (inl edits)) = (subst (λ (x : RequestsChange). RequestsPremise c s ch x) edits pre.requests).same_size
-  emptied-alone pre r (inr (inr (p, why, failed, edits))) = (subst (λ (x : RequestsChange). RequestsPremise c s ch x) edits pre.requests).same_size
+  emptied-alone : (r : RequestId) (x : RequestsChange) → RequestsPremise c s ch x → EmptiesRequest r x → ch.grows ≡ Growth.Nothing
+  emptied-alone r x premise empties = grind (arith, nat_tests, remove-alone)
 
   alone : Premises c s ch → (change : NodesChange) → NodesPremise c s ch change → (change ≡ NodesChange.Same) ⊎ (ch.grows ≡ Growth.Nothing)
   alone pre NodesChange.Same premise = inl refl
-  alone pre (NodesChange.FreeAll r) premise = inr (emptied-alone pre r premise)
+  alone pre (NodesChange.FreeAll r) premise = inr (emptied-alone r ch.requests pre.requests premise)
   alone pre (NodesChange.TakeOver numbers) premise = inr premise.1.same_size
-  alone pre (NodesChange.Put m kept) premise = inr premise.same_size
-  alone pre (NodesChange.Remove m) premise = inr premise.same_size
-  alone pre (NodesChange.Leave m) premise = inr premise.same_size
+  alone pre _ premise = inr premise.same_size
 
   pub node-step : Premises c s ch → NodeStep s ch n (node_in n s.nodes) (node_in n (changed c ch s).nodes)
   node-step pre = by (alone pre ch.nodes pre.nodes) where

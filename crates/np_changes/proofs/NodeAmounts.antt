@@ -1,6 +1,7 @@
 -- sums of amounts: what the nodes take together, also summed over the offers of a pool
 use Rattle.np_changes.proofs.Prelude.{Amount, Bool, IsAtMost, IsAtMost-part, IsAtMost-plus, IsAtMost-refl, IsAtMost-trans, Limit, List, None, Option, Some, [], ap, arith, change_first, change_first-absent, cond, drop, false, filter, find, fits, fold, insert_before, map, map-append, nat_tests, nothing, nothing-plus, plus, plus-comm, refl, remove_first, same_amount, slice_get, suc, sym, total, total_push, true, zero, ℕ, ◌++◌, ◌∙◌, ◌∷◌, ◌≡◌, Changes, Configuration, EndsNode, Frees, GivesUp, LabelId, Maker, NodeEntry, NodeId, NodeRecord, NodesChange, NodesPremise, PoolId, Premises, Reports, SessionId, SessionsChange, Starts, State, TenantId, by_maker, changed, freed, freed_from, grown, if◌then◌else◌, in_use, is_request, left, node_entry, node_in, node_left, node_queue, nodes_changed, nodes_left, put_node, put_node_queue, ◌==◌, ◌⊎◌, AllApart, AmountFits, Offer, OffersFit, amount_of, count_by-le-length, get_or, is_kind, length, length-filter, list_any, mul-le, number_of, offers_of, option_map_or, plus-assoc, subst, take, take_all, times, times-suc, ◌*◌, ◌<◌, ◌≤◌}
 use Rattle.np_changes.proofs.Lookups.{kept-is}
+use Rattle.np_lists.proofs.Plain.{by_bool}
 
 -- # sums of amounts over a list that changes
 
@@ -20,18 +21,6 @@ plus-nothing a = plus-comm a nothing ∙ nothing-plus a
 
 pub swapped : (a b s : Amount) → plus a (plus b s) ≡ plus b (plus a s)
 swapped a b s = same_amount _ _ (omega arith) (omega arith) (omega arith)
-
-moved : (a s b : Amount) → IsAtMost (plus (plus a s) b) (plus (plus b s) a)
-moved a s b = record { instances = omega arith; cores = omega arith; ram = omega arith }
-
-beside : (a s t x y : Amount) → IsAtMost (plus s x) (plus t y) → IsAtMost (plus (plus a s) x) (plus (plus a t) y)
-beside a s t x y most = record { instances = omega arith; cores = omega arith; ram = omega arith }
-
-risen : (before after old new more : Amount) → IsAtMost (plus after old) (plus before new) → IsAtMost new (plus old more) → IsAtMost after (plus before more)
-risen before after old new more one two = record { instances = omega arith; cores = omega arith; ram = omega arith }
-
-fallen : (before after old new less : Amount) → IsAtMost (plus after old) (plus before new) → IsAtMost (plus new less) old → IsAtMost (plus after less) before
-fallen before after old new less one two = record { instances = omega arith; cores = omega arith; ram = omega arith }
 
 -- what one sum gains is what the other loses
 pub traded : (a b c d moves : Amount) → IsAtMost a (plus c moves) → IsAtMost (plus b moves) d → IsAtMost (plus a b) (plus c d)
@@ -57,13 +46,9 @@ abbrev pub sum_of : {X : Type 0} → (X → Amount) → List X → Amount
 sum_of takes xs = total (map takes xs)
 
 module _ {X : Type 0} (test : X → Bool) (takes : X → Amount) where
-  filter-by : (x : X) (xs : List X) (sum : Amount) (b : Bool) → sum_of takes xs ≡ sum → sum_of takes (cond b (x ∷ xs) xs) ≡ plus (cond b (takes x) nothing) sum
-  filter-by x xs sum true same = ap (plus (takes x)) same
-  filter-by x xs sum false same = same ∙ sym (nothing-plus sum)
-
   pub sum_of-filter : (xs : List X) → sum_of takes (filter test xs) ≡ sum_of (counted test takes) xs
   sum_of-filter [] = refl
-  sum_of-filter (x ∷ xs) = filter-by x (filter test xs) (sum_of (counted test takes) xs) (test x) (sum_of-filter xs)
+  sum_of-filter (x ∷ xs) = grind (arith, nat_tests, sum_of-filter xs, nothing-plus)
 
 module _ {X : Type 0} (takes : X → Amount) where
   -- ## a member more
@@ -71,30 +56,21 @@ module _ {X : Type 0} (takes : X → Amount) where
   pub sum_of-push : (xs : List X) (x : X) → sum_of takes (xs ++ x ∷ []) ≡ plus (sum_of takes xs) (takes x)
   sum_of-push xs x = ap total (map-append takes xs (x ∷ [])) ∙ total_push (map takes xs) (takes x)
 
-  insert-by : (new x : X) (xs ys : List X) (b : Bool) → sum_of takes ys ≡ plus (takes new) (sum_of takes xs) → sum_of takes (cond b (new ∷ x ∷ xs) (x ∷ ys)) ≡ plus (takes new) (sum_of takes (x ∷ xs))
-  insert-by new x xs ys true later = refl
-  insert-by new x xs ys false later = ap (plus (takes x)) later ∙ swapped (takes x) (takes new) (sum_of takes xs)
-
   pub sum_of-insert_before : (p : X → Bool) (new : X) (xs : List X) → sum_of takes (insert_before p new xs) ≡ plus (takes new) (sum_of takes xs)
   sum_of-insert_before p new [] = refl
-  sum_of-insert_before p new (x ∷ xs) = insert-by new x xs (insert_before p new xs) (p x) (sum_of-insert_before p new xs)
+  sum_of-insert_before p new (x ∷ xs) = grind (arith, nat_tests, sum_of-insert_before p new xs, swapped (takes x) (takes new) (sum_of takes xs))
 
   -- ## a member less
 
-  remove-by : (x : X) (xs ys : List X) (b : Bool) → IsAtMost (sum_of takes ys) (sum_of takes xs) → IsAtMost (sum_of takes (cond b xs (x ∷ ys))) (sum_of takes (x ∷ xs))
-  remove-by x xs ys true later = part-at_most (takes x) (sum_of takes xs)
-  remove-by x xs ys false later = IsAtMost-plus (takes x) (takes x) (sum_of takes ys) (sum_of takes xs) (IsAtMost-refl (takes x)) later
-
   pub sum_of-remove_first : (p : X → Bool) (xs : List X) → IsAtMost (sum_of takes (remove_first p xs)) (sum_of takes xs)
   sum_of-remove_first p [] = IsAtMost-refl nothing
-  sum_of-remove_first p (x ∷ xs) = remove-by x xs (remove_first p xs) (p x) (sum_of-remove_first p xs)
+  sum_of-remove_first p (x ∷ xs) = let rest = sum_of-remove_first p xs in grind (arith, nat_tests, rest.instances, rest.cores, rest.ram)
 
   -- from a place on
   pub sum_of-drop : (at : ℕ) (xs : List X) → IsAtMost (sum_of takes (drop at xs)) (sum_of takes xs)
   sum_of-drop zero xs = IsAtMost-refl (sum_of takes xs)
   sum_of-drop (suc at) [] = IsAtMost-refl nothing
-  sum_of-drop (suc at) (x ∷ xs) =
-      IsAtMost-trans (sum_of takes (drop at xs)) (sum_of takes xs) (sum_of takes (x ∷ xs)) (sum_of-drop at xs) (part-at_most (takes x) (sum_of takes xs))
+  sum_of-drop (suc at) (x ∷ xs) = IsAtMost-trans _ _ _ (sum_of-drop at xs) (part-at_most (takes x) (sum_of takes xs))
 
   -- the member at the place and those after it
   pub sum_of-next : (at : ℕ) (xs : List X) (x : X) → slice_get xs at ≡ Some x → sum_of takes (drop at xs) ≡ plus (takes x) (sum_of takes (drop (suc at) xs))
@@ -110,51 +86,36 @@ module _ {X : Type 0} (takes : X → Amount) where
 
   -- ## the first that passes changed
 
-  change-by : (f : X → X) (y x : X) (xs ys : List X) (later : Option X) (b : Bool) → cond b (Some y) later ≡ Some x
-      → (later ≡ Some x → IsAtMost (plus (sum_of takes ys) (takes x)) (plus (sum_of takes xs) (takes (f x))))
-      → IsAtMost (plus (sum_of takes (cond b (f y ∷ xs) (y ∷ ys))) (takes x)) (plus (sum_of takes (y ∷ xs)) (takes (f x)))
-  change-by f y x xs ys later true is there = let same : y ≡ x = cc in rw same (moved (takes (f x)) (sum_of takes xs) (takes x))
-  change-by f y x xs ys later false is there = beside (takes y) (sum_of takes ys) (sum_of takes xs) (takes x) (takes (f x)) (there is)
-
   sum_of-change : (p : X → Bool) (f : X → X) (xs : List X) (x : X) → find p xs ≡ Some x
       → IsAtMost (plus (sum_of takes (change_first p f xs)) (takes x)) (plus (sum_of takes xs) (takes (f x)))
   sum_of-change p f [] x is = absurd cc
-  sum_of-change p f (y ∷ xs) x is = change-by f y x xs (change_first p f xs) (find p xs) (p y) is (λ later. sum_of-change p f xs x later)
-
-  rise-by : (p : X → Bool) (f : X → X) (xs : List X) (more : Amount) (o : Option X) → find p xs ≡ o
-      → ((x : X) → o ≡ Some x → IsAtMost (takes (f x)) (plus (takes x) more)) → IsAtMost (sum_of takes (change_first p f xs)) (plus (sum_of takes xs) more)
-  rise-by p f xs more None is each =
-      IsAtMost-trans (sum_of takes (change_first p f xs)) (sum_of takes xs) (plus (sum_of takes xs) more)
-      (at_most-same (sum_of takes (change_first p f xs)) (sum_of takes xs) (ap (sum_of takes) (change_first-absent p f xs is))) (IsAtMost-part (sum_of takes xs) more)
-  rise-by p f xs more (Some x) is each =
-      risen (sum_of takes xs) (sum_of takes (change_first p f xs)) (takes x) (takes (f x)) more (sum_of-change p f xs x is) (each x refl)
+  sum_of-change p f (y ∷ xs) x is = grind (arith, nat_tests, sum_of-change p f xs x)
 
   -- the sum rises no more than the member
   pub sum_of-rise : (p : X → Bool) (f : X → X) (xs : List X) (more : Amount) → ((x : X) → find p xs ≡ Some x → IsAtMost (takes (f x)) (plus (takes x) more))
       → IsAtMost (sum_of takes (change_first p f xs)) (plus (sum_of takes xs) more)
-  sum_of-rise p f xs more each = rise-by p f xs more (find p xs) refl each
+  sum_of-rise p f xs more each = by (find p xs) refl where
+    by : (o : Option X) → find p xs ≡ o → IsAtMost (sum_of takes (change_first p f xs)) (plus (sum_of takes xs) more)
+    by None is = rw (change_first-absent p f xs is) (IsAtMost-part (sum_of takes xs) more)
+    by (Some x) is = grind (arith, nat_tests, sum_of-change p f xs x is, each x is)
 
   -- the sum does not rise if the member does not
   pub sum_of-keep : (p : X → Bool) (f : X → X) (xs : List X) → ((x : X) → find p xs ≡ Some x → IsAtMost (takes (f x)) (takes x))
       → IsAtMost (sum_of takes (change_first p f xs)) (sum_of takes xs)
   sum_of-keep p f xs each =
-      IsAtMost-trans (sum_of takes (change_first p f xs)) (plus (sum_of takes xs) nothing) (sum_of takes xs)
-      (sum_of-rise p f xs nothing (λ x is. IsAtMost-trans (takes (f x)) (takes x) (plus (takes x) nothing) (each x is) (IsAtMost-part (takes x) nothing)))
-      (at_most-same (plus (sum_of takes xs) nothing) (sum_of takes xs) (plus-nothing (sum_of takes xs)))
+      let rise = sum_of-rise p f xs nothing (λ x is. IsAtMost-trans _ _ _ (each x is) (IsAtMost-part (takes x) nothing)) in
+      IsAtMost-trans _ _ _ rise (at_most-same _ _ (plus-nothing (sum_of takes xs)))
 
   -- the sum falls by as much as the member that is found
   pub sum_of-fall : (p : X → Bool) (f : X → X) (xs : List X) (x : X) (less : Amount) → find p xs ≡ Some x → IsAtMost (plus (takes (f x)) less) (takes x)
       → IsAtMost (plus (sum_of takes (change_first p f xs)) less) (sum_of takes xs)
-  sum_of-fall p f xs x less is fall =
-      fallen (sum_of takes xs) (sum_of takes (change_first p f xs)) (takes x) (takes (f x)) less (sum_of-change p f xs x is) fall
+  sum_of-fall p f xs x less is fall = grind (arith, nat_tests, sum_of-change p f xs x is)
 
   -- the same change for each of a list
   pub sum_of-fold : {Y : Type 0} (p : Y → X → Bool) (f : X → X) (ys : List Y) (xs : List X) → ((x : X) → IsAtMost (takes (f x)) (takes x))
       → IsAtMost (sum_of takes (fold (λ rows y. change_first (p y) f rows) xs ys)) (sum_of takes xs)
   sum_of-fold p f [] xs each = IsAtMost-refl (sum_of takes xs)
-  sum_of-fold p f (y ∷ ys) xs each =
-      IsAtMost-trans (sum_of takes (fold (λ rows y. change_first (p y) f rows) (change_first (p y) f xs) ys)) (sum_of takes (change_first (p y) f xs)) (sum_of takes xs)
-      (sum_of-fold p f ys (change_first (p y) f xs) each) (sum_of-keep (p y) f xs (λ x _. each x))
+  sum_of-fold p f (y ∷ ys) xs each = IsAtMost-trans _ _ _ (sum_of-fold p f ys (change_first (p y) f xs) each) (sum_of-keep (p y) f xs (λ x _. each x))
 
 -- # what the nodes take together, by the pool, the label and the tenant of each
 
@@ -176,15 +137,12 @@ IsLeastFree w = (p : PoolId) (l : LabelId) (t : Option TenantId) → IsAtMost (w
 module _ (w : Measure) where
   -- ## ways that leave the pool, the label and the tenant
 
-  -- another queue
-  requeue-keeps : (n : NodeId) (queue : List SessionId) (rows : List NodeEntry) → IsAtMost (taken w (put_node_queue n queue rows)) (taken w rows)
-  requeue-keeps n queue rows = sum_of-keep (takes w) (λ (e : NodeEntry). e.id.0 == n.0) (λ e. record e { queue = queue }) rows (λ e _. IsAtMost-refl (takes w e))
-
   -- the maker's session joins or leaves a queue
   pub queue-keeps : (maker : Option Maker) (change : SessionId → List SessionId → List SessionId) (n : NodeId) (rows : List NodeEntry)
       → IsAtMost (taken w (by_maker maker (λ session old. put_node_queue n (change session (node_queue n old)) old) rows)) (taken w rows)
   queue-keeps None change n rows = IsAtMost-refl (taken w rows)
-  queue-keeps (Some maker) change n rows = requeue-keeps n (change maker.session (node_queue n rows)) rows
+  queue-keeps (Some maker) change n rows =
+      sum_of-keep (takes w) (λ (e : NodeEntry). e.id.0 == n.0) (λ e. record e { queue = change maker.session (node_queue n rows) }) rows (λ e _. IsAtMost-refl (takes w e))
 
   left-keeps : (change : SessionsChange) (rows : List NodeEntry) → IsAtMost (taken w (nodes_left change rows)) (taken w rows)
   left-keeps (SessionsChange.End session) rows = sum_of-map (takes w) (node_left session) rows (λ e. IsAtMost-refl (takes w e))
@@ -203,10 +161,6 @@ module _ (w : Measure) where
         → IsAtMost (w kept.pool kept.label kept.tenant) (w k.pool k.label k.tenant)
     way-keeps c s ch n k kept x6 = grind (arith, nat_tests)
 
-    freed-by : (e : NodeEntry) (b : Bool) → IsAtMost (takes w (if b then record e { kept = freed e.kept } else e)) (takes w e)
-    freed-by e true = least e.kept.pool e.kept.label e.kept.tenant
-    freed-by e false = IsAtMost-refl (takes w e)
-
     -- ## what happens to nodes
 
     change-keeps : (c : Configuration) (s : State) (ch : Changes) (tick : ℕ) (change : NodesChange) → NodesPremise c s ch change
@@ -217,16 +171,13 @@ module _ (w : Measure) where
     change-keeps c s ch tick (NodesChange.Remove n) premise = sum_of-remove_first (takes w) (λ (e : NodeEntry). e.id.0 == n.0) (grown c ch.maker ch.grows s).nodes
     change-keeps c s ch tick (NodesChange.Leave n) premise = queue-keeps ch.maker left n (grown c ch.maker ch.grows s).nodes
     change-keeps c s ch tick (NodesChange.FreeAll r) premise =
-        sum_of-map (takes w) (freed_from r) (grown c ch.maker ch.grows s).nodes (λ e. freed-by e (is_request r e.kept.allocated_to))
-    change-keeps c s ch tick (NodesChange.TakeOver numbers) premise =
-        sum_of-fold (takes w) (λ (n : NodeId) (e : NodeEntry). e.id.0 == n.0) (in_use tick) numbers (grown c ch.maker ch.grows s).nodes (λ e. IsAtMost-refl (takes w e))
+        sum_of-map (takes w) (freed_from r) (grown c ch.maker ch.grows s).nodes (λ e.
+        by_bool (λ b. IsAtMost (takes w (if b then record e { kept = freed e.kept } else e)) (takes w e)) (is_request r e.kept.allocated_to) (λ _. least e.kept.pool e.kept.label e.kept.tenant) (λ _. IsAtMost-refl (takes w e)))
+    change-keeps c s ch tick (NodesChange.TakeOver numbers) premise = sum_of-fold (takes w) (λ (n : NodeId) (e : NodeEntry). e.id.0 == n.0) (in_use tick) numbers _ (λ e. IsAtMost-refl (takes w e))
 
     -- what follows the growth never raises what the nodes take
     pub settled-keeps : (c : Configuration) (s : State) (ch : Changes) → Premises c s ch → IsAtMost (taken w (changed c ch s).nodes) (taken w (grown c ch.maker ch.grows s).nodes)
-    settled-keeps c s ch premises =
-        IsAtMost-trans (taken w (changed c ch s).nodes) (taken w (nodes_changed ch.maker (grown c ch.maker ch.grows s).tick ch.nodes (grown c ch.maker ch.grows s).nodes)) (taken w (grown c ch.maker ch.grows s).nodes)
-        (left-keeps ch.sessions (nodes_changed ch.maker (grown c ch.maker ch.grows s).tick ch.nodes (grown c ch.maker ch.grows s).nodes))
-        (change-keeps c s ch (grown c ch.maker ch.grows s).tick ch.nodes premises.nodes)
+    settled-keeps c s ch premises = IsAtMost-trans _ _ _ (left-keeps ch.sessions _) (change-keeps c s ch (grown c ch.maker ch.grows s).tick ch.nodes premises.nodes)
 
 -- # what a pool uses, summed over its offers instead of its nodes
 
@@ -261,10 +212,7 @@ times_bound n most a few fits = record {
 -- a label that no offer has takes nothing
 no_offer : (offers : List Offer) (l : ℕ) (k : LabelId) → k.0 ≡ l → list_any (λ o. o.label.0 == l) offers ≡ false → amount_by offers k ≡ nothing
 no_offer [] l k same none = refl
-no_offer (o ∷ offers) l k same none =
-    let other : (o.label.0 == k.0) ≡ false = grind (arith, nat_tests) in
-    let rest : list_any (λ x. x.label.0 == l) offers ≡ false = grind (arith, nat_tests) in
-    rw other (no_offer offers l k same rest)
+no_offer (o ∷ offers) l k same none = grind (arith, nat_tests, no_offer offers l k same)
 
 -- one more node: of the pool and the offer's label, of another label, or of another pool
 module _ (o : Offer) (offers : List Offer) (p : PoolId) (alone : list_any (λ x. x.label.0 == o.label.0) offers ≡ false) where
@@ -284,13 +232,10 @@ module _ (o : Offer) (offers : List Offer) (p : PoolId) (alone : list_any (λ x.
   splits-label : (e : NodeEntry) (nodes : List NodeEntry) (same : Bool) → (e.kept.pool.0 == p.0) ≡ true → (e.kept.label.0 == o.label.0) ≡ same → Splits nodes → Splits (e ∷ nodes)
   splits-label e nodes x2 own is rest = grind (arith, nat_tests, no_offer, splits-by, times-suc, nothing-plus, plus-comm)
 
-  splits-pool : (e : NodeEntry) (nodes : List NodeEntry) (own : Bool) → (e.kept.pool.0 == p.0) ≡ own → Splits nodes → Splits (e ∷ nodes)
-  splits-pool e nodes true own rest = splits-label e nodes (e.kept.label.0 == o.label.0) own refl rest
-  splits-pool e nodes false other rest = rw other rest
-
   splits : (nodes : List NodeEntry) → Splits nodes
   splits [] = same_amount _ _ (omega arith) (omega arith) (omega arith)
-  splits (e ∷ nodes) = splits-pool e nodes (e.kept.pool.0 == p.0) refl (splits nodes)
+  splits (e ∷ nodes) =
+      by_bool (λ _. Splits (e ∷ nodes)) (e.kept.pool.0 == p.0) (λ own. splits-label e nodes (e.kept.label.0 == o.label.0) own refl (splits nodes)) (λ other. rw other (splits nodes))
 
 -- ## all offers
 
@@ -304,15 +249,11 @@ total_by : (offers : List Offer) (p : PoolId) (nodes : List NodeEntry) → AllAp
 total_by [] p nodes apart = sym (no_offers (filter (λ e. e.kept.pool.0 == p.0) nodes))
 total_by (o ∷ offers) p nodes apart = ap (plus (times (number_of p o.label nodes) o.amount)) (total_by offers p nodes apart.1) ∙ sym (splits o offers p apart.0 nodes)
 
--- what a pool's nodes take is the sum, over its offers, of the amount for each node of the label
-pub offered_total : (c : Configuration) (p : PoolId) → OffersFit (offers_of c p) → (nodes : List NodeEntry) →
-    total (map (λ o. times (number_of p o.label nodes) o.amount) (offers_of c p)) ≡ total (map (λ e. amount_of c p e.kept.label) (filter (λ e. e.kept.pool.0 == p.0) nodes))
-offered_total c p fit nodes = total_by (offers_of c p) p nodes fit.apart
-
--- the same for a loop that has passed all of the offers
+-- what a pool's nodes take is the sum, over its offers, of the amount for each node of the label;
+-- for a loop that has passed all of the offers
 pub passed_total : (c : Configuration) (p : PoolId) → OffersFit (offers_of c p) → (nodes : List NodeEntry) (i : ℕ) → length (offers_of c p) ≤ i →
     total (map (λ o. times (number_of p o.label nodes) o.amount) (take i (offers_of c p))) ≡ total (map (λ e. amount_of c p e.kept.label) (filter (λ e. e.kept.pool.0 == p.0) nodes))
-passed_total c p fit nodes i all = ap (λ (offers : List Offer). total (map (λ o. times (number_of p o.label nodes) o.amount) offers)) (take_all i (offers_of c p) all) ∙ offered_total c p fit nodes
+passed_total c p fit nodes i all = ap (λ (offers : List Offer). total (map (λ o. times (number_of p o.label nodes) o.amount) offers)) (take_all i (offers_of c p) all) ∙ total_by (offers_of c p) p nodes fit.apart
 
 -- ## bounds
 
@@ -320,19 +261,13 @@ passed_total c p fit nodes i all = ap (λ (offers : List Offer). total (map (λ 
 other_at : (l : ℕ) (offers : List Offer) (i : ℕ) (d : Offer) → list_any (λ o. o.label.0 == l) offers ≡ false → i < length offers → (l == (get_or offers i d).label.0) ≡ false
 other_at l [] i d none within = absurd (omega arith)
 other_at l (o ∷ offers) zero d none within = grind (arith, nat_tests)
-other_at l (o ∷ offers) (suc i) d none within =
-    let rest : list_any (λ x. x.label.0 == l) offers ≡ false = grind (arith, nat_tests) in
-    other_at l offers i d rest (omega arith)
+other_at l (o ∷ offers) (suc i) d none within = other_at l offers i d (grind (arith, nat_tests)) (omega arith)
 
 -- a node of an offer's label takes the offer's amount
 own_by : (offers : List Offer) (i : ℕ) (d : Offer) → AllApart offers → i < length offers → amount_by offers (get_or offers i d).label ≡ (get_or offers i d).amount
 own_by [] i d apart within = absurd (omega arith)
-own_by (o ∷ offers) zero d apart within =
-    let here : (o.label.0 == o.label.0) ≡ true = grind (arith, nat_tests) in
-    rw here refl
-own_by (o ∷ offers) (suc i) d apart within =
-    let other : (o.label.0 == (get_or offers i d).label.0) ≡ false = other_at o.label.0 offers i d apart.0 (omega arith) in
-    rw other (own_by offers i d apart.1 (omega arith))
+own_by (o ∷ offers) zero d apart within = grind (arith, nat_tests)
+own_by (o ∷ offers) (suc i) d apart within = rw (other_at o.label.0 offers i d apart.0 (omega arith)) (own_by offers i d apart.1 (omega arith))
 
 -- an offer's amount fits
 pub offer_bound : (c : Configuration) (p : PoolId) → ((l : LabelId) → AmountFits (amount_of c p l)) → OffersFit (offers_of c p) → (offers : List Offer) → offers ≡ offers_of c p →

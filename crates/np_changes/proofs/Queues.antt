@@ -1,5 +1,7 @@
 -- live sessions alone are registered and wait in the queues, and who waits after an event
-use Rattle.np_changes.proofs.Prelude.{Bool, Changes, Configuration, Growth, IsLive, List, Maker, None, Option, SessionFacts, SessionId, SessionsChange, SessionsPremise, Some, State, [], ap, arith, change_session, changed, cond, ended, false, grown, is_session, muted, nat_tests, option_map, refl, session_of, sessions_changed, slice_get, slice_get-change_at, slice_get-change_at_other, subst, suc, sym, true, zero, ℕ, ◌++◌, ◌-◌, ◌==◌, ◌∙◌, ◌∷◌, ◌≡◌, ◌≢◌, AllByRecursion, GrowthPremise, IsLauncher, IsRegistered, Launcher, MakerPremise, PoolId, Premises, Registration, Rises, Rises-filter, all-filter_to, all-insert_before, all-weaker, find, nat_lt, not, registered, registrations_left, DistinctSessions, IsLiveQueue, IsQueued, Locked, NodeEntry, NodeId, NodesChange, RequestEntry, RequestId, RequestsChange, all-change_first, all-filter, all-find, all-mapped, all-push, all-remove_first, all_in_use, allocated, change_first, edited, freed_from, holder, in_use, is_queued, joined, left, length, length-filter_at_most, node_entry, node_left, node_queue, nodes_changed, nodes_left, option_map_or, request_entry, request_left, request_queue, requests_changed, requests_left, same_request, ◌≤◌, Asked, IsNumbered, is_id_before, new_record, next_id, put_request_queue, request-equal, request_in, ◌<◌}
+use Rattle.np_changes.proofs.Prelude.{insert_request, remove_request, from-map_some, kept-change_at, list_any-append, Bool, Changes, Configuration, Growth, IsLive, List, Maker, None, Option, SessionFacts, SessionId, SessionsChange, SessionsPremise, Some, State, [], ap, arith, change_session, changed, cond, ended, false, grown, is_session, muted, nat_tests, option_map, refl, session_of, sessions_changed, slice_get, slice_get-change_at_other, subst, suc, sym, true, zero, ℕ, ◌++◌, ◌-◌, ◌==◌, ◌∙◌, ◌∷◌, ◌≡◌, ◌≢◌, AllByRecursion, GrowthPremise, IsLauncher, IsRegistered, MakerPremise, PoolId, Premises, Registration, Rises, Rises-filter, all-filter_to, all-insert_before, all-weaker, nat_lt, not, registered, registrations_left, DistinctSessions, IsLiveQueue, IsQueued, Locked, NodeEntry, NodeId, NodesChange, RequestEntry, RequestId, RequestsChange, all-change_first, all-filter, all-mapped, all-push, all-remove_first, allocated, edited, freed_from, holder, is_queued, joined, left, length, length-filter_at_most, node_left, node_queue, nodes_changed, nodes_left, option_map_or, request_left, request_queue, requests_changed, requests_left, same_request, ◌≤◌, IsNumbered, is_id_before, new_record, next_id, put_request_queue, request-equal, ◌<◌}
+use Rattle.np_lists.proofs.Plain.{by_bool}
+use Rattle.np_changes.proofs.Shapes.{all-in_use, found-meets}
 use Rattle.np_changes.proofs.Lookups.{freed-queue, grown-numbered, request_in-later, request_in-queue, request_queue-edit, request_queue-insert, request_queue-left, request_queue-new, request_queue-nowhere, request_queue-queue, request_queue-remove, request_queue-removed, rises-insert_before, same-seq}
 
 -- # which sessions stay live
@@ -21,10 +23,7 @@ get-push (y ∷ xs) new zero x is = is
 get-push (y ∷ xs) new (suc i) x is = get-push xs new i x is
 
 facts-push : (session : SessionId) (rows : List SessionFacts) (new facts : SessionFacts) → facts_in session rows ≡ Some facts → facts_in session (rows ++ new ∷ []) ≡ Some facts
-facts-push session rows new facts is = by (session.0 == 0) is where
-  by : (b : Bool) → cond b None (slice_get rows (session.0 - 1)) ≡ Some facts → cond b None (slice_get (rows ++ new ∷ []) (session.0 - 1)) ≡ Some facts
-  by true none = absurd cc
-  by false there = get-push rows new (session.0 - 1) facts there
+facts-push session rows new facts is = grind (arith, nat_tests, get-push rows new (session.0 - 1) facts)
 
 -- whatever grows
 pub facts-grown : (c : Configuration) (maker : Option Maker) (growth : Growth) (s : State) (session : SessionId) (facts : SessionFacts) → facts_in session s.sessions ≡ Some facts → facts_in session (grown c maker growth s).sessions ≡ Some facts
@@ -33,38 +32,20 @@ facts-grown c None (Growth.Registration p) s session facts is = is
 facts-grown c (Some maker) (Growth.Registration p) s session facts is = is
 facts-grown c maker _ s session facts is = is
 
--- a session whose facts change, except its role and whether it is live
-kept-session : (changed_one : SessionId) (f : SessionFacts → SessionFacts) → ((x : SessionFacts) → (f x).role ≡ x.role) → ((x : SessionFacts) → (f x).live ≡ x.live)
-    → (session : SessionId) (facts : SessionFacts) (rows : List SessionFacts) → facts_in session rows ≡ Some facts → StaysLive session facts (change_session changed_one f rows)
-kept-session changed_one f roles lives session facts rows is = by (session.0 == 0) refl is where
-  at_place : (b : Bool) → (session.0 - 1 == changed_one.0 - 1) ≡ b → (session.0 == 0) ≡ false → slice_get rows (session.0 - 1) ≡ Some facts → StaysLive session facts (change_session changed_one f rows)
-  at_place true same positive there =
-      let place : session.0 - 1 ≡ changed_one.0 - 1 = grind (arith, nat_tests) in
-      let here : slice_get rows (changed_one.0 - 1) ≡ Some facts = subst (λ (i : ℕ). slice_get rows i ≡ Some facts) place there in
-      let now : slice_get (change_session changed_one f rows) (session.0 - 1) ≡ Some (f facts) =
-      subst (λ (i : ℕ). slice_get (change_session changed_one f rows) i ≡ Some (f facts)) (sym place) (slice_get-change_at (changed_one.0 - 1) f rows ∙ ap (λ (o : Option SessionFacts). option_map f o) here) in
-      record { later = f facts; begun = rw positive now; role = roles facts; live = lives facts }
-  at_place false other positive there =
-      let apart : session.0 - 1 ≢ changed_one.0 - 1 = λ e. absurd (grind (arith, nat_tests)) in
-      record { later = facts; begun = rw positive (slice_get-change_at_other (changed_one.0 - 1) (session.0 - 1) f rows apart ∙ there); role = refl; live = refl }
-
-  by : (b : Bool) → (session.0 == 0) ≡ b → cond b None (slice_get rows (session.0 - 1)) ≡ Some facts → StaysLive session facts (change_session changed_one f rows)
-  by true zero_number none = absurd cc
-  by false positive there = at_place (session.0 - 1 == changed_one.0 - 1) refl positive there
+-- a session is as before when one becomes mute
+kept-session : (quiet session : SessionId) (facts : SessionFacts) (rows : List SessionFacts) → facts_in session rows ≡ Some facts → StaysLive session facts (change_session quiet muted rows)
+kept-session quiet session facts rows is =
+    let same : option_map muted (facts_in session (change_session quiet muted rows)) ≡ option_map muted (facts_in session rows) =
+    by_bool (λ (b : Bool). option_map muted (cond b None (slice_get (change_session quiet muted rows) (session.0 - 1))) ≡ option_map muted (cond b None (slice_get rows (session.0 - 1)))) (session.0 == 0)
+    (λ _. refl) (λ _. kept-change_at (λ (o : Option SessionFacts). option_map muted o) (quiet.0 - 1) (session.0 - 1) muted rows (λ x. refl)) in
+    let found = from-map_some muted (facts_in session (change_session quiet muted rows)) (muted facts) (same ∙ ap (λ (o : Option SessionFacts). option_map muted o) is) in
+    record { later = found.0; begun = found.1; role = ap (λ (x : SessionFacts). x.role) found.2; live = ap (λ (x : SessionFacts). x.live) found.2 }
 
 -- a session other than the one that ends
 other-session : (over session : SessionId) (facts last : SessionFacts) (rows : List SessionFacts) → facts_in over rows ≡ Some last → is_session session over ≡ false → facts_in session rows ≡ Some facts → StaysLive session facts (change_session over ended rows)
-other-session over session facts last rows begun other is = by (session.0 == 0) refl is where
-  over_positive : (b : Bool) → (over.0 == 0) ≡ b → cond b None (slice_get rows (over.0 - 1)) ≡ Some last → (over.0 == 0) ≡ false
-  over_positive true zero_number none = absurd cc
-  over_positive false positive there = positive
-
-  by : (b : Bool) → (session.0 == 0) ≡ b → cond b None (slice_get rows (session.0 - 1)) ≡ Some facts → StaysLive session facts (change_session over ended rows)
-  by true zero_number none = absurd cc
-  by false positive there =
-      let known : (over.0 == 0) ≡ false = over_positive (over.0 == 0) refl begun in
-      let apart : session.0 - 1 ≢ over.0 - 1 = λ e. absurd (grind (arith, nat_tests)) in
-      record { later = facts; begun = rw positive (slice_get-change_at_other (over.0 - 1) (session.0 - 1) ended rows apart ∙ there); role = refl; live = refl }
+other-session over session facts last rows begun other is =
+    let apart : session.0 - 1 ≢ over.0 - 1 = λ e. absurd (grind (arith, nat_tests)) in
+    record { later = facts; begun = rw (slice_get-change_at_other (over.0 - 1) (session.0 - 1) ended rows apart) is; role = refl; live = refl }
 
 -- the session is not the one that ends
 abbrev pub IsNotOver : SessionsChange → SessionId → Type 0
@@ -75,7 +56,7 @@ IsNotOver (SessionsChange.End over) session = is_session session over ≡ false
 facts-settled : (s : State) (ch : Changes) (change : SessionsChange) → SessionsPremise s ch change → (session : SessionId) (facts : SessionFacts) (rows : List SessionFacts)
     → ((over : SessionId) (last : SessionFacts) → session_of over s ≡ Some last → facts_in over rows ≡ Some last) → IsNotOver change session → facts_in session rows ≡ Some facts → StaysLive session facts (sessions_changed change rows)
 facts-settled s ch SessionsChange.Same premise session facts rows grew other is = record { later = facts; begun = is; role = refl; live = refl }
-facts-settled s ch (SessionsChange.Mute quiet) premise session facts rows grew other is = kept-session quiet muted (λ x. refl) (λ x. refl) session facts rows is
+facts-settled s ch (SessionsChange.Mute quiet) premise session facts rows grew other is = kept-session quiet session facts rows is
 facts-settled s ch (SessionsChange.End over) premise session facts rows grew other is = other-session over session facts premise.facts rows (grew over premise.facts premise.begun) other is
 
 -- a session that was there is there, and live if it was, unless it is the one that ends
@@ -104,20 +85,12 @@ through_pools a b k first second = grind (arith, nat_tests)
 -- a pool that is not registered differs from each that is
 apart-all : (new : Registration) (rows : List Registration) → registered new.pool rows ≡ None → AllByRecursion (λ g. by_pool new g ≡ false → by_pool g new ≡ true) rows
 apart-all new [] none = tt
-apart-all new (g ∷ rows) none = by (g.pool.0 == new.pool.0) refl (λ rest. apart-all new rows rest) none where
-  by : (b : Bool) → (g.pool.0 == new.pool.0) ≡ b → (registered new.pool rows ≡ None → AllByRecursion (λ g. by_pool new g ≡ false → by_pool g new ≡ true) rows) → option_map (λ (r : Registration). r.session) (cond b (Some g) (find (λ r. r.pool.0 == new.pool.0) rows)) ≡ None → AllByRecursion (λ g. by_pool new g ≡ false → by_pool g new ≡ true) (g ∷ rows)
-  by true is later some = absurd cc
-  by false is later rest = (λ out. grind (arith, nat_tests), later rest)
-
-launcher-heard : (s : State) (maker : Option Maker) (session : SessionId) (p : PoolId) → MakerPremise s maker → maker ≡ Some (record { session = session; role = Launcher p }) → IsLauncher s p session
-launcher-heard s x1 session p heard made = grind (arith, nat_tests)
+apart-all new (g ∷ rows) none = (λ out. grind (arith, nat_tests), apart-all new rows (grind (arith, nat_tests)))
 
 registrations-grown : (c : Configuration) (s : State) (ch : Changes) (maker : Option Maker) (growth : Growth) → ch.maker ≡ maker → MakerPremise s maker → GrowthPremise c s ch growth → AreRegistrations s s.registrations → AreRegistrations s (grown c maker growth s).registrations
 registrations-grown c s ch None (Growth.Registration p) is heard premise old = old
 registrations-grown c s ch (Some maker) (Growth.Registration p) is heard premise old =
-    let made : Some maker ≡ Some (record { session = premise.session; role = Launcher p }) = sym is ∙ premise.made_by in
-    let by_session : maker.session ≡ premise.session = cc in
-    let new : IsLauncher s p maker.session = rw by_session (launcher-heard s (Some maker) premise.session p heard made) in
+    let new : IsLauncher s p maker.session = grind (arith, nat_tests, is, premise.made_by, heard) in
     record {
       each = all-insert_before (λ (g : Registration). IsLauncher s g.pool g.session) (λ g. nat_lt p.0 g.pool.0) (record { pool = p; session = maker.session }) s.registrations new old.each;
       rise = rises-insert_before by_pool through_pools (record { pool = p; session = maker.session }) s.registrations (apart-all (record { pool = p; session = maker.session }) s.registrations premise.free) old.rise;
@@ -130,19 +103,16 @@ module _ (c : Configuration) (s : State) (ch : Changes) (premise : SessionsPremi
       let stays = facts-stay c s ch premise session is.facts is.begun other in
       record { facts = stays.later; begun = stays.begun; live = stays.live ∙ is.live; role = stays.role ∙ is.role }
 
-  all-stay : ((session : SessionId) → IsNotOver ch.sessions session) → (rows : List Registration) → AreRegistrations s rows → AreRegistrations (changed c ch s) rows
-  all-stay none rows old = record {
-    each = all-weaker (λ (g : Registration). IsLauncher s g.pool g.session) (λ (g : Registration). IsLauncher (changed c ch s) g.pool g.session) (λ g is. launcher-stays g.pool g.session (none g.session) is) rows old.each;
-    rise = old.rise;
-  }
-
   registrations-after_end : (change : SessionsChange) → ch.sessions ≡ change → (rows : List Registration) → AreRegistrations s rows → AreRegistrations (changed c ch s) (registrations_left change rows)
   registrations-after_end (SessionsChange.End over) is rows old = record {
     each = all-filter_to (λ (g : Registration). IsLauncher s g.pool g.session) (λ (g : Registration). IsLauncher (changed c ch s) g.pool g.session) (λ g. not (is_session g.session over)) rows
         (λ g keeps launcher. launcher-stays g.pool g.session (rw is (let other : is_session g.session over ≡ false = grind (arith, nat_tests) in other)) launcher) old.each;
     rise = Rises-filter by_pool (λ g. not (is_session g.session over)) rows old.rise;
   }
-  registrations-after_end _ is rows old = all-stay (λ session. rw is tt) rows old
+  registrations-after_end _ is rows old = record {
+    each = all-weaker (λ (g : Registration). IsLauncher s g.pool g.session) (λ (g : Registration). IsLauncher (changed c ch s) g.pool g.session) (λ g launcher. launcher-stays g.pool g.session (rw is tt) launcher) rows old.each;
+    rise = old.rise;
+  }
 
 pub registered-still : (c : Configuration) (s : State) (ch : Changes) → IsRegistered s → Premises c s ch → IsRegistered (changed c ch s)
 registered-still c s ch old premises =
@@ -155,16 +125,10 @@ registered-still c s ch old premises =
 
 -- ## one queue
 
-not_queued-push : (session new : SessionId) (queue : List SessionId) → is_queued session queue ≡ false → is_session new session ≡ false → is_queued session (queue ++ new ∷ []) ≡ false
-not_queued-push session new [] out other = grind (arith, nat_tests)
-not_queued-push session new (first ∷ queue) out other = grind (arith, nat_tests, not_queued-push session new queue)
-
 sessions-push : (new : SessionId) (queue : List SessionId) → DistinctSessions queue → is_queued new queue ≡ false → DistinctSessions (queue ++ new ∷ [])
 sessions-push new [] once out = (refl, tt)
 sessions-push new (first ∷ queue) once out =
-    let other : is_session new first ≡ false = grind (arith, nat_tests) in
-    let rest : is_queued new queue ≡ false = grind (arith, nat_tests) in
-    (not_queued-push first new queue once.0 other, sessions-push new queue once.1 rest)
+    (grind (arith, nat_tests, once.0, list_any-append (λ (other : SessionId). is_session other first) queue (new ∷ [])), sessions-push new queue once.1 (grind (arith, nat_tests)))
 
 not_queued-left : (session gone : SessionId) (queue : List SessionId) → is_queued session queue ≡ false → is_queued session (left gone queue) ≡ false
 not_queued-left session gone [] out = refl
@@ -172,158 +136,94 @@ not_queued-left session gone (first ∷ queue) out = grind (arith, nat_tests, no
 
 distinct-left : (gone : SessionId) (queue : List SessionId) → DistinctSessions queue → DistinctSessions (left gone queue)
 distinct-left gone [] once = tt
-distinct-left gone (first ∷ queue) once = by (is_session first gone) (distinct-left gone queue once.1) where
-  by : (b : Bool) → DistinctSessions (left gone queue) → DistinctSessions (cond (not b) (first ∷ left gone queue) (left gone queue))
-  by true later = later
-  by false later = (not_queued-left first gone queue once.0, later)
+distinct-left gone (first ∷ queue) once =
+    let later = distinct-left gone queue once.1 in
+    by_bool (λ (b : Bool). DistinctSessions (cond (not b) (first ∷ left gone queue) (left gone queue))) (is_session first gone) (λ _. later) (λ _. (not_queued-left first gone queue once.0, later))
 
 distinct-joined : (new : SessionId) (queue : List SessionId) → DistinctSessions queue → DistinctSessions (joined new queue)
-distinct-joined new queue once = by (is_queued new queue) refl where
-  by : (b : Bool) → is_queued new queue ≡ b → DistinctSessions (cond b queue (queue ++ new ∷ []))
-  by true is = once
-  by false is = sessions-push new queue once is
+distinct-joined new queue once = by_bool (λ (b : Bool). DistinctSessions (cond b queue (queue ++ new ∷ []))) (is_queued new queue) (λ _. once) (λ out. sessions-push new queue once out)
 
 -- each member still meets the condition after one more or less
 pub all-joined : (P : SessionId → Type 0) (session : SessionId) (queue : List SessionId) → AllByRecursion P queue → P session → AllByRecursion P (joined session queue)
-all-joined P session queue all is = by (is_queued session queue) where
-  by : (b : Bool) → AllByRecursion P (cond b queue (queue ++ session ∷ []))
-  by true = all
-  by false = all-push P queue session all is
+all-joined P session queue all is = by_bool (λ (b : Bool). AllByRecursion P (cond b queue (queue ++ session ∷ []))) (is_queued session queue) (λ _. all) (λ _. all-push P queue session all is)
 
 pub all-left : (P : SessionId → Type 0) (session : SessionId) (queue : List SessionId) → AllByRecursion P queue → AllByRecursion P (left session queue)
 all-left P session queue all = all-filter P (λ other. not (is_session other session)) queue all
 
--- members of a queue: each meets the condition, and none is there twice
-record IsLine (P : SessionId → Type 0) (queue : List SessionId) : Type 0 where
-  each : AllByRecursion P queue
-  once : DistinctSessions queue
+-- a queue of live sessions, none twice, stays one
+live-joined : (s : State) (new : SessionId) (queue : List SessionId) → IsLive s new → IsLiveQueue s queue → IsLiveQueue s (joined new queue)
+live-joined s new queue live old = record { live = all-joined (IsLive s) new queue old.live live; once = distinct-joined new queue old.once }
 
-no_line : (P : SessionId → Type 0) → IsLine P []
-no_line P = record { each = tt; once = tt }
-
-line-joined : (P : SessionId → Type 0) (new : SessionId) (queue : List SessionId) → P new → IsLine P queue → IsLine P (joined new queue)
-line-joined P new queue such old = record { each = all-joined P new queue old.each such; once = distinct-joined new queue old.once }
-
-line-left : (P : SessionId → Type 0) (gone : SessionId) (queue : List SessionId) → IsLine P queue → IsLine P (left gone queue)
-line-left P gone queue old = record { each = all-left P gone queue old.each; once = distinct-left gone queue old.once }
-
--- each member that is left is another session
-line-without : (P : SessionId → Type 0) (gone : SessionId) (queue : List SessionId) → IsLine P queue → IsLine (λ session. P session × (is_session session gone ≡ false)) (left gone queue)
-line-without P gone queue old = record {
-  each = all-filter_to P (λ session. P session × (is_session session gone ≡ false)) (λ other. not (is_session other gone)) queue (λ session keeps such. (such, let other : is_session session gone ≡ false = grind (arith, nat_tests) in other)) old.each;
-  once = distinct-left gone queue old.once;
-}
-
-line-weaker : (P Q : SessionId → Type 0) → ((session : SessionId) → P session → Q session) → (queue : List SessionId) → IsLine P queue → IsLine Q queue
-line-weaker P Q weaker queue old = record { each = all-weaker P Q weaker queue old.each; once = old.once }
+live-left : (s : State) (gone : SessionId) (queue : List SessionId) → IsLiveQueue s queue → IsLiveQueue s (left gone queue)
+live-left s gone queue old = record { live = all-left (IsLive s) gone queue old.live; once = distinct-left gone queue old.once }
 
 -- ## the queues of all rows
 
-module _ (P : SessionId → Type 0) where
-  abbrev RequestLines : List RequestEntry → Type 0
-  RequestLines rows = AllByRecursion (λ e. IsLine P e.queue) rows
+abbrev Queues : {I K : Type 0} → (List SessionId → Type 0) → List (Locked I K) → Type 0
+Queues Q rows = AllByRecursion (λ e. Q e.queue) rows
 
-  abbrev NodeLines : List NodeEntry → Type 0
-  NodeLines rows = AllByRecursion (λ e. IsLine P e.queue) rows
+-- what holds of an empty queue, and continues to hold if a session joins or leaves
+module _ (Q : List SessionId → Type 0) (empty : Q []) where
+  request-line : (r : RequestId) (rows : List RequestEntry) → Queues Q rows → Q (request_queue r rows)
+  request-line r rows all = found-meets (λ (e : RequestEntry). Q e.queue) (λ (o : Option RequestEntry). Q (option_map_or (λ e. e.queue) o [])) _ rows all empty (λ e is. is)
 
-  request-line : (r : RequestId) (rows : List RequestEntry) → RequestLines rows → IsLine P (request_queue r rows)
-  request-line r rows all = by (request_entry r rows) refl where
-    by : (o : Option RequestEntry) → request_entry r rows ≡ o → IsLine P (option_map_or (λ (e : RequestEntry). e.queue) o [])
-    by None is = no_line P
-    by (Some e) is = all-find (λ (x : RequestEntry). IsLine P x.queue) (λ x. same_request x.id r) rows e all is
+  node-line : (n : NodeId) (rows : List NodeEntry) → Queues Q rows → Q (node_queue n rows)
+  node-line n rows all = found-meets (λ (e : NodeEntry). Q e.queue) (λ (o : Option NodeEntry). Q (option_map_or (λ e. e.queue) o [])) _ rows all empty (λ e is. is)
 
-  node-line : (n : NodeId) (rows : List NodeEntry) → NodeLines rows → IsLine P (node_queue n rows)
-  node-line n rows all = by (node_entry n rows) refl where
-    by : (o : Option NodeEntry) → node_entry n rows ≡ o → IsLine P (option_map_or (λ (e : NodeEntry). e.queue) o [])
-    by None is = no_line P
-    by (Some e) is = all-find (λ (x : NodeEntry). IsLine P x.queue) (λ x. x.id.0 == n.0) rows e all is
+  requests-grown : (c : Configuration) (maker : Option Maker) (growth : Growth) (s : State)
+      → ((m : Maker) (r : RequestId) → maker ≡ Some m → growth ≡ Growth.JoinRequest r → Q (request_queue r s.requests) → Q (joined m.session (request_queue r s.requests))) → Queues Q s.requests → Queues Q (grown c maker growth s).requests
+  requests-grown c None (Growth.Registration p) s joins old = old
+  requests-grown c (Some maker) (Growth.Registration p) s joins old = old
+  requests-grown c maker (Growth.Request priority asked) s joins old = all-insert_before (λ (e : RequestEntry). Q e.queue) _ _ s.requests empty old
+  requests-grown c (Some maker) (Growth.JoinRequest r) s joins old = all-change_first (λ (e : RequestEntry). Q e.queue) _ _ s.requests (λ e is. joins maker r refl refl (request-line r s.requests old)) old
+  requests-grown c maker _ s joins old = old
 
-  abbrev MakerIs : Option Maker → Type 0
-  MakerIs None = Unit {0}
-  MakerIs (Some maker) = P maker.session
+  nodes-grown : (c : Configuration) (maker : Option Maker) (growth : Growth) (s : State) → ((m : Maker) (queue : List SessionId) → maker ≡ Some m → Q queue → Q (joined m.session queue)) → Queues Q s.nodes → Queues Q (grown c maker growth s).nodes
+  nodes-grown c None (Growth.Registration p) s joins old = old
+  nodes-grown c (Some maker) (Growth.Registration p) s joins old = old
+  nodes-grown c None (Growth.Node kept) s joins old = all-push (λ (e : NodeEntry). Q e.queue) s.nodes _ old empty
+  nodes-grown c (Some maker) (Growth.Node kept) s joins old = all-push (λ (e : NodeEntry). Q e.queue) s.nodes _ old (joins maker [] refl empty)
+  nodes-grown c (Some maker) (Growth.JoinNode n) s joins old = all-change_first (λ (e : NodeEntry). Q e.queue) _ _ s.nodes (λ e is. joins maker (node_queue n s.nodes) refl (node-line n s.nodes old)) old
+  nodes-grown c (Some maker) (Growth.Allocate n r tenant) s joins old = all-change_first (λ (e : NodeEntry). Q e.queue) _ (allocated r tenant maker.session) s.nodes (λ e is. joins maker e.queue refl is) old
+  nodes-grown c maker _ s joins old = old
 
-  requests-grown : (c : Configuration) (maker : Option Maker) (growth : Growth) (s : State) → MakerIs maker → RequestLines s.requests → RequestLines (grown c maker growth s).requests
-  requests-grown c None (Growth.Registration p) s such old = old
-  requests-grown c (Some maker) (Growth.Registration p) s such old = old
-  requests-grown c maker (Growth.Request priority asked) s such old = all-insert_before (λ (e : RequestEntry). IsLine P e.queue) _ _ s.requests (no_line P) old
-  requests-grown c (Some maker) (Growth.JoinRequest r) s such old =
-      all-change_first (λ (e : RequestEntry). IsLine P e.queue) (λ e. same_request e.id r) (λ e. record e { queue = joined maker.session (request_queue r s.requests) }) s.requests
-      (λ e is. line-joined P maker.session (request_queue r s.requests) such (request-line r s.requests old)) old
-  requests-grown c maker _ s such old = old
+  module _ (leaves : (session : SessionId) (queue : List SessionId) → Q queue → Q (left session queue)) where
+    requests-settled : (maker : Option Maker) (change : RequestsChange) (rows : List RequestEntry) → Queues Q rows → Queues Q (requests_changed maker change rows)
+    requests-settled maker (RequestsChange.Edit r edit) rows old = all-change_first (λ (e : RequestEntry). Q e.queue) _ _ rows (λ e is. is) old
+    requests-settled maker (RequestsChange.Remove r) rows old = all-remove_first (λ (e : RequestEntry). Q e.queue) _ rows old
+    requests-settled (Some maker) (RequestsChange.Leave r) rows old = all-change_first (λ (e : RequestEntry). Q e.queue) _ _ rows (λ e is. leaves maker.session (request_queue r rows) (request-line r rows old)) old
+    requests-settled maker _ rows old = old
 
-  requests-settled : (maker : Option Maker) (change : RequestsChange) (rows : List RequestEntry) → RequestLines rows → RequestLines (requests_changed maker change rows)
-  requests-settled maker (RequestsChange.Edit r edit) rows old = all-change_first (λ (e : RequestEntry). IsLine P e.queue) (λ e. same_request e.id r) (λ e. record e { kept = edited edit e.kept }) rows (λ e is. is) old
-  requests-settled maker (RequestsChange.Remove r) rows old = all-remove_first (λ (e : RequestEntry). IsLine P e.queue) (λ e. same_request e.id r) rows old
-  requests-settled (Some maker) (RequestsChange.Leave r) rows old =
-      all-change_first (λ (e : RequestEntry). IsLine P e.queue) (λ e. same_request e.id r) (λ e. record e { queue = left maker.session (request_queue r rows) }) rows
-      (λ e is. line-left P maker.session (request_queue r rows) (request-line r rows old)) old
-  requests-settled maker _ rows old = old
-
-  nodes-grown : (c : Configuration) (maker : Option Maker) (growth : Growth) (s : State) → MakerIs maker → NodeLines s.nodes → NodeLines (grown c maker growth s).nodes
-  nodes-grown c None (Growth.Registration p) s such old = old
-  nodes-grown c (Some maker) (Growth.Registration p) s such old = old
-  nodes-grown c None (Growth.Node kept) s such old = all-push (λ (e : NodeEntry). IsLine P e.queue) s.nodes _ old (no_line P)
-  nodes-grown c (Some maker) (Growth.Node kept) s such old = all-push (λ (e : NodeEntry). IsLine P e.queue) s.nodes _ old (record { each = (such, tt); once = (refl, tt) })
-  nodes-grown c (Some maker) (Growth.JoinNode n) s such old =
-      all-change_first (λ (e : NodeEntry). IsLine P e.queue) (λ e. e.id.0 == n.0) (λ e. record e { queue = joined maker.session (node_queue n s.nodes) }) s.nodes
-      (λ e is. line-joined P maker.session (node_queue n s.nodes) such (node-line n s.nodes old)) old
-  nodes-grown c (Some maker) (Growth.Allocate n r tenant) s such old =
-      all-change_first (λ (e : NodeEntry). IsLine P e.queue) (λ e. e.id.0 == n.0) (allocated r tenant maker.session) s.nodes (λ e is. line-joined P maker.session e.queue such is) old
-  nodes-grown c maker _ s such old = old
-
-  freed-line : (r : RequestId) (e : NodeEntry) → IsLine P e.queue → IsLine P (freed_from r e).queue
-  freed-line r e is = subst (IsLine P) (sym (freed-queue r e)) is
-
-  nodes-in_use : (tick : ℕ) (numbers : List NodeId) (rows : List NodeEntry) → NodeLines rows → NodeLines (all_in_use tick numbers rows)
-  nodes-in_use tick [] rows old = old
-  nodes-in_use tick (n ∷ numbers) rows old =
-      nodes-in_use tick numbers (change_first (λ e. e.id.0 == n.0) (in_use tick) rows)
-      (all-change_first (λ (e : NodeEntry). IsLine P e.queue) (λ e. e.id.0 == n.0) (in_use tick) rows (λ e is. is) old)
-
-  nodes-settled : (maker : Option Maker) (tick : ℕ) (change : NodesChange) (rows : List NodeEntry) → NodeLines rows → NodeLines (nodes_changed maker tick change rows)
-  nodes-settled maker tick (NodesChange.Put n kept) rows old = all-change_first (λ (e : NodeEntry). IsLine P e.queue) (λ e. e.id.0 == n.0) (λ e. record e { kept = kept }) rows (λ e is. is) old
-  nodes-settled maker tick (NodesChange.Remove n) rows old = all-remove_first (λ (e : NodeEntry). IsLine P e.queue) (λ e. e.id.0 == n.0) rows old
-  nodes-settled (Some maker) tick (NodesChange.Leave n) rows old =
-      all-change_first (λ (e : NodeEntry). IsLine P e.queue) (λ e. e.id.0 == n.0) (λ e. record e { queue = left maker.session (node_queue n rows) }) rows
-      (λ e is. line-left P maker.session (node_queue n rows) (node-line n rows old)) old
-  nodes-settled maker tick (NodesChange.FreeAll r) rows old = all-mapped (λ (e : NodeEntry). IsLine P e.queue) (λ (e : NodeEntry). IsLine P e.queue) (freed_from r) rows (freed-line r) old
-  nodes-settled maker tick (NodesChange.TakeOver numbers) rows old = nodes-in_use tick numbers rows old
-  nodes-settled maker tick _ rows old = old
+    nodes-settled : (maker : Option Maker) (tick : ℕ) (change : NodesChange) (rows : List NodeEntry) → Queues Q rows → Queues Q (nodes_changed maker tick change rows)
+    nodes-settled maker tick (NodesChange.Put n kept) rows old = all-change_first (λ (e : NodeEntry). Q e.queue) _ _ rows (λ e is. is) old
+    nodes-settled maker tick (NodesChange.Remove n) rows old = all-remove_first (λ (e : NodeEntry). Q e.queue) _ rows old
+    nodes-settled (Some maker) tick (NodesChange.Leave n) rows old = all-change_first (λ (e : NodeEntry). Q e.queue) _ _ rows (λ e is. leaves maker.session (node_queue n rows) (node-line n rows old)) old
+    nodes-settled maker tick (NodesChange.FreeAll r) rows old = all-mapped (λ (e : NodeEntry). Q e.queue) (λ (e : NodeEntry). Q e.queue) (freed_from r) rows (λ e is. subst Q (sym (freed-queue r e)) is) old
+    nodes-settled maker tick (NodesChange.TakeOver numbers) rows old = all-in_use (λ (e : NodeEntry). Q e.queue) tick (λ e is. is) numbers rows old
+    nodes-settled maker tick _ rows old = old
 
 -- ## and a session that ends
 
-lines-live : (c : Configuration) (s : State) (ch : Changes) → SessionsPremise s ch ch.sessions → ((session : SessionId) → IsNotOver ch.sessions session) → (queue : List SessionId) → IsLine (IsLive s) queue → IsLiveQueue (changed c ch s) queue
-lines-live c s ch premise none_over queue old =
-    let line : IsLine (IsLive (changed c ch s)) queue = line-weaker (IsLive s) (IsLive (changed c ch s)) (λ session live. live-stays c s ch premise session live (none_over session)) queue old in
-    record { live = line.each; once = line.once }
+-- a queue after it
+abbrev queue_left : SessionsChange → List SessionId → List SessionId
+queue_left (SessionsChange.End over) queue = left over queue
+queue_left _ queue = queue
 
-module _ (c : Configuration) (s : State) (ch : Changes) (premise : SessionsPremise s ch ch.sessions) where
-  abbrev Lines : {I K : Type 0} → List (Locked I K) → Type 0
-  Lines rows = AllByRecursion (λ e. IsLine (IsLive s) e.queue) rows
+module _ (Q R : List SessionId → Type 0) where
+  requests-after_end : (change : SessionsChange) → ((queue : List SessionId) → Q queue → R (queue_left change queue)) → (rows : List RequestEntry) → Queues Q rows → Queues R (requests_left change rows)
+  requests-after_end (SessionsChange.End over) keeps rows old = all-mapped (λ (e : RequestEntry). Q e.queue) (λ (e : RequestEntry). R e.queue) (request_left over) rows (λ e is. keeps e.queue is) old
+  requests-after_end _ keeps rows old = all-weaker (λ (e : RequestEntry). Q e.queue) (λ (e : RequestEntry). R e.queue) (λ e is. keeps e.queue is) rows old
 
-  abbrev LaterQueues : {I K : Type 0} → List (Locked I K) → Type 0
-  LaterQueues rows = AllByRecursion (λ e. IsLiveQueue (changed c ch s) e.queue) rows
+  nodes-after_end : (change : SessionsChange) → ((queue : List SessionId) → Q queue → R (queue_left change queue)) → (rows : List NodeEntry) → Queues Q rows → Queues R (nodes_left change rows)
+  nodes-after_end (SessionsChange.End over) keeps rows old = all-mapped (λ (e : NodeEntry). Q e.queue) (λ (e : NodeEntry). R e.queue) (node_left over) rows (λ e is. keeps e.queue is) old
+  nodes-after_end _ keeps rows old = all-weaker (λ (e : NodeEntry). Q e.queue) (λ (e : NodeEntry). R e.queue) (λ e is. keeps e.queue is) rows old
 
-  none-over : {I K : Type 0} → ((session : SessionId) → IsNotOver ch.sessions session) → (rows : List (Locked I K)) → Lines rows → LaterQueues rows
-  none-over none rows old = all-weaker (λ e. IsLine (IsLive s) e.queue) (λ e. IsLiveQueue (changed c ch s) e.queue) (λ e line. lines-live c s ch premise none e.queue line) rows old
-
-  over-left : (over : SessionId) → ch.sessions ≡ SessionsChange.End over → (queue : List SessionId) → IsLine (IsLive s) queue → IsLiveQueue (changed c ch s) (left over queue)
-  over-left over ends queue line =
-      let others : IsLine (λ session. IsLive s session × (is_session session over ≡ false)) (left over queue) = line-without (IsLive s) over queue line in
-      record {
-        live = all-weaker (λ session. IsLive s session × (is_session session over ≡ false)) (IsLive (changed c ch s)) (λ session both. live-stays c s ch premise session both.0 (rw ends both.1)) (left over queue) others.each;
-        once = others.once;
-      }
-
-  requests-after_end : (change : SessionsChange) → ch.sessions ≡ change → (rows : List RequestEntry) → Lines rows → LaterQueues (requests_left change rows)
-  requests-after_end (SessionsChange.End over) is rows old =
-      all-mapped (λ (e : RequestEntry). IsLine (IsLive s) e.queue) (λ (e : RequestEntry). IsLiveQueue (changed c ch s) e.queue) (request_left over) rows (λ e line. over-left over is e.queue line) old
-  requests-after_end _ is rows old = none-over (λ session. rw is tt) rows old
-
-  nodes-after_end : (change : SessionsChange) → ch.sessions ≡ change → (rows : List NodeEntry) → Lines rows → LaterQueues (nodes_left change rows)
-  nodes-after_end (SessionsChange.End over) is rows old =
-      all-mapped (λ (e : NodeEntry). IsLine (IsLive s) e.queue) (λ (e : NodeEntry). IsLiveQueue (changed c ch s) e.queue) (node_left over) rows (λ e line. over-left over is e.queue line) old
-  nodes-after_end _ is rows old = none-over (λ session. rw is tt) rows old
+live-after_end : (c : Configuration) (s : State) (ch : Changes) → SessionsPremise s ch ch.sessions → (change : SessionsChange) → ch.sessions ≡ change → (queue : List SessionId) → IsLiveQueue s queue → IsLiveQueue (changed c ch s) (queue_left change queue)
+live-after_end c s ch premise (SessionsChange.End over) ends queue old = record {
+  live = all-filter_to (IsLive s) (IsLive (changed c ch s)) (λ other. not (is_session other over)) queue (λ session keeps live. live-stays c s ch premise session live (rw ends (let other : is_session session over ≡ false = grind (arith, nat_tests) in other))) old.live;
+  once = distinct-left over queue old.once;
+}
+live-after_end c s ch premise _ is queue old = record { live = all-weaker (IsLive s) (IsLive (changed c ch s)) (λ session live. live-stays c s ch premise session live (rw is tt)) queue old.live; once = old.once }
 
 -- ## at most one at a request
 
@@ -337,53 +237,32 @@ short-joined : (new : SessionId) (queue : List SessionId) → holder queue ≡ N
 short-joined new [] none = omega arith
 short-joined new (first ∷ queue) none = absurd cc
 
-short-found : (r : RequestId) (rows : List RequestEntry) → AllByRecursion (λ e. IsShort e.queue) rows → IsShort (request_queue r rows)
-short-found r rows all = by (request_entry r rows) refl where
-  by : (o : Option RequestEntry) → request_entry r rows ≡ o → IsShort (option_map_or (λ (e : RequestEntry). e.queue) o [])
-  by None is = omega arith
-  by (Some e) is = all-find (λ (x : RequestEntry). IsShort x.queue) (λ x. same_request x.id r) rows e all is
-
-short-grown : (c : Configuration) (s : State) (ch : Changes) (maker : Option Maker) (growth : Growth) → GrowthPremise c s ch growth → AllByRecursion (λ e. IsShort e.queue) s.requests → AllByRecursion (λ e. IsShort e.queue) (grown c maker growth s).requests
-short-grown c s ch None (Growth.Registration p) premise old = old
-short-grown c s ch (Some maker) (Growth.Registration p) premise old = old
-short-grown c s ch maker (Growth.Request priority asked) premise old = all-insert_before (λ (e : RequestEntry). IsShort e.queue) _ _ s.requests (omega arith) old
-short-grown c s ch (Some maker) (Growth.JoinRequest r) premise old =
-    all-change_first (λ (e : RequestEntry). IsShort e.queue) (λ e. same_request e.id r) (λ e. record e { queue = joined maker.session (request_queue r s.requests) }) s.requests
-    (λ e is. short-joined maker.session (request_queue r s.requests) premise.unlocked) old
-short-grown c s ch maker _ premise old = old
-
-short-settled : (maker : Option Maker) (change : RequestsChange) (rows : List RequestEntry) → AllByRecursion (λ e. IsShort e.queue) rows → AllByRecursion (λ e. IsShort e.queue) (requests_changed maker change rows)
-short-settled maker (RequestsChange.Edit r edit) rows old = all-change_first (λ (e : RequestEntry). IsShort e.queue) (λ e. same_request e.id r) (λ e. record e { kept = edited edit e.kept }) rows (λ e is. is) old
-short-settled maker (RequestsChange.Remove r) rows old = all-remove_first (λ (e : RequestEntry). IsShort e.queue) (λ e. same_request e.id r) rows old
-short-settled (Some maker) (RequestsChange.Leave r) rows old =
-    all-change_first (λ (e : RequestEntry). IsShort e.queue) (λ e. same_request e.id r) (λ e. record e { queue = left maker.session (request_queue r rows) }) rows
-    (λ e is. short-left maker.session (request_queue r rows) (short-found r rows old)) old
-short-settled maker _ rows old = old
-
-short-after_end : (change : SessionsChange) (rows : List RequestEntry) → AllByRecursion (λ e. IsShort e.queue) rows → AllByRecursion (λ e. IsShort e.queue) (requests_left change rows)
-short-after_end (SessionsChange.End over) rows old = all-mapped (λ (e : RequestEntry). IsShort e.queue) (λ (e : RequestEntry). IsShort e.queue) (request_left over) rows (λ e few. short-left over e.queue few) old
-short-after_end _ rows old = old
+short-after_end : (change : SessionsChange) (queue : List SessionId) → IsShort queue → IsShort (queue_left change queue)
+short-after_end (SessionsChange.End over) queue few = short-left over queue few
+short-after_end _ queue few = few
 
 -- ## all of it
 
-maker-live : (s : State) (maker : Option Maker) → MakerPremise s maker → MakerIs (IsLive s) maker
-maker-live s None heard = tt
-maker-live s (Some maker) heard = record { facts = heard.facts; begun = heard.begun; live = heard.live }
+maker-live : (s : State) (maker : Option Maker) (m : Maker) → MakerPremise s maker → maker ≡ Some m → IsLive s m.session
+maker-live s maker m heard is = grind (arith, nat_tests)
 
 pub queued : (c : Configuration) (s : State) (ch : Changes) → IsQueued s → Premises c s ch → IsQueued (changed c ch s)
 queued c s ch old premises =
     let t : State = grown c ch.maker ch.grows s in
-    let at_requests : RequestLines (IsLive s) s.requests = all-weaker (λ (e : RequestEntry). IsLiveQueue s e.queue) (λ e. IsLine (IsLive s) e.queue) (λ e is. record { each = is.live; once = is.once }) s.requests old.at_requests in
-    let at_nodes : NodeLines (IsLive s) s.nodes = all-weaker (λ (e : NodeEntry). IsLiveQueue s e.queue) (λ e. IsLine (IsLive s) e.queue) (λ e is. record { each = is.live; once = is.once }) s.nodes old.at_nodes in
-    let live : MakerIs (IsLive s) ch.maker = maker-live s ch.maker premises.maker in
+    let live : (m : Maker) → ch.maker ≡ Some m → IsLive s m.session = λ m is. maker-live s ch.maker m premises.maker is in
+    let none : IsLiveQueue s [] = record { live = tt; once = tt } in
+    let short : IsShort [] = omega arith in
     record {
       at_requests =
-          requests-after_end c s ch premises.sessions ch.sessions refl (requests_changed ch.maker ch.requests t.requests)
-          (requests-settled (IsLive s) ch.maker ch.requests t.requests (requests-grown (IsLive s) c ch.maker ch.grows s live at_requests));
-      one_a_request = short-after_end ch.sessions (requests_changed ch.maker ch.requests t.requests) (short-settled ch.maker ch.requests t.requests (short-grown c s ch ch.maker ch.grows premises.grows old.one_a_request));
+          requests-after_end (IsLiveQueue s) (IsLiveQueue (changed c ch s)) ch.sessions (live-after_end c s ch premises.sessions ch.sessions refl) (requests_changed ch.maker ch.requests t.requests)
+          (requests-settled (IsLiveQueue s) none (live-left s) ch.maker ch.requests t.requests (requests-grown (IsLiveQueue s) none c ch.maker ch.grows s (λ m r is _ line. live-joined s m.session (request_queue r s.requests) (live m is) line) old.at_requests));
+      one_a_request =
+          requests-after_end IsShort IsShort ch.sessions (short-after_end ch.sessions) (requests_changed ch.maker ch.requests t.requests)
+          (requests-settled IsShort short short-left ch.maker ch.requests t.requests
+          (requests-grown IsShort short c ch.maker ch.grows s (λ m r _ joins _. short-joined m.session (request_queue r s.requests) (subst (λ (growth : Growth). GrowthPremise c s ch growth) joins premises.grows).unlocked) old.one_a_request));
       at_nodes =
-          nodes-after_end c s ch premises.sessions ch.sessions refl (nodes_changed ch.maker t.tick ch.nodes t.nodes)
-          (nodes-settled (IsLive s) ch.maker t.tick ch.nodes t.nodes (nodes-grown (IsLive s) c ch.maker ch.grows s live at_nodes));
+          nodes-after_end (IsLiveQueue s) (IsLiveQueue (changed c ch s)) ch.sessions (live-after_end c s ch premises.sessions ch.sessions refl) (nodes_changed ch.maker t.tick ch.nodes t.nodes)
+          (nodes-settled (IsLiveQueue s) none (live-left s) ch.maker t.tick ch.nodes t.nodes (nodes-grown (IsLiveQueue s) none c ch.maker ch.grows s (λ m queue is line. live-joined s m.session queue (live m is) line) old.at_nodes));
     }
 
 -- # who waits at a request after an event: those who did before, and the maker if it joins
@@ -400,19 +279,15 @@ module _ (P : SessionId → Type 0) where
   queue-of : (x r : RequestId) (rows : List RequestEntry) → x ≡ r → AllByRecursion P (request_queue r rows) → AllByRecursion P (request_queue x rows)
   queue-of x r rows same all = subst (λ (y : RequestId). AllByRecursion P (request_queue y rows)) (sym same) all
 
-  queue-asked : (c : Configuration) (s : State) (maker : Option Maker) (priority : ℕ) (asked : Asked) (r : RequestId) → AllByRecursion (λ e. e.id.seq < s.next_request) s.requests → AllByRecursion P (request_queue r s.requests)
-      → (b : Bool) → same_request (next_id priority s) r ≡ b → AllByRecursion P (request_queue r (grown c maker (Growth.Request priority asked) s).requests)
-  queue-asked c s maker priority asked r below all true same =
-      let none : request_in r s.requests ≡ None = request_in-later r s.next_request s.requests below (same-seq (next_id priority s) r same) in
-      same-queue [] _ (request_queue-new (record { id = next_id priority s; kept = new_record asked; queue = [] }) r s.requests same none) tt
-  queue-asked c s maker priority asked r below all false other =
-      same-queue (request_queue r s.requests) _ (request_queue-insert (record { id = next_id priority s; kept = new_record asked; queue = [] }) r s.requests other) all
-
   queue-grown : (c : Configuration) (s : State) (maker : Option Maker) (growth : Growth) (r : RequestId) → AllByRecursion (λ e. e.id.seq < s.next_request) s.requests → AllByRecursion P (request_queue r s.requests)
       → ((m : Maker) → maker ≡ Some m → growth ≡ Growth.JoinRequest r → P m.session) → AllByRecursion P (request_queue r (grown c maker growth s).requests)
   queue-grown c s None (Growth.Registration p) r below all joins = all
   queue-grown c s (Some maker) (Growth.Registration p) r below all joins = all
-  queue-grown c s maker (Growth.Request priority asked) r below all joins = queue-asked c s maker priority asked r below all (same_request (next_id priority s) r) refl
+  queue-grown c s maker (Growth.Request priority asked) r below all joins =
+      let new : RequestEntry = record { id = next_id priority s; kept = new_record asked; queue = [] } in
+      by_bool (λ _. AllByRecursion P (request_queue r (insert_request new s.requests))) (same_request (next_id priority s) r)
+      (λ same. same-queue [] _ (request_queue-new new r s.requests same (request_in-later r s.next_request s.requests below (same-seq (next_id priority s) r same))) tt)
+      (λ other. same-queue (request_queue r s.requests) _ (request_queue-insert new r s.requests other) all)
   queue-grown c s (Some maker) (Growth.JoinRequest x) r below all joins =
       queue-put x r (joined maker.session (request_queue x s.requests)) s.requests all (λ same.
       all-joined P maker.session (request_queue x s.requests) (queue-of x r s.requests same all) (joins maker refl (ap (λ (y : RequestId). Growth.JoinRequest y) same)))
@@ -420,10 +295,8 @@ module _ (P : SessionId → Type 0) where
 
   queue-settled : (maker : Option Maker) (change : RequestsChange) (rows : List RequestEntry) (r : RequestId) → Rises (λ a b. is_id_before a.id b.id) rows → AllByRecursion P (request_queue r rows) → AllByRecursion P (request_queue r (requests_changed maker change rows))
   queue-settled maker (RequestsChange.Edit x how) rows r rises all = same-queue (request_queue r rows) _ (request_queue-edit x r (edited how) rows) all
-  queue-settled maker (RequestsChange.Remove x) rows r rises all = by (same_request x r) refl where
-    by : (b : Bool) → same_request x r ≡ b → AllByRecursion P (request_queue r (requests_changed maker (RequestsChange.Remove x) rows))
-    by true same = same-queue [] _ (request_queue-removed x r rows rises same) tt
-    by false other = same-queue (request_queue r rows) _ (request_queue-remove x r rows other) all
+  queue-settled maker (RequestsChange.Remove x) rows r rises all =
+      by_bool (λ _. AllByRecursion P (request_queue r (remove_request x rows))) (same_request x r) (λ same. same-queue [] _ (request_queue-removed x r rows rises same) tt) (λ other. same-queue (request_queue r rows) _ (request_queue-remove x r rows other) all)
   queue-settled (Some maker) (RequestsChange.Leave x) rows r rises all =
       queue-put x r (left maker.session (request_queue x rows)) rows all (λ same. all-left P maker.session (request_queue x rows) (queue-of x r rows same all))
   queue-settled maker _ rows r rises all = all

@@ -1,13 +1,9 @@
 -- each request is as its state says, and its nodes are kept for it
-use Rattle.np_changes.proofs.Prelude.{Bool, IsGiven, IsServed, LabelId, List, NodeEntry, NodeId, None, Option, OwnsItsLabels, PoolId, RequestId, RequestRecord, RequestState, SessionId, Some, State, [], ap, arith, cond, eqb-true, false, is_filled, is_pool, le_antisymm, length, nat_tests, node_entry, none-some, refl, same_Some, slice_get, suc, sym, true, unfilled, zero, ℕ, ◌+◌, ◌∙◌, ◌∷◌, ◌≡◌, ◌≤◌, AllByRecursion, Differ, DistinctNodes, all-weaker, differ-push, inl, inr, length-append, list_any, list_any-none, ne_eqb, option_map, slice_get_within, ◌++◌, ◌<◌, ◌==◌, ◌||◌, ◌⊎◌, NodeRecord, NodeState, Rises, TenantId, all_freed, all_in_use, allocated, both_ways, change_first, false≢true, freed, is_building, is_deleting, is_ready, is_request, nat_lt, node_in, put_node, remove_node, same_request, subst, Changes, Configuration, EndsNode, Frees, GivesUp, Reports, Starts, request_in, IsAtRest, IsFor, RequestsStand, StandsIn, all-at, all-push, false_from_ne_true, is_fulfilled, is_pending, is_requested, lt_of_lt_of_le, member-there, next_label, request-equal, with_node, Asked, AsksForJob, AsksToKeep, EditPremise, EmptiesRequest, Gains, GoesFulfilled, GoesWithdrawn, Growth, GrowthPremise, Invariant, IsMade, IsTaken, Launcher, Maker, MayDecline, MayFail, MayFulfil, MayGiveBack, MayRevise, MayServe, NodesChange, NodesPremise, Premises, Reason, RequestEdit, RequestEntry, RequestsChange, RequestsPremise, TakesOver, above-apart, and_parts, by_maker, changed, edited, eq-eqb, grown, new_node, new_record, next_id, nodes_changed, request-itself, tenant_of_request, GainsNew, PutsNode, RunsWhileBuilding, AllocationsListed, IsNumbered, is_id_before, left, request_queue, requests_changed}
+use Rattle.np_changes.proofs.Prelude.{list_any-append, Bool, IsGiven, IsServed, LabelId, List, NodeEntry, NodeId, None, Option, OwnsItsLabels, PoolId, RequestId, RequestRecord, RequestState, SessionId, Some, State, [], ap, arith, cond, false, is_filled, is_pool, length, nat_tests, node_entry, none-some, refl, same_Some, slice_get, suc, sym, true, unfilled, zero, ℕ, ◌∙◌, ◌∷◌, ◌≡◌, ◌≤◌, AllByRecursion, DistinctNodes, all-weaker, inl, inr, length-append, list_any, list_any-none, ne_eqb, option_map, slice_get_within, ◌++◌, ◌<◌, ◌==◌, ◌||◌, ◌⊎◌, NodeRecord, NodeState, Rises, TenantId, all_freed, all_in_use, allocated, both_ways, change_first, freed, is_building, is_deleting, is_ready, is_request, nat_lt, node_in, put_node, remove_node, same_request, subst, Changes, Configuration, EndsNode, Frees, GivesUp, Reports, Starts, request_in, IsAtRest, IsFor, RequestsStand, StandsIn, all-at, all-push, false_from_ne_true, is_fulfilled, is_pending, is_requested, lt_of_lt_of_le, member-there, next_label, request-equal, with_node, Asked, AsksForJob, AsksToKeep, EditPremise, EmptiesRequest, Gains, GoesFulfilled, GoesWithdrawn, Growth, GrowthPremise, Invariant, IsMade, IsTaken, Launcher, Maker, NodesChange, NodesPremise, Premises, RequestEdit, RequestEntry, RequestsChange, RequestsPremise, TakesOver, above-apart, and_parts, by_maker, changed, edited, eq-eqb, grown, new_node, new_record, next_id, nodes_changed, request-itself, tenant_of_request, GainsNew, PutsNode, RunsWhileBuilding, AllocationsListed, IsNumbered, is_id_before, left, request_queue, requests_changed}
+use Rattle.np_lists.proofs.Plain.{by_bool}
 use Rattle.np_changes.proofs.Lookups.{Added, Altered, IsAllocated, IsCalm, IsFreed, IsPut, IsUsed, NoNode, NoRequest, NodeChange, NodeStep, Removed, Stays, at-least, below-later, calm-request, found-grown, grown-node, grown-numbered, grown-request, leave-node, left-node, left-request, next-after, next-grown, next-more, node-step, node_in-allocated, node_in-below, node_in-freed, node_in-in_use, node_in-later, node_in-new, node_in-other, node_in-put, node_in-remove, node_in-removed, nodes-after, request_in-below, request_in-edit, request_in-insert, request_in-later, request_in-new, request_in-queue, request_in-remove, request_in-removed, requests-after, same-seq, same_node-is}
 
 -- # a request with every place filled owns its labels
-
--- if nothing is lacking, this place is filled and the others lack nothing
-no-lack : (b : Bool) (more : ℕ) → cond b 0 1 + more ≡ 0 → (b ≡ true) × (more ≡ 0)
-no-lack true more none = (refl, omega arith)
-no-lack false more none = absurd (omega arith)
 
 module _ (p : PoolId) (session : SessionId) (r : RequestId) (rows : List NodeEntry) where
   pub filled-at : (labels : List LabelId) (numbers : List NodeId) → unfilled p session r rows labels numbers ≡ 0 → (i : ℕ) (n : NodeId) (l : LabelId)
@@ -15,34 +11,21 @@ module _ (p : PoolId) (session : SessionId) (r : RequestId) (rows : List NodeEnt
   filled-at [] numbers none i n l is_at of_label = absurd (none-some l of_label)
   filled-at (k ∷ labels) [] none i n l is_at of_label = absurd (none-some n is_at)
   filled-at (k ∷ labels) (m ∷ numbers) none zero n l is_at of_label = grind (arith, nat_tests)
-  filled-at (k ∷ labels) (m ∷ numbers) none (suc i) n l is_at of_label =
-      filled-at labels numbers ((no-lack (is_filled p session r k (node_entry m rows)) (unfilled p session r rows labels numbers) none).1) i n l is_at of_label
+  filled-at (k ∷ labels) (m ∷ numbers) none (suc i) n l is_at of_label = filled-at labels numbers (grind (arith, nat_tests)) i n l is_at of_label
 
   pub filled-many : (labels : List LabelId) (numbers : List NodeId) → unfilled p session r rows labels numbers ≡ 0 → length labels ≤ length numbers
   filled-many [] numbers none = omega arith
   filled-many (k ∷ labels) [] none = absurd (omega arith)
-  filled-many (k ∷ labels) (m ∷ numbers) none =
-      let rest : length labels ≤ length numbers = filled-many labels numbers ((no-lack (is_filled p session r k (node_entry m rows)) (unfilled p session r rows labels numbers) none).1) in
-      omega arith
+  filled-many (k ∷ labels) (m ∷ numbers) none = grind (arith, nat_tests, filled-many labels numbers)
 
--- the node is allocated to the request, by the number of another pool
-pub filled-given : (s : State) (p other : PoolId) (session : SessionId) (r : RequestId) (n : NodeId) (l : LabelId) → p.0 ≡ other.0 → is_filled p session r l (node_entry n s.nodes) ≡ true → IsGiven s r other n l
-filled-given s p other session r n l same is = grind (arith, nat_tests)
-
-pub pool-same : (p other : PoolId) (o : Option PoolId) → is_pool p o ≡ true → o ≡ Some other → p.0 ≡ other.0
-pool-same p other None is by = absurd (none-some other by)
-pool-same p other (Some x) is by = sym (eqb-true x.0 p.0 is) ∙ ap (λ (y : PoolId). y.0) (same_Some x other by)
+-- the node is allocated to the request, by the pool that serves it
+filled-given : (s : State) (p other : PoolId) (session : SessionId) (r : RequestId) (q : RequestRecord) (n : NodeId) (l : LabelId) → is_pool p q.pool ≡ true → q.pool ≡ Some other → is_filled p session r l (node_entry n s.nodes) ≡ true → IsGiven s r other n l
+filled-given s p other session r q n l by_pool served_by is = grind (arith, nat_tests)
 
 -- a request that is served, with no place that lacks a node, is fulfilled
 pub filled-owns : (s : State) (p : PoolId) (session : SessionId) (r : RequestId) (q : RequestRecord) → IsServed s r q → is_pool p q.pool ≡ true → unfilled p session r s.nodes q.labels q.nodes ≡ 0
     → OwnsItsLabels s r (record q { state = RequestState.Fulfilled })
-filled-owns s p session r q served by_pool none = record {
-  pool = served.pool;
-  served_by = served.served_by;
-  as_many = le_antisymm served.few (filled-many p session r s.nodes q.labels q.nodes none);
-  distinct = served.distinct;
-  each = λ at n l is_at of_label. filled-given s p served.pool session r n l (pool-same p served.pool q.pool by_pool served.served_by) (filled-at p session r s.nodes q.labels q.nodes none at n l is_at of_label);
-}
+filled-owns s p session r q served by_pool none = grind (arith, nat_tests, served, filled-many p session r s.nodes q.labels q.nodes none, filled-given s p served.pool session r q, filled-at p session r s.nodes q.labels q.nodes none)
 
 -- # members at places of a list
 
@@ -55,25 +38,19 @@ pub record PassesAt {X : Type 0} (p : X → Bool) (xs : List X) : Type 0 where
   pub there : slice_get xs place ≡ Some member
   pub passes : p member ≡ true
 
-any-by : {X : Type 0} (p : X → Bool) (x : X) (xs : List X) (b : Bool) → p x ≡ b → (b || list_any p xs) ≡ true → (list_any p xs ≡ true → PassesAt p xs) → PassesAt p (x ∷ xs)
-any-by p x xs true is any later = record { place = 0; member = x; there = refl; passes = is }
-any-by p x xs false is any later = let rest = later any in record { place = suc rest.place; member = rest.member; there = rest.there; passes = rest.passes }
-
 pub any-place : {X : Type 0} (p : X → Bool) (xs : List X) → list_any p xs ≡ true → PassesAt p xs
 any-place p [] any = absurd cc
-any-place p (x ∷ xs) any = any-by p x xs (p x) refl any (any-place p xs)
+any-place p (x ∷ xs) any =
+    by_bool (λ (b : Bool). (b || list_any p xs) ≡ true → PassesAt p (x ∷ xs)) (p x) (λ is _. record { place = 0; member = x; there = refl; passes = is })
+    (λ _ later. let rest = any-place p xs later in record { place = suc rest.place; member = rest.member; there = rest.there; passes = rest.passes }) any
 
 -- ## one more member
-
-push-later : {X : Type 0} (xs : List X) (new : X) (i : ℕ) (x : X) → (slice_get xs i ≡ Some x) ⊎ ((i ≡ length xs) × (x ≡ new)) → (slice_get xs i ≡ Some x) ⊎ ((suc i ≡ suc (length xs)) × (x ≡ new))
-push-later xs new i x (inl there) = inl there
-push-later xs new i x (inr end) = inr (ap suc end.0, end.1)
 
 pub push-places : {X : Type 0} (xs : List X) (new : X) (i : ℕ) (x : X) → slice_get (xs ++ new ∷ []) i ≡ Some x → (slice_get xs i ≡ Some x) ⊎ ((i ≡ length xs) × (x ≡ new))
 push-places [] new zero x is = inr (refl, sym (same_Some new x is))
 push-places [] new (suc i) x is = absurd (none-some x is)
 push-places (y ∷ xs) new zero x is = inl is
-push-places (y ∷ xs) new (suc i) x is = push-later xs new i x (push-places xs new i x is)
+push-places (y ∷ xs) new (suc i) x is = grind (arith, push-places xs new i x is)
 
 -- if another list has the next place, it is no shorter than this one with one more member
 pub push-within : {X Y : Type 0} (xs : List X) (ys : List Y) (new : X) (y : Y) → slice_get ys (length xs) ≡ Some y → length (xs ++ new ∷ []) ≤ length ys
@@ -87,16 +64,9 @@ node-place n numbers any =
     let at : PassesAt (λ (m : NodeId). m.0 == n.0) numbers = any-place (λ (m : NodeId). m.0 == n.0) numbers any in
     (at.place, at.there ∙ ap (λ (m : NodeId). Some m) (same_node-is at.member n at.passes))
 
-differ-nodes : (numbers : List NodeId) → DistinctNodes numbers → Differ (λ (n : NodeId). n.0) numbers
-differ-nodes [] distinct = tt
-differ-nodes (n ∷ numbers) distinct = (distinct.0, differ-nodes numbers distinct.1)
-
-nodes-differ : (numbers : List NodeId) → Differ (λ (n : NodeId). n.0) numbers → DistinctNodes numbers
-nodes-differ [] differ = tt
-nodes-differ (n ∷ numbers) differ = (differ.0, nodes-differ numbers differ.1)
-
 pub distinct-push : (numbers : List NodeId) (n : NodeId) → DistinctNodes numbers → list_any (λ m. m.0 == n.0) numbers ≡ false → DistinctNodes (numbers ++ n ∷ [])
-distinct-push numbers n distinct out = nodes-differ (numbers ++ n ∷ []) (differ-push (λ (m : NodeId). m.0) numbers n (differ-nodes numbers distinct) out)
+distinct-push [] n distinct out = (refl, tt)
+distinct-push (m ∷ numbers) n distinct out = (grind (arith, nat_tests, distinct.0, list_any-append (λ (x : NodeId). x.0 == m.0) numbers (n ∷ [])), distinct-push numbers n distinct.1 (grind (arith, nat_tests)))
 
 -- what is below a bound is below a higher one
 pub all-below : (low high : ℕ) (numbers : List NodeId) → low ≤ high → AllByRecursion (λ n. n.0 < low) numbers → AllByRecursion (λ n. n.0 < high) numbers
@@ -122,15 +92,11 @@ edited-by x0 f x2 a is = grind (arith, nat_tests)
 
 -- ## states of nodes
 
-ready-is : (state : NodeState) → is_ready state ≡ true → state ≡ NodeState.Ready
-ready-is NodeState.Ready ready = refl
-ready-is _ ready = absurd (false≢true ready)
-
 pub ready-not_building : (state : NodeState) → is_ready state ≡ true → is_building state ≡ true → ⊥
-ready-not_building state ready building = both_ways (is_building state) (ap (λ (x : NodeState). is_building x) (ready-is state ready)) building
+ready-not_building state ready building = grind arith
 
 pub ready-not_deleting : (state : NodeState) → is_ready state ≡ true → is_deleting state ≡ true → ⊥
-ready-not_deleting state ready deleting = both_ways (is_deleting state) (ap (λ (x : NodeState). is_deleting x) (ready-is state ready)) deleting
+ready-not_deleting state ready deleting = grind arith
 
 -- ## whose a node is
 
@@ -163,27 +129,10 @@ pub kept-same : (r : RequestId) (o : Option NodeRecord) → KeptAt r o o
 kept-same r None = tt
 kept-same r (Some k) = keeps-itself r k
 
-pub kept-map : (r : RequestId) (f : NodeRecord → NodeRecord) (o : Option NodeRecord) → ((k : NodeRecord) → o ≡ Some k → Keeps r k (f k)) → KeptAt r o (option_map f o)
-kept-map r f None keeps = tt
-kept-map r f (Some k) keeps = keeps k refl
-
--- the node was there before
-pub record WasKept (r : RequestId) (before : Option NodeRecord) (node : NodeRecord) : Type 0 where
-  pub old : NodeRecord
-  pub was : before ≡ Some old
-  pub keeps : Keeps r old node
-
-pub kept-back : (r : RequestId) (before after : Option NodeRecord) (node : NodeRecord) → KeptAt r before after → after ≡ Some node → WasKept r before node
-kept-back r x1 x2 node kept is = grind (arith, nat_tests)
-
--- the node still exists afterwards
-pub record StaysKept (r : RequestId) (after : Option NodeRecord) (old : NodeRecord) : Type 0 where
-  pub node : NodeRecord
-  pub stands : after ≡ Some node
-  pub keeps : Keeps r old node
-
-pub kept-on : (r : RequestId) (before after : Option NodeRecord) (old : NodeRecord) → KeptAt r before after → before ≡ Some old → is_ready old.state ≡ true → StaysKept r after old
-kept-on r x1 x2 old kept is ready = grind (arith, nat_tests)
+-- if what changes is kept
+pub kept-map : (r : RequestId) (b : NodeRecord → Bool) (f : NodeRecord → NodeRecord) (o : Option NodeRecord) → ((k : NodeRecord) → o ≡ Some k → b k ≡ true → Keeps r k (f k)) → KeptAt r o (option_map (λ k. cond (b k) (f k) k) o)
+kept-map r b f None keeps = tt
+kept-map r b f (Some k) keeps = by_bool (λ (x : Bool). Keeps r k (cond x (f k) k)) (b k) (λ is. keeps k refl is) (λ _. keeps-itself r k)
 
 -- ## by each change
 
@@ -194,38 +143,29 @@ module _ (r : RequestId) (rows : List NodeEntry) (n : NodeId) where
   pub kept-looks : (later : List NodeEntry) → node_in n later ≡ node_in n rows → KeptAt r (node_in n rows) (node_in n later)
   kept-looks later same = subst (λ (o : Option NodeRecord). KeptAt r (node_in n rows) o) (sym same) (kept-same r (node_in n rows))
 
-  kept-mapped : (later : List NodeEntry) (f : NodeRecord → NodeRecord) → node_in n later ≡ option_map f (node_in n rows) → ((k : NodeRecord) → node_in n rows ≡ Some k → Keeps r k (f k)) → KeptAt r (node_in n rows) (node_in n later)
-  kept-mapped later f looks keeps = subst (λ (o : Option NodeRecord). KeptAt r (node_in n rows) o) (sym looks) (kept-map r f (node_in n rows) keeps)
+  kept-mapped : (later : List NodeEntry) (b : NodeRecord → Bool) (f : NodeRecord → NodeRecord) → node_in n later ≡ option_map (λ k. cond (b k) (f k) k) (node_in n rows) → ((k : NodeRecord) → node_in n rows ≡ Some k → b k ≡ true → Keeps r k (f k)) → KeptAt r (node_in n rows) (node_in n later)
+  kept-mapped later b f looks keeps = subst (λ (o : Option NodeRecord). KeptAt r (node_in n rows) o) (sym looks) (kept-map r b f (node_in n rows) keeps)
 
   pub kept-put : (n0 : NodeId) (k0 kept : NodeRecord) → node_in n0 rows ≡ Some k0 → Keeps r k0 kept → KeptAt r (node_in n rows) (node_in n (put_node n0 kept rows))
-  kept-put n0 k0 kept stands keeps = kept-mapped (put_node n0 kept rows) (λ k. cond (n0.0 == n.0) kept k) (node_in-put n0 n kept rows) (λ k is. by k is (n0.0 == n.0) refl) where
-    by : (k : NodeRecord) → node_in n rows ≡ Some k → (b : Bool) → (n0.0 == n.0) ≡ b → Keeps r k (cond b kept k)
-    by k is true same = subst (λ (x : NodeRecord). Keeps r x kept) (found-same rows n0 n k0 k same stands is) keeps
-    by k is false same = keeps-itself r k
+  kept-put n0 k0 kept stands keeps = kept-mapped _ (λ _. n0.0 == n.0) (λ _. kept) (node_in-put n0 n kept rows) (λ k is same. subst (λ (x : NodeRecord). Keeps r x kept) (found-same rows n0 n k0 k same stands is) keeps)
 
   pub kept-remove : (n0 : NodeId) (k0 : NodeRecord) → Rises (λ (a b : NodeEntry). nat_lt a.id.0 b.id.0) rows → node_in n0 rows ≡ Some k0 → is_deleting k0.state ≡ true → KeptAt r (node_in n rows) (node_in n (remove_node n0 rows))
   kept-remove n0 k0 rises stands deleting = grind (arith, nat_tests, ready-not_deleting, node_in-removed, same_node-is, kept-looks, node_in-remove)
 
   pub kept-freed : (r0 : RequestId) → same_request r0 r ≡ false → KeptAt r (node_in n rows) (node_in n (all_freed r0 rows))
-  kept-freed r0 other = kept-mapped (all_freed r0 rows) (λ k. cond (is_request r0 k.allocated_to) (freed k) k) (node_in-freed r0 n rows) (λ k is. by k (is_request r0 k.allocated_to) refl) where
-    by : (k : NodeRecord) (b : Bool) → is_request r0 k.allocated_to ≡ b → Keeps r k (cond b (freed k) k)
-    by k true his = record { allocation = λ mine. absurd (allocated-to_one r0 r k.allocated_to other his mine); of_pool = refl; of_label = refl; ready = λ ready mine. ready }
-    by k false his = keeps-itself r k
+  kept-freed r0 other = kept-mapped _ (λ k. is_request r0 k.allocated_to) freed (node_in-freed r0 n rows) (λ k is his.
+      record { allocation = λ mine. absurd (allocated-to_one r0 r k.allocated_to other his mine); of_pool = refl; of_label = refl; ready = λ ready mine. ready })
 
   pub kept-taken : (r0 : RequestId) (tick : ℕ) (numbers : List NodeId) → same_request r0 r ≡ false
       → ((k : NodeRecord) → list_any (λ m. m.0 == n.0) numbers ≡ true → node_in n rows ≡ Some k → is_request r0 k.allocated_to ≡ true)
       → KeptAt r (node_in n rows) (node_in n (all_in_use tick numbers rows))
-  kept-taken r0 tick numbers other his =
-      kept-mapped (all_in_use tick numbers rows) (λ k. cond (list_any (λ m. m.0 == n.0) numbers) (record k { since = tick; state = NodeState.InUse }) k) (node_in-in_use tick numbers n rows) (λ k is.
-      by k is (list_any (λ m. m.0 == n.0) numbers) refl)
-    where
-      by : (k : NodeRecord) → node_in n rows ≡ Some k → (b : Bool) → list_any (λ m. m.0 == n.0) numbers ≡ b → Keeps r k (cond b (record k { since = tick; state = NodeState.InUse }) k)
-      by k is true among = record { allocation = λ mine. mine; of_pool = refl; of_label = refl; ready = λ ready mine. absurd (allocated-to_one r0 r k.allocated_to other (his k among is) mine) }
-      by k is false among = keeps-itself r k
+  kept-taken r0 tick numbers other his = kept-mapped _ (λ _. list_any (λ m. m.0 == n.0) numbers) (λ k. record k { since = tick; state = NodeState.InUse }) (node_in-in_use tick numbers n rows) (λ k is among.
+      record { allocation = λ mine. mine; of_pool = refl; of_label = refl; ready = λ ready mine. absurd (allocated-to_one r0 r k.allocated_to other (his k among is) mine) })
 
   pub kept-allocated : (n0 : NodeId) (r0 : RequestId) (tenant : Option TenantId) (session : SessionId) (k0 : NodeRecord) → node_in n0 rows ≡ Some k0 → k0.allocated_to ≡ None
       → KeptAt r (node_in n rows) (node_in n (change_first (λ e. e.id.0 == n0.0) (allocated r0 tenant session) rows))
-  kept-allocated n0 r0 tenant session k0 stands free = grind (arith, nat_tests, kept-mapped, node_in-allocated, found-same, allocated-to_none, keeps-itself)
+  kept-allocated n0 r0 tenant session k0 stands free = kept-mapped _ (λ _. n0.0 == n.0) (λ k. record k { allocated_to = Some r0; tenant = tenant }) (node_in-allocated n0 n r0 tenant session rows) (λ k is same.
+      grind (arith, nat_tests, found-same rows n0 n k0 k same stands is, allocated-to_none))
 
   pub kept-push : (new : NodeEntry) → (new.id.0 == n.0) ≡ false → KeptAt r (node_in n rows) (node_in n (rows ++ new ∷ []))
   kept-push new other = kept-looks (rows ++ new ∷ []) (node_in-other new n rows other)
@@ -250,33 +190,13 @@ module _ (c : Configuration) (s : State) (ch : Changes) (n : NodeId) (k kept : N
 -- ## by the request's state
 
 pub rest-if : (s : State) (r : RequestId) (q : RequestRecord) (state : RequestState) → is_requested state ≡ true → StandsIn s r q state → IsAtRest q
-rest-if s r q RequestState.Requested is stands = stands
-rest-if s r q _ is stands = absurd (false≢true is)
+rest-if s r q state is stands = grind arith
 
 pub served-if : (s : State) (r : RequestId) (q : RequestRecord) (state : RequestState) → is_pending state ≡ true → StandsIn s r q state → IsServed s r q
-served-if s r q RequestState.Pending is stands = stands
-served-if s r q _ is stands = absurd (false≢true is)
+served-if s r q state is stands = grind arith
 
 pub owns-if : (s : State) (r : RequestId) (q : RequestRecord) (state : RequestState) → is_fulfilled state ≡ true → StandsIn s r q state → OwnsItsLabels s r q
-owns-if s r q RequestState.Fulfilled is stands = stands
-owns-if s r q _ is stands = absurd (false≢true is)
-
-pub requested-stands : (s : State) (r : RequestId) (q : RequestRecord) (state : RequestState) → is_requested state ≡ true → IsAtRest q → StandsIn s r q state
-requested-stands s r q RequestState.Requested is rest = rest
-requested-stands s r q _ is rest = absurd (false≢true is)
-
-pub pending-stands : (s : State) (r : RequestId) (q : RequestRecord) (state : RequestState) → is_pending state ≡ true → IsServed s r q → StandsIn s r q state
-pending-stands s r q RequestState.Pending is served = served
-pending-stands s r q _ is served = absurd (false≢true is)
-
--- failed, or requested again
-pub either-stands : (s : State) (r : RequestId) (q : RequestRecord) (failed : Bool) → IsAtRest q → StandsIn s r q (cond failed RequestState.Failed RequestState.Requested)
-either-stands s r q true rest = rest
-either-stands s r q false rest = rest
-
--- a pool has begun to serve it
-pub empty-served : (s : State) (r : RequestId) (q : RequestRecord) (pool : PoolId) → q.pool ≡ Some pool → q.nodes ≡ [] → IsServed s r q
-empty-served s r q pool by none = grind (arith, nat_tests)
+owns-if s r q state is stands = grind arith
 
 -- ## the nodes of a request
 
@@ -309,9 +229,6 @@ owned-node s r q owns n k any stands =
 abbrev pub KeptFor : State → State → RequestId → Type 0
 KeptFor s t r = (n : NodeId) → n.0 < s.next_node → KeptAt r (node_in n s.nodes) (node_in n t.nodes)
 
-for-kept : (r : RequestId) (p : PoolId) (l : LabelId) (old node : NodeRecord) → IsFor r p l old → Keeps r old node → IsFor r p l node
-for-kept r p l old node is keeps = record { allocated = keeps.allocation is.allocated; of_pool = keeps.of_pool ∙ is.of_pool; of_label = keeps.of_label ∙ is.of_label }
-
 -- as it was, with its nodes kept; or as its state says anew
 abbrev pub Follows : State → State → RequestId → RequestRecord → Type 0
 Follows s t r q = StandsIn t r q q.state ⊎ ((request_in r s.requests ≡ Some q) × KeptFor s t r)
@@ -320,41 +237,20 @@ module _ (s t : State) (below : AllByRecursion (λ (e : NodeEntry). e.id.0 < s.n
   place-kept : (r : RequestId) (q : RequestRecord) → KeptFor s t r → (served : IsServed s r q) → (at : ℕ) (n : NodeId) (l : LabelId) (node : NodeRecord)
       → slice_get q.nodes at ≡ Some n → slice_get q.labels at ≡ Some l → node_in n t.nodes ≡ Some node → IsFor r served.pool l node
   place-kept r q kept served at n l node is_at of_label stands =
-      let low : n.0 < s.next_node = all-at (λ (m : NodeId). m.0 < s.next_node) q.nodes at n served.below is_at in
-      let back = kept-back r (node_in n s.nodes) (node_in n t.nodes) node (kept n low) stands in
-      for-kept r served.pool l back.old node (served.each at n l back.old is_at of_label back.was) back.keeps
+      let at_node = kept n (all-at (λ (m : NodeId). m.0 < s.next_node) q.nodes at n served.below is_at) in
+      grind (arith, nat_tests, at_node, served.each at n l, is_at, of_label, stands)
 
   served-kept : (r : RequestId) (q : RequestRecord) → KeptFor s t r → IsServed s r q → IsServed t r q
-  served-kept r q kept served = record {
-    pool = served.pool;
-    served_by = served.served_by;
-    few = served.few;
-    distinct = served.distinct;
-    below = all-below s.next_node t.next_node q.nodes more served.below;
-    each = λ at n l node is_at of_label stands. place-kept r q kept served at n l node is_at of_label stands;
-  }
+  served-kept r q kept served = grind (arith, nat_tests, served, all-below s.next_node t.next_node q.nodes more served.below, place-kept r q kept served)
 
   given-kept : (r : RequestId) (p : PoolId) (n : NodeId) (l : LabelId) → KeptFor s t r → IsGiven s r p n l → IsGiven t r p n l
   given-kept r p n l kept given =
-      let low : n.0 < s.next_node = node_in-below n s.next_node given.node s.nodes below given.stands in
-      let on = kept-on r (node_in n s.nodes) (node_in n t.nodes) given.node (kept n low) given.stands given.ready in
-      record {
-        node = on.node;
-        stands = on.stands;
-        ready = on.keeps.ready given.ready given.allocated;
-        allocated = on.keeps.allocation given.allocated;
-        of_pool = on.keeps.of_pool ∙ given.of_pool;
-        of_label = on.keeps.of_label ∙ given.of_label;
-      }
+      let at_node = kept n (node_in-below n s.next_node given.node s.nodes below given.stands) in
+      grind (arith, nat_tests, at_node, given.stands, given.ready, given.allocated, given.of_pool, given.of_label)
 
   pub owns-kept : (r : RequestId) (q : RequestRecord) → KeptFor s t r → OwnsItsLabels s r q → OwnsItsLabels t r q
-  owns-kept r q kept owns = record {
-    pool = owns.pool;
-    served_by = owns.served_by;
-    as_many = owns.as_many;
-    distinct = owns.distinct;
-    each = λ at n l is_at of_label. given-kept r owns.pool n l kept (owns.each at n l is_at of_label);
-  }
+  owns-kept r q kept owns =
+      grind (arith, nat_tests, owns, λ (at : ℕ) (n : NodeId) (l : LabelId) (is_at : slice_get q.nodes at ≡ Some n) (of_label : slice_get q.labels at ≡ Some l). given-kept r owns.pool n l kept (owns.each at n l is_at of_label))
 
   stands-kept : (r : RequestId) (q : RequestRecord) (state : RequestState) → KeptFor s t r → StandsIn s r q state → StandsIn t r q state
   stands-kept r q RequestState.Pending kept stands = served-kept r q kept stands
@@ -362,10 +258,7 @@ module _ (s t : State) (below : AllByRecursion (λ (e : NodeEntry). e.id.0 < s.n
   stands-kept r q _ kept stands = stands
 
   stand-step : RequestsStand s → ((r : RequestId) (q : RequestRecord) → request_in r t.requests ≡ Some q → Follows s t r q) → RequestsStand t
-  stand-step stand follows = λ r q is. by r q (follows r q is) where
-    by : (r : RequestId) (q : RequestRecord) → Follows s t r q → StandsIn t r q q.state
-    by r q (inl anew) = anew
-    by r q (inr both) = stands-kept r q q.state both.1 (stand r q both.0)
+  stand-step stand follows = λ r q is. grind (arith, follows r q is, stands-kept r q q.state, stand r q)
 
   -- ## requests changed
 
@@ -377,30 +270,7 @@ module _ (s t : State) (below : AllByRecursion (λ (e : NodeEntry). e.id.0 < s.n
   pub edit-stand : (r0 : RequestId) (f : RequestRecord → RequestRecord) (q0 : RequestRecord) → RequestsStand s → request_in r0 s.requests ≡ Some q0
       → ((r : RequestId) → request_in r t.requests ≡ option_map (λ q. cond (same_request r0 r) (f q) q) (request_in r s.requests))
       → StandsIn t r0 (f q0) (f q0).state → ((r : RequestId) → same_request r0 r ≡ false → KeptFor s t r) → RequestsStand t
-  edit-stand r0 f q0 stand stands looks anew others = stand-step stand (λ r q is. by r q (edited-by (same_request r0 r) f (request_in r s.requests) q (sym (looks r) ∙ is))) where
-    by : (r : RequestId) (q : RequestRecord) → IsEdited (same_request r0 r) f (request_in r s.requests) q ⊎ ((same_request r0 r ≡ false) × (request_in r s.requests ≡ Some q)) → Follows s t r q
-    by r q (inl one) =
-        let same : r0 ≡ r = request-equal r0 r one.passed in
-        let old : one.old ≡ q0 = same_Some one.old q0 (sym one.was ∙ ap (λ (x : RequestId). request_in x s.requests) (sym same) ∙ stands) in
-        let now : f q0 ≡ q = sym (one.now ∙ ap (λ (x : RequestRecord). f x) old) in
-        inl (subst (λ (x : RequestRecord). StandsIn t r x x.state) now (subst (λ (x : RequestId). StandsIn t x (f q0) (f q0).state) same anew))
-    by r q (inr both) = inr (both.1, others r both.0)
-
-  -- one less
-  pub remove-stand : (r0 : RequestId) → RequestsStand s → ((r : RequestId) → same_request r0 r ≡ false → request_in r t.requests ≡ request_in r s.requests)
-      → ((r : RequestId) → same_request r0 r ≡ true → request_in r t.requests ≡ None) → ((r : RequestId) → same_request r0 r ≡ false → KeptFor s t r) → RequestsStand t
-  remove-stand r0 stand looks gone others = stand-step stand (λ r q is. by r q is (same_request r0 r) refl) where
-    by : (r : RequestId) (q : RequestRecord) → request_in r t.requests ≡ Some q → (b : Bool) → same_request r0 r ≡ b → Follows s t r q
-    by r q is true same = absurd (none-some q (sym (gone r same) ∙ is))
-    by r q is false other = inr (sym (looks r other) ∙ is, others r other)
-
-  -- one more
-  pub insert-stand : (r0 : RequestId) (new : RequestRecord) → RequestsStand s → ((r : RequestId) → same_request r0 r ≡ false → request_in r t.requests ≡ request_in r s.requests)
-      → ((r : RequestId) → same_request r0 r ≡ true → request_in r t.requests ≡ Some new) → ((r : RequestId) → StandsIn t r new new.state) → ((r : RequestId) → KeptFor s t r) → RequestsStand t
-  insert-stand r0 new stand looks here anew kept = stand-step stand (λ r q is. by r q is (same_request r0 r) refl) where
-    by : (r : RequestId) (q : RequestRecord) → request_in r t.requests ≡ Some q → (b : Bool) → same_request r0 r ≡ b → Follows s t r q
-    by r q is true same = inl (subst (λ (x : RequestRecord). StandsIn t r x x.state) (same_Some new q (sym (here r same) ∙ is)) (anew r))
-    by r q is false other = inr (sym (looks r other) ∙ is, kept r)
+  edit-stand r0 f q0 stand stands looks anew others = stand-step stand (λ r q is. grind (arith, nat_tests, looks r, request-equal r0 r, others r, anew))
 
   -- a request that is served gets one more node
   pub served-more : (r : RequestId) (q : RequestRecord) (n : NodeId) (l : LabelId) → KeptFor s t r → (served : IsServed s r q) → next_label q ≡ Some l → list_any (λ m. m.0 == n.0) q.nodes ≡ false → n.0 < t.next_node
@@ -411,15 +281,8 @@ module _ (s t : State) (below : AllByRecursion (λ (e : NodeEntry). e.id.0 < s.n
     few = push-within q.nodes q.labels n l next;
     distinct = distinct-push q.nodes n served.distinct out;
     below = all-push (λ (m : NodeId). m.0 < t.next_node) q.nodes n (all-below s.next_node t.next_node q.nodes more served.below) low;
-    each = λ at m k node is_at of_label stands. by at m k node of_label stands (push-places q.nodes n at m is_at);
+    each = λ at m k node is_at of_label stands. grind (arith, nat_tests, push-places q.nodes n at m is_at, place-kept r q kept served at m k node, of_label, stands, next, fits node);
   }
-    where
-      by : (at : ℕ) (m : NodeId) (k : LabelId) (node : NodeRecord) → slice_get q.labels at ≡ Some k → node_in m t.nodes ≡ Some node
-          → (slice_get q.nodes at ≡ Some m) ⊎ ((at ≡ length q.nodes) × (m ≡ n)) → IsFor r served.pool k node
-      by at m k node of_label stands (inl there) = place-kept r q kept served at m k node there of_label stands
-      by at m k node of_label stands (inr end) =
-          let label : l ≡ k = same_Some l k (sym next ∙ sym (ap (λ (i : ℕ). slice_get q.labels i) end.0) ∙ of_label) in
-          subst (λ (x : LabelId). IsFor r served.pool x node) label (fits node (sym (ap (λ (x : NodeId). node_in x t.nodes) end.1) ∙ stands))
 
 -- # each request is as its state says, after the changes of an accepted event
 
@@ -439,21 +302,6 @@ new_entry maker s kept = record { id = record { 0 = s.next_node }; kept = kept; 
 -- the entry of a new request
 abbrev new_request : ℕ → Asked → State → RequestEntry
 new_request priority asked s = record { id = next_id priority s; kept = new_record asked; queue = [] }
-
--- ## a node that was allocated
-
-allocated-found : (rows later : List NodeEntry) (n : NodeId) (r : RequestId) (tenant : Option TenantId) (session : SessionId) (k : NodeRecord)
-    → node_in n later ≡ node_in n (change_first (λ e. e.id.0 == n.0) (allocated r tenant session) rows) → node_in n rows ≡ Some k → (node : NodeRecord) → node_in n later ≡ Some node → record k { allocated_to = Some r; tenant = tenant } ≡ node
-allocated-found rows later n r tenant session k looks stands node is =
-    let found : node_in n later ≡ Some (record k { allocated_to = Some r; tenant = tenant }) =
-    looks
-    ∙ node_in-allocated n n r tenant session rows
-    ∙ ap (λ (o : Option NodeRecord). option_map (λ x. cond (n.0 == n.0) (record x { allocated_to = Some r; tenant = tenant }) x) o) stands
-    ∙ ap (λ (b : Bool). Some (cond b (record k { allocated_to = Some r; tenant = tenant }) k)) (eq-eqb n.0 n.0 refl) in
-    same_Some (record k { allocated_to = Some r; tenant = tenant }) node (sym found ∙ is)
-
-allocated-for : (r : RequestId) (p : PoolId) (l : LabelId) (k : NodeRecord) (tenant : Option TenantId) → k.pool.0 ≡ p.0 → k.label.0 ≡ l.0 → IsFor r p l (record k { allocated_to = Some r; tenant = tenant })
-allocated-for r p l k tenant of_pool of_label = record { allocated = request-itself r; of_pool = of_pool; of_label = of_label }
 
 module _ (c : Configuration) (s : State) (ch : Changes) (inv : Invariant c s) where
   stood : RequestsStand s
@@ -482,47 +330,11 @@ module _ (c : Configuration) (s : State) (ch : Changes) (inv : Invariant c s) wh
   edit-looks : (r0 : RequestId) (e : RequestEdit) (g : Growth) → NoRequest g → ch.grows ≡ g → ch.requests ≡ RequestsChange.Edit r0 e → (r : RequestId)
       → request_in r (changed c ch s).requests ≡ option_map (λ q. cond (same_request r0 r) (edited e q) q) (request_in r s.requests)
   edit-looks r0 e g none grows to r =
-      requests-after c s ch ch.maker g (RequestsChange.Edit r0 e) refl grows to r
-      ∙ request_in-edit r0 r (edited e) (grown c ch.maker g s).requests
-      ∙ ap (λ (o : Option RequestRecord). option_map (λ q. cond (same_request r0 r) (edited e q) q) o) (grown-request c ch.maker g s r none)
+      requests-after c s ch ch.maker g (RequestsChange.Edit r0 e) refl grows to r ∙ rw (request_in-edit r0 r (edited e) (grown c ch.maker g s).requests, grown-request c ch.maker g s r none) refl
 
   one-edited : (r0 : RequestId) (e : RequestEdit) (q0 : RequestRecord) → ch.grows ≡ Growth.Nothing → ch.requests ≡ RequestsChange.Edit r0 e → request_in r0 s.requests ≡ Some q0
       → StandsIn (changed c ch s) r0 (edited e q0) (edited e q0).state → ((r : RequestId) → same_request r0 r ≡ false → KeptFor s (changed c ch s) r) → RequestsStand (changed c ch s)
   one-edited r0 e q0 size to stands anew others = edit-stand s (changed c ch s) below more r0 (edited e) q0 stood stands (edit-looks r0 e Growth.Nothing tt size to) anew others
-
-  serve-stand : (r : RequestId) (p : PoolId) → MayServe c s ch r p → ch.requests ≡ RequestsChange.Edit r (RequestEdit.Serve p) → RequestsStand (changed c ch s)
-  serve-stand r p may to =
-      let rest = rest-if s r may.request may.request.state may.requested (stood r may.request may.worked_on.stands) in
-      one-edited r (RequestEdit.Serve p) may.request may.same_size to may.worked_on.stands (empty-served (changed c ch s) r (edited (RequestEdit.Serve p) may.request) p refl rest.no_nodes) (λ x other. kept-still may.same_size may.same_nodes x)
-
-  decline-stand : (r : RequestId) (p : PoolId) (why : Reason) (failed : Bool) → MayDecline c s ch r p why failed → ch.requests ≡ RequestsChange.Edit r (RequestEdit.Decline p why failed) → RequestsStand (changed c ch s)
-  decline-stand r p why failed may to =
-      let rest : IsAtRest (edited (RequestEdit.Decline p why failed) may.request) = record { no_pool = refl; no_nodes = refl } in
-      one-edited r (RequestEdit.Decline p why failed) may.request may.same_size to may.worked_on.stands (either-stands (changed c ch s) r (edited (RequestEdit.Decline p why failed) may.request) failed rest) (others-freed r may.same_size may.frees)
-
-  fulfil-stand : (r : RequestId) → MayFulfil s ch r → ch.nodes ≡ NodesChange.Same → ch.requests ≡ RequestsChange.Edit r RequestEdit.Fulfil → RequestsStand (changed c ch s)
-  fulfil-stand r may same to =
-      let pending = and_parts (is_pending may.request.state) (is_pool may.pool may.request.pool) may.pending in
-      let served = served-if s r may.request may.request.state pending.0 (stood r may.request may.worked_on.stands) in
-      let owns = filled-owns s may.pool may.worked_on.session r may.request served pending.1 may.filled in
-      one-edited r RequestEdit.Fulfil may.request may.same_size to may.worked_on.stands (owns-kept s (changed c ch s) below more r (edited RequestEdit.Fulfil may.request) (kept-still may.same_size same r) owns) (λ x other. kept-still may.same_size same x)
-
-  give_back-stand : (r : RequestId) → MayGiveBack s ch r → ch.requests ≡ RequestsChange.Edit r RequestEdit.GiveBack → RequestsStand (changed c ch s)
-  give_back-stand r may to =
-      let rest : IsAtRest (edited RequestEdit.GiveBack may.request) = record { no_pool = refl; no_nodes = refl } in
-      one-edited r RequestEdit.GiveBack may.request may.same_size to may.stands rest (others-freed r may.same_size may.frees)
-
-  fail-stand : (r : RequestId) → MayFail s ch r → ch.requests ≡ RequestsChange.Edit r RequestEdit.Fail → RequestsStand (changed c ch s)
-  fail-stand r may to =
-      let was = rest-if s r may.request may.request.state may.requested (stood r may.request may.stands) in
-      let rest : IsAtRest (edited RequestEdit.Fail may.request) = record { no_pool = was.no_pool; no_nodes = was.no_nodes } in
-      one-edited r RequestEdit.Fail may.request may.same_size to may.stands rest (λ x other. kept-still may.same_size may.same_nodes x)
-
-  revise-stand : (r : RequestId) (relative : ℕ) → MayRevise s ch r → ch.requests ≡ RequestsChange.Edit r (RequestEdit.Revise relative) → RequestsStand (changed c ch s)
-  revise-stand r relative may to =
-      let was = rest-if s r may.request may.request.state may.requested (stood r may.request may.stands) in
-      let rest : IsAtRest (edited (RequestEdit.Revise relative) may.request) = record { no_pool = was.no_pool; no_nodes = was.no_nodes } in
-      one-edited r (RequestEdit.Revise relative) may.request may.same_size to may.stands (requested-stands (changed c ch s) r (edited (RequestEdit.Revise relative) may.request) may.request.state may.requested rest) (λ x other. kept-still may.same_size may.same_nodes x)
 
   -- ## one more node
 
@@ -541,74 +353,52 @@ module _ (c : Configuration) (s : State) (ch : Changes) (inv : Invariant c s) wh
       let pending = and_parts (is_pending gains.request.state) (is_pool gains.pool gains.request.pool) gains.pending in
       let anew = served-more s (changed c ch s) below more r gains.request n gains.label (kept r) served gains.next out low fits in
       edit-stand s (changed c ch s) below more r (edited (RequestEdit.AddNode n)) gains.request stood gains.worked_on.stands (edit-looks r (RequestEdit.AddNode n) g none grows gains.edits)
-      (pending-stands (changed c ch s) r (with_node gains.request n) gains.request.state pending.0 anew) (λ x other. kept x)
-
-  taken-looks : (r : RequestId) (n : NodeId) (gains : Gains c s ch r n) → IsTaken c s ch gains.pool r gains.request gains.label n → ch.nodes ≡ NodesChange.Same → (m : NodeId)
-      → node_in m (changed c ch s).nodes ≡ node_in m (change_first (λ e. e.id.0 == n.0) (allocated r (tenant_of_request c gains.request) gains.worked_on.session) s.nodes)
-  taken-looks r n gains taken same m =
-      nodes-after c s ch (Some (record { session = gains.worked_on.session; role = Launcher gains.pool })) (Growth.Allocate n r (tenant_of_request c gains.request)) NodesChange.Same gains.worked_on.made_by taken.grows same m
-
-  taken-for : (r : RequestId) (n : NodeId) (gains : Gains c s ch r n) → IsTaken c s ch gains.pool r gains.request gains.label n → ch.nodes ≡ NodesChange.Same → (node : NodeRecord)
-      → node_in n (changed c ch s).nodes ≡ Some node → IsFor r (gaining-served r n gains).pool gains.label node
-  taken-for r n gains taken same node is =
-      subst (λ (x : NodeRecord). IsFor r (gaining-served r n gains).pool gains.label x)
-      (allocated-found s.nodes (changed c ch s).nodes n r (tenant_of_request c gains.request) gains.worked_on.session taken.node (taken-looks r n gains taken same n) taken.stands node is)
-      (allocated-for r (gaining-served r n gains).pool gains.label taken.node (tenant_of_request c gains.request) (eqb-true taken.node.pool.0 gains.pool.0 taken.of_pool ∙ gaining-pool r n gains) (eqb-true taken.node.label.0 gains.label.0 taken.of_label))
-
-  taken-stand : (r : RequestId) (n : NodeId) (gains : Gains c s ch r n) → IsTaken c s ch gains.pool r gains.request gains.label n → ch.nodes ≡ NodesChange.Same → RequestsStand (changed c ch s)
-  taken-stand r n gains taken same =
-      gain-stand r n gains (Growth.Allocate n r (tenant_of_request c gains.request)) tt taken.grows
-      (λ x m low. subst (λ (o : Option NodeRecord). KeptAt x (node_in m s.nodes) o) (sym (taken-looks r n gains taken same m)) (kept-allocated x s.nodes m n r (tenant_of_request c gains.request) gains.worked_on.session taken.node taken.stands taken.free))
-      (served-unlisted s r gains.request (gaining-served r n gains) n taken.node taken.stands taken.free)
-      (lt_of_lt_of_le (node_in-below n s.next_node taken.node s.nodes below taken.stands) more)
-      (taken-for r n gains taken same)
-
-  made-looks : (r : RequestId) (n : NodeId) (gains : Gains c s ch r n) → IsMade c s ch gains.pool r gains.request gains.label n → ch.nodes ≡ NodesChange.Same → (m : NodeId)
-      → node_in m (changed c ch s).nodes ≡ node_in m (s.nodes ++ new_entry ch.maker s (new_node c s r gains.pool gains.request gains.label) ∷ [])
-  made-looks r n gains made same m = nodes-after c s ch ch.maker (Growth.Node (new_node c s r gains.pool gains.request gains.label)) NodesChange.Same refl made.grows same m
-
-  made-for : (r : RequestId) (n : NodeId) (gains : Gains c s ch r n) → IsMade c s ch gains.pool r gains.request gains.label n → ch.nodes ≡ NodesChange.Same → (node : NodeRecord)
-      → node_in n (changed c ch s).nodes ≡ Some node → IsFor r (gaining-served r n gains).pool gains.label node
-  made-for r n gains made same node is =
-      let late : n.0 ≡ s.next_node = ap (λ (x : NodeId). x.0) made.number in
-      let new = new_entry ch.maker s (new_node c s r gains.pool gains.request gains.label) in
-      let found : node_in n (changed c ch s).nodes ≡ Some (new_node c s r gains.pool gains.request gains.label) =
-      made-looks r n gains made same n ∙ node_in-new new n s.nodes (eq-eqb s.next_node n.0 (sym late)) (node_in-later n s.next_node s.nodes below (at-least n.0 s.next_node late)) in
-      let is_for : IsFor r (gaining-served r n gains).pool gains.label (new_node c s r gains.pool gains.request gains.label) = record { allocated = request-itself r; of_pool = gaining-pool r n gains; of_label = refl } in
-      subst (λ (x : NodeRecord). IsFor r (gaining-served r n gains).pool gains.label x) (same_Some (new_node c s r gains.pool gains.request gains.label) node (sym found ∙ is)) is_for
-
-  made-stand : (r : RequestId) (n : NodeId) (gains : Gains c s ch r n) → IsMade c s ch gains.pool r gains.request gains.label n → ch.nodes ≡ NodesChange.Same → RequestsStand (changed c ch s)
-  made-stand r n gains made same =
-      let late : n.0 ≡ s.next_node = ap (λ (x : NodeId). x.0) made.number in
-      let new = new_entry ch.maker s (new_node c s r gains.pool gains.request gains.label) in
-      let served = gaining-served r n gains in
-      gain-stand r n gains (Growth.Node (new_node c s r gains.pool gains.request gains.label)) tt made.grows
-      (λ x m low. subst (λ (o : Option NodeRecord). KeptAt x (node_in m s.nodes) o) (sym (made-looks r n gains made same m)) (kept-push x s.nodes m new (above-apart s.next_node m.0 low)))
-      (next-unlisted s.next_node n gains.request.nodes late served.below)
-      (below-later n.0 s.next_node (changed c ch s).next_node late (next-after c s ch ch.maker (Growth.Node (new_node c s r gains.pool gains.request gains.label)) refl made.grows))
-      (made-for r n gains made same)
+      (grind (arith, nat_tests, pending.0, anew)) (λ x other. kept x)
 
   gains-stand : (r : RequestId) (n : NodeId) (gains : Gains c s ch r n) → IsTaken c s ch gains.pool r gains.request gains.label n ⊎ IsMade c s ch gains.pool r gains.request gains.label n → ch.nodes ≡ NodesChange.Same → RequestsStand (changed c ch s)
-  gains-stand r n gains (inl taken) same = taken-stand r n gains taken same
-  gains-stand r n gains (inr made) same = made-stand r n gains made same
+  gains-stand r n gains (inl taken) same =
+      let tenant = tenant_of_request c gains.request in
+      let looks : (m : NodeId) → node_in m (changed c ch s).nodes ≡ node_in m (change_first (λ e. e.id.0 == n.0) (allocated r tenant gains.worked_on.session) s.nodes) =
+      nodes-after c s ch (Some (record { session = gains.worked_on.session; role = Launcher gains.pool })) (Growth.Allocate n r tenant) NodesChange.Same gains.worked_on.made_by taken.grows same in
+      gain-stand r n gains (Growth.Allocate n r tenant) tt taken.grows
+      (λ x m low. subst (λ (o : Option NodeRecord). KeptAt x (node_in m s.nodes) o) (sym (looks m)) (kept-allocated x s.nodes m n r tenant gains.worked_on.session taken.node taken.stands taken.free))
+      (served-unlisted s r gains.request (gaining-served r n gains) n taken.node taken.stands taken.free)
+      (lt_of_lt_of_le (node_in-below n s.next_node taken.node s.nodes below taken.stands) more)
+      (λ node is. grind (arith, nat_tests, is, looks n, node_in-allocated n n r tenant gains.worked_on.session s.nodes, taken.stands, taken.of_pool, taken.of_label, gaining-pool r n gains, request-itself r))
+  gains-stand r n gains (inr made) same =
+      let new = new_node c s r gains.pool gains.request gains.label in
+      let late : n.0 ≡ s.next_node = ap (λ (x : NodeId). x.0) made.number in
+      let looks : (m : NodeId) → node_in m (changed c ch s).nodes ≡ node_in m (s.nodes ++ new_entry ch.maker s new ∷ []) = nodes-after c s ch ch.maker (Growth.Node new) NodesChange.Same refl made.grows same in
+      let found : node_in n (changed c ch s).nodes ≡ Some new = looks n ∙ node_in-new (new_entry ch.maker s new) n s.nodes (eq-eqb s.next_node n.0 (sym late)) (node_in-later n s.next_node s.nodes below (at-least n.0 s.next_node late)) in
+      gain-stand r n gains (Growth.Node new) tt made.grows
+      (λ x m low. subst (λ (o : Option NodeRecord). KeptAt x (node_in m s.nodes) o) (sym (looks m)) (kept-push x s.nodes m (new_entry ch.maker s new) (above-apart s.next_node m.0 low)))
+      (next-unlisted s.next_node n gains.request.nodes late (gaining-served r n gains).below)
+      (below-later n.0 s.next_node (changed c ch s).next_node late (next-after c s ch ch.maker (Growth.Node new) refl made.grows))
+      (λ node is. subst (λ (x : NodeRecord). IsFor r (gaining-served r n gains).pool gains.label x) (same_Some new node (sym found ∙ is)) (record { allocated = request-itself r; of_pool = gaining-pool r n gains; of_label = refl }))
 
   edits-stand : (r : RequestId) (e : RequestEdit) → ch.requests ≡ RequestsChange.Edit r e → EditPremise c s ch r e → RequestsStand (changed c ch s)
-  edits-stand r (RequestEdit.Serve p) to may = serve-stand r p may to
+  edits-stand r (RequestEdit.Serve p) to may =
+      one-edited r (RequestEdit.Serve p) may.request may.same_size to may.worked_on.stands (grind (arith, nat_tests, may.requested, stood r may.request may.worked_on.stands)) (λ x other. kept-still may.same_size may.same_nodes x)
   edits-stand r (RequestEdit.AddNode n) to may = gains-stand r n may.0 may.0.from may.1
-  edits-stand r (RequestEdit.Decline p why failed) to may = decline-stand r p why failed may to
-  edits-stand r RequestEdit.Fulfil to may = fulfil-stand r may.0 may.1 to
-  edits-stand r RequestEdit.GiveBack to may = give_back-stand r may to
-  edits-stand r RequestEdit.Fail to may = fail-stand r may to
-  edits-stand r (RequestEdit.Revise relative) to may = revise-stand r relative may to
+  edits-stand r (RequestEdit.Decline p why failed) to may =
+      one-edited r (RequestEdit.Decline p why failed) may.request may.same_size to may.worked_on.stands (grind (arith, nat_tests)) (others-freed r may.same_size may.frees)
+  edits-stand r RequestEdit.Fulfil to may =
+      let pending = and_parts (is_pending may.0.request.state) (is_pool may.0.pool may.0.request.pool) may.0.pending in
+      let served = served-if s r may.0.request may.0.request.state pending.0 (stood r may.0.request may.0.worked_on.stands) in
+      let owns = filled-owns s may.0.pool may.0.worked_on.session r may.0.request served pending.1 may.0.filled in
+      one-edited r RequestEdit.Fulfil may.0.request may.0.same_size to may.0.worked_on.stands (owns-kept s (changed c ch s) below more r _ (kept-still may.0.same_size may.1 r) owns) (λ x other. kept-still may.0.same_size may.1 x)
+  edits-stand r RequestEdit.GiveBack to may = one-edited r RequestEdit.GiveBack may.request may.same_size to may.stands (record { no_pool = refl; no_nodes = refl }) (others-freed r may.same_size may.frees)
+  edits-stand r RequestEdit.Fail to may =
+      one-edited r RequestEdit.Fail may.request may.same_size to may.stands (grind (arith, nat_tests, may.requested, stood r may.request may.stands)) (λ x other. kept-still may.same_size may.same_nodes x)
+  edits-stand r (RequestEdit.Revise relative) to may =
+      one-edited r (RequestEdit.Revise relative) may.request may.same_size to may.stands (grind (arith, nat_tests, may.requested, stood r may.request may.stands)) (λ x other. kept-still may.same_size may.same_nodes x)
 
   -- ## one request less
 
   one-removed : (r0 : RequestId) → ch.grows ≡ Growth.Nothing → ch.requests ≡ RequestsChange.Remove r0 → ((r : RequestId) → same_request r0 r ≡ false → KeptFor s (changed c ch s) r) → RequestsStand (changed c ch s)
-  one-removed r0 size to others =
-      remove-stand s (changed c ch s) below more r0 stood
-      (λ r other. requests-after c s ch ch.maker Growth.Nothing (RequestsChange.Remove r0) refl size to r ∙ request_in-remove r0 r s.requests other)
-      (λ r same. requests-after c s ch ch.maker Growth.Nothing (RequestsChange.Remove r0) refl size to r ∙ request_in-removed r0 r s.requests inv.numbered.requests_rise same)
-      others
+  one-removed r0 size to others = stand-step s (changed c ch s) below more stood (λ r q is.
+      let looks = requests-after c s ch ch.maker Growth.Nothing (RequestsChange.Remove r0) refl size to r in
+      grind (arith, nat_tests, looks, request_in-remove r0 r s.requests, request_in-removed r0 r s.requests inv.numbered.requests_rise, others r, is))
 
   removes-stand : (r : RequestId) → ch.requests ≡ RequestsChange.Remove r → GoesFulfilled s ch r ⊎ (TakesOver c s ch r ⊎ GoesWithdrawn s ch r) → RequestsStand (changed c ch s)
   removes-stand r to (inl goes) = one-removed r goes.fulfils.same_size to (others-freed r goes.fulfils.same_size goes.frees)
@@ -630,24 +420,15 @@ module _ (c : Configuration) (s : State) (ch : Changes) (inv : Invariant c s) wh
   kept-beside : (g : Growth) → ch.grows ≡ g → ch.nodes ≡ NodesChange.Same → NoNode g → (r : RequestId) → KeptFor s (changed c ch s) r
   kept-beside g grows to none r = λ n low. kept-looks r s.nodes n (changed c ch s).nodes (nodes-after c s ch ch.maker g NodesChange.Same refl grows to n ∙ grown-node c ch.maker g s n none)
 
-  asks-stand : IsCalm ch.requests → (priority : ℕ) (asked : Asked) → ch.grows ≡ Growth.Request priority asked → ch.nodes ≡ NodesChange.Same → AsksForJob c s ch priority asked ⊎ AsksToKeep c s ch priority asked → RequestsStand (changed c ch s)
-  asks-stand calm priority asked grows to asks =
-      let new = new_request priority asked s in
-      insert-stand s (changed c ch s) below more (next_id priority s) (new_record asked) stood
-      (λ r other. calm-looks calm (Growth.Request priority asked) grows r ∙ request_in-insert new r s.requests other)
-      (λ r same. calm-looks calm (Growth.Request priority asked) grows r ∙ request_in-new new r s.requests same (request_in-later r s.next_request s.requests inv.numbered.requests_below (same-seq (next_id priority s) r same)))
-      (λ r. asked-stands c s (changed c ch s) ch priority asked r asks)
-      (kept-beside (Growth.Request priority asked) grows to tt)
-
-  grown-stand : IsCalm ch.requests → (g : Growth) → ch.grows ≡ g → ch.nodes ≡ NodesChange.Same → NoRequest g → NoNode g → RequestsStand (changed c ch s)
-  grown-stand calm g grows to no_request no_node =
-      same-stand s (changed c ch s) below more stood (λ r. calm-looks calm g grows r ∙ grown-request c ch.maker g s r no_request) (λ r q stands. kept-beside g grows to no_node r)
-
   growth-stand : IsCalm ch.requests → (g : Growth) → ch.grows ≡ g → ch.nodes ≡ NodesChange.Same → GrowthPremise c s ch g → RequestsStand (changed c ch s)
-  growth-stand calm (Growth.Request priority asked) grows to asks = asks-stand calm priority asked grows to asks
+  growth-stand calm (Growth.Request priority asked) grows to asks = stand-step s (changed c ch s) below more stood (λ r q is.
+      let new = new_request priority asked s in
+      let kept = kept-beside (Growth.Request priority asked) grows to tt r in
+      let later = request_in-later r s.next_request s.requests inv.numbered.requests_below in
+      grind (arith, nat_tests, calm-looks calm (Growth.Request priority asked) grows r, request_in-insert new r s.requests, request_in-new new r s.requests, later, same-seq (next_id priority s) r, asked-stands c s (changed c ch s) ch priority asked r asks, kept, is))
   growth-stand calm (Growth.Node kept) grows to new = absurd (subst (λ (x : RequestsChange). IsCalm x) new.gains.edits calm)
   growth-stand calm (Growth.Allocate n r tenant) grows to gains = absurd (subst (λ (x : RequestsChange). IsCalm x) gains.edits calm)
-  growth-stand calm g grows to premise = grown-stand calm g grows to tt tt
+  growth-stand calm g grows to premise = same-stand s (changed c ch s) below more stood (λ r. calm-looks calm g grows r ∙ grown-request c ch.maker g s r tt) (λ r q stands. kept-beside g grows to tt r)
 
   nodes-stand : IsCalm ch.requests → (change : NodesChange) → ch.nodes ≡ change → NodesPremise c s ch change → GrowthPremise c s ch ch.grows → RequestsStand (changed c ch s)
   nodes-stand calm NodesChange.Same to premise growth = growth-stand calm ch.grows refl to growth
@@ -722,21 +503,9 @@ record IsGivenTo (rows : List NodeEntry) (n : NodeId) (r : RequestId) : Type 0 w
 put-given : (c : Configuration) (s : State) (ch : Changes) (n : NodeId) (kept : NodeRecord) (put : PutsNode c s ch n kept) (r : RequestId) → kept.allocated_to ≡ Some r → put.node.allocated_to ≡ Some r
 put-given c s ch n kept put r given = grind (arith, nat_tests)
 
--- a node that is freed is allocated to no request
-freed-not : (x : RequestId) (k : NodeRecord) (r : RequestId) (b : Bool) → is_request x k.allocated_to ≡ b → (cond b (freed k) k).allocated_to ≡ Some r → (k.allocated_to ≡ Some r) × (b ≡ false)
-freed-not x k r true is given = absurd cc
-freed-not x k r false is given = (given, refl)
-
 -- after all nodes of a request are free, none is allocated to it
 none-of : (x : RequestId) (rows : List NodeEntry) (n : NodeId) (r : RequestId) → IsGivenTo (all_freed x rows) n r → same_request r x ≡ false
-none-of x rows n r is = by (node_in n rows) refl where
-  by : (o : Option NodeRecord) → node_in n rows ≡ o → same_request r x ≡ false
-  by None at = absurd (let none : Some is.node ≡ None = sym is.stands ∙ node_in-freed x n rows ∙ ap (λ (y : Option NodeRecord). option_map (λ k. cond (is_request x k.allocated_to) (freed k) k) y) at in cc)
-  by (Some k) at =
-      let now : Some is.node ≡ Some (cond (is_request x k.allocated_to) (freed k) k) = sym is.stands ∙ node_in-freed x n rows ∙ ap (λ (y : Option NodeRecord). option_map (λ k. cond (is_request x k.allocated_to) (freed k) k) y) at in
-      let same : is.node ≡ cond (is_request x k.allocated_to) (freed k) k = cc in
-      let both = freed-not x k r (is_request x k.allocated_to) refl (sym (ap (λ (y : NodeRecord). y.allocated_to) same) ∙ is.given) in
-      sym (ap (λ (o : Option RequestId). is_request x o) both.0) ∙ both.1
+none-of x rows n r is = grind (arith, nat_tests, node_in-freed x n rows, is.stands, is.given)
 
 -- ## what grows gives a node to a request that gains it
 
@@ -756,18 +525,10 @@ abbrev has : NodeId → List NodeId → Bool
 has n numbers = list_any (λ m. m.0 == n.0) numbers
 
 has-before : (n m : NodeId) (numbers : List NodeId) → has n numbers ≡ true → has n (numbers ++ m ∷ []) ≡ true
-has-before n m [] is = absurd cc
-has-before n m (first ∷ numbers) is = by (first.0 == n.0) is (λ there. has-before n m numbers there) where
-  by : (b : Bool) → (b || has n numbers) ≡ true → (has n numbers ≡ true → has n (numbers ++ m ∷ []) ≡ true) → (b || has n (numbers ++ m ∷ [])) ≡ true
-  by true there later = refl
-  by false there later = later there
+has-before n m numbers is = grind (arith, list_any-append (λ (x : NodeId). x.0 == n.0) numbers (m ∷ []))
 
 has-last : (n : NodeId) (numbers : List NodeId) → has n (numbers ++ n ∷ []) ≡ true
-has-last n [] = grind (arith, nat_tests)
-has-last n (first ∷ numbers) = by (first.0 == n.0) (has-last n numbers) where
-  by : (b : Bool) → has n (numbers ++ n ∷ []) ≡ true → (b || has n (numbers ++ n ∷ [])) ≡ true
-  by true later = refl
-  by false later = later
+has-last n numbers = grind (arith, nat_tests, list_any-append (λ (x : NodeId). x.0 == n.0) numbers (n ∷ []))
 
 module _ (c : Configuration) (s : State) (ch : Changes) (numbered : IsNumbered s) (old : AllocationsListed s) (premises : Premises c s ch) where
   listed-before : (n : NodeId) (r : RequestId) (q : RequestRecord) → IsGivenTo s.nodes n r → request_in r s.requests ≡ Some q → has n q.nodes ≡ true
@@ -783,38 +544,25 @@ module _ (c : Configuration) (s : State) (ch : Changes) (numbered : IsNumbered s
   gains-by n r change at other gains = other (sym at ∙ gains.edits)
 
   listed-edit : (n : NodeId) (r : RequestId) (q : RequestRecord) (e : RequestEdit) → ch.requests ≡ RequestsChange.Edit r e → EditPremise c s ch r e → (ch.nodes ≡ NodesChange.FreeAll r → ⊥) → GivenBy c s ch n r → request_in r s.requests ≡ Some q → has n (edited e q).nodes ≡ true
-  listed-edit n r q (RequestEdit.AddNode m) at premise held (inl is) there = has-before n m q.nodes (listed-before n r q is there)
-  listed-edit n r q (RequestEdit.AddNode m) at premise held (inr gains) there =
-      let both : RequestsChange.Edit r (RequestEdit.AddNode n) ≡ RequestsChange.Edit r (RequestEdit.AddNode m) = sym gains.edits ∙ at in
-      let same : n ≡ m = cc in
-      subst (λ (k : NodeId). has n (q.nodes ++ k ∷ []) ≡ true) same (has-last n q.nodes)
+  listed-edit n r q (RequestEdit.AddNode m) at premise held given there = grind (arith, nat_tests, has-before n m q.nodes, has-last n q.nodes, listed-before n r q)
   listed-edit n r q (RequestEdit.Decline p why failed) at premise held given there = absurd (held premise.frees)
   listed-edit n r q RequestEdit.GiveBack at premise held given there = absurd (held premise.frees)
   listed-edit n r q _ at premise held given there = kept-listed n r q given (gains-by n r _ at (λ is. absurd cc)) there
 
   listed-after : (n : NodeId) (r : RequestId) (q : RequestRecord) (maker : Option Maker) (rows : List RequestEntry) → Rises (λ a b. is_id_before a.id b.id) rows → request_in r rows ≡ request_in r s.requests
       → (change : RequestsChange) → ch.requests ≡ change → RequestsPremise c s ch change → (ch.nodes ≡ NodesChange.FreeAll r → ⊥) → GivenBy c s ch n r → request_in r (requests_changed maker change rows) ≡ Some q → has n q.nodes ≡ true
-  listed-after n r q maker rows rises same (RequestsChange.Edit x e) at premise held given is = by (request_in r s.requests) refl (same_request x r) refl where
-    found : (o : Option RequestRecord) → request_in r s.requests ≡ o → Some q ≡ option_map (λ k. cond (same_request x r) (edited e k) k) o
-    found o here = sym is ∙ request_in-edit x r (edited e) rows ∙ ap (λ (y : Option RequestRecord). option_map (λ k. cond (same_request x r) (edited e k) k) y) (same ∙ here)
-
-    by : (o : Option RequestRecord) → request_in r s.requests ≡ o → (b : Bool) → same_request x r ≡ b → has n q.nodes ≡ true
-    by None here b which = absurd (let none : Some q ≡ None = found None here in cc)
-    by (Some k) here true which =
-        let now : Some q ≡ Some (edited e k) = found (Some k) here ∙ rw which refl in
-        let is_it : q ≡ edited e k = cc in
-        let same_id : x ≡ r = request-equal x r which in
-        let at_r : ch.requests ≡ RequestsChange.Edit r e = at ∙ ap (λ (y : RequestId). RequestsChange.Edit y e) same_id in
-        let premise_r : EditPremise c s ch r e = subst (λ (y : RequestId). EditPremise c s ch y e) same_id premise in
-        subst (λ (y : RequestRecord). has n y.nodes ≡ true) (sym is_it) (listed-edit n r k e at_r premise_r held given here)
-    by (Some k) here false which =
-        let now : Some q ≡ Some k = found (Some k) here ∙ rw which refl in
-        let is_it : q ≡ k = cc in
-        subst (λ (y : RequestRecord). has n y.nodes ≡ true) (sym is_it) (kept-listed n r k given (gains-by n r _ at (λ both. let ids : x ≡ r = cc in absurd (let self : same_request x r ≡ true = subst (λ (y : RequestId). same_request x y ≡ true) ids (request-itself x) in cc))) here)
-  listed-after n r q maker rows rises same (RequestsChange.Remove x) at premise held given is = by (same_request x r) refl where
-    by : (b : Bool) → same_request x r ≡ b → has n q.nodes ≡ true
-    by true which = absurd (let none : Some q ≡ None = sym is ∙ request_in-removed x r rows rises which in cc)
-    by false which = kept-listed n r q given (gains-by n r _ at (λ e. absurd cc)) (sym same ∙ sym (request_in-remove x r rows which) ∙ is)
+  listed-after n r q maker rows rises same (RequestsChange.Edit x e) at premise held given is =
+      by (edited-by (same_request x r) (edited e) (request_in r s.requests) q (ap (λ (o : Option RequestRecord). option_map (λ k. cond (same_request x r) (edited e k) k) o) (sym same) ∙ sym (request_in-edit x r (edited e) rows) ∙ is))
+    where
+      by : IsEdited (same_request x r) (edited e) (request_in r s.requests) q ⊎ ((same_request x r ≡ false) × (request_in r s.requests ≡ Some q)) → has n q.nodes ≡ true
+      by (inl one) =
+          let same_id : x ≡ r = request-equal x r one.passed in
+          let at_r : ch.requests ≡ RequestsChange.Edit r e = at ∙ ap (λ (y : RequestId). RequestsChange.Edit y e) same_id in
+          subst (λ (y : RequestRecord). has n y.nodes ≡ true) (sym one.now) (listed-edit n r one.old e at_r (subst (λ (y : RequestId). EditPremise c s ch y e) same_id premise) held given one.was)
+      by (inr (other, there)) = kept-listed n r q given (gains-by n r _ at (λ both. let ids : x ≡ r = cc in absurd (let self : same_request x r ≡ true = subst (λ (y : RequestId). same_request x y ≡ true) ids (request-itself x) in cc))) there
+  listed-after n r q maker rows rises same (RequestsChange.Remove x) at premise held given is =
+      kept-listed n r q given (gains-by n r _ at (λ e. absurd cc)) (by_bool (λ _. request_in r s.requests ≡ Some q) (same_request x r)
+      (λ which. absurd (let none : Some q ≡ None = sym is ∙ request_in-removed x r rows rises which in cc)) (λ which. sym same ∙ sym (request_in-remove x r rows which) ∙ is))
   listed-after n r q (Some maker) rows rises same (RequestsChange.Leave x) at premise held given is =
       kept-listed n r q given (gains-by n r _ at (λ e. absurd cc)) (sym same ∙ sym (request_in-queue x r (left maker.session (request_queue x rows)) rows) ∙ is)
   listed-after n r q maker rows rises same _ at premise held given is = kept-listed n r q given (gains-by n r _ at (λ e. absurd cc)) (sym same ∙ is)

@@ -1,5 +1,6 @@
 -- what holds in every run and over its journal
-use Rattle.np_changes.proofs.Prelude.{Configuration, Entry, List, Runs, State, [], arith, judge, length, length-append, nat_tests, next, refl, replayed-push, reply_of, start, state_after-push, ◌++◌, ◌<◌, ◌∷◌, ◌≡◌, Invariant, Job, JobIn, JobRecord, Some, map, new_job, slice_get, subst, suc, sym, zero, ℕ, AfterEveryStep, Bool, Changes, Event, FulfilledOwn, IsLiveHolder, IsLiveRequestHolder, NodeId, Premises, RequestId, RequestsStand, Runs-prefix, Safe, SessionId, after, ap, changed, false, is_ok, is_session_of, is_some, node_holder, plan, request_holder, request_in, state_after, true, ◌∙◌, Answer, Caused, CausedFrom, Done, Err, FailsNow, HasCause, IsTrueDecline, Ok, RequestRecord, Turn, and_right, both_ways, false≢true, has_failed, is_done, is_report_on, replayed, turns_from, ByHolder, EachTurn, EmptiesRequest, Fenced, Gains, GoesFulfilled, GoesWithdrawn, Growth, GrowthPremise, IsFenced, IsHeldNode, IsMade, IsRightful, IsServed, IsTaken, LabelId, Launcher, Maker, NodeEntry, NodeRecord, NodesChange, NodesPremise, None, Option, PoolId, PutsNode, RequestEdit, RequestsChange, RequestsPremise, SessionsChange, StandsIn, TakenBack, TakesOver, TenantId, and_parts, cond, freed, given_back_by, grown, holder, inl, inr, is_filled, is_pending, is_pending_by, is_pool, is_request, is_request_end, joined, list_any, member-there, node_entry, node_in, node_queue, nodes_changed, nodes_left, none-some, option_map, request-equal, same_Some, slice_get_within, unended, unfilled, unheld, ◌==◌, ◌||◌, ◌⊎◌}
+use Rattle.np_changes.proofs.Prelude.{Configuration, Entry, List, Runs, State, [], arith, judge, length, length-append, nat_tests, next, refl, replayed-push, reply_of, start, state_after-push, ◌++◌, ◌<◌, ◌∷◌, ◌≡◌, Invariant, Job, Some, map, new_job, subst, sym, AfterEveryStep, Changes, Event, FulfilledOwn, IsLiveHolder, IsLiveRequestHolder, NodeId, Premises, RequestId, RequestsStand, Runs-prefix, Safe, SessionId, after, ap, changed, false, is_ok, is_session_of, is_some, node_holder, plan, request_holder, request_in, state_after, true, ◌∙◌, Answer, Caused, CausedFrom, Done, Err, FailsNow, HasCause, IsTrueDecline, Ok, RequestRecord, Turn, and_right, both_ways, false≢true, has_failed, is_done, is_report_on, replayed, turns_from, ByHolder, EachTurn, EmptiesRequest, Fenced, Gains, GoesFulfilled, GoesWithdrawn, Growth, GrowthPremise, IsFenced, IsHeldNode, IsMade, IsRightful, IsServed, IsTaken, LabelId, Launcher, Maker, NodeEntry, NodeRecord, NodesChange, NodesPremise, None, Option, PoolId, PutsNode, RequestEdit, RequestsChange, RequestsPremise, StandsIn, TakenBack, TakesOver, TenantId, and_parts, cond, freed, given_back_by, grown, holder, inl, inr, is_filled, is_pending, is_pending_by, is_pool, is_request, is_request_end, joined, list_any, member-there, node_entry, node_in, node_queue, nodes_changed, nodes_left, none-some, option_map, request-equal, same_Some, slice_get_within, unended, unfilled, ◌==◌, ◌⊎◌}
+use Rattle.np_lists.proofs.Plain.{by_bool, get-map}
 use Rattle.np_changes.proofs.Limits.{attempts-few, within-quota, within-quota_first, within-tenant_quota, within-tenant_quota_first}
 use Rattle.np_changes.proofs.Jobs.{jobs-stand, jobs_or_pinned, within-max, within-max_first}
 use Rattle.np_changes.proofs.Accepted.{Goes, done-accepted, head-reply, plan-goes, plan-maker, plan-next, tail-replies}
@@ -23,29 +24,8 @@ Runs-next c journal s entry runs room replied = grind (arith, nat_tests, replaye
 
 -- # the parts hold of the first state
 
-all_new : (jobs : List Job) (i : ℕ) (job : JobRecord) → slice_get (map (λ _. new_job) jobs) i ≡ Some job → job ≡ new_job
-all_new [] i job is = absurd cc
-all_new (row ∷ jobs) zero job is = cc
-all_new (row ∷ jobs) (suc i) job is = all_new jobs i job is
-
 pub invariant-start : (c : Configuration) → Invariant c (start c)
-invariant-start c = record {
-  numbered = record { requests_rise = tt; nodes_rise = tt; requests_below = tt; nodes_below = tt };
-  queued = record { at_requests = tt; one_a_request = tt; at_nodes = tt };
-  registered = record { of_launcher = tt; one_a_pool = tt };
-  within = record { quota = within-quota_first c; max = within-max_first c; tenant_quota = within-tenant_quota_first c };
-  owned = record {
-    requests = λ r request is. absurd cc;
-    whose = λ r request is. absurd cc;
-    allocations = λ n node r is given. absurd cc;
-    launches = λ n node is flies. absurd cc;
-  };
-  attempted = tt;
-  jobs = record {
-    each = λ j job is. let same : job ≡ new_job = all_new c.jobs j.0 job is in subst (λ (x : JobRecord). JobIn (start c) j x x.phase) (sym same) (refl, (refl, refl));
-    of_request = λ r request j is names. absurd cc;
-  };
-}
+invariant-start c = grind (arith, nat_tests, within-quota_first c, within-max_first c, within-tenant_quota_first c, get-map (λ (_ : Job). new_job) c.jobs)
 
 -- # the parts hold of every state that a run leads to, and every run is safe
 
@@ -67,10 +47,8 @@ invariant-changed c s ch old given = record {
 }
 
 pub invariant-next : (c : Configuration) (s : State) (e : Event) → Invariant c s → Invariant c (next c s e)
-invariant-next c s e old = by (is_ok (judge c s e)) refl where
-  by : (b : Bool) → is_ok (judge c s e) ≡ b → Invariant c (next c s e)
-  by true ok = subst (Invariant c) (plan-next c s e ok) (invariant-changed c s (plan c s e) old (premises c s e ok))
-  by false refused = rw refused old
+invariant-next c s e old = by_bool (λ _. Invariant c (next c s e)) (is_ok (judge c s e))
+    (λ ok. subst (Invariant c) (plan-next c s e ok) (invariant-changed c s (plan c s e) old (premises c s e ok))) (λ refused. rw refused old)
 
 -- the parts hold for every state that events lead to
 pub invariant-after : (c : Configuration) (s : State) (journal : List Entry) → Invariant c s → Invariant c (state_after c s journal)
@@ -143,10 +121,6 @@ accepted-turn c past s entry old due ok accepted =
     let later : IsDue c (past ++ turn c s entry ∷ []) (next c s entry.event) = subst (λ (x : State). IsDue c (past ++ turn c s entry ∷ []) x) leads after_changes in
     record { due = later; causes = cause c past (turn c s entry) (plan c s entry.event) old due given tells leads later.declines }
 
--- a refused entry changes nothing, and no request fails by it
-same-state : (c : Configuration) (s : State) (entry : Entry) → is_ok (judge c s entry.event) ≡ false → next c s entry.event ≡ s
-same-state c s entry refused = rw refused refl
-
 refused-due : (c : Configuration) (past : List Turn) (t : Turn) (s : State) → is_done t.entry.reply ≡ false → IsDue c past s → IsDue c (past ++ t ∷ []) s
 refused-due c past t s refused due =
     let quiet : (n : NodeId) → reports n t ≡ false = (λ n. and_right (is_report_on n t.entry.event) (is_done t.entry.reply) refused) in
@@ -159,27 +133,19 @@ refused-due c past t s refused due =
       };
     }
 
+-- a refused entry changes nothing, and no request fails by it
 refused-turn : (c : Configuration) (past : List Turn) (s : State) (entry : Entry) → IsDue c past s → is_ok (judge c s entry.event) ≡ false → is_done entry.reply ≡ false → IsPaid c past (turn c s entry)
 refused-turn c past s entry due refused undone =
-    let same : next c s entry.event ≡ s = same-state c s entry refused in
+    let same : next c s entry.event ≡ s = rw refused refl in
     record {
       due = subst (λ (x : State). IsDue c (past ++ turn c s entry ∷ []) x) (sym same) (refused-due c past (turn c s entry) s undone due);
-      causes = λ r q fails. absurd (fails-not r q fails same);
+      causes = λ r q fails. absurd (both_ways (has_failed r s) fails.before (failed-then s r q (subst (λ (x : State). request_in r x.requests ≡ Some q) same fails.stands) ∙ fails.failed));
     }
-  where
-    fails-not : (r : RequestId) (q : RequestRecord) → FailsNow (turn c s entry) r q → next c s entry.event ≡ s → ⊥
-    fails-not r q fails same =
-        let stood : request_in r s.requests ≡ Some q = subst (λ (x : State). request_in r x.requests ≡ Some q) same fails.stands in
-        both_ways (has_failed r s) fails.before (failed-then s r q stood ∙ fails.failed)
 
 one-turn : (c : Configuration) (past : List Turn) (s : State) (entry : Entry) → Invariant c s → IsDue c past s → reply_of (judge c s entry.event) ≡ entry.reply → IsPaid c past (turn c s entry)
-one-turn c past s entry old due says = by (is_ok (judge c s entry.event)) refl where
-  done : is_done entry.reply ≡ is_ok (judge c s entry.event)
-  done = done-accepted c s entry says
-
-  by : (b : Bool) → is_ok (judge c s entry.event) ≡ b → IsPaid c past (turn c s entry)
-  by true ok = accepted-turn c past s entry old due ok (done ∙ ok)
-  by false refused = refused-turn c past s entry due refused (done ∙ refused)
+one-turn c past s entry old due says =
+    let done : is_done entry.reply ≡ is_ok (judge c s entry.event) = done-accepted c s entry says in
+    by_bool (λ _. IsPaid c past (turn c s entry)) (is_ok (judge c s entry.event)) (λ ok. accepted-turn c past s entry old due ok (done ∙ ok)) (λ refused. refused-turn c past s entry due refused (done ∙ refused))
 
 -- ## all turns
 
@@ -214,19 +180,17 @@ complete-held s p session r request n stands pending none listed =
 -- a session that holds each of the nodes holds a given one of them
 marks-of : (n : NodeId) (numbers : List NodeId) → list_any (λ m. m.0 == n.0) numbers ≡ true → list_any (λ m. m.node.0 == n.0) (map unended numbers) ≡ true
 marks-of n [] listed = absurd cc
-marks-of n (m ∷ numbers) listed = by (m.0 == n.0) listed (marks-of n numbers) where
-  by : (b : Bool) → (b || list_any (λ (x : NodeId). x.0 == n.0) numbers) ≡ true → (list_any (λ (x : NodeId). x.0 == n.0) numbers ≡ true → list_any (λ m. m.node.0 == n.0) (map unended numbers) ≡ true) → (b || list_any (λ m. m.node.0 == n.0) (map unended numbers)) ≡ true
-  by true is later = refl
-  by false is later = later is
-
-held-of : (s : State) (session : SessionId) (n : NodeId) (numbers : List NodeId) → list_any (λ m. m.0 == n.0) numbers ≡ true → unheld s session numbers ≡ 0 → is_session_of session (node_holder n s.nodes) ≡ true
-held-of s session n numbers listed none = one-held s session n numbers (marks-of n numbers listed) none
+marks-of n (m ∷ numbers) listed = grind (arith, nat_tests, marks-of n numbers)
 
 -- ## one step
 
 -- an event that ends a request gives none back
 ends-not_back : (e : Event) (r x : RequestId) (o : Option RequestRecord) → is_request_end r o e ≡ true → given_back_by e ≡ Some x → ⊥
 ends-not_back x0 r x o ends gives = grind (arith, nat_tests)
+
+request-of : (x : RequestId) (o : Option RequestId) → is_request x o ≡ true → o ≡ Some x
+request-of x None is = absurd cc
+request-of x (Some y) is = ap Some (request-equal y x is)
 
 holder-alone : (session : SessionId) (queue : List SessionId) → holder queue ≡ None → is_session_of session (holder (joined session queue)) ≡ true
 holder-alone session [] none = grind (arith, nat_tests)
@@ -264,30 +228,22 @@ module _ (c : Configuration) (s : State) (entry : Entry) (old : Invariant c s) (
 
   -- ### a node that is taken ready
 
-  after_end-queue : (change : SessionsChange) → ((over : SessionId) → change ≡ SessionsChange.End over → ⊥) → (rows : List NodeEntry) → node_queue n (nodes_left change rows) ≡ node_queue n rows
-  after_end-queue (SessionsChange.End over) none rows = absurd (none over refl)
-  after_end-queue _ none rows = refl
-
-  none-ends : (r : RequestId) (tenant : Option TenantId) → ch.grows ≡ Growth.Allocate n r tenant → (over : SessionId) → ch.sessions ≡ SessionsChange.End over → ⊥
-  none-ends r tenant grows over is = grind (arith, nat_tests)
+  none-ends : (r : RequestId) (tenant : Option TenantId) → ch.grows ≡ Growth.Allocate n r tenant → (rows : List NodeEntry) → node_queue n (nodes_left ch.sessions rows) ≡ node_queue n rows
+  none-ends r tenant grows rows = grind (arith, nat_tests)
 
   taken-held : (r : RequestId) (gains : Gains c s ch r n) → ch.nodes ≡ NodesChange.Same → IsTaken c s ch gains.pool r gains.request gains.label n → ByHolder t n
   taken-held r gains same taken =
-      let maker : Maker = record { session = gains.worked_on.session; role = Launcher gains.pool } in
-      let grown_nodes : node_queue n g.nodes ≡ joined gains.worked_on.session (node_queue n s.nodes) =
-      ap (λ (m : Option Maker). node_queue n (grown c m ch.grows s).nodes) gains.worked_on.made_by
-      ∙ ap (λ (growth : Growth). node_queue n (grown c (Some maker) growth s).nodes) taken.grows
-      ∙ node_queue-allocated n n r _ gains.worked_on.session node s.nodes stands
-      ∙ (let self : (n.0 == n.0) ≡ true = grind (arith, nat_tests) in ap (λ (b : Bool). cond b (joined gains.worked_on.session (node_queue n s.nodes)) (node_queue n s.nodes)) self) in
-      let now : node_queue n (next c s e).nodes ≡ joined gains.worked_on.session (node_queue n s.nodes) =
+      let session = gains.worked_on.session in
+      let maker : Maker = record { session = session; role = Launcher gains.pool } in
+      let self : (n.0 == n.0) ≡ true = grind (arith, nat_tests) in
+      let now : node_queue n (next c s e).nodes ≡ joined session (node_queue n s.nodes) =
       ap (λ (u : State). node_queue n u.nodes) (sym (plan-next c s e ok))
-      ∙ after_end-queue ch.sessions (none-ends r _ taken.grows) (nodes_changed ch.maker g.tick ch.nodes g.nodes)
-      ∙ ap (λ (change : NodesChange). node_queue n (nodes_changed ch.maker g.tick change g.nodes)) same
-      ∙ grown_nodes in
+      ∙ none-ends r _ taken.grows (nodes_changed ch.maker g.tick ch.nodes g.nodes)
+      ∙ rw (same, gains.worked_on.made_by, taken.grows) (node_queue-allocated n n r _ session node s.nodes stands ∙ rw self refl) in
       record {
-        session = gains.worked_on.session;
+        session = session;
         makes = plan-maker c s e maker gains.worked_on.made_by;
-        holds = inr (ap (λ (queue : List SessionId). is_session_of gains.worked_on.session (holder queue)) now ∙ holder-alone gains.worked_on.session (node_queue n s.nodes) taken.unlocked);
+        holds = inr (ap (λ (queue : List SessionId). is_session_of session (holder queue)) now ∙ holder-alone session (node_queue n s.nodes) taken.unlocked);
       }
 
   -- a node that is gained changes no other node
@@ -304,17 +260,11 @@ module _ (c : Configuration) (s : State) (entry : Entry) (old : Invariant c s) (
   freed-held x (inr (inl edits)) frees none mine = absurd (let gives : None ≡ Some x = sym none ∙ goes.edit x RequestEdit.GiveBack edits refl in cc)
   freed-held x (inr (inr (p, why, failed, edits))) frees none mine = absurd (let gives : None ≡ Some x = sym none ∙ goes.edit x (RequestEdit.Decline p why failed) edits refl in cc)
   freed-held x (inl removes) frees none mine = by (subst (λ (change : RequestsChange). RequestsPremise c s ch change) removes given.requests) where
-    listed : (o : Option RequestId) → node.allocated_to ≡ o → is_request x o ≡ true → (request : RequestRecord) → request_in x s.requests ≡ Some request → list_any (λ m. m.0 == n.0) request.nodes ≡ true
-    listed None to mine request there = absurd cc
-    listed (Some y) to mine request there =
-        let id : y ≡ x = request-equal y x mine in
-        (old.owned.allocations n node y stands to).listed request (ap (λ (z : RequestId). request_in z s.requests) id ∙ there)
-
     by : GoesFulfilled s ch x ⊎ (TakesOver c s ch x ⊎ GoesWithdrawn s ch x) → ByHolder t n
     by (inl fulfilled) =
         let f = fulfilled.fulfils in
         by-before (record { session = f.worked_on.session; role = Launcher f.pool }) f.worked_on.made_by
-        (complete-held s f.pool f.worked_on.session x f.request n (old.owned.requests x f.request f.worked_on.stands) f.pending f.filled (listed node.allocated_to refl mine f.request f.worked_on.stands))
+        (complete-held s f.pool f.worked_on.session x f.request n (old.owned.requests x f.request f.worked_on.stands) f.pending f.filled ((old.owned.allocations n node x stands (request-of x node.allocated_to mine)).listed f.request f.worked_on.stands))
     by (inr (inl takes)) = absurd (let both : NodesChange.FreeAll x ≡ NodesChange.TakeOver takes.request.nodes = sym frees ∙ takes.takes in cc)
     by (inr (inr gone)) = absurd (let both : NodesChange.FreeAll x ≡ NodesChange.Same = sym frees ∙ gone.withdraws.same_nodes in cc)
 
@@ -322,35 +272,26 @@ module _ (c : Configuration) (s : State) (entry : Entry) (old : Invariant c s) (
 
   given-back : (r : RequestId) → given_back_by e ≡ Some r → (node_in n (next c s e).nodes ≡ Some node) ⊎ TakenBack t n node r
   given-back r gives = by (goes.back r gives) where
-    grown-same : ch.grows ≡ Growth.Nothing → g.nodes ≡ s.nodes
-    grown-same none = ap (λ (growth : Growth). (grown c ch.maker growth s).nodes) none
+    back : ch.nodes ≡ NodesChange.FreeAll r → is_request r node.allocated_to ≡ true → node_in n (next c s e).nodes ≡ Some (freed node) → EmptiesRequest r ch.requests → TakenBack t n node r
+    back frees mine is (inl removes) = absurd (goes-not (subst (λ (change : RequestsChange). RequestsPremise c s ch change) removes given.requests)) where
+      goes-not : GoesFulfilled s ch r ⊎ (TakesOver c s ch r ⊎ GoesWithdrawn s ch r) → ⊥
+      goes-not (inl fulfilled) = ends-not_back e r r (request_in r s.requests) (goes.request r removes (ap (λ (o : Option RequestRecord). is_some o) fulfilled.fulfils.worked_on.stands)) gives
+      goes-not (inr (inl takes)) = let both : NodesChange.FreeAll r ≡ NodesChange.TakeOver takes.request.nodes = sym frees ∙ takes.takes in absurd cc
+      goes-not (inr (inr gone)) = let both : NodesChange.FreeAll r ≡ NodesChange.Same = sym frees ∙ gone.withdraws.same_nodes in absurd cc
+    back frees mine is (inr (inl edits)) =
+        let premise = subst (λ (change : RequestsChange). RequestsPremise c s ch change) edits given.requests in
+        record { session = premise.by.session; makes = plan-maker c s e premise.by premise.made_by; holds = premise.holds; allocated = mine; after = is }
+    back frees mine is (inr (inr (p, why, failed, edits))) =
+        let premise = subst (λ (change : RequestsChange). RequestsPremise c s ch change) edits given.requests in
+        record { session = premise.worked_on.session; makes = plan-maker c s e (record { session = premise.worked_on.session; role = Launcher p }) premise.worked_on.made_by; holds = premise.worked_on.holds; allocated = mine; after = is }
 
     by : (ch.grows ≡ Growth.Nothing) × ((ch.nodes ≡ NodesChange.Same) ⊎ (ch.nodes ≡ NodesChange.FreeAll r)) → (node_in n (next c s e).nodes ≡ Some node) ⊎ TakenBack t n node r
-    by (none, (inl same)) = inl (later-is ∙ ap (λ (change : NodesChange). node_in n (nodes_changed ch.maker g.tick change g.nodes)) same ∙ ap (λ (rows : List NodeEntry). node_in n rows) (grown-same none) ∙ stands)
-    by (none, (inr frees)) = which (is_request r node.allocated_to) refl where
-      now : node_in n (next c s e).nodes ≡ Some (cond (is_request r node.allocated_to) (freed node) node)
-      now =
-          later-is ∙ ap (λ (change : NodesChange). node_in n (nodes_changed ch.maker g.tick change g.nodes)) frees
-          ∙ node_in-freed r n g.nodes ∙ ap (λ (rows : List NodeEntry). option_map (λ k. cond (is_request r k.allocated_to) (freed k) k) (node_in n rows)) (grown-same none)
-          ∙ ap (λ (o : Option NodeRecord). option_map (λ k. cond (is_request r k.allocated_to) (freed k) k) o) stands
-
-      which : (b : Bool) → is_request r node.allocated_to ≡ b → (node_in n (next c s e).nodes ≡ Some node) ⊎ TakenBack t n node r
-      which false other = inl (now ∙ ap (λ (b : Bool). Some (cond b (freed node) node)) other)
-      which true mine = inr (back (now ∙ ap (λ (b : Bool). Some (cond b (freed node) node)) mine) (subst (λ (change : NodesChange). NodesPremise c s ch change) frees given.nodes)) where
-        back : node_in n (next c s e).nodes ≡ Some (freed node) → EmptiesRequest r ch.requests → TakenBack t n node r
-        back is (inl removes) = absurd (goes-not (subst (λ (change : RequestsChange). RequestsPremise c s ch change) removes given.requests)) where
-          goes-not : GoesFulfilled s ch r ⊎ (TakesOver c s ch r ⊎ GoesWithdrawn s ch r) → ⊥
-          goes-not (inl fulfilled) =
-              let f = fulfilled.fulfils in
-              ends-not_back e r r (request_in r s.requests) (goes.request r removes (ap (λ (o : Option RequestRecord). is_some o) f.worked_on.stands)) gives
-          goes-not (inr (inl takes)) = let both : NodesChange.FreeAll r ≡ NodesChange.TakeOver takes.request.nodes = sym frees ∙ takes.takes in absurd cc
-          goes-not (inr (inr gone)) = let both : NodesChange.FreeAll r ≡ NodesChange.Same = sym frees ∙ gone.withdraws.same_nodes in absurd cc
-        back is (inr (inl edits)) =
-            let premise = subst (λ (change : RequestsChange). RequestsPremise c s ch change) edits given.requests in
-            record { session = premise.by.session; makes = plan-maker c s e premise.by premise.made_by; holds = premise.holds; allocated = mine; after = is }
-        back is (inr (inr (p, why, failed, edits))) =
-            let premise = subst (λ (change : RequestsChange). RequestsPremise c s ch change) edits given.requests in
-            record { session = premise.worked_on.session; makes = plan-maker c s e (record { session = premise.worked_on.session; role = Launcher p }) premise.worked_on.made_by; holds = premise.worked_on.holds; allocated = mine; after = is }
+    by (none, (inl same)) = inl (later-is ∙ rw (same, none) stands)
+    by (none, (inr frees)) =
+        let now : node_in n (next c s e).nodes ≡ Some (cond (is_request r node.allocated_to) (freed node) node) =
+        later-is ∙ rw (frees, none) (node_in-freed r n s.nodes ∙ ap (λ (o : Option NodeRecord). option_map (λ k. cond (is_request r k.allocated_to) (freed k) k) o) stands) in
+        by_bool (λ _. (node_in n (next c s e).nodes ≡ Some node) ⊎ TakenBack t n node r) (is_request r node.allocated_to)
+        (λ mine. inr (back frees mine (now ∙ rw mine refl) (subst (λ (change : NodesChange). NodesPremise c s ch change) frees given.nodes))) (λ other. inl (now ∙ rw other refl))
 
   -- the turn is fenced: what a decline or a reset gives back, and otherwise by the holder
   own : given_back_by e ≡ None → IsOwn
@@ -368,7 +309,7 @@ module _ (c : Configuration) (s : State) (entry : Entry) (old : Invariant c s) (
         let premise = subst (λ (change : NodesChange). NodesPremise c s ch change) at given.nodes in
         let takes = premise.1 in
         let mine : list_any (λ m. m.0 == n.0) takes.request.nodes ≡ true = subst (λ (ns : List NodeId). list_any (λ m. m.0 == n.0) ns ≡ true) premise.2.1 among in
-        by-before takes.by takes.made_by (held-of s takes.by.session n takes.request.nodes mine takes.held)
+        by-before takes.by takes.made_by (one-held s takes.by.session n takes.request.nodes (marks-of n takes.request.nodes mine) takes.held)
     how k (IsAllocated r tenant at now) =
         let gains : Gains c s ch r n = subst (λ (growth : Growth). GrowthPremise c s ch growth) at given.grows in
         gained r tenant at gains gains.from
@@ -386,10 +327,8 @@ module _ (c : Configuration) (s : State) (entry : Entry) (old : Invariant c s) (
   rightful (Some r) is = given-back r is
 
 fenced-turn : (c : Configuration) (s : State) (entry : Entry) → Invariant c s → IsFenced (record { before = s; entry = entry; later = next c s entry.event })
-fenced-turn c s entry old n node stands = by (is_ok (judge c s entry.event)) refl where
-  by : (b : Bool) → is_ok (judge c s entry.event) ≡ b → (node_in n (next c s entry.event).nodes ≡ Some node) ⊎ IsRightful (record { before = s; entry = entry; later = next c s entry.event }) n node (given_back_by entry.event)
-  by true ok = rightful c s entry old ok n node stands (given_back_by entry.event) refl
-  by false refused = inl (rw refused stands)
+fenced-turn c s entry old n node stands = by_bool (λ _. (node_in n (next c s entry.event).nodes ≡ Some node) ⊎ IsRightful (turn c s entry) n node (given_back_by entry.event)) (is_ok (judge c s entry.event))
+    (λ ok. rightful c s entry old ok n node stands (given_back_by entry.event) refl) (λ refused. inl (rw refused stands))
 
 fenced-from : (c : Configuration) (s : State) (journal : List Entry) → Invariant c s → EachTurn IsFenced (turns_from c s journal)
 fenced-from c s [] old = tt

@@ -1,17 +1,14 @@
 -- what the past turns tell of requests and nodes: declines, reports, and the cause of each failure
-use Rattle.np_changes.proofs.Prelude.{All-contains, AllPass-from_list_all, Any-from_list_any, Bool, Contains, List, PoolId, Registration, RequestRecord, SessionId, [], all_declined, and_from, arith, cond, cond-true, count_by, false, false≢true, is_declined_by, is_session_of, length, list_all, list_any, not, not_from_false, refl, registered, sum_by-cons, true, undeclined, ℕ, ◌&&◌, ◌+◌, ◌<◌, ◌==◌, ◌∷◌, ◌≡◌, EachTurn, NodeId, ReportsFailure, SomeTurn, Turn, cond-false, inl, inr, is_done, is_report_on, nat_tests, reports_on, sum_by_push, ◌++◌, AllByRecursion, Configuration, Declined, IsTrueDecline, LabelId, Launcher, NodeRecord, RequestId, SessionFacts, Some, State, is_building, is_failed, is_failed_node, is_offered, never_fits, node_in, request_in, request_queue, retries_of, session_of, start, ◌≤◌, Changes, Done, Err, Event, Growth, NodesChange, None, Ok, Option, Outcome, Reason, Refusal, RequestEdit, RequestsChange, Result, Role, ap, is_pinned_away, judge, judge_done, judge_lock_request, launched, launcher, made_by, maker, plan, role_of, same, subst, with_found, with_given, ◌∙◌, ◌⊎◌, Asked, EditPremise, IsNumbered, Maker, Premises, RequestEntry, RequestsPremise, Rises, changed, edited, grown, is_id_before, joined, left, new_record, next_id, none-some, request-equal, requests_changed, same_Some, same_request, sym, Contains-push_cases, IsAccepted, MayDecline, is_true, AsksForJob, AsksToKeep, GrowthPremise, IsHeard, IsWorkedOn, MakerPremise, RequestState, SessionsChange, all-at, all-weaker, and_parts, change_session, ended, from-map_some, if◌then◌else◌, is_elsewhere, is_pending, is_pool, is_requested, is_some, kept-change_at, muted, not-false, option_map, or_left, request_holder, session-equal, sessions_changed, slice_get, true≢false, ◌-◌, GainsNew, NodeState, NodesPremise, RunsWhileBuilding, and_left, both_ways, eq-eqb, new_node, not-true, DeclinedByAll, FailsNow, HasCause, HasDeclined, Invariant, IsAtRest, IsServed, LaunchesSpent, MayFail, has_failed, is_last_pool, is_none, is_pending_by, is_spent, member-there, option_map_or, or_cases, slice_get_within, tenant_never_fits, ◌||◌}
+use Rattle.np_changes.proofs.Prelude.{All-contains, AllPass-from_list_all, Any-from_list_any, Bool, Contains, List, PoolId, Registration, RequestRecord, SessionId, [], all_declined, arith, cond, cond-true, count_by, false, false≢true, is_declined_by, is_session_of, length, list_all, list_any, not, refl, registered, sum_by-cons, true, undeclined, ℕ, ◌&&◌, ◌+◌, ◌<◌, ◌==◌, ◌∷◌, ◌≡◌, EachTurn, NodeId, ReportsFailure, SomeTurn, Turn, cond-false, inl, inr, is_done, is_report_on, nat_tests, reports_on, sum_by_push, ◌++◌, AllByRecursion, Configuration, Declined, IsTrueDecline, LabelId, Launcher, NodeRecord, RequestId, SessionFacts, Some, State, is_building, is_failed, is_failed_node, is_offered, never_fits, node_in, request_in, request_queue, retries_of, session_of, start, ◌≤◌, Changes, Done, Event, Growth, NodesChange, None, Ok, Option, Outcome, Reason, Refusal, RequestEdit, RequestsChange, Result, Role, ap, is_pinned_away, judge, judge_done, launched, launcher, made_by, maker, plan, role_of, same, subst, with_found, with_given, ◌∙◌, ◌⊎◌, Asked, EditPremise, IsNumbered, Maker, Premises, RequestEntry, RequestsPremise, Rises, changed, edited, grown, is_id_before, joined, left, new_record, next_id, none-some, request-equal, requests_changed, same_Some, same_request, sym, Contains-push_cases, IsAccepted, MayDecline, is_true, AsksForJob, AsksToKeep, GrowthPremise, IsHeard, IsWorkedOn, MakerPremise, RequestState, SessionsChange, all-at, all-weaker, and_parts, change_session, ended, from-map_some, if◌then◌else◌, is_pending, is_pool, is_requested, is_some, kept-change_at, muted, option_map, request_holder, session-equal, sessions_changed, true≢false, ◌-◌, GainsNew, NodeState, NodesPremise, RunsWhileBuilding, and_left, both_ways, new_node, DeclinedByAll, FailsNow, HasCause, HasDeclined, Invariant, IsServed, LaunchesSpent, MayFail, has_failed, is_last_pool, is_pending_by, is_spent, member-there, option_map_or, or_cases, slice_get_within, ◌||◌}
 use Rattle.np_changes.proofs.Accepted.{last-declines, plan-given}
-use Rattle.np_changes.proofs.Lookups.{Added, Altered, IsAllocated, IsFreed, IsPut, IsUsed, NodeChange, NodeStep, Removed, Stays, found-grown, grown-numbered, left-request, next-more, node-step, node_in-below, node_in-put, nodes-after, request_in-below, request_in-edit, request_in-insert, request_in-later, request_in-new, request_in-queue, request_in-remove, request_in-removed, request_queue-nowhere, same-seq, same_label, same_node-is, same_pool, used_from}
-use Rattle.np_changes.proofs.RequestStates.{IsEdited, edited-by, node-place, rest-if, served-if}
+use Rattle.np_changes.proofs.Lookups.{Added, Altered, IsAllocated, IsFreed, IsPut, IsUsed, NodeChange, NodeStep, Removed, Stays, found-grown, grown-numbered, left-request, next-more, node-step, node_in-below, node_in-put, nodes-after, none-unless, request_in-below, request_in-edit, request_in-insert, request_in-later, request_in-new, request_in-queue, request_in-remove, request_in-removed, request_queue-nowhere, same-seq, same_label, same_node-is, same_pool, used_from}
+use Rattle.np_changes.proofs.RequestStates.{edited-by, node-place, rest-if, served-if}
 use Rattle.np_changes.proofs.Queues.{facts-grown, facts_in, queue-after}
 use Rattle.np_changes.specs.Plan
 
 -- # members of lists
 
 -- ## members
-
-pub nothing-in : {X : Type 0} (x : X) → Contains [] x → ⊥
-nothing-in x among = omega (arith, among.1)
 
 -- a member that passes
 pub any-member : {X : Type 0} (p : X → Bool) (xs : List X) → list_any p xs ≡ true → (x : X) × (Contains xs x) × (p x ≡ true)
@@ -26,24 +23,13 @@ pub all-counted : {X : Type 0} (p : X → Bool) (xs : List X) → count_by (λ x
 all-counted p [] none = refl
 all-counted {X} p (x ∷ xs) none =
     let both : count_by (λ (y : X). not (p y)) (x ∷ xs) ≡ cond (not (p x)) 1 0 + count_by (λ y. not (p y)) xs = sum_by-cons (λ (y : X). cond (not (p y)) 1 0) x xs in
-    by (p x) refl both (all-counted p xs (omega (arith, both, none)))
-  where
-    by : (b : Bool) → p x ≡ b → count_by (λ (y : X). not (p y)) (x ∷ xs) ≡ cond (not (p x)) 1 0 + count_by (λ y. not (p y)) xs → list_all p xs ≡ true → (p x && list_all p xs) ≡ true
-    by true passes both later = and_from (p x) (list_all p xs) passes later
-    by false fails both later = absurd (omega (arith, both, none, cond-true {A = ℕ} (not (p x)) 1 0 (not_from_false (p x) fails)))
+    grind (arith, nat_tests, both, all-counted p xs)
 
 -- ## registrations
 
 pub some-registered : (p : PoolId) (session : SessionId) (rows : List Registration) → is_session_of session (registered p rows) ≡ true → 0 < length rows
 some-registered p session [] is = absurd (false≢true is)
 some-registered p session (g ∷ rows) is = omega arith
-
-pub some-rows : {X : Type 0} (xs : List X) → (length xs == 0) ≡ false → 0 < length xs
-some-rows [] is = absurd cc
-some-rows (x ∷ xs) is = omega arith
-
-pub all-undeclined : (rows : List Registration) (request : RequestRecord) → undeclined rows request ≡ 0 → all_declined rows request.declined ≡ true
-all-undeclined rows request none = all-counted (λ (g : Registration). is_declined_by g.pool request.declined) rows none
 
 -- if somebody is registered, not all have declined what nobody has
 pub none-declined : (rows : List Registration) → 0 < length rows → all_declined rows [] ≡ true → ⊥
@@ -80,16 +66,12 @@ reports-other n ts t other = omega (arith, reports-push n ts t, cond-false {A = 
 pub reports-more : (n : NodeId) (ts : List Turn) (t : Turn) → reports n t ≡ true → reports_on n (ts ++ t ∷ []) ≡ reports_on n ts + 1
 reports-more n ts t is = omega (arith, reports-push n ts t, cond-true {A = ℕ} (reports n t) 1 0 is)
 
-no-report : (a b : Bool) (rest all : ℕ) → all ≡ cond (a && b) 1 0 + rest → all ≡ 0 → a ≡ true → b ≡ true → ⊥
-no-report x0 b rest all both none is accepted = grind (arith, nat_tests)
-
 -- if there is no report, every report said that the launch failed
 pub none-failed : (n : NodeId) (ts : List Turn) → reports_on n ts ≡ 0 → EachTurn (ReportsFailure n) ts
 none-failed n [] none = tt
 none-failed n (t ∷ ts) none =
     let both : reports_on n (t ∷ ts) ≡ cond (reports n t) 1 0 + reports_on n ts = sum_by-cons (λ (x : Turn). cond (reports n x) 1 0) t ts in
-    let rest : reports_on n ts ≡ 0 = omega (arith, both, none) in
-    (λ is accepted. absurd (no-report (is_report_on n t.entry.event) (is_done t.entry.reply) (reports_on n ts) (reports_on n (t ∷ ts)) both none is accepted), none-failed n ts rest)
+    (λ is accepted. absurd (grind (arith, nat_tests, both, none, is, accepted)), none-failed n ts (omega (arith, both, none)))
 
 -- # what holds of the past turns and the state after them
 
@@ -202,28 +184,18 @@ pub record Tells (c : Configuration) (s : State) (e : Event) (ch : Changes) : Ty
   pub joins : (r : RequestId) → ch.grows ≡ Growth.JoinRequest r → IsLock s ch r
   pub puts : (n : NodeId) (kept : NodeRecord) → ch.nodes ≡ NodesChange.Put n kept → PutBy c s e n kept
 
-same-id : (r x : RequestId) → Growth.JoinRequest r ≡ Growth.JoinRequest x → r ≡ x
-same-id r x is = cc
-
--- ## what the tests of an accepted event have shown
-
-lock-own : (c : Configuration) (s : State) (session : SessionId) (r : RequestId) (what : Done) (p : PoolId) (q : RequestRecord) → judge_lock_request c s session r ≡ Ok what → maker s session ≡ Ok (Launcher p) → request_in r s.requests ≡ Some q → is_pinned_away p q ≡ false
-lock-own c s session r what p q ok who has = grind (arith, nat_tests)
-
 -- ## by the event
 
-module _ (c : Configuration) (s : State) where
-  lock-tells : (session : SessionId) (r : RequestId) (what : Done) → judge_lock_request c s session r ≡ Ok what → Tells c s (Event.LockRequest session r) (Plan.plan_lock_request s session r)
-  lock-tells session r what ok =
-      plan-given (Tells c s (Event.LockRequest session r)) (grind (arith, nat_tests)) (maker s session) _ (λ role who. record {
-        declines = λ x p why failed at. absurd cc;
-        joins = λ x at. subst (λ (y : RequestId). IsLock s (made_by session role (record same { grows = Growth.JoinRequest r })) y) (same-id r x at)
-            (record { session = session; role = role; made_by = refl; own = λ p q is has. lock-own c s session r what p q ok (who ∙ ap (λ (x : Role). Ok x) is) has });
-        puts = λ n kept at. absurd cc;
-      })
-
 pub plan-tells : (c : Configuration) (s : State) (e : Event) (what : Done) → judge c s e ≡ Ok what → Tells c s e (plan c s e)
-plan-tells c s (Event.LockRequest session r) what ok = lock-tells c s session r what ok
+plan-tells c s (Event.LockRequest session r) what ok =
+    plan-given (Tells c s (Event.LockRequest session r)) (grind (arith, nat_tests)) (maker s session) _ (λ role who. record {
+      declines = λ x p why failed at. absurd cc;
+      joins = λ x at.
+          let id : r ≡ x = cc in
+          subst (λ (y : RequestId). IsLock s (made_by session role (record same { grows = Growth.JoinRequest r })) y) id
+          (record { session = session; role = role; made_by = refl; own = λ p q is has. grind (arith, nat_tests) });
+      puts = λ n kept at. absurd cc;
+    })
 plan-tells c s _ what ok = grind (arith, nat_tests)
 
 -- ## reports
@@ -239,9 +211,8 @@ done-told : (c : Configuration) (s : State) (session : SessionId) (n : NodeId) (
 done-told c s session n attempt o what ok = by (launcher s session) refl (node_in n s.nodes) refl where
   by : (g : Result PoolId Refusal) → launcher s session ≡ g → (x : Option NodeRecord) → node_in n s.nodes ≡ x
       → IsTold s (with_given g (λ p. made_by session (Launcher p) (with_found x (λ k. record same { nodes = NodesChange.Put n (launched (retries_of c k.pool) s.tick o k) })))) n
-  by (Err why) who x has = grind (arith, nat_tests)
-  by (Ok p) who None has = grind (arith, nat_tests)
   by (Ok p) who (Some k) has = record { node = k; stands = has; kept = launched (retries_of c k.pool) s.tick o k; puts = refl }
+  by _ who x has = grind (arith, nat_tests)
 
 pub report-told : (c : Configuration) (s : State) (e : Event) (what : Done) → judge c s e ≡ Ok what → (n : NodeId) → is_report_on n e ≡ true → IsTold s (plan c s e) n
 report-told c s (Event.Done session m attempt o) what ok n is =
@@ -275,33 +246,20 @@ CameBy s ch r q = (request_in r s.requests ≡ Some q) ⊎ (IsChanged s.requests
 
 -- ## by the kind of change
 
-asked-before : (c : Configuration) (s : State) (maker : Option Maker) (priority : ℕ) (asked : Asked) → AllByRecursion (λ e. e.id.seq < s.next_request) s.requests → (r : RequestId) (q : RequestRecord) → request_in r (grown c maker (Growth.Request priority asked) s).requests ≡ Some q
-    → (b : Bool) → same_request (next_id priority s) r ≡ b → (request_in r s.requests ≡ Some q) ⊎ IsNew s (Growth.Request priority asked) r q
-asked-before c s maker priority asked below r q is true same =
-    let none : request_in r s.requests ≡ None = request_in-later r s.next_request s.requests below (same-seq (next_id priority s) r same) in
-    let now : Some q ≡ Some (new_record asked) = sym is ∙ request_in-new (record { id = next_id priority s; kept = new_record asked; queue = [] }) r s.requests same none in
-    inr (record { priority = priority; asked = asked; grows = refl; id = request-equal (next_id priority s) r same; before = none; is = same_Some q (new_record asked) now })
-asked-before c s maker priority asked below r q is false other =
-    inl (sym (request_in-insert (record { id = next_id priority s; kept = new_record asked; queue = [] }) r s.requests other) ∙ is)
-
 request-grown : (c : Configuration) (s : State) (maker : Option Maker) (growth : Growth) → AllByRecursion (λ e. e.id.seq < s.next_request) s.requests → (r : RequestId) (q : RequestRecord) → request_in r (grown c maker growth s).requests ≡ Some q
     → (request_in r s.requests ≡ Some q) ⊎ IsNew s growth r q
-request-grown c s None (Growth.Registration p) below r q is = inl is
-request-grown c s (Some maker) (Growth.Registration p) below r q is = inl is
-request-grown c s maker (Growth.Request priority asked) below r q is = asked-before c s maker priority asked below r q is (same_request (next_id priority s) r) refl
+request-grown c s maker (Growth.Registration p) below r q is = grind (arith, nat_tests)
+request-grown c s maker (Growth.Request priority asked) below r q is =
+    let new : RequestEntry = record { id = next_id priority s; kept = new_record asked; queue = [] } in
+    grind (arith, nat_tests, request_in-later r s.next_request s.requests below, same-seq (next_id priority s) r, request_in-new new r s.requests, request-equal (next_id priority s) r, request_in-insert new r s.requests)
 request-grown c s (Some maker) (Growth.JoinRequest x) below r q is = inl (sym (request_in-queue x r (joined maker.session (request_queue x s.requests)) s.requests) ∙ is)
 request-grown c s maker _ below r q is = inl is
 
 request-settled : (maker : Option Maker) (change : RequestsChange) (rows : List RequestEntry) → Rises (λ a b. is_id_before a.id b.id) rows → (r : RequestId) (q : RequestRecord) → request_in r (requests_changed maker change rows) ≡ Some q
     → (request_in r rows ≡ Some q) ⊎ IsChanged rows change r q
-request-settled maker (RequestsChange.Edit x how) rows rises r q is = by (edited-by (same_request x r) (edited how) (request_in r rows) q (sym (request_in-edit x r (edited how) rows) ∙ is)) where
-  by : IsEdited (same_request x r) (edited how) (request_in r rows) q ⊎ ((same_request x r ≡ false) × (request_in r rows ≡ Some q)) → (request_in r rows ≡ Some q) ⊎ IsChanged rows (RequestsChange.Edit x how) r q
-  by (inl one) = inr (record { old = one.old; how = how; stood = one.was; edits = ap (λ (y : RequestId). RequestsChange.Edit y how) (request-equal x r one.passed); is = one.now })
-  by (inr other) = inl other.1
-request-settled maker (RequestsChange.Remove x) rows rises r q is = by (same_request x r) refl where
-  by : (b : Bool) → same_request x r ≡ b → (request_in r rows ≡ Some q) ⊎ IsChanged rows (RequestsChange.Remove x) r q
-  by true same = absurd (none-some q (sym (request_in-removed x r rows rises same) ∙ is))
-  by false other = inl (sym (request_in-remove x r rows other) ∙ is)
+request-settled maker (RequestsChange.Edit x how) rows rises r q is =
+    grind (arith, nat_tests, edited-by (same_request x r) (edited how) (request_in r rows) q, request_in-edit x r (edited how) rows, request-equal x r)
+request-settled maker (RequestsChange.Remove x) rows rises r q is = grind (arith, nat_tests, request_in-removed x r rows rises, request_in-remove x r rows)
 request-settled (Some maker) (RequestsChange.Leave x) rows rises r q is = inl (sym (request_in-queue x r (left maker.session (request_queue x rows)) rows) ∙ is)
 request-settled maker _ rows rises r q is = inl is
 
@@ -326,7 +284,6 @@ module _ (c : Configuration) (past : List Turn) (t : Turn) (ch : Changes) (numbe
   turn-declines : (r : RequestId) (q : RequestRecord) (p : PoolId) (why : Reason) (failed : Bool) → request_in r t.before.requests ≡ Some q → ch.requests ≡ RequestsChange.Edit r (RequestEdit.Decline p why failed) → MayDecline c t.before ch r p why failed → IsTrueDecline c r p why t
   turn-declines r q p why failed stood at premise =
       let decline : IsDecline t.before t.entry.event r p why = tells.declines r p why failed at in
-      let same : premise.request ≡ q = same_Some premise.request q (sym premise.worked_on.stands ∙ stood) in
       record {
         session = decline.session;
         request = q;
@@ -334,17 +291,15 @@ module _ (c : Configuration) (past : List Turn) (t : Turn) (ch : Changes) (numbe
         accepted = accepted;
         of_pool = decline.of_pool;
         stood = stood;
-        holds = subst (λ (x : RequestRecord). is_true c t.before p x why ≡ true) same premise.holds_true;
+        holds = grind (arith, nat_tests, premise.holds_true, premise.worked_on.stands);
       }
 
   was-made : (r : RequestId) (q : RequestRecord) (d : Declined) → request_in r t.before.requests ≡ Some q → Contains q.declined d → SomeTurn (IsTrueDecline c r d.pool d.reason) (past ++ t ∷ [])
   was-made r q d stood among = some-before (IsTrueDecline c r d.pool d.reason) past t (old r q stood d among)
 
   edit-made : (r : RequestId) (q : RequestRecord) (how : RequestEdit) (d : Declined) → request_in r t.before.requests ≡ Some q → ch.requests ≡ RequestsChange.Edit r how → EditPremise c t.before ch r how → Contains (edited how q).declined d → SomeTurn (IsTrueDecline c r d.pool d.reason) (past ++ t ∷ [])
-  edit-made r q (RequestEdit.Decline p why failed) d stood at premise among = by (Contains-push_cases q.declined (record { pool = p; reason = why }) d among) where
-    by : Contains q.declined d ⊎ (record { pool = p; reason = why } ≡ d) → SomeTurn (IsTrueDecline c r d.pool d.reason) (past ++ t ∷ [])
-    by (inl before) = was-made r q d stood before
-    by (inr same) = some-last (IsTrueDecline c r d.pool d.reason) past t (subst (λ (x : Declined). IsTrueDecline c r x.pool x.reason t) same (turn-declines r q p why failed stood at premise))
+  edit-made r q (RequestEdit.Decline p why failed) d stood at premise among =
+      grind (arith, nat_tests, Contains-push_cases q.declined (record { pool = p; reason = why }) d among, was-made r q d stood, some-last (IsTrueDecline c r d.pool d.reason) past t, turn-declines r q p why failed stood at premise)
   edit-made r q _ d stood at premise among = was-made r q d stood among
 
   pub declines-made : DeclinesMade c (past ++ t ∷ []) (changed c ch t.before)
@@ -353,59 +308,42 @@ module _ (c : Configuration) (past : List Turn) (t : Turn) (ch : Changes) (numbe
     by (inl there) = was-made r q d there among
     by (inr (inl was)) =
         edit-made r was.old was.how d was.stood was.edits (edit-premise c t.before ch numbered premises r was.how was.edits) (subst (λ (x : RequestRecord). Contains x.declined d) was.is among)
-    by (inr (inr new)) = absurd (nothing-in d (subst (λ (x : RequestRecord). Contains x.declined d) new.is among))
+    by (inr (inr new)) = absurd (let none : Contains [] d = subst (λ (x : RequestRecord). Contains x.declined d) new.is among in omega (arith, none.1))
 
 -- # after an event a pinned request asks for what its pool offers, nobody has declined it, and no other pool works on it
 
 -- ## sessions keep their roles
 
--- found, with the role
-record HasRole (session : SessionId) (role : Role) (rows : List SessionFacts) : Type 0 where
-  facts : SessionFacts
-  begun : facts_in session rows ≡ Some facts
-  is : facts.role ≡ role
+role-changed : (x : SessionId) (f : SessionFacts → SessionFacts) → ((y : SessionFacts) → (f y).role ≡ y.role) → (session : SessionId) (rows : List SessionFacts)
+    → option_map (λ (y : SessionFacts). y.role) (facts_in session (change_session x f rows)) ≡ option_map (λ (y : SessionFacts). y.role) (facts_in session rows)
+role-changed x f keeps session rows =
+    grind (arith, nat_tests, kept-change_at (λ (o : Option SessionFacts). option_map (λ y. y.role) o) (x.0 - 1) (session.0 - 1) f rows (λ y. ap (λ (role : Role). Some role) (keeps y)))
 
-role-changed : (x : SessionId) (f : SessionFacts → SessionFacts) → ((y : SessionFacts) → (f y).role ≡ y.role) → (session : SessionId) (facts : SessionFacts) (rows : List SessionFacts) → facts_in session rows ≡ Some facts → HasRole session facts.role (change_session x f rows)
-role-changed x f keeps session facts rows is = by (session.0 == 0) refl is where
-  by : (b : Bool) → (session.0 == 0) ≡ b → cond b None (slice_get rows (session.0 - 1)) ≡ Some facts → HasRole session facts.role (change_session x f rows)
-  by true zero_number none = absurd (none-some facts none)
-  by false positive there =
-      let kept : option_map (λ (y : SessionFacts). y.role) (slice_get (change_session x f rows) (session.0 - 1)) ≡ Some facts.role =
-      kept-change_at (λ (o : Option SessionFacts). option_map (λ y. y.role) o) (x.0 - 1) (session.0 - 1) f rows (λ y. ap (λ (role : Role). Some role) (keeps y))
-      ∙ ap (λ (o : Option SessionFacts). option_map (λ y. y.role) o) there in
-      let found = from-map_some (λ (y : SessionFacts). y.role) (slice_get (change_session x f rows) (session.0 - 1)) facts.role kept in
-      record { facts = found.0; begun = cond-false (session.0 == 0) None (slice_get (change_session x f rows) (session.0 - 1)) positive ∙ found.1; is = found.2 }
-
-roles-settled : (change : SessionsChange) (session : SessionId) (facts : SessionFacts) (rows : List SessionFacts) → facts_in session rows ≡ Some facts → HasRole session facts.role (sessions_changed change rows)
-roles-settled SessionsChange.Same session facts rows is = record { facts = facts; begun = is; is = refl }
-roles-settled (SessionsChange.Mute heard) session facts rows is = role-changed heard muted (λ y. refl) session facts rows is
-roles-settled (SessionsChange.End over) session facts rows is = role-changed over ended (λ y. refl) session facts rows is
+roles-settled : (change : SessionsChange) (session : SessionId) (rows : List SessionFacts) → option_map (λ (y : SessionFacts). y.role) (facts_in session (sessions_changed change rows)) ≡ option_map (λ (y : SessionFacts). y.role) (facts_in session rows)
+roles-settled SessionsChange.Same session rows = refl
+roles-settled (SessionsChange.Mute heard) session rows = role-changed heard muted (λ y. refl) session rows
+roles-settled (SessionsChange.End over) session rows = role-changed over ended (λ y. refl) session rows
 
 own-stays : (c : Configuration) (s : State) (ch : Changes) (p : PoolId) (session : SessionId) → IsOwn s p session → IsOwn (changed c ch s) p session
 own-stays c s ch p session own =
-    let later = roles-settled ch.sessions session own.facts (grown c ch.maker ch.grows s).sessions (facts-grown c ch.maker ch.grows s session own.facts own.begun) in
-    record { facts = later.facts; begun = later.begun; own = λ l is. own.own l (sym later.is ∙ is) }
+    let same : option_map (λ (y : SessionFacts). y.role) (facts_in session (changed c ch s).sessions) ≡ Some own.facts.role =
+    roles-settled ch.sessions session (grown c ch.maker ch.grows s).sessions ∙ ap (λ (o : Option SessionFacts). option_map (λ y. y.role) o) (facts-grown c ch.maker ch.grows s session own.facts own.begun) in
+    let later = from-map_some (λ (y : SessionFacts). y.role) (facts_in session (changed c ch s).sessions) own.facts.role same in
+    record { facts = later.0; begun = later.1; own = λ l is. own.own l (sym later.2 ∙ is) }
 
 -- ## states of requests
 
 pub requested-open : (state : RequestState) → is_requested state ≡ true → is_failed state ≡ false
-requested-open RequestState.Failed is = absurd cc
-requested-open _ is = refl
+requested-open state is = grind (arith, nat_tests)
 
 pub pending-open : (state : RequestState) → is_pending state ≡ true → is_failed state ≡ false
-pending-open RequestState.Failed is = absurd cc
-pending-open _ is = refl
-
-failed-too : (b : Bool) → b ≡ true → is_failed (if b then RequestState.Failed else RequestState.Requested) ≡ false → ⊥
-failed-too true is out = true≢false out
-failed-too false is out = absurd cc
+pending-open state is = grind (arith, nat_tests)
 
 -- ## one edit
 
 -- the holder is the first that waits
 pub holder-waits : (session : SessionId) (o : Option SessionId) → is_session_of session o ≡ true → o ≡ Some session
-holder-waits session None is = absurd cc
-holder-waits session (Some other) is = ap (λ (x : SessionId). Some x) (session-equal other session is)
+holder-waits session o is = grind (arith, nat_tests, session-equal)
 
 module _ (c : Configuration) (s : State) (ch : Changes) (premises : Premises c s ch) where
   maker-heard : (m : Maker) → ch.maker ≡ Some m → IsHeard s m
@@ -420,52 +358,9 @@ module _ (c : Configuration) (s : State) (ch : Changes) (premises : Premises c s
       own.own l (ap (λ (x : SessionFacts). x.role) same ∙ heard.role)
 
   pinned-edit : (r : RequestId) (q : RequestRecord) (how : RequestEdit) (p : PoolId) → request_in r s.requests ≡ Some q → EditPremise c s ch r how → q.pinned ≡ Some p → AllByRecursion (IsOwn s p) (request_queue r s.requests) → IsPinned c q p → IsPinned c (edited how q) p
-  pinned-edit r q (RequestEdit.Serve l) p stood premise pinned waits is =
-      let same : premise.request ≡ q = same_Some premise.request q (sym premise.worked_on.stands ∙ stood) in
-      let requested : is_requested q.state ≡ true = subst (λ (x : RequestRecord). is_requested x.state ≡ true) same premise.requested in
-      let own : l ≡ p = own-pool r premise.request p l waits premise.worked_on in
-      record {
-        label = is.label;
-        labels = is.labels;
-        offered = is.offered;
-        fits_alone = is.fits_alone;
-        undeclined = λ stands. is.undeclined (requested-open q.state requested);
-        served = λ x by. sym (same_Some l x by) ∙ own;
-      }
-  pinned-edit r q (RequestEdit.AddNode n) p stood premise pinned waits is =
-      record { label = is.label; labels = is.labels; offered = is.offered; fits_alone = is.fits_alone; undeclined = is.undeclined; served = is.served }
-  pinned-edit r q (RequestEdit.Decline l why failed) p stood premise pinned waits is =
-      let same : premise.request ≡ q = same_Some premise.request q (sym premise.worked_on.stands ∙ stood) in
-      let pinned_too : is_some premise.request.pinned ≡ true = ap (λ (x : RequestRecord). is_some x.pinned) same ∙ ap (λ (o : Option PoolId). is_some o) pinned in
-      let fails : failed ≡ true = premise.fails ∙ or_left (is_some premise.request.pinned) _ pinned_too in
-      record {
-        label = is.label;
-        labels = is.labels;
-        offered = is.offered;
-        fits_alone = is.fits_alone;
-        undeclined = λ stands. absurd (failed-too failed fails stands);
-        served = λ x by. absurd (none-some x by);
-      }
-  pinned-edit r q RequestEdit.Fulfil p stood premise pinned waits is =
-      let fulfils = premise.0 in
-      let same : fulfils.request ≡ q = same_Some fulfils.request q (sym fulfils.worked_on.stands ∙ stood) in
-      let pending : is_pending q.state ≡ true = subst (λ (x : RequestRecord). is_pending x.state ≡ true) same ((and_parts (is_pending fulfils.request.state) (is_pool fulfils.pool fulfils.request.pool) fulfils.pending).0) in
-      record { label = is.label; labels = is.labels; offered = is.offered; fits_alone = is.fits_alone; undeclined = λ stands. is.undeclined (pending-open q.state pending); served = is.served }
-  pinned-edit r q RequestEdit.GiveBack p stood premise pinned waits is =
-      let same : premise.request ≡ q = same_Some premise.request q (sym premise.stands ∙ stood) in
-      let pending : is_pending q.state ≡ true = subst (λ (x : RequestRecord). is_pending x.state ≡ true) same premise.pending in
-      record {
-        label = is.label;
-        labels = is.labels;
-        offered = is.offered;
-        fits_alone = is.fits_alone;
-        undeclined = λ stands. is.undeclined (pending-open q.state pending);
-        served = λ x by. absurd (none-some x by);
-      }
-  pinned-edit r q RequestEdit.Fail p stood premise pinned waits is =
-      record { label = is.label; labels = is.labels; offered = is.offered; fits_alone = is.fits_alone; undeclined = λ stands. absurd (true≢false stands); served = is.served }
-  pinned-edit r q (RequestEdit.Revise relative) p stood premise pinned waits is =
-      record { label = is.label; labels = is.labels; offered = is.offered; fits_alone = is.fits_alone; undeclined = is.undeclined; served = is.served }
+  pinned-edit r q (RequestEdit.Serve l) p stood premise pinned waits is = grind (arith, nat_tests, own-pool r premise.request p l waits premise.worked_on)
+  pinned-edit r q RequestEdit.Fulfil p stood premise pinned waits is = let fulfils = premise.0 in grind (arith, nat_tests)
+  pinned-edit r q _ p stood premise pinned waits is = grind (arith, nat_tests)
 
 -- ## a new request
 
@@ -489,9 +384,8 @@ module _ (c : Configuration) (s : State) (e : Event) (ch : Changes) (numbered : 
         facts = heard.facts;
         begun = heard.begun;
         own = λ l launches.
-            (let role : lock.role ≡ Launcher l = sym (ap (λ (x : Maker). x.role) same) ∙ sym heard.role ∙ launches in
-            let near : is_elsewhere l (Some p) ≡ false = sym (ap (λ (o : Option PoolId). is_elsewhere l o) pinned) ∙ lock.own l q role stood in
-            sym (same_pool p l (not-false (p.0 == l.0) near)));
+            let role : lock.role ≡ Launcher l = sym (ap (λ (x : Maker). x.role) same) ∙ sym heard.role ∙ launches in
+            grind (arith, nat_tests, lock.own l q role stood, same_pool p l);
       }
 
   -- the queue of a pinned request that was there before
@@ -511,10 +405,10 @@ module _ (c : Configuration) (s : State) (e : Event) (ch : Changes) (numbered : 
     by : CameBy s ch r q → IsPinned c q p × AllByRecursion (IsOwn (changed c ch s) p) (request_queue r (changed c ch s).requests)
     by (inl there) = let both = old r q p there pinned in (both.0, queue-own r q p there pinned both.1)
     by (inr (inl was)) =
-        let pinned_then : was.old.pinned ≡ Some p = sym (same-pin was.how was.old) ∙ sym (ap (λ (x : RequestRecord). x.pinned) was.is) ∙ pinned in
+        let pinned_then : was.old.pinned ≡ Some p = grind (arith, nat_tests, same-pin was.how was.old, was.is) in
         let both = old r was.old p was.stood pinned_then in
         let now : IsPinned c (edited was.how was.old) p = pinned-edit c s ch premises r was.old was.how p was.stood (edit-premise c s ch numbered premises r was.how was.edits) pinned_then both.1 both.0 in
-        (subst (λ (x : RequestRecord). IsPinned c x p) (sym was.is) now, queue-own r was.old p was.stood pinned_then both.1)
+        (rw was.is now, queue-own r was.old p was.stood pinned_then both.1)
     by (inr (inr new)) =
         let asks = subst (λ (growth : Growth). GrowthPremise c s ch growth) new.grows premises.grows in
         let pinned_so : new.asked.pinned ≡ Some p = sym (ap (λ (x : RequestRecord). x.pinned) new.is) ∙ pinned in
@@ -524,19 +418,13 @@ module _ (c : Configuration) (s : State) (e : Event) (ch : Changes) (numbered : 
 
 -- ## nodes by their states
 
-building-not_failed : (state : NodeState) → is_building state ≡ true → is_failed_node state ≡ true → ⊥
-building-not_failed NodeState.Building building failed = false≢true failed
-building-not_failed _ building failed = false≢true building
-
 -- a node that neither builds nor has failed may have any reports
 past-counted : (c : Configuration) (turns : List Turn) (n : NodeId) (k : NodeRecord) → is_building k.state ≡ false → is_failed_node k.state ≡ false → IsCounted c turns n k
 past-counted c turns n k out whole = (λ building. absurd (both_ways (is_building k.state) out building), λ failed. absurd (both_ways (is_failed_node k.state) whole failed))
 
 -- a node that nobody has launched yet
 fresh-counted : (c : Configuration) (turns : List Turn) (n : NodeId) (k : NodeRecord) → k.attempts ≡ 0 → k.in_flight ≡ false → is_failed_node k.state ≡ false → reports_on n turns ≡ 0 → IsCounted c turns n k
-fresh-counted c turns n k unlaunched idle whole none =
-    let flying : flights k.in_flight ≡ 0 = ap (λ (b : Bool). flights b) idle in
-    (λ building. (omega (arith, unlaunched, flying, none), none-failed n turns none), λ failed. absurd (both_ways (is_failed_node k.state) whole failed))
+fresh-counted c turns n k unlaunched idle whole none = (λ building. (grind (arith, nat_tests), none-failed n turns none), λ failed. absurd (both_ways (is_failed_node k.state) whole failed))
 
 -- ## one node, with one turn more
 
@@ -545,19 +433,16 @@ module _ (c : Configuration) (past : List Turn) (t : Turn) where
   pub other-counted : (n : NodeId) (k : NodeRecord) → reports n t ≡ false → IsCounted c past n k → IsCounted c (past ++ t ∷ []) n k
   other-counted n k other old =
       let same : reports_on n (past ++ t ∷ []) ≡ reports_on n past = reports-other n past t other in
-      let none : ReportsFailure n t = (λ is accepted. absurd (both_ways (reports n t) other (and_from (is_report_on n t.entry.event) (is_done t.entry.reply) is accepted))) in (
-        λ building. (ap (λ (m : ℕ). m + flights k.in_flight) same ∙ (old.0 building).0, each-push (ReportsFailure n) past t (old.0 building).1 none),
-        λ failed. (same ∙ (old.1 failed).0, each-push (ReportsFailure n) past t (old.1 failed).1 none),
-      )
+      let none : ReportsFailure n t = (λ is accepted. absurd (grind (arith, nat_tests, other, is, accepted))) in
+      let pushed : EachTurn (ReportsFailure n) past → EachTurn (ReportsFailure n) (past ++ t ∷ []) = λ each. each-push (ReportsFailure n) past t each none in
+      grind (arith, nat_tests, same, pushed, old.0, old.1)
 
   -- a launch begins
   start-counted : (n : NodeId) (k : NodeRecord) (first : ℕ) → reports n t ≡ false → is_building k.state ≡ true → k.in_flight ≡ false → IsCounted c past n k → IsCounted c (past ++ t ∷ []) n (record k { attempts = k.attempts + 1; in_flight = true; start = first })
   start-counted n k first other building idle old =
-      let flying : flights k.in_flight ≡ 0 = ap (λ (b : Bool). flights b) idle in
       let many : reports_on n past + flights k.in_flight ≡ k.attempts = (old.0 building).0 in
-      let begun : IsCounted c past n (record k { attempts = k.attempts + 1; in_flight = true; start = first }) =
-      (λ builds. (omega (arith, many, flying), (old.0 building).1), λ failed. absurd (building-not_failed k.state building failed)) in
-      other-counted n (record k { attempts = k.attempts + 1; in_flight = true; start = first }) other begun
+      other-counted n (record k { attempts = k.attempts + 1; in_flight = true; start = first }) other
+      (λ builds. (grind (arith, nat_tests, many), (old.0 building).1), λ failed. absurd (grind (arith, nat_tests)))
 
   -- a launch has failed: the node has failed if it was the last launch that is allowed
   failure-counted : (n : NodeId) (k : NodeRecord) → reports_on n (past ++ t ∷ []) ≡ k.attempts → EachTurn (ReportsFailure n) (past ++ t ∷ []) → is_building k.state ≡ true → (b : Bool) → (k.attempts == retries_of c k.pool) ≡ b
@@ -568,21 +453,16 @@ module _ (c : Configuration) (past : List Turn) (t : Turn) where
       → IsCounted c (past ++ t ∷ []) n (launched (retries_of c k.pool) tick o k)
   report-counted n session attempt tick (Outcome.Launched x) k event accepted building flies old = past-counted c (past ++ t ∷ []) n (launched (retries_of c k.pool) tick (Outcome.Launched x) k) refl refl
   report-counted n session attempt tick Outcome.Failed k event accepted building flies old =
-      let self : (n.0 == n.0) ≡ true = grind (arith, nat_tests) in
-      let here : is_report_on n t.entry.event ≡ true = ap (λ (e : Event). is_report_on n e) event ∙ self in
-      let more : reports_on n (past ++ t ∷ []) ≡ reports_on n past + 1 = reports-more n past t (and_from (is_report_on n t.entry.event) (is_done t.entry.reply) here accepted) in
-      let flying : flights k.in_flight ≡ 1 = ap (λ (b : Bool). flights b) flies in
+      let more : reports_on n (past ++ t ∷ []) ≡ reports_on n past + 1 = reports-more n past t (grind (arith, nat_tests)) in
       let many : reports_on n past + flights k.in_flight ≡ k.attempts = (old.0 building).0 in
-      let now : reports_on n (past ++ t ∷ []) ≡ k.attempts = omega (arith, more, flying, many) in
       let failure : ReportsFailure n t = (λ is done. record { session = session; attempt = attempt; event = event; accepted = accepted }) in
-      failure-counted n k now (each-push (ReportsFailure n) past t (old.0 building).1 failure) building (k.attempts == retries_of c k.pool) refl
+      failure-counted n k (grind (arith, nat_tests, more, many)) (each-push (ReportsFailure n) past t (old.0 building).1 failure) building (k.attempts == retries_of c k.pool) refl
 
   -- the record that an event puts
   put-counted : (n : NodeId) (kept : NodeRecord) → IsAccepted t → RunsWhileBuilding t.before → ((k : NodeRecord) → node_in n t.before.nodes ≡ Some k → IsCounted c past n k) → PutBy c t.before t.entry.event n kept → IsCounted c (past ++ t ∷ []) n kept
   put-counted n kept accepted runs each (inl start) =
-      let idle = and_parts (is_building start.node.state) (not start.node.in_flight) start.idle in
       subst (λ (k : NodeRecord). IsCounted c (past ++ t ∷ []) n k) (sym start.record_after)
-      (start-counted n start.node start.start (and_left (is_report_on n t.entry.event) (is_done t.entry.reply) (start.silent n)) idle.0 (not-true start.node.in_flight idle.1) (each start.node start.stands))
+      (start-counted n start.node start.start (grind (arith, nat_tests, start.silent n)) (grind arith) (grind arith) (each start.node start.stands))
   put-counted n kept accepted runs each (inr (inl report)) =
       subst (λ (k : NodeRecord). IsCounted c (past ++ t ∷ []) n k) (sym report.record_after)
       (report-counted n report.session report.attempt t.before.tick report.outcome report.node report.event accepted (runs n report.node report.stands report.flies) report.flies (each report.node report.stands))
@@ -610,10 +490,8 @@ module _ (c : Configuration) (past : List Turn) (t : Turn) (ch : Changes) (numbe
   -- the record that is put is found
   put-found : (n : NodeId) (node kept : NodeRecord) → node_in n t.before.nodes ≡ Some node → ch.nodes ≡ NodesChange.Put n kept → node_in n (changed c ch t.before).nodes ≡ Some kept
   put-found n node kept stands puts =
-      nodes-after c t.before ch ch.maker ch.grows (NodesChange.Put n kept) refl refl puts n
-      ∙ node_in-put n n kept (grown c ch.maker ch.grows t.before).nodes
-      ∙ ap (λ (o : Option NodeRecord). option_map (λ k. cond (n.0 == n.0) kept k) o) (ap (λ (g : Growth). node_in n (grown c ch.maker g t.before).nodes) (subst (λ (change : NodesChange). NodesPremise c t.before ch change) puts premises.nodes).same_size ∙ stands)
-      ∙ ap (λ (b : Bool). Some (cond b kept node)) (eq-eqb n.0 n.0 refl)
+      let size : ch.grows ≡ Growth.Nothing = (subst (λ (change : NodesChange). NodesPremise c t.before ch change) puts premises.nodes).same_size in
+      grind (arith, nat_tests, size, nodes-after c t.before ch ch.maker ch.grows (NodesChange.Put n kept) refl refl puts n, node_in-put n n kept (grown c ch.maker ch.grows t.before).nodes)
 
   abbrev IsNow : NodeId → NodeRecord → Type 0
   IsNow n k = IsCounted c (past ++ t ∷ []) n k
@@ -669,18 +547,7 @@ has-declined c past s r q p due stands is =
       made = subst (λ (x : PoolId). SomeTurn (IsTrueDecline c r x found.0.reason) past) same made;
     }
 
-declined-by-all : (c : Configuration) (past : List Turn) (t : Turn) (r : RequestId) (q : RequestRecord) → DeclinesMade c past t.later → request_in r t.later.requests ≡ Some q → q.pinned ≡ None → 0 < length t.later.registrations → all_declined t.later.registrations q.declined ≡ true → DeclinedByAll c past t r q
-declined-by-all c past t r q due stands unpinned some all = record {
-  unpinned = unpinned;
-  some_registered = some;
-  each = λ g among. has-declined c past t.later r q g.pool due stands (all-member (λ (x : Registration). is_declined_by x.pool q.declined) t.later.registrations g all among);
-}
-
 -- ## launches spent
-
--- a request at rest has no node
-rest-empty : (q : RequestRecord) (n : NodeId) → IsAtRest q → list_any (λ m. m.0 == n.0) q.nodes ≡ true → ⊥
-rest-empty q n rest any = false≢true (subst (λ (xs : List NodeId). list_any (λ m. m.0 == n.0) xs ≡ true) rest.no_nodes any)
 
 -- each node of a request that is served is of the pool that serves it
 served-pool : (s : State) (r : RequestId) (q : RequestRecord) (n : NodeId) (k : NodeRecord) → (served : IsServed s r q) → list_any (λ m. m.0 == n.0) q.nodes ≡ true → node_in n s.nodes ≡ Some k → k.pool.0 ≡ served.pool.0
@@ -692,76 +559,43 @@ served-pool s r q n k served any stands =
 
 -- a node that is there and failed
 spent-node : (o : Option NodeRecord) → option_map_or (λ (k : NodeRecord). is_failed_node k.state) o false ≡ true → (k : NodeRecord) × (o ≡ Some k) × (is_failed_node k.state ≡ true)
-spent-node None is = absurd (false≢true is)
-spent-node (Some k) is = (k, refl, is)
+spent-node o is = grind (arith, nat_tests)
 
 -- ## tests
-
-or-other : (a b : Bool) → a ≡ false → (a || b) ≡ true → b ≡ true
-or-other true b out is = absurd (true≢false out)
-or-other false b out is = is
-
-or-first : (a : Bool) → (a || false) ≡ true → a ≡ true
-or-first true is = refl
-or-first false is = is
-
-failed-is : (b : Bool) → is_failed (if b then RequestState.Failed else RequestState.Requested) ≡ true → b ≡ true
-failed-is true is = refl
-failed-is false is = is
 
 -- whether a request has failed is what its record says
 pub failed-then : (s : State) (r : RequestId) (q : RequestRecord) → request_in r s.requests ≡ Some q → has_failed r s ≡ is_failed q.state
 failed-then s r q stood = ap (λ (o : Option RequestRecord). option_map_or (λ (x : RequestRecord). is_failed x.state) o false) stood
 
--- a new request is not failed
-new-open : (c : Configuration) (s : State) (ch : Changes) (priority : ℕ) (asked : Asked) → AsksForJob c s ch priority asked ⊎ AsksToKeep c s ch priority asked → is_failed asked.state ≡ false
-new-open c s ch priority asked (inl asks) = ap (λ (a : Asked). is_failed a.state) asks.asks
-new-open c s ch priority asked (inr asks) = ap (λ (a : Asked). is_failed a.state) asks.asks
-
 -- ## the turn
 
 module _ (c : Configuration) (past : List Turn) (t : Turn) (ch : Changes) (old : Invariant c t.before) (due : IsDue c past t.before) (premises : Premises c t.before ch) (tells : Tells c t.before t.entry.event ch)
     (leads : changed c ch t.before ≡ t.later) (made : DeclinesMade c (past ++ t ∷ []) t.later) where
-  -- an edit of a request leaves the registrations as they are
-  same-registrations : (r : RequestId) (how : RequestEdit) → ch.grows ≡ Growth.Nothing → ch.requests ≡ RequestsChange.Edit r how → t.later.registrations ≡ t.before.registrations
-  same-registrations r how size at = grind (arith, nat_tests)
-
   -- nobody is left who has not declined
   by-all : (r : RequestId) (q : RequestRecord) (how : RequestEdit) → ch.grows ≡ Growth.Nothing → ch.requests ≡ RequestsChange.Edit r how → request_in r t.later.requests ≡ Some q → q.pinned ≡ None → 0 < length t.before.registrations → all_declined t.before.registrations q.declined ≡ true → DeclinedByAll c (past ++ t ∷ []) t r q
   by-all r q how size at stands unpinned some all =
-      let same : t.before.registrations ≡ t.later.registrations = sym (same-registrations r how size at) in
-      declined-by-all c (past ++ t ∷ []) t r q made stands unpinned
-      (subst (λ (rows : List Registration). 0 < length rows) same some)
-      (subst (λ (rows : List Registration). all_declined rows q.declined ≡ true) same all)
+      let same : t.before.registrations ≡ t.later.registrations = grind (arith, nat_tests) in
+      let all_later : all_declined t.later.registrations q.declined ≡ true = subst (λ (rows : List Registration). all_declined rows q.declined ≡ true) same all in
+      record {
+        unpinned = unpinned;
+        some_registered = subst (λ (rows : List Registration). 0 < length rows) same some;
+        each = λ g among. has-declined c (past ++ t ∷ []) t.later r q g.pool made stands (all-member (λ (x : Registration). is_declined_by x.pool q.declined) t.later.registrations g all_later among);
+      }
 
   fail-cause : (r : RequestId) (q : RequestRecord) → request_in r t.before.requests ≡ Some q → ch.requests ≡ RequestsChange.Edit r RequestEdit.Fail → MayFail t.before ch r → request_in r t.later.requests ≡ Some (edited RequestEdit.Fail q) → HasCause c (past ++ t ∷ []) t r (edited RequestEdit.Fail q)
   fail-cause r q stood at premise stands =
-      let same : premise.request ≡ q = same_Some premise.request q (sym premise.stands ∙ stood) in
-      let some : 0 < length t.before.registrations = some-rows t.before.registrations premise.some_pool in
-      let all : all_declined t.before.registrations q.declined ≡ true =
-      subst (λ (x : RequestRecord). all_declined t.before.registrations x.declined ≡ true) same (all-undeclined t.before.registrations premise.request premise.all_declined) in
-      let requested : is_requested q.state ≡ true = subst (λ (x : RequestRecord). is_requested x.state ≡ true) same premise.requested in
-      by some all requested q.pinned refl
-    where
-      by : 0 < length t.before.registrations → all_declined t.before.registrations q.declined ≡ true → is_requested q.state ≡ true → (o : Option PoolId) → q.pinned ≡ o → HasCause c (past ++ t ∷ []) t r (edited RequestEdit.Fail q)
-      by some all requested None unpinned = inl (by-all r (edited RequestEdit.Fail q) RequestEdit.Fail premise.same_size at stands unpinned some all)
-      by some all requested (Some p) pinned =
-          let none : q.declined ≡ [] = (due.pinned r q p stood pinned).0.undeclined (requested-open q.state requested) in
-          absurd (none-declined t.before.registrations some (subst (λ (xs : List Declined). all_declined t.before.registrations xs ≡ true) none all))
+      let some : 0 < length t.before.registrations = grind (arith, nat_tests, premise.some_pool) in
+      let all : all_declined t.before.registrations q.declined ≡ true = grind (arith, nat_tests, all-counted (λ (g : Registration). is_declined_by g.pool premise.request.declined) t.before.registrations premise.all_declined) in
+      let requested : is_requested q.state ≡ true = grind (arith, nat_tests) in
+      let unpinned : q.pinned ≡ None = none-unless q.pinned (λ p pinned.
+      let none : q.declined ≡ [] = (due.pinned r q p stood pinned).0.undeclined (requested-open q.state requested) in
+      grind (arith, nat_tests, none-declined t.before.registrations some, all, none)) in
+      inl (by-all r (edited RequestEdit.Fail q) RequestEdit.Fail premise.same_size at stands unpinned some all)
 
   -- a pinned request's own pool declines it only for a node whose launches are used up
   spent-cause : (r : RequestId) (q now : RequestRecord) (p : PoolId) (why : Reason) → request_in r t.before.requests ≡ Some q → q.pinned ≡ Some p → now.pinned ≡ Some p → IsPinned c q p → IsDecline t.before t.entry.event r p why
       → is_true c t.before p q why ≡ true → (is_requested q.state || is_pending_by p q) ≡ true → LaunchesSpent c (past ++ t ∷ []) t r now
-  spent-cause r q now p (Reason.NoLabel l) stood pinned pinned_now is decline holds stands =
-      let parts = and_parts (list_any (λ (other : LabelId). other.0 == l.0) q.labels) (not (is_offered c p l)) holds in
-      let one : list_any (λ (other : LabelId). other.0 == l.0) (is.label ∷ []) ≡ true = subst (λ (xs : List LabelId). list_any (λ other. other.0 == l.0) xs ≡ true) is.labels parts.0 in
-      let same : is.label ≡ l = same_label is.label l (or-first (is.label.0 == l.0) one) in
-      let offered : is_offered c p l ≡ true = subst (λ (x : LabelId). is_offered c p x ≡ true) same is.offered in
-      absurd (both_ways (is_offered c p l) (not-true (is_offered c p l) parts.1) offered)
-  spent-cause r q now p Reason.NeverFits stood pinned pinned_now is decline holds stands = absurd (both_ways (never_fits c p q) is.fits_alone holds)
-  spent-cause r q now p Reason.TenantNeverFits stood pinned pinned_now is decline holds stands =
-      let out : is_none q.pinned ≡ false = ap (λ (o : Option PoolId). is_none o) pinned in
-      absurd (both_ways (tenant_never_fits c p q) (and_left (is_none q.pinned) _ out) holds)
+  spent-cause r q now p (Reason.NoLabel l) stood pinned pinned_now is decline holds stands = absurd (grind (arith, nat_tests, same_label is.label l, is.labels, is.offered))
   spent-cause r q now p (Reason.Spent n) stood pinned pinned_now is decline holds stands =
       let parts = and_parts (list_any (λ (other : NodeId). other.0 == n.0) q.nodes) (is_spent n t.before) holds in
       let node = spent-node (node_in n t.before.nodes) parts.1 in
@@ -784,23 +618,21 @@ module _ (c : Configuration) (past : List Turn) (t : Turn) (ch : Changes) (old :
       }
     where
       by : list_any (λ (other : NodeId). other.0 == n.0) q.nodes ≡ true → (k : NodeRecord) → node_in n t.before.nodes ≡ Some k → (is_requested q.state ≡ true) ⊎ (is_pending_by p q ≡ true) → k.pool.0 ≡ p.0
-      by any k found (inl requested) = absurd (rest-empty q n (rest-if t.before r q q.state requested (old.owned.requests r q stood)) any)
+      by any k found (inl requested) = absurd (let empty : q.nodes ≡ [] = (rest-if t.before r q q.state requested (old.owned.requests r q stood)).no_nodes in grind (arith, nat_tests, any))
       by any k found (inr pending) =
           let served : IsServed t.before r q = served-if t.before r q q.state ((and_parts (is_pending q.state) (is_pool p q.pool) pending).0) (old.owned.requests r q stood) in
           served-pool t.before r q n k served any found ∙ ap (λ (x : PoolId). x.0) (is.served served.pool served.served_by)
+  spent-cause r q now p _ stood pinned pinned_now is decline holds stands = absurd (grind (arith, nat_tests, is.fits_alone))
 
   decline-cause : (r : RequestId) (q : RequestRecord) (l : PoolId) (why : Reason) (failed : Bool) → request_in r t.before.requests ≡ Some q → ch.requests ≡ RequestsChange.Edit r (RequestEdit.Decline l why failed) → MayDecline c t.before ch r l why failed → request_in r t.later.requests ≡ Some (edited (RequestEdit.Decline l why failed) q) → failed ≡ true
       → HasCause c (past ++ t ∷ []) t r (edited (RequestEdit.Decline l why failed) q)
   decline-cause r q l why failed stood at premise stands fails =
       let same : premise.request ≡ q = same_Some premise.request q (sym premise.worked_on.stands ∙ stood) in
-      let last : (is_some q.pinned || is_last_pool t.before.registrations q l) ≡ true = subst (λ (x : RequestRecord). (is_some x.pinned || is_last_pool t.before.registrations x l) ≡ true) same (sym premise.fails ∙ fails) in
-      let holds : is_true c t.before l q why ≡ true = subst (λ (x : RequestRecord). is_true c t.before l x why ≡ true) same premise.holds_true in
-      let state : (is_requested q.state || is_pending_by l q) ≡ true = subst (λ (x : RequestRecord). (is_requested x.state || is_pending_by l x) ≡ true) same premise.undecided in
-      by last holds state q.pinned refl
+      by (rw same at (sym premise.fails ∙ fails)) (rw same at premise.holds_true) (rw same at premise.undecided) q.pinned refl
     where
       by : (is_some q.pinned || is_last_pool t.before.registrations q l) ≡ true → is_true c t.before l q why ≡ true → (is_requested q.state || is_pending_by l q) ≡ true → (o : Option PoolId) → q.pinned ≡ o → HasCause c (past ++ t ∷ []) t r (edited (RequestEdit.Decline l why failed) q)
       by last holds state None unpinned =
-          let all : is_last_pool t.before.registrations q l ≡ true = or-other (is_some q.pinned) (is_last_pool t.before.registrations q l) (ap (λ (o : Option PoolId). is_some o) unpinned) last in
+          let all : is_last_pool t.before.registrations q l ≡ true = grind (arith, nat_tests, last, unpinned) in
           let some : 0 < length t.before.registrations = some-registered l premise.worked_on.session t.before.registrations premise.worked_on.registers in
           inl (by-all r (edited (RequestEdit.Decline l why failed) q) (RequestEdit.Decline l why failed) premise.same_size at stands unpinned some (last-declines t.before.registrations q l why ∙ all))
       by last holds state (Some p) pinned =
@@ -812,22 +644,17 @@ module _ (c : Configuration) (past : List Turn) (t : Turn) (ch : Changes) (old :
 
   edit-cause : (r : RequestId) (q : RequestRecord) (how : RequestEdit) → request_in r t.before.requests ≡ Some q → ch.requests ≡ RequestsChange.Edit r how → EditPremise c t.before ch r how → is_failed q.state ≡ false → request_in r t.later.requests ≡ Some (edited how q) → is_failed (edited how q).state ≡ true
       → HasCause c (past ++ t ∷ []) t r (edited how q)
-  edit-cause r q (RequestEdit.AddNode n) stood at premise before stands failed = absurd (both_ways (is_failed q.state) before failed)
-  edit-cause r q (RequestEdit.Decline l why fails) stood at premise before stands failed = decline-cause r q l why fails stood at premise stands (failed-is fails failed)
+  edit-cause r q (RequestEdit.Decline l why fails) stood at premise before stands failed = decline-cause r q l why fails stood at premise stands (grind (arith, nat_tests))
   edit-cause r q RequestEdit.Fail stood at premise before stands failed = fail-cause r q stood at premise stands
-  edit-cause r q (RequestEdit.Revise relative) stood at premise before stands failed = absurd (both_ways (is_failed q.state) before failed)
-  edit-cause r q _ stood at premise before stands failed = absurd (false≢true failed)
+  edit-cause r q _ stood at premise before stands failed = grind (arith, nat_tests)
 
   pub cause : (r : RequestId) (q : RequestRecord) → FailsNow t r q → HasCause c (past ++ t ∷ []) t r q
   cause r q fails = by (came c t.before ch old.numbered premises r q (subst (λ (x : State). request_in r x.requests ≡ Some q) (sym leads) fails.stands)) where
     by : CameBy t.before ch r q → HasCause c (past ++ t ∷ []) t r q
     by (inl there) = absurd (both_ways (has_failed r t.before) fails.before (failed-then t.before r q there ∙ fails.failed))
     by (inr (inl was)) =
-        let stands : request_in r t.later.requests ≡ Some (edited was.how was.old) = fails.stands ∙ ap (λ (x : RequestRecord). Some x) was.is in
-        let failed : is_failed (edited was.how was.old).state ≡ true = subst (λ (x : RequestRecord). is_failed x.state ≡ true) was.is fails.failed in
         subst (λ (x : RequestRecord). HasCause c (past ++ t ∷ []) t r x) (sym was.is)
-        (edit-cause r was.old was.how was.stood was.edits (edit-premise c t.before ch old.numbered premises r was.how was.edits) (sym (failed-then t.before r was.old was.stood) ∙ fails.before) stands failed)
+        (edit-cause r was.old was.how was.stood was.edits (edit-premise c t.before ch old.numbered premises r was.how was.edits) (sym (failed-then t.before r was.old was.stood) ∙ fails.before) (rw was.is at fails.stands) (rw was.is at fails.failed))
     by (inr (inr new)) =
-        let asks = subst (λ (growth : Growth). GrowthPremise c t.before ch growth) new.grows premises.grows in
-        let failed : is_failed (new_record new.asked).state ≡ true = subst (λ (x : RequestRecord). is_failed x.state ≡ true) new.is fails.failed in
-        absurd (both_ways (is_failed new.asked.state) (new-open c t.before ch new.priority new.asked asks) failed)
+        let asks : AsksForJob c t.before ch new.priority new.asked ⊎ AsksToKeep c t.before ch new.priority new.asked = subst (λ (growth : Growth). GrowthPremise c t.before ch growth) new.grows premises.grows in
+        absurd (grind (arith, nat_tests, asks, new.is, fails.failed))

@@ -1,5 +1,5 @@
 -- what the pending requests of a tenant wait for, after a change
-use Rattle.np_changes.proofs.Prelude.{Amount, Bool, Configuration, IsAtMost, IsAtMost-refl, IsAtMost-trans, LabelId, List, Maker, NodeId, None, Option, PoolId, Reason, RequestEdit, RequestEntry, RequestId, RequestRecord, SessionId, SessionsChange, Some, TenantId, [], amount_of, amount_of_all, and_parts, ap, arith, by_maker, change_first, cond, drop, edited, false, insert_request, is_id_before, is_pending, is_pending_by, is_pool, is_tenant, length, length-append, next_label, nothing, nothing-plus, option_map_or, plus, plus-comm, put_request_queue, refl, remove_request, request_entry, request_in, request_left, request_queue, requests_left, same_request, slice_get, subst, suc, sym, tenant_of_request, true, with_node, ℕ, ◌&&◌, ◌++◌, ◌∙◌, ◌∷◌, ◌≡◌}
+use Rattle.np_changes.proofs.Prelude.{Amount, Bool, Configuration, IsAtMost, IsAtMost-refl, IsAtMost-trans, LabelId, List, Maker, NodeId, None, Option, PoolId, RequestEdit, RequestEntry, RequestId, RequestRecord, SessionId, SessionsChange, Some, TenantId, [], amount_of, amount_of_all, and_parts, ap, arith, by_maker, change_first, cond, drop, edited, false, insert_request, is_id_before, is_pending, is_pending_by, is_pool, is_tenant, length, length-append, nat_tests, next_label, nothing, nothing-plus, option_map_or, plus, plus-comm, put_request_queue, refl, remove_request, request_entry, request_in, request_left, request_queue, requests_left, same_request, slice_get, subst, suc, sym, tenant_of_request, true, with_node, ℕ, ◌&&◌, ◌++◌, ◌∙◌, ◌∷◌, ◌≡◌}
 use Rattle.np_changes.proofs.Lookups.{same_pool, row-of, kept-is}
 use Rattle.np_changes.proofs.NodeAmounts.{at_most-same, nothing-at_most, part-at_most, plus-nothing, sum_of, sum_of-insert_before, sum_of-remove_first, sum_of-drop, sum_of-next, sum_of-map, sum_of-rise, sum_of-keep, sum_of-fall}
 
@@ -31,12 +31,18 @@ part c t p l k = cond (is_tenant t (tenant_of_request c k)) (amount_of c p l) no
 abbrev pub edited_in : RequestEdit → RequestId → List RequestEntry → List RequestEntry
 edited_in change r rows = change_first (λ e. same_request e.id r) (λ e. record e { kept = edited change e.kept }) rows
 
+-- a request that is declined, fulfilled, given back or failed waits for nothing, and a revised one
+-- for as much as before
+abbrev pub keeps_wait : RequestEdit → Bool
+keeps_wait (RequestEdit.Serve p) = false
+keeps_wait (RequestEdit.AddNode n) = false
+keeps_wait _ = true
+
 -- ## one record
 
 -- a pool that serves is the one in the option
 pub served-by : (p : PoolId) (o : Option PoolId) → is_pool p o ≡ true → o ≡ Some p
-served-by p None is = absurd cc
-served-by p (Some other) is = ap Some (same_pool other p is)
+served-by p o is = grind (arith, nat_tests, same_pool)
 
 module _ (c : Configuration) (t : TenantId) where
   -- without its next label it waits for that much less
@@ -67,19 +73,12 @@ module _ (c : Configuration) (t : TenantId) where
       serves-by (waits c t k) (amount_of_all c p (drop (length k.nodes) k.labels)) (amount_of_all c p k.labels) (is_tenant t (tenant_of_request c k))
       (sum_of-drop (amount_of c p) (length k.nodes) k.labels)
 
-  declines-keeps : (k : RequestRecord) (p : PoolId) (why : Reason) (failed : Bool) → IsAtMost (waits c t (edited (RequestEdit.Decline p why failed) k)) (waits c t k)
-  declines-keeps k p why true = nothing-at_most (waits c t k)
-  declines-keeps k p why false = nothing-at_most (waits c t k)
-
   -- ## the rows
-
-  idle-by : (pending own : Bool) (labels : List LabelId) (at : ℕ) (pool : Option PoolId) → pending ≡ false → rest_by c pending own labels at pool ≡ nothing
-  idle-by pending own labels at pool idle = rw idle refl
 
   -- a new request that is not pending waits for nothing
   pub insert-keeps : (new : RequestEntry) (rows : List RequestEntry) → is_pending new.kept.state ≡ false → IsAtMost (waited c t (insert_request new rows)) (waited c t rows)
   insert-keeps new rows idle =
-      let none : waits_in c t new ≡ nothing = idle-by (is_pending new.kept.state) (is_tenant t (tenant_of_request c new.kept)) new.kept.labels (length new.kept.nodes) new.kept.pool idle in
+      let none : waits_in c t new ≡ nothing = rw idle refl in
       at_most-same (waited c t (insert_request new rows)) (waited c t rows)
       (sum_of-insert_before (waits_in c t) (λ (e : RequestEntry). is_id_before new.id e.id) new rows ∙ ap (λ (a : Amount). plus a (waited c t rows)) none ∙ nothing-plus (waited c t rows))
 
@@ -98,25 +97,11 @@ module _ (c : Configuration) (t : TenantId) where
   remove-keeps r rows = sum_of-remove_first (waits_in c t) (λ (e : RequestEntry). same_request e.id r) rows
 
   -- an edit of one request that waits for no more afterwards
-  edit-keeps : (change : RequestEdit) (r : RequestId) (rows : List RequestEntry) → ((k : RequestRecord) → IsAtMost (waits c t (edited change k)) (waits c t k)) → IsAtMost (waited c t (edited_in change r rows)) (waited c t rows)
-  edit-keeps change r rows each = sum_of-keep (waits_in c t) (λ (e : RequestEntry). same_request e.id r) (λ e. record e { kept = edited change e.kept }) rows (λ e _. each e.kept)
+  each-keeps : (change : RequestEdit) (k : RequestRecord) → keeps_wait change ≡ true → IsAtMost (waits c t (edited change k)) (waits c t k)
+  each-keeps change k is = grind (arith, nat_tests, nothing-at_most (waits c t k), IsAtMost-refl (waits c t k))
 
-  -- a request that is declined, fulfilled, given back or failed waits for nothing, and a revised
-  -- one for as much as before
-  pub decline-keeps : (p : PoolId) (why : Reason) (failed : Bool) (r : RequestId) (rows : List RequestEntry) → IsAtMost (waited c t (edited_in (RequestEdit.Decline p why failed) r rows)) (waited c t rows)
-  decline-keeps p why failed r rows = edit-keeps (RequestEdit.Decline p why failed) r rows (λ k. declines-keeps k p why failed)
-
-  pub fulfil-keeps : (r : RequestId) (rows : List RequestEntry) → IsAtMost (waited c t (edited_in RequestEdit.Fulfil r rows)) (waited c t rows)
-  fulfil-keeps r rows = edit-keeps RequestEdit.Fulfil r rows (λ k. nothing-at_most (waits c t k))
-
-  pub give_back-keeps : (r : RequestId) (rows : List RequestEntry) → IsAtMost (waited c t (edited_in RequestEdit.GiveBack r rows)) (waited c t rows)
-  give_back-keeps r rows = edit-keeps RequestEdit.GiveBack r rows (λ k. nothing-at_most (waits c t k))
-
-  pub fail-keeps : (r : RequestId) (rows : List RequestEntry) → IsAtMost (waited c t (edited_in RequestEdit.Fail r rows)) (waited c t rows)
-  fail-keeps r rows = edit-keeps RequestEdit.Fail r rows (λ k. nothing-at_most (waits c t k))
-
-  pub revise-keeps : (relative : ℕ) (r : RequestId) (rows : List RequestEntry) → IsAtMost (waited c t (edited_in (RequestEdit.Revise relative) r rows)) (waited c t rows)
-  revise-keeps relative r rows = edit-keeps (RequestEdit.Revise relative) r rows (λ k. IsAtMost-refl (waits c t k))
+  pub edit-keeps : (change : RequestEdit) (r : RequestId) (rows : List RequestEntry) → keeps_wait change ≡ true → IsAtMost (waited c t (edited_in change r rows)) (waited c t rows)
+  edit-keeps change r rows is = sum_of-keep (waits_in c t) (λ (e : RequestEntry). same_request e.id r) (λ e. record e { kept = edited change e.kept }) rows (λ e _. each-keeps change e.kept is)
 
   -- a request that gets its next node waits for that much less
   pub gain-falls : (n : NodeId) (p : PoolId) (l : LabelId) (r : RequestId) (k : RequestRecord) (rows : List RequestEntry) → request_in r rows ≡ Some k → is_pending_by p k ≡ true → next_label k ≡ Some l
