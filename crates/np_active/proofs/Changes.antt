@@ -1,5 +1,5 @@
 -- the members of groups after the changes of an event: what is touched, what stays, and what is made anew
-use Rattle.np_active.proofs.Prelude.{ActiveOf, AllByRecursion, AreActive, AreGivenGroups, AreGrouped, AreGroups, AreJobGroups, AreSessionGroups, Bool, Changes, Configuration, Group, Growth, Invariant, IsListed, IsNumbered, IsOrder, IsPast, IsPrepared, IsReached, IsTouched, Job, JobId, JobKind, JobRecord, JobsChange, List, Maker, Member, NodeEntry, NodeId, NodeRecord, NodesChange, None, Option, PastOf, Phase, Placed, PreparedOf, RequestEdit, RequestEntry, RequestId, RequestRecord, RequestState, RequesterId, RequestsChange, Rises, SemId, SessionFacts, SessionId, SessionKind, SessionsChange, Some, State, TenantId, TouchedOf, all-weaker, allocated, any-same, ap, arith, asked-untouched, asker, below, by_maker, calm-request, change_first, changed, changes_node, changes_state, cond, contrapositive, each-moved, edited, ends_at_node, false, found-grown, given_groups, given_to, grouped-moved, groups_by, groups_of_job, groups_of_node, groups_of_session, groups_within, grown, grown-numbered, grows_node, handed_to, handle-untouched, has_handle, invariant-Runs, is_among, is_asked, is_fulfilled, is_job_before, is_job_in, is_job_of, is_kind_in, is_node_before, is_of_kind, is_prompt, is_queued, is_request, is_session_before, is_supplied, job-untouched, job_before, job_group, jobs-grown, jobs-in_order, jobs_changed, joined, kept-change_at, kind_by, kind_of_rows, kinds_of_facts, left, left-request, length, length-append, length-left, list_any, list_any-append, made, made-all, map, map-map, nat_lt, nat_tests, no_kinds, node-untouched, node_in, node_in-allocated, node_in-later, node_in-queue, node_queue, node_queue-allocated, node_queue-freed, node_queue-in_use, node_queue-left, node_queue-new, node_queue-nowhere, node_queue-other, node_queue-put, node_queue-queue, node_queue-remove, node_queue-removed, nodes-in_order, nodes_by_job, nodes_by_state, nodes_changed, nodes_left, nodes_of_job, nodes_of_request, none-found, not-below, numbered, option_and_then, option_map, option_map_or, or_parts, past_job, past_session, placed_all, placed_node, put_node_queue, refl, remove_node, request-equal, request-itself, request_in, request_in-edit, request_in-remove, request_state_of, requests_changed, rises-all_moved, same_job, same_node, same_node-is, same_request, same_session, session-untouched, session_before, session_group, sessions-in_order, set-other, slice_get, slice_get_past, subst, suc, sym, take_all, touches_given, touches_job, touches_node, true, unclaims_node, with_all_moved, with_mark, with_moved, ℕ, [], ◌++◌, ◌-◌, ◌<◌, ◌==◌, ◌||◌, ◌∙◌, ◌∷◌, ◌≡◌, ◌≢◌, ◌≤◌}
+use Rattle.np_active.proofs.Prelude.{ActiveOf, AllByRecursion, AreActive, AreGivenGroups, AreGrouped, AreGroups, AreJobGroups, AreSessionGroups, Bool, Changes, Configuration, Group, Growth, Invariant, IsListed, IsNumbered, IsOrder, IsPast, IsPrepared, IsReached, IsTouched, Job, JobId, JobKind, JobRecord, JobsChange, List, Maker, Member, NodeEntry, NodeId, NodeRecord, NodesChange, None, Option, PastOf, Phase, Placed, PreparedOf, RequestEdit, RequestEntry, RequestId, RequestRecord, RequestState, RequesterId, RequestsChange, Rises, SemId, SessionFacts, SessionId, SessionKind, SessionsChange, Some, State, TenantId, TouchedOf, all-weaker, allocated, any-same, ap, arith, asked-untouched, asker, below, by_maker, calm-request, change_first, changed, changes_state, cond, contrapositive, each-moved, edited, false, found-grown, given_to, grouped-moved, groups_by, groups_of_job, groups_of_node, groups_of_session, groups_within, grown, grown-numbered, handed_to, handle-untouched, has_handle, invariant-Runs, is_among, is_asked, is_fulfilled, is_job_before, is_job_in, is_kind_in, is_node_before, is_prompt, is_request, is_session_before, is_supplied, job-untouched, job_before, job_group, jobs-grown, jobs-in_order, jobs_changed, joined, kept-change_at, kind_by, kind_of_rows, kinds_of_facts, left, left-request, length, length-append, length-left, list_any, list_any-append, made, made-all, map, map-map, nat_lt, nat_tests, no_kinds, node-untouched, node_in, node_in-allocated, node_in-later, node_in-queue, node_queue, node_queue-allocated, node_queue-freed, node_queue-in_use, node_queue-left, node_queue-new, node_queue-nowhere, node_queue-other, node_queue-put, node_queue-queue, node_queue-remove, node_queue-removed, nodes-in_order, nodes_by_job, nodes_by_state, nodes_changed, nodes_left, nodes_of_request, none-found, not-below, numbered, option_and_then, option_map, option_map_or, past_job, past_session, placed_all, placed_node, put_node_queue, refl, remove_node, request-equal, request-itself, request_in, request_in-edit, request_in-remove, request_state_of, requests_changed, rises-all_moved, same_job, same_node, same_node-is, same_request, same_session, session-untouched, session_before, session_group, sessions-in_order, set-other, slice_get, slice_get_past, subst, suc, sym, take_all, touches_given, touches_job, touches_node, true, unclaims_node, with_all_moved, with_mark, with_moved, ℕ, [], ◌++◌, ◌-◌, ◌<◌, ◌==◌, ◌||◌, ◌∙◌, ◌∷◌, ◌≡◌, ◌≢◌, ◌≤◌}
 use Rattle.np_active.proofs.KindLemmas.{job-among, session-among}
 
 -- # all that the changes of an event touch is listed before it
@@ -14,15 +14,9 @@ listed_nodes ch s touched = (touched ++ nodes_by_state ch.requests s) ++ nodes_b
 all-listed : (touched : List NodeId) (ch : Changes) (s : State) (n : NodeId) → (touches_node ch s n ≡ true → listed n touched ≡ true)
     → touches_given ch s n ≡ true → listed n (listed_nodes ch s touched) ≡ true
 all-listed touched ch s n first is =
-    list_any-append (λ m. same_node m n) (touched ++ nodes_by_state ch.requests s) (nodes_by_job ch.jobs s)
-    ∙ ap (λ (b : Bool). b || listed n (nodes_by_job ch.jobs s)) (list_any-append (λ m. same_node m n) touched (nodes_by_state ch.requests s))
-    ∙ by (touches_node ch s n) (listed n touched) (listed n (nodes_by_state ch.requests s)) (listed n (nodes_by_job ch.jobs s)) first is
-  where
-    by : (touches here state job : Bool) → (touches ≡ true → here ≡ true) → (touches || (state || job)) ≡ true → ((here || state) || job) ≡ true
-    by true here state job first is = ap (λ (b : Bool). (b || state) || job) (first refl)
-    by false true state job first is = refl
-    by false false true job first is = refl
-    by false false false job first is = is
+    let all = list_any-append (λ m. same_node m n) (touched ++ nodes_by_state ch.requests s) (nodes_by_job ch.jobs s) in
+    let two = list_any-append (λ m. same_node m n) touched (nodes_by_state ch.requests s) in
+    grind arith
 
 -- what is listed, with the groups that it is in and a bound of queues, is prepared
 pub is-prepared : (c : Configuration) (s : State) (ch : Changes) (touched : List NodeId) (prepared : PreparedOf)
@@ -51,9 +45,7 @@ read hand o = option_and_then (λ q. hand q.state q.job) o
 
 -- an edit that leaves the state leaves the job too
 edit-read : (hand : RequestState → Option JobId → Option RequesterId) (change : RequestEdit) (q : RequestRecord) → changes_state change ≡ false → read hand (Some (edited change q)) ≡ read hand (Some q)
-edit-read hand (RequestEdit.AddNode m) q calm = refl
-edit-read hand (RequestEdit.Revise relative) q calm = refl
-edit-read hand _ q calm = absurd cc
+edit-read hand change q calm = grind arith
 
 module _ (s : State) (n : NodeId) (r : RequestId) (place : IsListed s n r) where
   -- the node is among those of the request
@@ -63,12 +55,10 @@ module _ (s : State) (n : NodeId) (r : RequestId) (place : IsListed s n r) where
   -- so an edit of the state would list it
   edit-calm : (r0 : RequestId) (change : RequestEdit) (q : RequestRecord) → request_in r s.requests ≡ Some q → same_request r0 r ≡ true
       → lists n (nodes_by_state (RequestsChange.Edit r0 change) s) ≡ false → changes_state change ≡ false
-  edit-calm r0 change q is same out = by (changes_state change) out where
-    by : (b : Bool) → lists n (cond b (nodes_of_request s r0) []) ≡ false → b ≡ false
-    by true none =
-        let among : lists n (nodes_of_request s r0) ≡ true = ap (λ (x : RequestId). lists n (nodes_of_request s x)) (request-equal r0 r same) ∙ among-nodes q is in
-        absurd cc
-    by false none = refl
+  edit-calm r0 change q is same out =
+      let among = among-nodes q is in
+      let one = request-equal r0 r same in
+      grind arith
 
   -- a change that neither lists the node nor removes the request leaves both
   request-read : (hand : RequestState → Option JobId → Option RequesterId) (maker : Option Maker) (change : RequestsChange) (rows : List RequestEntry) → request_in r rows ≡ request_in r s.requests
@@ -77,13 +67,11 @@ module _ (s : State) (n : NodeId) (r : RequestId) (place : IsListed s n r) where
   request-read hand maker (RequestsChange.Edit r0 change) rows there out stays =
       ap (read hand) (request_in-edit r0 r (edited change) rows) ∙ by (request_in r rows) (sym there)
     where
-      one : (b : Bool) (q : RequestRecord) → same_request r0 r ≡ b → request_in r s.requests ≡ Some q → read hand (Some (cond b (edited change q) q)) ≡ read hand (Some q)
-      one true q same is = edit-read hand change q (edit-calm r0 change q is same out)
-      one false q same is = refl
-
       by : (o : Option RequestRecord) → request_in r s.requests ≡ o → read hand (option_map (λ q. cond (same_request r0 r) (edited change q) q) o) ≡ read hand o
       by None is = refl
-      by (Some q) is = one (same_request r0 r) q refl is
+      by (Some q) is =
+          let calm = λ (same : same_request r0 r ≡ true). edit-read hand change q (edit-calm r0 change q is same out) in
+          grind arith
   request-read hand maker (RequestsChange.Remove r0) rows there out stays = ap (read hand) (request_in-remove r0 r rows (stays r0 refl))
   request-read hand maker change rows there out stays = ap (read hand) (calm-request maker change r rows tt)
 
@@ -98,12 +86,8 @@ module _ (c : Configuration) (s : State) (n : NodeId) (r : RequestId) (j : JobId
   -- a change that puts the job's record would list the node
   puts-other : (j0 : JobId) (kept : JobRecord) → lists n (nodes_by_job (JobsChange.Put j0 kept) s) ≡ false → j0.0 ≢ j.0
   puts-other j0 kept out same =
-      let is : lists n (nodes_by_job (JobsChange.Put j0 kept) s) ≡ true =
-      ap (λ (i : ℕ). lists n (option_map_or (nodes_of_job s) (slice_get s.jobs i) [])) same
-      ∙ ap (λ (o : Option JobRecord). lists n (option_map_or (nodes_of_job s) o [])) there
-      ∙ ap (λ (o : Option RequestId). lists n (option_map_or (nodes_of_request s) o [])) asks
-      ∙ among in
-      absurd cc
+      let row = ap (λ (i : ℕ). slice_get s.jobs i) same ∙ there in
+      grind arith
 
   -- the requester that has asked stays
   job-asker : (change : JobsChange) → lists n (nodes_by_job change s) ≡ false → asker_by c j (slice_get (jobs_changed change s.jobs) j.0) ≡ asker_by c j (slice_get s.jobs j.0)
@@ -125,17 +109,15 @@ module _ (c : Configuration) (ch : Changes) (s : State) (n : NodeId) (reached : 
 
   -- the changes touch neither the node ..
   node_out : touches_node ch s n ≡ false
-  node_out = (or_parts (touches_node ch s n) (lists n (nodes_by_state ch.requests s) || lists n (nodes_by_job ch.jobs s)) out).0
+  node_out = grind arith
 
   -- .. nor the state or the job of its request ..
   lists_out : (lists n (nodes_by_state ch.requests s) ≡ false) × (lists n (nodes_by_job ch.jobs s) ≡ false)
-  lists_out =
-      or_parts (lists n (nodes_by_state ch.requests s)) (lists n (nodes_by_job ch.jobs s))
-      (or_parts (touches_node ch s n) (lists n (nodes_by_state ch.requests s) || lists n (nodes_by_job ch.jobs s)) out).1
+  lists_out = (grind arith, grind arith)
 
   -- .. nor remove its request
   claim_stays : unclaims_node ch.requests s n ≡ false
-  claim_stays = (or_parts (grows_node ch.grows s n || changes_node ch.nodes s n || ends_at_node ch.sessions s n) (unclaims_node ch.requests s n) node_out).1
+  claim_stays = let out = node_out in grind arith
 
   module _ (k : NodeRecord) (r : RequestId) (at : node_in n s.nodes ≡ Some k) (to : k.allocated_to ≡ Some r) where
     place : IsListed s n r
@@ -143,20 +125,13 @@ module _ (c : Configuration) (ch : Changes) (s : State) (n : NodeId) (reached : 
 
     -- the request of the node is not removed
     stays : (r0 : RequestId) → ch.requests ≡ RequestsChange.Remove r0 → same_request r0 r ≡ false
-    stays r0 removes = by (same_request r0 r) refl where
-      claims : is_request r0 (Some r) ≡ false
-      claims =
-          ap (λ (o : Option RequestId). is_request r0 o) (sym to)
-          ∙ ap (λ (o : Option NodeRecord). option_map_or (λ k. is_request r0 k.allocated_to) o false) (sym at)
-          ∙ ap (λ (change : RequestsChange). unclaims_node change s n) (sym removes)
-          ∙ claim_stays
-
-      by : (b : Bool) → same_request r0 r ≡ b → b ≡ false
-      by true same =
-          let itself : same_request r r ≡ false = ap (λ (x : RequestId). same_request r x) (sym (request-equal r0 r same)) ∙ claims in
-          let self = request-itself r in
-          absurd cc
-      by false other = refl
+    stays r0 removes =
+        let claims : is_request r0 (Some r) ≡ false =
+        ap (λ (o : Option RequestId). is_request r0 o) (sym to)
+        ∙ ap (λ (o : Option NodeRecord). option_map_or (λ k. is_request r0 k.allocated_to) o false) (sym at)
+        ∙ ap (λ (change : RequestsChange). unclaims_node change s n) (sym removes)
+        ∙ claim_stays in
+        grind (arith, request-equal r0 r, request-itself r)
 
     -- it keeps its state and its job
     read-same : (hand : RequestState → Option JobId → Option RequesterId) → read hand (request_in r later.requests) ≡ read hand (request_in r s.requests)
@@ -179,27 +154,16 @@ module _ (c : Configuration) (ch : Changes) (s : State) (n : NodeId) (reached : 
 
   -- the node was given to the same requester
   given-same : (k : NodeRecord) → node_in n s.nodes ≡ Some k → given_to c later k ≡ given_to c s k
-  given-same k at = by k.allocated_to refl where
-    by : (o : Option RequestId) → k.allocated_to ≡ o → read (handed_to c later) (option_and_then (λ r. request_in r later.requests) o) ≡ read (handed_to c s) (option_and_then (λ r. request_in r s.requests) o)
-    by None none = refl
-    by (Some r) to = read-same k r at to (handed_to c later) ∙ hand-same k r at to (request_in r s.requests) refl
+  given-same k at =
+      let same = λ (r : RequestId). λ (to : k.allocated_to ≡ Some r). read-same k r at to (handed_to c later) ∙ hand-same k r at to (request_in r s.requests) refl in
+      grind arith
 
-  -- so the node stays in its groups
-  node-groups-same : groups_of_node c later n ≡ groups_of_node c s n
-  node-groups-same =
+  -- so the node is in the same groups after them as before
+  pub given-untouched : groups_of_node c later n ≡ groups_of_node c s n
+  given-untouched =
       let same = node-untouched c ch s n node_out in
-      ap (λ (o : Option NodeRecord). option_map_or (λ k. groups_by c later k (node_queue n later.nodes)) o []) same.0
-      ∙ ap (λ (queue : List SessionId). option_map_or (λ k. groups_by c later k queue) (node_in n s.nodes) []) same.1
-      ∙ by (node_in n s.nodes) refl
-    where
-      by : (o : Option NodeRecord) → node_in n s.nodes ≡ o → option_map_or (λ k. groups_by c later k (node_queue n s.nodes)) o [] ≡ option_map_or (λ k. groups_by c s k (node_queue n s.nodes)) o []
-      by None none = refl
-      by (Some k) at = ap (λ (o : Option RequesterId). option_map_or (λ q. given_groups q (node_queue n s.nodes)) o []) (given-same k at)
-
--- a node that the changes do not touch is in the same groups after them as before
-pub given-untouched : (c : Configuration) (ch : Changes) (s : State) (n : NodeId) → IsReached c s → touches_given ch s n ≡ false
-    → groups_of_node c (changed c ch s) n ≡ groups_of_node c s n
-given-untouched c ch s n reached out = node-groups-same c ch s n reached out
+      let given = given-same in
+      grind arith
 
 -- # the changes of an event make the queue of a node longer by one session at most
 
@@ -210,23 +174,16 @@ abbrev IsWithin : ℕ → List SessionId → Type 0
 IsWithin most queue = length queue ≤ most
 
 joined-length : (session : SessionId) (queue : List SessionId) → IsWithin (suc (length queue)) (joined session queue)
-joined-length session queue = by (is_queued session queue) where
-  by : (b : Bool) → IsWithin (suc (length queue)) (cond b queue (queue ++ session ∷ []))
-  by true = omega arith
-  by false = omega (arith, length-append queue (session ∷ []))
+joined-length session queue = grind (arith, length-append queue (session ∷ []))
 
 -- ## the queue of a node
 
 -- after another queue was put at a node
 put-within : (n0 n : NodeId) (queue : List SessionId) (rows : List NodeEntry) (most : ℕ) → (n0 ≡ n → IsWithin most queue) → IsWithin most (node_queue n rows) → IsWithin most (node_queue n (put_node_queue n0 queue rows))
 put-within n0 n queue rows most new old = by (node_in n rows) refl where
-  one : (b : Bool) → (n0.0 == n.0) ≡ b → IsWithin most (cond b queue (node_queue n rows))
-  one true same = new (same_node-is n0 n same)
-  one false other = old
-
   by : (o : Option NodeRecord) → node_in n rows ≡ o → IsWithin most (node_queue n (put_node_queue n0 queue rows))
-  by None none = subst (IsWithin most) (sym (node_queue-nowhere n (put_node_queue n0 queue rows) (node_in-queue n0 n queue rows ∙ none))) (omega arith)
-  by (Some k) is = subst (IsWithin most) (sym (node_queue-queue n0 n queue k rows is)) (one (n0.0 == n.0) refl)
+  by None none = grind (arith, node_queue-nowhere n (put_node_queue n0 queue rows) (node_in-queue n0 n queue rows ∙ none))
+  by (Some k) is = grind (arith, node_queue-queue n0 n queue k rows is, same_node-is n0 n)
 
 -- after a session joined it
 join-longer : (session : SessionId) (n0 n : NodeId) (rows : List NodeEntry) → IsWithin (suc (length (node_queue n rows))) (node_queue n (put_node_queue n0 (joined session (node_queue n0 rows)) rows))
@@ -246,67 +203,52 @@ leave-shorter session n0 n rows =
 allocated-longer : (n0 n : NodeId) (r : RequestId) (tenant : Option TenantId) (session : SessionId) (rows : List NodeEntry)
     → IsWithin (suc (length (node_queue n rows))) (node_queue n (change_first (λ e. e.id.0 == n0.0) (allocated r tenant session) rows))
 allocated-longer n0 n r tenant session rows = by (node_in n rows) refl where
-  one : (b : Bool) → IsWithin (suc (length (node_queue n rows))) (cond b (joined session (node_queue n rows)) (node_queue n rows))
-  one true = joined-length session (node_queue n rows)
-  one false = omega arith
-
   by : (o : Option NodeRecord) → node_in n rows ≡ o → IsWithin (suc (length (node_queue n rows))) (node_queue n (change_first (λ e. e.id.0 == n0.0) (allocated r tenant session) rows))
   by None none =
-      subst (IsWithin (suc (length (node_queue n rows))))
-      (sym (node_queue-nowhere n (change_first (λ e. e.id.0 == n0.0) (allocated r tenant session) rows) (node_in-allocated n0 n r tenant session rows ∙ ap (λ (o : Option NodeRecord). option_map (λ k. cond (n0.0 == n.0) (record k { allocated_to = Some r; tenant = tenant }) k) o) none)))
-      (omega arith)
-  by (Some k) is = subst (IsWithin (suc (length (node_queue n rows)))) (sym (node_queue-allocated n0 n r tenant session k rows is)) (one (n0.0 == n.0))
+      let gone = node_in-allocated n0 n r tenant session rows ∙ ap (λ (o : Option NodeRecord). option_map (λ k. cond (n0.0 == n.0) (record k { allocated_to = Some r; tenant = tenant }) k) o) none in
+      grind (arith, node_queue-nowhere n (change_first (λ e. e.id.0 == n0.0) (allocated r tenant session) rows) gone)
+  by (Some k) is = grind (arith, node_queue-allocated n0 n r tenant session k rows is, joined-length session (node_queue n rows))
 
 -- after a node was removed
 remove-shorter : (n0 n : NodeId) (rows : List NodeEntry) → Rises (λ a b. nat_lt a.id.0 b.id.0) rows → IsWithin (length (node_queue n rows)) (node_queue n (remove_node n0 rows))
-remove-shorter n0 n rows rises = by (n0.0 == n.0) refl where
-  by : (b : Bool) → (n0.0 == n.0) ≡ b → IsWithin (length (node_queue n rows)) (node_queue n (remove_node n0 rows))
-  by true same = subst (IsWithin (length (node_queue n rows))) (sym (node_queue-removed n0 n rows rises same)) (omega arith)
-  by false other = subst (IsWithin (length (node_queue n rows))) (sym (node_queue-remove n0 n rows other)) (omega arith)
+remove-shorter n0 n rows rises = grind (arith, node_queue-removed n0 n rows rises, node_queue-remove n0 n rows)
 
 -- ## what grows
 
 -- the queue of a new node
 new-within : (maker : Option Maker) → IsWithin 1 (by_maker maker (λ session queue. queue ++ session ∷ []) [])
-new-within None = omega arith
-new-within (Some by) = omega arith
+new-within maker = grind arith
 
 -- no node had the number of a new one
 pushed-longer : (new : NodeEntry) (n : NodeId) (s : State) → IsNumbered s → new.id.0 ≡ s.next_node → IsWithin 1 new.queue → IsWithin (suc (length (node_queue n s.nodes))) (node_queue n (s.nodes ++ new ∷ []))
-pushed-longer new n s numbered next within = by (new.id.0 == n.0) refl where
-  by : (b : Bool) → (new.id.0 == n.0) ≡ b → IsWithin (suc (length (node_queue n s.nodes))) (node_queue n (s.nodes ++ new ∷ []))
-  by true same =
-      let high : s.next_node ≤ n.0 = grind (arith, nat_tests) in
-      subst (IsWithin (suc (length (node_queue n s.nodes)))) (sym (node_queue-new new n s.nodes same (node_in-later n s.next_node s.nodes numbered.nodes_below high))) (omega (arith, within))
-  by false other = subst (IsWithin (suc (length (node_queue n s.nodes)))) (sym (node_queue-other new n s.nodes other)) (omega arith)
+pushed-longer new n s numbered next within =
+    let none = node_in-later n s.next_node s.nodes numbered.nodes_below in
+    let here = λ (same : (new.id.0 == n.0) ≡ true). λ (high : s.next_node ≤ n.0). node_queue-new new n s.nodes same (none high) in
+    let other = node_queue-other new n s.nodes in
+    grind (arith, nat_tests)
 
 grown-longer : (c : Configuration) (maker : Option Maker) (g : Growth) (s : State) (n : NodeId) → IsNumbered s → IsWithin (suc (length (node_queue n s.nodes))) (node_queue n (grown c maker g s).nodes)
 grown-longer c maker (Growth.Node kept) s n numbered = pushed-longer _ n s numbered refl (new-within maker)
-grown-longer c None (Growth.JoinNode n0) s n numbered = omega arith
 grown-longer c (Some by) (Growth.JoinNode n0) s n numbered = join-longer by.session n0 n s.nodes
-grown-longer c None (Growth.Allocate n0 r tenant) s n numbered = omega arith
 grown-longer c (Some by) (Growth.Allocate n0 r tenant) s n numbered = allocated-longer n0 n r tenant by.session s.nodes
-grown-longer c None (Growth.Registration p) s n numbered = omega arith
-grown-longer c (Some by) (Growth.Registration p) s n numbered = omega arith
-grown-longer c maker _ s n numbered = omega arith
+grown-longer c None _ s n numbered = omega arith
+grown-longer c (Some by) _ s n numbered = omega arith
 
 -- ## what changes
 
 changed-shorter : (maker : Option Maker) (tick : ℕ) (change : NodesChange) (n : NodeId) (rows : List NodeEntry) → Rises (λ a b. nat_lt a.id.0 b.id.0) rows
     → IsWithin (length (node_queue n rows)) (node_queue n (nodes_changed maker tick change rows))
-changed-shorter maker tick NodesChange.Same n rows rises = omega arith
 changed-shorter maker tick (NodesChange.Put n0 kept) n rows rises = omega (arith, ap (λ (queue : List SessionId). length queue) (node_queue-put n0 n kept rows))
 changed-shorter maker tick (NodesChange.Remove n0) n rows rises = remove-shorter n0 n rows rises
-changed-shorter None tick (NodesChange.Leave n0) n rows rises = omega arith
 changed-shorter (Some by) tick (NodesChange.Leave n0) n rows rises = leave-shorter by.session n0 n rows
 changed-shorter maker tick (NodesChange.FreeAll r) n rows rises = omega (arith, ap (λ (queue : List SessionId). length queue) (node_queue-freed r n rows))
 changed-shorter maker tick (NodesChange.TakeOver numbers) n rows rises = omega (arith, ap (λ (queue : List SessionId). length queue) (node_queue-in_use tick numbers n rows))
+changed-shorter _ tick _ n rows rises = omega arith
 
 -- a session that ends leaves each queue
 ended-shorter : (ended : SessionsChange) (n : NodeId) (rows : List NodeEntry) → IsWithin (length (node_queue n rows)) (node_queue n (nodes_left ended rows))
-ended-shorter SessionsChange.Same n rows = omega arith
-ended-shorter (SessionsChange.Mute session) n rows = omega arith
 ended-shorter (SessionsChange.End session) n rows = omega (arith, ap (λ (queue : List SessionId). length queue) (node_queue-left session n rows), length-left session (node_queue n rows))
+ended-shorter _ n rows = omega arith
 
 -- ## all of it
 
@@ -354,14 +296,12 @@ module _ (c : Configuration) (s : State) (ch : Changes) (reached : IsReached c s
 
   by-same : (row : Job) (kept : JobRecord) → slice_get s.jobs j.0 ≡ Some kept → (p : Phase) → kept.phase ≡ p
       → kind_by c t lines j row (request_state_of kept.request t) p ≡ kind_by c s lines j row (request_state_of kept.request s) p
-  by-same row kept there Phase.New at = rw (prompt-same row) refl
-  by-same row kept there Phase.Asked at =
-      let asked : is_asked kept.phase ≡ true = rw at refl in
-      let state : request_state_of kept.request t ≡ request_state_of kept.request s =
-      ap (λ (o : Option RequestRecord). option_map (λ request. request.state) o) (asked-untouched c ch s j kept reached out there asked) in
-      rw (supplied-same row) (ap (λ (o : Option RequestState). kind_by c s lines j row o Phase.Asked) state)
-  by-same row kept there Phase.Using at = refl
-  by-same row kept there Phase.Over at = rw (handles-same row.semaphores) refl
+  by-same row kept there p at =
+      let handles = handles-same row.semaphores in
+      let supplied = supplied-same row in
+      let prompt = prompt-same row in
+      let state = λ (asked : is_asked kept.phase ≡ true). ap (λ (o : Option RequestRecord). option_map (λ request. request.state) o) (asked-untouched c ch s j kept reached out there asked) in
+      grind arith
 
   rows-same : (row : Option Job) (kept : Option JobRecord) → slice_get s.jobs j.0 ≡ kept → kind_of_rows c t lines j row kept ≡ kind_of_rows c s lines j row kept
   rows-same None kept there = refl
@@ -426,10 +366,9 @@ AreJobsBelow c s lines n ms = AreGrouped is_job_before same_job (jobs_below c s 
 pub jobs-all : (c : Configuration) (s : State) (lines : List JobId) (n : ℕ) (ms : List (Member JobId)) → length s.jobs ≤ n → AreJobsBelow c s lines n ms → AreJobGroups c s lines ms
 jobs-all c s lines n ms all are = record { rises = are.rises; each = λ kind j. are.each (job_group kind) j ∙ by kind j (nat_lt j.0 n) refl } where
   by : (kind : JobKind) (j : JobId) (b : Bool) → nat_lt j.0 n ≡ b → is_among (job_group kind) (cond b (groups_of_job c s lines j) []) ≡ is_job_in c s lines kind j
-  by kind j true is = job-among c s lines j kind
-  by kind j false out =
-      let past : length s.jobs ≤ j.0 = omega (arith, all, not-below j.0 n out) in
-      sym (ap (λ (o : Option JobRecord). option_map_or (λ kept. is_job_of c s lines kind j kept) o false) (slice_get_past s.jobs j.0 past))
+  by kind j b is =
+      let past = λ (out : nat_lt j.0 n ≡ false). slice_get_past s.jobs j.0 (omega (arith, all, not-below j.0 n out)) in
+      grind (arith, job-among c s lines j kind)
 
 -- ## sessions
 
@@ -443,25 +382,15 @@ AreSessionsBelow s n ms = AreGrouped is_session_before same_session (sessions_be
 -- there is no session with the number 0
 pub sessions-none : (s : State) → AreSessionsBelow s 1 []
 sessions-none s = record { rises = tt; each = λ g x. by g x (nat_lt x.0 1) refl } where
-  none : (g : Group) (x : SessionId) (z : Bool) → (x.0 == 0) ≡ z → nat_lt x.0 1 ≡ true → false ≡ is_among g (groups_of_session s x)
-  none g x true zero below_one = rw zero refl
-  none g x false positive below_one = absurd (grind (arith, nat_tests))
-
   by : (g : Group) (x : SessionId) (b : Bool) → nat_lt x.0 1 ≡ b → false ≡ is_among g (cond b (groups_of_session s x) [])
-  by g x true is = none g x (x.0 == 0) refl is
-  by g x false out = refl
+  by g x b is = grind (arith, nat_tests)
 
 pub sessions-all : (s : State) (n : ℕ) (ms : List (Member SessionId)) → length s.sessions < n → AreSessionsBelow s n ms → AreSessionGroups s ms
 sessions-all s n ms all are = record { rises = are.rises; each = λ kind x. are.each (session_group kind) x ∙ by kind x (nat_lt x.0 n) refl } where
   by : (kind : SessionKind) (x : SessionId) (b : Bool) → nat_lt x.0 n ≡ b → is_among (session_group kind) (cond b (groups_of_session s x) []) ≡ is_kind_in s kind x
-  by kind x true is = session-among s kind x
-  by kind x false out =
-      let past : length s.sessions ≤ x.0 - 1 = omega (arith, all, not-below x.0 n out) in
-      none (x.0 == 0) (slice_get_past s.sessions (x.0 - 1) past)
-    where
-      none : (z : Bool) → slice_get s.sessions (x.0 - 1) ≡ None → false ≡ option_map_or (is_of_kind kind) (cond z None (slice_get s.sessions (x.0 - 1))) false
-      none true is = refl
-      none false is = rw is refl
+  by kind x b is =
+      let past = λ (out : nat_lt x.0 n ≡ false). slice_get_past s.sessions (x.0 - 1) (omega (arith, all, not-below x.0 n out)) in
+      grind (arith, session-among s kind x)
 
 -- # the members of groups after a change, from those before it
 

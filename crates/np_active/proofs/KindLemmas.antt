@@ -1,7 +1,5 @@
 -- the groups by kind of job, session and node: what they say, and how their members are read in order
-use Rattle.np_active.proofs.Prelude.{ActiveOf, AllByRecursion, AreActive, AreGivenGroups, Bool, Configuration, Group, Janitor, Job, JobId, JobKind, JobRecord, Launcher, List, Member, NodeEntry, NodeId, NodeRecord, None, Option, Phase, Reaper, RequestState, Requester, RequesterId, Rises, Rises-filter, Role, SessionFacts, SessionId, SessionKind, Some, State, above-apart, add-one, all-weaker, and-first, and-second, and_false, and_true, ap, append_assoc, arith, cond, current_of, drop, drop-there, ending_ones, false, filter, find, first_mute, given_group, given_groups, given_to, groups_by, groups_of_job, groups_of_session, has_handle, has_live_session, has_member, ids-has, ids-in_order, ids-rise, ids_in, is-below, is_among, is_asked, is_failed, is_given_to, is_job_before, is_job_in, is_job_of, is_kind_in, is_new, is_node_before, is_of_kind, is_over, is_prompt, is_queued, is_requesters, is_session_before, is_some, is_supplied, is_to_leave, is_to_lock, is_using, job_equal, job_group, job_one_way, job_some_way, jobs_from, kind_by, kind_of_job, kind_of_rows, kinds_of_facts, kinds_of_session, lacking_ones, length, line_of, list_any, live_group, live_kind, live_ones, locked_group, locked_groups, map, map-append, mute_from, mute_group, mute_ones, nat_lt, nat_tests, no_kinds, node_entry, node_equal, node_one_way, node_queue, node_to_leave, node_to_lock, not, option_map, option_map_or, option_or, or_false, outside, prompt_ones, queued_nodes, refl, releasing_ones, request_state_of, role_group, row-passes, rows-found, same-itself, same-list, same_group, same_job, same_node, same_node-self, same_number, same_role, same_session, session_equal, session_group, session_of, session_one_way, session_some_way, slice_get, slice_get-map, slice_get_past, speaker_from, speakers, speaks_for, subst, suc, supplied_ones, sym, take, take_there, true, waiting_ones, was_given, zero, ℕ, [], ◌&&◌, ◌++◌, ◌+◌, ◌-◌, ◌<◌, ◌==◌, ◌||◌, ◌∙◌, ◌∷◌, ◌≡◌, ◌≤◌, later-node-apart}
-
--- # the groups by kind of job, session and node: what they say, and how their members are read in order
+use Rattle.np_active.proofs.Prelude.{ActiveOf, AllByRecursion, AreActive, AreGivenGroups, Bool, Configuration, Group, Job, JobId, JobKind, JobRecord, List, Member, NodeEntry, NodeId, NodeRecord, None, Option, Phase, RequestState, RequesterId, Rises, Rises-filter, Role, SessionFacts, SessionId, SessionKind, Some, State, add-one, all-weaker, and_false, and_true, ap, append_assoc, arith, cond, current_of, drop, drop-there, ending_ones, false, filter, find, first_mute, given_group, groups_by, groups_of_job, groups_of_session, has_handle, has_live_session, has_member, ids-has, ids-in_order, ids-rise, ids_in, is_among, is_asked, is_failed, is_given_to, is_job_before, is_job_in, is_job_of, is_kind_in, is_new, is_node_before, is_of_kind, is_over, is_prompt, is_queued, is_session_before, is_some, is_supplied, is_to_leave, is_to_lock, is_using, job_equal, job_group, job_one_way, job_some_way, jobs_from, kind_by, kind_of_job, kind_of_rows, kinds_of_facts, kinds_of_session, lacking_ones, length, line_of, list_any, live_group, live_ones, locked_group, locked_groups, map, map-append, mute_from, mute_group, mute_ones, nat_lt, nat_tests, node_entry, node_equal, node_one_way, node_queue, node_to_leave, node_to_lock, not, option_map, option_map_or, option_or, or_false, outside, prompt_ones, queued_nodes, refl, releasing_ones, request_state_of, role_group, row-passes, rows-found, same-itself, same-list, same_group, same_job, same_node, same_node-self, same_role, same_session, session_equal, session_group, session_one_way, session_some_way, slice_get, slice_get-map, slice_get_past, speaker_from, speakers, speaks_for, subst, suc, supplied_ones, sym, take, take_there, true, waiting_ones, was_given, zero, ℕ, [], ◌&&◌, ◌++◌, ◌+◌, ◌-◌, ◌<◌, ◌==◌, ◌||◌, ◌∙◌, ◌∷◌, ◌≡◌, later-node-apart}
 
 -- # the groups that a job or a session is in say of which kinds it is
 
@@ -14,8 +12,7 @@ module _ {Q : Type 0} (group : Q → Group) (is_one : Q → Q → Bool) (groups 
 
   pub kinds-among : (q : Q) (kinds : List (Option Q)) → is_among (group q) (map (option_map group) kinds) ≡ list_any (is_it q) kinds
   kinds-among q [] = refl
-  kinds-among q (None ∷ kinds) = kinds-among q kinds
-  kinds-among q (Some r ∷ kinds) = rw (groups r q) (ap (λ (b : Bool). is_one r q || b) (kinds-among q kinds))
+  kinds-among q (o ∷ kinds) = grind (arith, groups, kinds-among q kinds)
 
 -- ## groups of jobs
 
@@ -32,13 +29,7 @@ same_job_kind (lacking_ones r l) (lacking_ones q m) = same_requester r q && (l =
 same_job_kind _ _ = false
 
 job-groups : (r q : JobKind) → same_group (job_group r) (job_group q) ≡ same_job_kind r q
-job-groups (supplied_ones r) (supplied_ones q) = and_true (r.0 == q.0)
-job-groups (prompt_ones r) (prompt_ones q) = and_true (r.0 == q.0)
-job-groups (waiting_ones r l) (waiting_ones q m) = refl
-job-groups (ending_ones r) (ending_ones q) = and_true (r.0 == q.0)
-job-groups (releasing_ones r) (releasing_ones q) = and_true (r.0 == q.0)
-job-groups (lacking_ones r l) (lacking_ones q m) = refl
-job-groups _ _ = refl
+job-groups r q = grind arith
 
 -- ## the kind of a job
 
@@ -137,68 +128,28 @@ module _ (c : Configuration) (s : State) (lines : List JobId) (j : JobId) where
 
 -- ## groups of sessions
 
-role-groups : (r q : Role) → same_group (role_group r) (role_group q) ≡ same_role r q
-role-groups (Launcher p) (Launcher q) = and_true (p.0 == q.0)
-role-groups (Janitor p) (Janitor q) = and_true (p.0 == q.0)
-role-groups (Requester p) (Requester q) = and_true (p.0 == q.0)
-role-groups Reaper Reaper = refl
-role-groups _ _ = refl
-
 abbrev pub same_kind : SessionKind → SessionKind → Bool
 same_kind (speakers r) (speakers q) = same_role r q
 same_kind mute_ones mute_ones = true
 same_kind (live_ones r) (live_ones q) = same_requester r q
 same_kind _ _ = false
 
--- the group of a role is none of the others
-role-apart : (r : Role) (q : RequesterId)
-    → ((same_group (role_group r) mute_group ≡ false) × (same_group mute_group (role_group r) ≡ false)) × ((same_group (role_group r) (live_group q) ≡ false) × (same_group (live_group q) (role_group r) ≡ false))
-role-apart (Launcher p) q = ((refl, refl), (refl, refl))
-role-apart _ q = ((refl, refl), (refl, refl))
-
 session-groups : (r q : SessionKind) → same_group (session_group r) (session_group q) ≡ same_kind r q
-session-groups (speakers r) (speakers q) = role-groups r q
-session-groups (speakers r) mute_ones = (role-apart r (record { 0 = 0 })).0.0
-session-groups (speakers r) (live_ones q) = (role-apart r q).1.0
-session-groups mute_ones (speakers q) = (role-apart q (record { 0 = 0 })).0.1
-session-groups (live_ones r) (speakers q) = (role-apart q r).1.1
-session-groups (live_ones r) (live_ones q) = and_true (r.0 == q.0)
-session-groups _ _ = refl
+session-groups r q = grind arith
 
 -- ## the kinds of a session
 
 abbrev is_session_kind : SessionKind → Option SessionKind → Bool
 is_session_kind kind o = option_map_or (λ r. same_kind r kind) o false
 
-abbrev is_live_kind : Role → SessionKind → Bool
-is_live_kind role (live_ones q) = is_requesters q (Some role)
-is_live_kind role kind = false
-
-live-kind : (role : Role) (kind : SessionKind) → is_session_kind kind (live_kind role) ≡ is_live_kind role kind
-live-kind (Requester r) (live_ones q) = refl
-live-kind (Launcher p) (live_ones q) = refl
-live-kind (Janitor p) (live_ones q) = refl
-live-kind Reaper (live_ones q) = refl
-live-kind _ _ = refl
-
-facts-are : (kind : SessionKind) (role : Role) (live mute : Bool) → list_any (is_session_kind kind) (kinds_of_facts (record { role = role; live = live; mute = mute })) ≡ is_of_kind kind (record { role = role; live = live; mute = mute })
-facts-are (speakers q) role false mute = sym (ap (λ (b : Bool). b && not mute) (and_false (same_role role q)))
-facts-are (speakers q) role true true = or_false (is_session_kind (speakers q) (live_kind role)) ∙ live-kind role (speakers q) ∙ off (same_role role q && true)
-facts-are (speakers q) role true false =
-    ap (λ (b : Bool). same_role role q || (b || false)) (live-kind role (speakers q))
-    ∙ or_false (same_role role q) ∙ sym (and_true (same_role role q && true) ∙ and_true (same_role role q))
-facts-are mute_ones role false mute = refl
-facts-are mute_ones role true true = refl
-facts-are mute_ones role true false = or_false (is_session_kind mute_ones (live_kind role)) ∙ live-kind role mute_ones
-facts-are (live_ones q) role false mute = refl
-facts-are (live_ones q) role true true = or_false (is_session_kind (live_ones q) (live_kind role)) ∙ live-kind role (live_ones q)
-facts-are (live_ones q) role true false = or_false (is_session_kind (live_ones q) (live_kind role)) ∙ live-kind role (live_ones q)
+facts-are : (kind : SessionKind) (facts : SessionFacts) → list_any (is_session_kind kind) (kinds_of_facts facts) ≡ is_of_kind kind facts
+facts-are kind facts = grind arith
 
 pub session-among : (s : State) (kind : SessionKind) (x : SessionId) → is_among (session_group kind) (groups_of_session s x) ≡ is_kind_in s kind x
-session-among s kind x = kinds-among session_group same_kind session-groups kind (kinds_of_session s x) ∙ by (session_of x s) where
-  by : (o : Option SessionFacts) → list_any (is_session_kind kind) (option_map_or kinds_of_facts o no_kinds) ≡ option_map_or (is_of_kind kind) o false
-  by None = refl
-  by (Some facts) = facts-are kind facts.role facts.live facts.mute
+session-among s kind x =
+    let among = kinds-among session_group same_kind session-groups kind (kinds_of_session s x) in
+    let facts = facts-are kind in
+    grind arith
 
 -- # the numbers of the rows that pass, in order
 
@@ -207,20 +158,11 @@ abbrev pub last_of : {K : Type 0} → List K → Option K
 last_of [] = None
 last_of (x ∷ xs) = option_or (last_of xs) (Some x)
 
-last-more : {K : Type 0} (x y : K) (xs : List K) → last_of (x ∷ y ∷ xs) ≡ last_of (y ∷ xs)
-last-more {K = K} x y xs = by (last_of xs) where
-  by : (o : Option K) → option_or (option_or o (Some y)) (Some x) ≡ option_or o (Some y)
-  by None = refl
-  by (Some z) = refl
-
 -- it is at the last place
 pub last-at : {K : Type 0} (xs : List K) → last_of xs ≡ slice_get xs (length xs - 1)
 last-at [] = refl
 last-at (x ∷ []) = refl
-last-at (x ∷ y ∷ xs) =
-    let rest : suc (suc (length xs)) - 1 ≡ suc (length xs) = omega arith in
-    let inner : suc (length xs) - 1 ≡ length xs = omega arith in
-    last-more x y xs ∙ last-at (y ∷ xs) ∙ ap (slice_get (y ∷ xs)) inner ∙ sym (ap (slice_get (x ∷ y ∷ xs)) rest)
+last-at (x ∷ y ∷ xs) = grind (arith, last-at (y ∷ xs))
 
 module _ {K R : Type 0} (number : K → ℕ) (id : ℕ → K)
     (number-id : (n : ℕ) → number (id n) ≡ n) (id-number : (k : K) → id (number k) ≡ k) (passes : K → R → Bool) where
@@ -231,23 +173,18 @@ module _ {K R : Type 0} (number : K → ℕ) (id : ℕ → K)
 
   all-past : (k : K) (n : ℕ) (rows : List R) → number k < n → AllByRecursion (λ i. nat_lt (number k) (number i) ≡ true) (ids_from n rows)
   all-past k n [] less = tt
-  all-past k n (row ∷ rows) less = by (passes (id n) row) (all-past k (suc n) rows (omega arith)) where
-    by : (b : Bool) → AllByRecursion (λ i. nat_lt (number k) (number i) ≡ true) (ids_from (suc n) rows)
-        → AllByRecursion (λ i. nat_lt (number k) (number i) ≡ true) (cond b (id n ∷ ids_from (suc n) rows) (ids_from (suc n) rows))
-    by true later = (rw (number-id n) (is-below (number k) n less), later)
-    by false later = later
+  all-past k n (row ∷ rows) less =
+      let later = all-past k (suc n) rows (omega arith) in
+      let is = number-id n in
+      grind (arith, nat_tests)
 
   -- they rise
   pub numbers-rise : (n : ℕ) (rows : List R) → Rises (λ a b. nat_lt (number a) (number b)) (ids_from n rows)
   numbers-rise n [] = tt
-  numbers-rise n (row ∷ rows) = by (passes (id n) row) (numbers-rise (suc n) rows) where
-    here : number (id n) < suc n
-    here = omega (arith, number-id n)
-
-    by : (b : Bool) → Rises (λ a b. nat_lt (number a) (number b)) (ids_from (suc n) rows)
-        → Rises (λ a b. nat_lt (number a) (number b)) (cond b (id n ∷ ids_from (suc n) rows) (ids_from (suc n) rows))
-    by true later = (all-past (id n) (suc n) rows here, later)
-    by false later = later
+  numbers-rise n (row ∷ rows) =
+      let past = all-past (id n) (suc n) rows (omega (arith, number-id n)) in
+      let later = numbers-rise (suc n) rows in
+      grind arith
 
   abbrev has : K → List K → Bool
   has k ids = list_any (λ i. number i == number k) ids
@@ -255,29 +192,23 @@ module _ {K R : Type 0} (number : K → ℕ) (id : ℕ → K)
   -- a number before the first is not there
   pub none-before : (k : K) (n : ℕ) (rows : List R) → number k < n → has k (ids_from n rows) ≡ false
   none-before k n [] less = refl
-  none-before k n (row ∷ rows) less = by (passes (id n) row) (none-before k (suc n) rows (omega arith)) where
-    by : (b : Bool) → has k (ids_from (suc n) rows) ≡ false → has k (cond b (id n ∷ ids_from (suc n) rows) (ids_from (suc n) rows)) ≡ false
-    by true later = rw (number-id n, above-apart n (number k) less) later
-    by false later = later
+  none-before k n (row ∷ rows) less =
+      let later = none-before k (suc n) rows (omega arith) in
+      let is = number-id n in
+      grind (arith, nat_tests)
 
   -- one from the first on is there if its row passes
   pub has-at : (k : K) (d n : ℕ) (rows : List R) → number k ≡ d + n → has k (ids_from n rows) ≡ option_map_or (passes k) (slice_get rows d) false
   has-at k d n [] at = refl
-  has-at k zero n (row ∷ rows) at = by (passes (id n) row) refl where
-    here : id n ≡ k
-    here = let number_is : number k ≡ n = omega (arith, at) in sym (ap id number_is) ∙ id-number k
-
-    by : (b : Bool) → passes (id n) row ≡ b → has k (cond b (id n ∷ ids_from (suc n) rows) (ids_from (suc n) rows)) ≡ passes k row
-    by true is = rw (number-id n, same_number n (number k) (omega (arith, at))) (sym is ∙ ap (λ (i : K). passes i row) here)
-    by false is = none-before k (suc n) rows (omega (arith, at)) ∙ sym is ∙ ap (λ (i : K). passes i row) here
-  has-at k (suc d) n (row ∷ rows) at = by (passes (id n) row) (has-at k d (suc n) rows (omega (arith, at))) where
-    other : (n == number k) ≡ false
-    other = let past : number k ≡ suc d + n = at in grind (arith, nat_tests)
-
-    by : (b : Bool) → has k (ids_from (suc n) rows) ≡ option_map_or (passes k) (slice_get rows d) false
-        → has k (cond b (id n ∷ ids_from (suc n) rows) (ids_from (suc n) rows)) ≡ option_map_or (passes k) (slice_get rows d) false
-    by true later = rw (number-id n, other) later
-    by false later = later
+  has-at k zero n (row ∷ rows) at =
+      let later = none-before k (suc n) rows (omega (arith, at)) in
+      let is = number-id n in
+      let here = id-number k in
+      grind (arith, nat_tests)
+  has-at k (suc d) n (row ∷ rows) at =
+      let later = has-at k d (suc n) rows (omega (arith, at)) in
+      let is = number-id n in
+      grind (arith, nat_tests)
 
 -- # the members of a group are the jobs or the sessions of a kind, in order
 
@@ -331,18 +262,10 @@ session-has kind x s = by (x.0 == 0) refl where
 
 -- ## the last that speaks
 
-or_none : {X : Type 0} (o : Option X) → option_or o None ≡ o
-or_none None = refl
-or_none (Some x) = refl
-
 -- it is the last of all that speak
 speaker-last : (role : Role) (n : ℕ) (rows : List SessionFacts) → speaker_from role n rows ≡ last_of (session_ids (speaks_for role) n rows)
 speaker-last role n [] = refl
-speaker-last role n (facts ∷ rows) = by (speaks_for role facts) (speaker-last role (suc n) rows) where
-  by : (b : Bool) → speaker_from role (suc n) rows ≡ last_of (session_ids (speaks_for role) (suc n) rows)
-      → option_or (speaker_from role (suc n) rows) (cond b (Some (record { 0 = n })) None) ≡ last_of (cond b (record { 0 = n } ∷ session_ids (speaks_for role) (suc n) rows) (session_ids (speaks_for role) (suc n) rows))
-  by true later = ap (λ (o : Option SessionId). option_or o (Some (record { 0 = n }))) later
-  by false later = or_none (speaker_from role (suc n) rows) ∙ later
+speaker-last role n (facts ∷ rows) = grind (arith, speaker-last role (suc n) rows)
 
 -- ## the first that is mute, and whether one is live
 
@@ -351,20 +274,12 @@ first_id passes n rows = slice_get (session_ids passes n rows) 0
 
 mute-first : (n : ℕ) (rows : List SessionFacts) → first_id (is_of_kind mute_ones) n rows ≡ mute_from n rows
 mute-first n [] = refl
-mute-first n (facts ∷ rows) = by (facts.live && facts.mute) (mute-first (suc n) rows) where
-  by : (b : Bool) → first_id (is_of_kind mute_ones) (suc n) rows ≡ mute_from (suc n) rows
-      → slice_get (cond b (record { 0 = n } ∷ session_ids (is_of_kind mute_ones) (suc n) rows) (session_ids (is_of_kind mute_ones) (suc n) rows)) 0 ≡ cond b (Some (record { 0 = n })) (mute_from (suc n) rows)
-  by true later = refl
-  by false later = later
+mute-first n (facts ∷ rows) = grind (arith, mute-first (suc n) rows)
 
 -- there is a first if any passes
 any-first : (passes : SessionFacts → Bool) (n : ℕ) (rows : List SessionFacts) → is_some (first_id passes n rows) ≡ list_any passes rows
 any-first passes n [] = refl
-any-first passes n (facts ∷ rows) = by (passes facts) (any-first passes (suc n) rows) where
-  by : (b : Bool) → is_some (first_id passes (suc n) rows) ≡ list_any passes rows
-      → is_some (slice_get (cond b (record { 0 = n } ∷ session_ids passes (suc n) rows) (session_ids passes (suc n) rows)) 0) ≡ (b || list_any passes rows)
-  by true later = refl
-  by false later = later
+any-first passes n (facts ∷ rows) = grind (arith, any-first passes (suc n) rows)
 
 -- ## as they are read
 
@@ -433,47 +348,33 @@ none-locked q p (x ∷ queue) = none-locked q p queue
 some-locked : (q p : RequesterId) (x : SessionId) (queue : List SessionId)
     → list_any (λ o. option_map_or (λ h. same_group h (locked_group q x)) o false) (map (λ session. Some (locked_group p session)) queue) ≡ ((p.0 == q.0) && is_queued x queue)
 some-locked q p x [] = sym (and_false (p.0 == q.0))
-some-locked q p x (y ∷ queue) = ap (λ (b : Bool). ((p.0 == q.0) && (y.0 == x.0)) || b) (some-locked q p x queue) ∙ by (p.0 == q.0) where
-  by : (b : Bool) → ((b && (y.0 == x.0)) || (b && is_queued x queue)) ≡ (b && ((y.0 == x.0) || is_queued x queue))
-  by true = refl
-  by false = refl
+some-locked q p x (y ∷ queue) = grind (arith, some-locked q p x queue)
 
 module _ (c : Configuration) (s : State) (q : RequesterId) where
   -- the node is in the group of the requester if it was given to it
   pub among-given : (k : NodeRecord) (queue : List SessionId) → is_among (given_group q) (groups_by c s k queue) ≡ is_given_to c s q k
-  among-given k queue = by (given_to c s k) where
-    by : (o : Option RequesterId) → is_among (given_group q) (option_map_or (λ p. given_groups p queue) o []) ≡ option_map_or (λ p. p.0 == q.0) o false
-    by None = refl
-    by (Some p) = ap (λ (b : Bool). same_group (given_group p) (given_group q) || b) (none-locked q p queue) ∙ or_false (same_group (given_group p) (given_group q)) ∙ and_true (p.0 == q.0)
+  among-given k queue =
+      let none = λ (p : RequesterId). none-locked q p queue in
+      grind arith
 
   -- and in the group of a session if the session is in its queue, too
   pub among-locked : (x : SessionId) (k : NodeRecord) (queue : List SessionId) → is_among (locked_group q x) (groups_by c s k queue) ≡ (is_given_to c s q k && is_queued x queue)
-  among-locked x k queue = by (given_to c s k) where
-    by : (o : Option RequesterId) → is_among (locked_group q x) (option_map_or (λ p. given_groups p queue) o []) ≡ (option_map_or (λ p. p.0 == q.0) o false && is_queued x queue)
-    by None = refl
-    by (Some p) = some-locked q p x queue
+  among-locked x k queue =
+      let some = λ (p : RequesterId). some-locked q p x queue in
+      grind arith
 
 -- ## the ids outside
 
 -- the first that passes is the first of all that pass
-first-of-all : {X : Type 0} (p : X → Bool) (xs : List X) → slice_get (filter p xs) 0 ≡ find p xs
+pub first-of-all : {X : Type 0} (p : X → Bool) (xs : List X) → slice_get (filter p xs) 0 ≡ find p xs
 first-of-all p [] = refl
-first-of-all {X} p (x ∷ xs) = by (p x) (first-of-all p xs) where
-  by : (b : Bool) → slice_get (filter p xs) 0 ≡ find p xs → slice_get (cond b (x ∷ filter p xs) (filter p xs)) 0 ≡ cond b (Some x) (find p xs)
-  by true later = refl
-  by false later = later
+first-of-all p (x ∷ xs) = grind (arith, first-of-all p xs)
 
 module _ {X K : Type 0} (id : X → K) (g want : X → Bool) (p : K → Bool) where
-  step : (x : X) (xs : List X) (b d : Bool) → g x ≡ b → p (id x) ≡ d → want x ≡ (b && d) → filter p (map id (filter g xs)) ≡ map id (filter want xs)
-      → filter p (map id (filter g (x ∷ xs))) ≡ map id (filter want (x ∷ xs))
-  step x xs true true is passes wanted later = rw (is, passes, wanted) (ap (λ (ks : List K). id x ∷ ks) later)
-  step x xs true false is fails wanted later = rw (is, fails, wanted) later
-  step x xs false d is passes wanted later = rw (is, wanted) later
-
   -- of the ids of rows that pass those that pass are the ids of the rows that pass both
   filter-ids : (xs : List X) → AllByRecursion (λ x. want x ≡ (g x && p (id x))) xs → filter p (map id (filter g xs)) ≡ map id (filter want xs)
   filter-ids [] all = refl
-  filter-ids (x ∷ xs) all = step x xs (g x) (p (id x)) refl refl all.0 (filter-ids xs all.1)
+  filter-ids (x ∷ xs) all = grind (arith, filter-ids xs all.1)
 
 module _ (c : Configuration) (s : State) (ms : List (Member NodeId)) (are : AreGivenGroups c s ms) (q : RequesterId) (x : SessionId) where
   abbrev id : NodeEntry → NodeId
@@ -488,8 +389,12 @@ module _ (c : Configuration) (s : State) (ms : List (Member NodeId)) (are : AreG
 
   group-at : (g : Group) (i : NodeId) (o : Option NodeEntry) → node_entry i s.nodes ≡ o
       → has_member same_node g i ms ≡ option_map_or (λ (e : NodeEntry). is_among g (groups_by c s e.kept (node_queue i s.nodes))) o false
-  group-at g i None is = are.each g i ∙ ap (λ (o : Option NodeEntry). is_among g (option_map_or (λ k. groups_by c s k (node_queue i s.nodes)) (option_map (λ (e : NodeEntry). e.kept) o) [])) is
-  group-at g i (Some e) is = are.each g i ∙ ap (λ (o : Option NodeEntry). is_among g (option_map_or (λ k. groups_by c s k (node_queue i s.nodes)) (option_map (λ (e : NodeEntry). e.kept) o) [])) is
+  group-at g i o is = grind (arith, are.each g i)
+
+  given-at : (n : NodeId) (o : Option NodeEntry) → option_map_or (λ (e : NodeEntry). is_among (given_group q) (groups_by c s e.kept (node_queue n s.nodes))) o false ≡ option_map_or (λ (e : NodeEntry). is_given_to c s q e.kept) o false
+  given-at n o =
+      let among = λ (e : NodeEntry). among-given c s q e.kept (node_queue n s.nodes) in
+      grind arith
 
   -- the ids of the requester's group are those of its nodes, by number
   given-ids : ids_in (given_group q) ms ≡ map id (filter (λ e. is_given_to c s q e.kept) s.nodes)
@@ -497,11 +402,7 @@ module _ (c : Configuration) (s : State) (ms : List (Member NodeId)) (are : AreG
       same-list is_node_before same_node node_one_way node_equal same_node-self (ids_in (given_group q) ms) (map id (filter (λ e. is_given_to c s q e.kept) s.nodes))
       (ids-rise (given_group q) is_node_before ms are.rises)
       (ids-in_order is_node_before same_node id node_equal later-node-apart (filter (λ (e : NodeEntry). is_given_to c s q e.kept) s.nodes) (Rises-filter (λ (a b : NodeEntry). is_node_before a.id b.id) (λ (e : NodeEntry). is_given_to c s q e.kept) s.nodes are.once))
-      (λ n. ids-has same_node (given_group q) n ms ∙ group-at (given_group q) n (node_entry n s.nodes) refl ∙ by n (node_entry n s.nodes) ∙ sym (row-passes is_node_before same_node id node_equal later-node-apart (λ (e : NodeEntry). is_given_to c s q e.kept) n s.nodes are.once))
-    where
-      by : (n : NodeId) (o : Option NodeEntry) → option_map_or (λ (e : NodeEntry). is_among (given_group q) (groups_by c s e.kept (node_queue n s.nodes))) o false ≡ option_map_or (λ (e : NodeEntry). is_given_to c s q e.kept) o false
-      by n None = refl
-      by n (Some e) = among-given c s q e.kept (node_queue n s.nodes)
+      (λ n. ids-has same_node (given_group q) n ms ∙ group-at (given_group q) n (node_entry n s.nodes) refl ∙ given-at n (node_entry n s.nodes) ∙ sym (row-passes is_node_before same_node id node_equal later-node-apart (λ (e : NodeEntry). is_given_to c s q e.kept) n s.nodes are.once))
 
   -- a node that is there is in the session's group if it was given and the session is in its queue
   inside-at : (e : NodeEntry) → node_entry e.id s.nodes ≡ Some e → inside e.id ≡ (is_given_to c s q e.kept && is_queued x (node_queue e.id s.nodes))
@@ -509,16 +410,12 @@ module _ (c : Configuration) (s : State) (ms : List (Member NodeId)) (are : AreG
 
   -- ### to lock
 
-  lock-by : (a b : Bool) → (a && not b) ≡ (a && not (a && b))
-  lock-by true b = refl
-  lock-by false b = refl
-
   pub locks-outside : slice_get (outside same_node (locked_group q x) ms (ids_in (given_group q) ms)) 0 ≡ node_to_lock c q x s
   locks-outside =
       ap (λ (ids : List NodeId). slice_get (filter (λ i. not (inside i)) ids) 0) given-ids
       ∙ ap (λ (ids : List NodeId). slice_get ids 0) (filter-ids id (λ e. is_given_to c s q e.kept) (is_to_lock c s q x) (λ i. not (inside i)) s.nodes
       (all-weaker (λ (e : NodeEntry). node_entry e.id s.nodes ≡ Some e) (λ (e : NodeEntry). is_to_lock c s q x e ≡ (is_given_to c s q e.kept && not (inside e.id)))
-      (λ e found. lock-by (is_given_to c s q e.kept) (is_queued x (node_queue e.id s.nodes)) ∙ ap (λ (b : Bool). is_given_to c s q e.kept && not b) (sym (inside-at e found))) s.nodes nodes-found))
+      (λ e found. let inner = inside-at e found in grind arith) s.nodes nodes-found))
       ∙ slice_get-map id (filter (is_to_lock c s q x) s.nodes) 0
       ∙ ap (option_map id) (first-of-all (is_to_lock c s q x) s.nodes)
 
@@ -527,25 +424,19 @@ module _ (c : Configuration) (s : State) (ms : List (Member NodeId)) (are : AreG
     by : (o : Option NodeEntry) → node_entry i s.nodes ≡ o → has_member same_node (given_group q) i ms ≡ true
     by None none = let out : inside i ≡ false = group-at (locked_group q x) i None none in absurd cc
     by (Some e) found =
-        group-at (given_group q) i (Some e) found ∙ among-given c s q e.kept (node_queue i s.nodes)
-        ∙ and-first (is_given_to c s q e.kept) (is_queued x (node_queue i s.nodes)) (sym (among-locked c s q x e.kept (node_queue i s.nodes)) ∙ sym (group-at (locked_group q x) i (Some e) found) ∙ is)
+        let given = group-at (given_group q) i (Some e) found in
+        let locked = group-at (locked_group q x) i (Some e) found in
+        grind (arith, among-given c s q e.kept (node_queue i s.nodes), among-locked c s q x e.kept (node_queue i s.nodes))
 
   -- a call that finds such an id finds the first node to lock
   pub locks-by : (g l : Group) (result : Option NodeId) → g ≡ given_group q → l ≡ locked_group q x
       → (((i : NodeId) → has_member same_node l i ms ≡ true → has_member same_node g i ms ≡ true) → result ≡ slice_get (outside same_node l ms (ids_in g ms)) 0)
       → result ≡ node_to_lock c q x s
   locks-by g l result given locked called =
-      called (λ i is. subst (λ (k : Group). has_member same_node k i ms ≡ true) (sym given) (locked-given i (subst (λ (k : Group). has_member same_node k i ms ≡ true) locked is)))
-      ∙ ap (λ (k : Group). slice_get (outside same_node k ms (ids_in g ms)) 0) locked
-      ∙ ap (λ (k : Group). slice_get (outside same_node (locked_group q x) ms (ids_in k ms)) 0) given
-      ∙ locks-outside
+      let call = rw (given, locked) at called in
+      call locked-given ∙ locks-outside
 
   -- ### to leave
-
-  leave-by : (a b : Bool) → (b && not a) ≡ (b && not (a && b))
-  leave-by true true = refl
-  leave-by true false = refl
-  leave-by false b = refl
 
   queue-at : (e : NodeEntry) → node_entry e.id s.nodes ≡ Some e → node_queue e.id s.nodes ≡ e.queue
   queue-at e found = ap (λ (o : Option NodeEntry). option_map_or (λ e. e.queue) o []) found
@@ -554,7 +445,7 @@ module _ (c : Configuration) (s : State) (ms : List (Member NodeId)) (are : AreG
   leaves-outside at =
       ap (λ (ids : List NodeId). slice_get ids at) (filter-ids id (λ e. is_queued x e.queue) (is_to_leave c s q x) (λ i. not (inside i)) s.nodes
       (all-weaker (λ (e : NodeEntry). node_entry e.id s.nodes ≡ Some e) (λ (e : NodeEntry). is_to_leave c s q x e ≡ (is_queued x e.queue && not (inside e.id)))
-      (λ e found. leave-by (is_given_to c s q e.kept) (is_queued x (node_queue e.id s.nodes)) ∙ ap (λ (b : Bool). is_queued x (node_queue e.id s.nodes) && not b) (sym (inside-at e found)) ∙ ap (λ (queue : List SessionId). is_queued x queue && not (inside e.id)) (queue-at e found)) s.nodes nodes-found))
+      (λ e found. let inner = inside-at e found in let queue = queue-at e found in grind arith) s.nodes nodes-found))
 
   pub queued-rise : Rises is_node_before (queued_nodes x s)
   queued-rise = ids-in_order is_node_before same_node id node_equal later-node-apart (filter (λ (e : NodeEntry). is_queued x e.queue) s.nodes) (Rises-filter (λ (a b : NodeEntry). is_node_before a.id b.id) (λ (e : NodeEntry). is_queued x e.queue) s.nodes are.once)
@@ -564,19 +455,17 @@ module _ (c : Configuration) (s : State) (ms : List (Member NodeId)) (are : AreG
     by : (o : Option NodeEntry) → node_entry i s.nodes ≡ o → option_map_or (λ (e : NodeEntry). is_queued x e.queue) o false ≡ true
     by None none = let out : inside i ≡ false = group-at (locked_group q x) i None none in absurd cc
     by (Some e) found =
-        ap (is_queued x) (sym (ap (λ (o : Option NodeEntry). option_map_or (λ e. e.queue) o []) found))
-        ∙ and-second (is_given_to c s q e.kept) (is_queued x (node_queue i s.nodes)) (sym (among-locked c s q x e.kept (node_queue i s.nodes)) ∙ sym (group-at (locked_group q x) i (Some e) found) ∙ is)
+        let queue : node_queue i s.nodes ≡ e.queue = ap (λ (o : Option NodeEntry). option_map_or (λ e. e.queue) o []) found in
+        let locked = group-at (locked_group q x) i (Some e) found in
+        grind (arith, among-locked c s q x e.kept (node_queue i s.nodes))
 
   -- a call that finds such an id finds the node to leave at the place
   pub leaves-by : (l : Group) (queued : List NodeId) (at : ℕ) (result : Option NodeId) → l ≡ locked_group q x → queued ≡ queued_nodes x s
       → (Rises is_node_before queued → ((i : NodeId) → has_member same_node l i ms ≡ true → list_any (λ y. same_node y i) queued ≡ true) → result ≡ slice_get (outside same_node l ms queued) at)
       → result ≡ node_to_leave c q x at s
   leaves-by l queued at result locked are_queued called =
-      called (subst (λ (ids : List NodeId). Rises is_node_before ids) (sym are_queued) queued-rise)
-      (λ i is. subst (λ (ids : List NodeId). list_any (λ y. same_node y i) ids ≡ true) (sym are_queued) (locked-queued i (subst (λ (k : Group). has_member same_node k i ms ≡ true) locked is)))
-      ∙ ap (λ (k : Group). slice_get (outside same_node k ms queued) at) locked
-      ∙ ap (λ (ids : List NodeId). slice_get (outside same_node (locked_group q x) ms ids) at) are_queued
-      ∙ leaves-outside at
+      let call = rw (locked, are_queued) at called in
+      call queued-rise locked-queued ∙ leaves-outside at
 
 -- # a walk to the first of a list that passes
 

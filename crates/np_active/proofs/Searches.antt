@@ -1,5 +1,5 @@
 -- searches for the first job that passes, where jobs wait in lines for semaphores
-use Rattle.np_active.proofs.Prelude.{ActiveOf, AllByRecursion, AreActive, Bool, Configuration, Decides, Group, IsBest, IsLeast, Job, JobId, JobKind, JobRecord, List, Member, None, NonePass, Option, RequesterId, Rises, SemId, Some, State, all-weaker, and_parts, ap, arith, at_line, cases_order, comes_first, cond, earlier_job, equal-itself, equal-numbers, false, false_from_ne_true, filter-nothing, find, find-alike, find-passes, first_full, first_line, first_of_line, group-equal, group_after, has_handle, ids-has, ids-rise, ids_in, inl, inr, is_free, is_full, is_group_before, is_job_before, is_job_in, is_job_to_begin, is_like, is_member_before, is_new, is_none, is_own, is_prompt, is_supplied, job_equal, job_group, job_one_way, job_some_way, job_to_begin, jobs_from, least-found, length, line_after, line_if, line_of, list_any, map, may_begin, may_begin_of, nat_lt, nat_tests, none-find, not, not-true, option_map, option_map_or, or_parts, or_right, prompt_group, prompt_ones, refl, same-itself, same_group, same_job, same_number, same_semaphore, same_semaphores, slice_eq-Decides, slice_get, subst, suc, sym, true, waiting_group, waiting_ones, ℕ, [], ◌&&◌, ◌-◌, ◌<◌, ◌==◌, ◌^◌, ◌||◌, ◌∙◌, ◌∷◌, ◌≡◌, ◌≤◌, ◌⊎◌}
+use Rattle.np_active.proofs.Prelude.{ActiveOf, AllByRecursion, AreActive, Bool, Configuration, Decides, Group, IsBest, IsLeast, Job, JobId, JobKind, JobRecord, List, Member, None, NonePass, Option, RequesterId, Rises, SemId, Some, State, all-weaker, and_parts, ap, arith, at_line, cases_order, comes_first, cond, earlier_job, equal-itself, equal-numbers, false, filter-nothing, find, find-alike, find-passes, first_full, first_line, first_of_line, group-equal, group_after, has_handle, ids-has, ids-rise, ids_in, inl, inr, is_free, is_full, is_group_before, is_job_before, is_job_in, is_job_to_begin, is_member_before, is_new, is_none, is_own, is_prompt, is_supplied, job_equal, job_group, job_one_way, job_some_way, job_to_begin, jobs_from, least-found, length, line_after, line_if, line_of, list_any, map, may_begin, may_begin_of, nat_lt, nat_tests, none-find, not, not-true, option_map, option_map_or, or_parts, prompt_group, prompt_ones, refl, same-itself, same_group, same_job, same_number, same_semaphore, same_semaphores, slice_eq-Decides, slice_get, subst, suc, sym, true, waiting_group, waiting_ones, ℕ, [], ◌&&◌, ◌-◌, ◌<◌, ◌==◌, ◌^◌, ◌||◌, ◌∙◌, ◌∷◌, ◌≡◌, ◌≤◌, ◌⊎◌}
 use Rattle.np_active.specs.Begin.{IsPast}
 use Rattle.np_active.proofs.KindLemmas.{jobs-have, jobs-rise}
 
@@ -58,12 +58,10 @@ module _ (lines : Group) where
   module _ (ms : List (Member JobId)) (start : ℕ) where
     -- a member of the line's group is one from the start on
     outside : (n : ℕ) → start ≤ n → (g : Group) → (is_from start g ≡ true → g ≡ at_line lines n → ⊥) → same_group g (at_line lines n) ≡ false
-    outside n low g out = by (same_group g (at_line lines n)) refl where
-      by : (b : Bool) → same_group g (at_line lines n) ≡ b → b ≡ false
-      by true is =
-          let it : g ≡ at_line lines n = group-equal g (at_line lines n) is in
-          absurd (out (subst (λ (h : Group). is_from start h ≡ true) (sym it) (later-from start n low)) it)
-      by false other = refl
+    outside n low g out =
+        let it = group-equal g (at_line lines n) in
+        let from = later-from start n low in
+        grind arith
 
     -- no member is from the start on
     none-from : NonePass (λ (m : Member JobId). is_from start m.group) ms → (n : ℕ) → start ≤ n → IsEmpty ms n
@@ -113,16 +111,15 @@ module _ (lines : Group) where
 
   above : (line next : ℕ) (o : Option Group) → ((g : Group) → o ≡ Some g → is_group_before (at_line lines line) g ≡ true) → line_if lines o ≡ Some next → line < next
   above line next None after is = absurd cc
-  above line next (Some g) after is = by (same_group (at_line lines g.third) g) refl is where
-    by : (b : Bool) → same_group (at_line lines g.third) g ≡ b → cond b (Some g.third) None ≡ Some next → line < next
-    by true here is =
-        let number : g.third ≡ next = cc in
-        subst (λ (n : ℕ). line < n) number (higher line g.third (subst (λ (h : Group). is_group_before (at_line lines line) h ≡ true) (sym (group-equal (at_line lines g.third) g here)) (after g refl)))
-    by false out is = absurd cc
+  above line next (Some g) after is =
+      let here = group-equal (at_line lines g.third) g in
+      let more = higher line g.third in
+      let later = after g refl in
+      grind arith
 
   group-found : (line : ℕ) (o : Option (Member JobId)) (g : Group) → ((m : Member JobId) → o ≡ Some m → is_group_before (at_line lines line) m.group ≡ true) → option_map (λ (m : Member JobId). m.group) o ≡ Some g → is_group_before (at_line lines line) g ≡ true
   group-found line None g after is = absurd cc
-  group-found line (Some m) g after is = let it : m.group ≡ g = cc in subst (λ (h : Group). is_group_before (at_line lines line) h ≡ true) it (after m refl)
+  group-found line (Some m) g after is = let later = after m refl in cc
 
   next-above : (line next : ℕ) (ms : List (Member JobId)) → line_after lines line ms ≡ Some next → line < next
   next-above line next ms is =
@@ -166,19 +163,11 @@ module _ (c : Configuration) (s : State) where
   -- what does not come before the old one does not come before the new one
   stays-beaten : (best first : Option JobId) (i : JobId) → comes_first best i ≡ false → comes_first (earlier_job c s best first) i ≡ false
   stays-beaten best None i out = out
-  stays-beaten best (Some f) i out = by (comes_first best f) refl (is_free c s f) where
-    by : (a : Bool) → comes_first best f ≡ a → (m : Bool) → comes_first (cond (a && m) (Some f) best) i ≡ false
-    by true first true = beaten-earlier best f i first out
-    by true first false = out
-    by false past m = out
+  stays-beaten best (Some f) i out = grind (arith, beaten-earlier best f i)
 
   -- nor does the first job of the line, where none of its semaphores blocks it
   first-beaten : (best : Option JobId) (f : JobId) → is_free c s f ≡ true → comes_first (earlier_job c s best (Some f)) f ≡ false
-  first-beaten best f free = by (comes_first best f) refl (is_free c s f) free where
-    by : (a : Bool) → comes_first best f ≡ a → (m : Bool) → m ≡ true → comes_first (cond (a && m) (Some f) best) f ≡ false
-    by true first true is = job-not_before f
-    by true first false is = absurd cc
-    by false past m is = past
+  first-beaten best f free = grind (arith, job-not_before f)
 
 -- ## the search
 
@@ -246,13 +235,8 @@ module _ (c : Configuration) (s : State) (j : JobId) (row : Job) (lacks : is_sup
   free-any [] none = refl
   free-any (x ∷ xs) none =
       let parts = or_parts (has_handle j s.handles x) (list_any (has_handle j s.handles) xs) none in
-      by (has_handle j s.handles x) parts.0 (is_full c s x) (free-any xs parts.1)
-    where
-      by : (h : Bool) → h ≡ false → (f : Bool) → is_none (find (λ y. not (has_handle j s.handles y) && is_full c s y) xs) ≡ not (list_any (is_full c s) xs)
-          → is_none (cond (not h && f) (Some x) (find (λ y. not (has_handle j s.handles y) && is_full c s y) xs)) ≡ not (f || list_any (is_full c s) xs)
-      by true is f later = absurd cc
-      by false is true later = refl
-      by false is false later = later
+      let later = free-any xs parts.1 in
+      grind arith
 
   lacks-any : is_none (first_full c s j row) ≡ not (list_any (is_full c s) row.semaphores)
   lacks-any = let parts = or_parts (length row.semaphores == 0) (list_any (has_handle j s.handles) row.semaphores) lacks in free-any row.semaphores parts.1
@@ -260,22 +244,15 @@ module _ (c : Configuration) (s : State) (j : JobId) (row : Job) (lacks : is_sup
 semaphore-decides : (a b : SemId) → Decides (a.0 == b.0) (a ≡ b)
 semaphore-decides a b = (λ is. same_semaphore a b (equal-numbers a.0 b.0 is), λ is. same_number a.0 b.0 (ap (λ (x : SemId). x.0) is))
 
+like : (a b : List SemId) → same_semaphores a b ≡ true → a ≡ b
+like a b is = (slice_eq-Decides semaphore-decides a b (same_semaphores a b) refl).0 is
+
 -- the job with the number of a line has the semaphores of those that wait there
-line-row : (c : Configuration) (lines : List JobId) (j : JobId) (row : Job) (line : ℕ) → slice_get c.jobs j.0 ≡ Some row → line_of c lines j row ≡ line → (other : Job) × (slice_get c.jobs line ≡ Some other) × (other.semaphores ≡ row.semaphores)
-line-row c lines j row line is of = by (slice_get lines j.0) of where
-  itself : j.0 ≡ line → (other : Job) × (slice_get c.jobs line ≡ Some other) × (other.semaphores ≡ row.semaphores)
-  itself number = (row, subst (λ (n : ℕ). slice_get c.jobs n ≡ Some row) number is, refl)
-
-  by_first : (first : JobId) → (o : Option Job) → slice_get c.jobs first.0 ≡ o → (b : Bool) → option_map_or (λ other. same_semaphores other.semaphores row.semaphores) o false ≡ b → cond b first.0 j.0 ≡ line
-      → (other : Job) × (slice_get c.jobs line ≡ Some other) × (other.semaphores ≡ row.semaphores)
-  by_first first None there true like number = absurd cc
-  by_first first (Some other) there true like number =
-      (other, subst (λ (n : ℕ). slice_get c.jobs n ≡ Some other) number there, (slice_eq-Decides semaphore-decides other.semaphores row.semaphores (same_semaphores other.semaphores row.semaphores) refl).0 like)
-  by_first first o there false like number = itself number
-
-  by : (o : Option JobId) → option_map_or (λ first. cond (is_like c row first) first.0 j.0) o j.0 ≡ line → (other : Job) × (slice_get c.jobs line ≡ Some other) × (other.semaphores ≡ row.semaphores)
-  by None number = itself number
-  by (Some first) number = by_first first (slice_get c.jobs first.0) refl (is_like c row first) refl number
+line-row : (c : Configuration) (lines : List JobId) (j : JobId) (row : Job) → slice_get c.jobs j.0 ≡ Some row
+    → option_map (λ other. other.semaphores) (slice_get c.jobs (line_of c lines j row)) ≡ Some row.semaphores
+line-row c lines j row is =
+    let same = λ (other : Job). like other.semaphores row.semaphores in
+    grind arith
 
 -- the job waits for handles in this line, by its row
 pub record IsInLine (c : Configuration) (s : State) (lines : List JobId) (line : ℕ) (j : JobId) : Type 0 where
@@ -286,19 +263,18 @@ pub record IsInLine (c : Configuration) (s : State) (lines : List JobId) (line :
 
 module _ (c : Configuration) (s : State) (lines : List JobId) (line : ℕ) where
   -- none of its semaphores blocks it if none of those of the job with the number of the line is full
-  line-free : (j : JobId) → IsInLine c s lines line j → (other : Job) × (slice_get c.jobs line ≡ Some other) × (is_free c s j ≡ not (list_any (is_full c s) other.semaphores))
+  line-free : (j : JobId) → IsInLine c s lines line j
+      → is_free c s j ≡ option_map_or (λ xs. not (list_any (is_full c s) xs)) (option_map (λ (other : Job). other.semaphores) (slice_get c.jobs line)) false
   line-free j is =
-      let of = line-row c lines j is.row line is.of_site is.number in
-      (of.0, of.1, free-is c s j is.row is.of_site ∙ lacks-any c s j is.row is.lacks ∙ ap (λ (xs : List SemId). not (list_any (is_full c s) xs)) (sym of.2))
+      let free = free-is c s j is.row is.of_site in
+      let full = lacks-any c s j is.row is.lacks in
+      let same = line-row c lines j is.row is.of_site in
+      let number = is.number in
+      cc
 
   -- so a semaphore that is full blocks all jobs of a line
   pub line-alike : (j i : JobId) → IsInLine c s lines line j → IsInLine c s lines line i → is_free c s j ≡ is_free c s i
-  line-alike j i is also =
-      let one = line-free j is in
-      let two = line-free i also in
-      let found : Some one.0 ≡ Some two.0 = sym one.1 ∙ two.1 in
-      let same : one.0 ≡ two.0 = cc in
-      one.2 ∙ ap (λ (row : Job). not (list_any (is_full c s) row.semaphores)) same ∙ sym two.2
+  line-alike j i is also = line-free j is ∙ sym (line-free i also)
 
 -- # the first of a list in order that passes
 
@@ -314,50 +290,32 @@ module _ {K : Type 0} (before same : K → K → Bool)
   abbrev pub has : K → List K → Bool
   has k xs = list_any (λ x. same x k) xs
 
-  not_before : (a : K) → before a a ≡ false
-  not_before a = false_from_ne_true (before a a) (λ first. let out : before a a ≡ false = one_way a a first in cc)
-
   -- what is true of each is true of one that is there
-  has-each : (P : K → Type 0) (xs : List K) (k : K) → AllByRecursion P xs → has k xs ≡ true → P k
+  pub has-each : (P : K → Type 0) (xs : List K) (k : K) → AllByRecursion P xs → has k xs ≡ true → P k
   has-each P [] k all there = absurd cc
-  has-each P (x ∷ xs) k all there = by (same x k) refl there (has-each P xs k all.1) where
-    by : (b : Bool) → same x k ≡ b → (b || has k xs) ≡ true → (has k xs ≡ true → P k) → P k
-    by true is found later = subst P (equal x k is) all.0
-    by false other found later = later found
+  has-each P (x ∷ xs) k all there =
+      let later = has-each P xs k all.1 in
+      let here = equal x k in
+      grind arith
 
   module _ (p : K → Bool) where
     -- what `find` returns is there
     pub found-there : (xs : List K) (k : K) → find p xs ≡ Some k → has k xs ≡ true
     found-there [] k is = absurd cc
-    found-there (x ∷ xs) k is = by (p x) is (found-there xs k) where
-      by : (b : Bool) → cond b (Some x) (find p xs) ≡ Some k → (find p xs ≡ Some k → has k xs ≡ true) → (same x k || has k xs) ≡ true
-      by true here later = let it : x ≡ k = cc in rw (subst (λ (z : K). same x z ≡ true) it (itself x)) refl
-      by false past later = or_right (same x k) (has k xs) (later past)
+    found-there (x ∷ xs) k is = grind (arith, itself, found-there xs k)
 
     -- where `find` returns nothing, none passes
     pub none-found : (xs : List K) (k : K) → find p xs ≡ None → has k xs ≡ true → p k ≡ false
     none-found [] k none there = absurd cc
-    none-found (x ∷ xs) k none there = by (p x) refl none (same x k) refl there (none-found xs k) where
-      by : (b : Bool) → p x ≡ b → cond b (Some x) (find p xs) ≡ None → (e : Bool) → same x k ≡ e → (e || has k xs) ≡ true
-          → (find p xs ≡ None → has k xs ≡ true → p k ≡ false) → p k ≡ false
-      by true first is e it found rest = absurd cc
-      by false fails is true it found rest = subst (λ (z : K). p z ≡ false) (equal x k it) fails
-      by false fails is false other found rest = rest is found
+    none-found (x ∷ xs) k none there = grind (arith, equal, none-found xs k)
 
     -- none that passes comes before what it returns
     pub found-least : (xs : List K) (k i : K) → Rises before xs → find p xs ≡ Some k → has i xs ≡ true → p i ≡ true → before i k ≡ false
     found-least [] k i rises is there passes = absurd cc
-    found-least (x ∷ xs) k i rises is there passes = by (p x) refl is (same x i) refl there (λ found later. found-least xs k i rises.1 found later passes) where
-      by : (b : Bool) → p x ≡ b → cond b (Some x) (find p xs) ≡ Some k → (e : Bool) → same x i ≡ e → (e || has i xs) ≡ true
-          → (find p xs ≡ Some k → has i xs ≡ true → before i k ≡ false) → before i k ≡ false
-      by true first here true it found rest =
-          let one : x ≡ k = cc in
-          subst (λ (z : K). before z k ≡ false) (sym one ∙ equal x i it) (not_before k)
-      by true first here false other found rest =
-          let one : x ≡ k = cc in
-          subst (λ (z : K). before i z ≡ false) one (one_way x i (has-each (λ z. before x z ≡ true) xs i rises.0 found))
-      by false fails past true it found rest = absurd (let no : p i ≡ false = subst (λ (z : K). p z ≡ false) (equal x i it) fails in cc)
-      by false fails past false other found rest = rest past found
+    found-least (x ∷ xs) k i rises is there passes =
+        let after = has-each (λ z. before x z ≡ true) xs i rises.0 in
+        let rest = λ (past : find p xs ≡ Some k). λ (found : has i xs ≡ true). found-least xs k i rises.1 past found passes in
+        grind (arith, one_way, equal)
 
 -- # the first of the jobs that pass, where some of them wait in lines: it is the earliest that the search finds
 
@@ -456,10 +414,7 @@ module _ (c : Configuration) (s : State) (active : ActiveOf) (are : AreActive c 
     first-passes j found = sym (jobs-have passes s.jobs j) ∙ job-there (λ i. true) all j found
 
     one-job : (b j : JobId) → is_job_before j b ≡ false → is_job_before b j ≡ false → b ≡ j
-    one-job b j past out = by (same_job j b) refl where
-      by : (e : Bool) → same_job j b ≡ e → b ≡ j
-      by true is = sym (job_equal j b is)
-      by false other = absurd (let first : is_job_before b j ≡ true = job_some_way j b past other in cc)
+    one-job b j past out = grind (arith, job_equal j b, job_some_way j b)
 
     pub best-all : (best : Option JobId) → IsBest c s active.jobs lines old None best → best ≡ slice_get (jobs_from passes 0 s.jobs) 0
     best-all best is = by best is (find (λ i. true) all) refl ∙ sym (find-always all) where
@@ -488,11 +443,10 @@ pub record IsOwn (c : Configuration) (s : State) (q : RequesterId) (at : JobReco
 abbrev pub waits_in : Configuration → List JobId → (JobId → Job → Bool) → ℕ → JobId → Job → Bool
 waits_in c lines prompt line j row = not (prompt j row) && (line_of c lines j row == line)
 
-pub and_turned : (a b : Bool) → (a && b) ≡ (b && a)
-and_turned true true = refl
-and_turned true false = refl
-and_turned false true = refl
-and_turned false false = refl
+-- what an option holds that passes
+some-passes : {X : Type 0} (p : X → Bool) (o : Option X) → option_map_or p o false ≡ true → (x : X) × (o ≡ Some x) × (p x ≡ true)
+some-passes p None is = absurd cc
+some-passes p (Some x) is = (x, refl, is)
 
 module _ (c : Configuration) (s : State) (q : RequesterId) (at : JobRecord → Bool) (j : JobId) (such : Job → Bool) where
   -- it is, and its row passes
@@ -500,34 +454,20 @@ module _ (c : Configuration) (s : State) (q : RequesterId) (at : JobRecord → B
   is_such = option_map_or (λ kept. at kept && is_own c q j such) (slice_get s.jobs j.0) false
 
   pub such-own : is_such ≡ true → (own : IsOwn c s q at j) × (such own.row ≡ true)
-  such-own is = by_record (slice_get s.jobs j.0) refl is where
-    by_row : (kept : JobRecord) → slice_get s.jobs j.0 ≡ Some kept → at kept ≡ true → (o : Option Job) → slice_get c.jobs j.0 ≡ o
-        → option_map_or (λ row. (row.requester.0 == q.0) && such row) o false ≡ true → (own : IsOwn c s q at j) × (such own.row ≡ true)
-    by_row kept stands passes None of_site such_row = absurd cc
-    by_row kept stands passes (Some row) of_site such_row =
-        let parts = and_parts (row.requester.0 == q.0) (such row) such_row in
-        (record { kept = kept; row = row; stands = stands; of_site = of_site; own = parts.0; passes = passes }, parts.1)
-
-    by_record : (o : Option JobRecord) → slice_get s.jobs j.0 ≡ o → option_map_or (λ kept. at kept && is_own c q j such) o false ≡ true → (own : IsOwn c s q at j) × (such own.row ≡ true)
-    by_record None stands such_record = absurd cc
-    by_record (Some kept) stands such_record =
-        let parts = and_parts (at kept) (is_own c q j such) such_record in
-        by_row kept stands parts.0 (slice_get c.jobs j.0) refl parts.1
+  such-own is =
+      let kept = some-passes (λ kept. at kept && is_own c q j such) (slice_get s.jobs j.0) is in
+      let records = and_parts (at kept.0) (is_own c q j such) kept.2 in
+      let row = some-passes (λ row. (row.requester.0 == q.0) && such row) (slice_get c.jobs j.0) records.1 in
+      let rows = and_parts (row.0.requester.0 == q.0) (such row.0) row.2 in
+      (record { kept = kept.0; row = row.0; stands = kept.1; of_site = row.1; own = rows.0; passes = records.0 }, rows.1)
 
   -- what its row passes
   pub own-such : (own : IsOwn c s q at j) → is_such ≡ such own.row
-  own-such own =
-      ap (λ (o : Option JobRecord). option_map_or (λ kept. at kept && is_own c q j such) o false) own.stands
-      ∙ ap (λ (b : Bool). b && is_own c q j such) own.passes
-      ∙ ap (λ (o : Option Job). option_map_or (λ row. (row.requester.0 == q.0) && such row) o false) own.of_site
-      ∙ ap (λ (b : Bool). b && such own.row) own.own
+  own-such own = grind arith
 
   -- the row first
   pub such-turned : option_map_or (λ kept. is_own c q j such && at kept) (slice_get s.jobs j.0) false ≡ is_such
-  such-turned = by (slice_get s.jobs j.0) where
-    by : (o : Option JobRecord) → option_map_or (λ kept. is_own c q j such && at kept) o false ≡ option_map_or (λ kept. at kept && is_own c q j such) o false
-    by None = refl
-    by (Some kept) = and_turned (is_own c q j such) (at kept)
+  such-turned = grind arith
 
 -- # jobs of a requester that wait in lines, for one purpose or another
 
@@ -544,11 +484,10 @@ is_lined c s lines q at prompt line j = is_such c s q at j (waits_in c lines pro
 module _ (c : Configuration) (s : State) (q : RequesterId) (lines : List JobId) (at : JobRecord → Bool) (prompt may : JobId → Job → Bool) (waits : Waits c s prompt may) where
   -- by its row
   lined-row : (line : ℕ) (j : JobId) → is_lined c s lines q at prompt line j ≡ true → (own : IsOwn c s q at j) × (prompt j own.row ≡ false) × (line_of c lines j own.row ≡ line)
-  lined-row line j is = by (such-own c s q at j (waits_in c lines prompt line j) is) where
-    by : (own : IsOwn c s q at j) × (waits_in c lines prompt line j own.row ≡ true) → (own : IsOwn c s q at j) × (prompt j own.row ≡ false) × (line_of c lines j own.row ≡ line)
-    by (own, tests) =
-        let parts = and_parts (not (prompt j own.row)) (line_of c lines j own.row == line) tests in
-        (own, not-true (prompt j own.row) parts.0, equal-numbers (line_of c lines j own.row) line parts.1)
+  lined-row line j is =
+      let of = such-own c s q at j (waits_in c lines prompt line j) is in
+      let parts = and_parts (not (prompt j of.0.row)) (line_of c lines j of.0.row == line) of.1 in
+      (of.0, not-true (prompt j of.0.row) parts.0, equal-numbers (line_of c lines j of.0.row) line parts.1)
 
   pub lined-in : (line : ℕ) (j : JobId) → is_lined c s lines q at prompt line j ≡ true → IsInLine c s lines line j
   lined-in line j is =

@@ -1,36 +1,21 @@
 -- all that the changes of an event touch is listed before it
-use Rattle.np_classes.proofs.Prelude.{AllocationsListed, Asked, Bool, Changes, Configuration, EditPremise, EmptiesRequest, GoesWithdrawn, Growth, Invariant, IsAsking, IsMade, IsPlanned, IsReached, IsTaken, IsTouched, JobIn, JobsStand, List, NodeEntry, NodeId, NodeRecord, NodesChange, NodesPremise, None, Option, Phase, Premises, RequestEdit, RequestEntry, RequestId, RequestRecord, RequestsChange, RequestsPremise, SessionId, SessionsChange, Some, State, TouchedOf, ap, arith, changed_nodes, changed_requests, changes_node, changes_request, cond, ended, ends_at_node, ends_at_request, false, filter, find, grown_nodes, grown_queues, grown_requests, grows_node, grows_request, grows_request_queue, inl, inr, invariant-Runs, is_asked, is_new, is_queued, is_request, leaves_request_queue, left_queues, length, list_any, map, new_node, node_in, option_map_or, or_false, or_true, premises, queued_nodes, queued_requests, refl, remove-alone, request_equal, request_in, same_node, same_request, subst, sym, tenant_of_request, touched_jobs, touched_nodes, touched_queues, touched_requests, touched_sessions, touches_node, touches_request, touches_request_queue, true, unclaimed_nodes, unclaims_node, ℕ, [], ◌++◌, ◌==◌, ◌||◌, ◌∙◌, ◌∷◌, ◌≡◌, ◌≤◌, ◌⊎◌}
+use Rattle.np_classes.proofs.Prelude.{AllocationsListed, Asked, Bool, Changes, Configuration, EditPremise, EmptiesRequest, GoesWithdrawn, Growth, Invariant, IsAsking, IsMade, IsPlanned, IsReached, IsTaken, IsTouched, JobIn, JobsStand, List, NodeEntry, NodeId, NodeRecord, NodesChange, NodesPremise, None, Option, Phase, Premises, RequestEdit, RequestEntry, RequestId, RequestRecord, RequestsChange, RequestsPremise, SessionId, SessionsChange, Some, State, TouchedOf, ap, arith, changed_nodes, changed_requests, changes_node, changes_request, cond, ended, ends_at_node, ends_at_request, false, filter, find, grown_nodes, grown_queues, grown_requests, grows_node, grows_request, grows_request_queue, inl, inr, invariant-Runs, is_asked, is_new, is_queued, is_request, leaves_request_queue, left_queues, length, list_any, list_any-append, map, new_node, node_in, option_map_or, or_false, or_true, premises, queued_nodes, queued_requests, refl, remove-alone, request_equal, request_in, same_node, same_request, subst, sym, tenant_of_request, touched_jobs, touched_nodes, touched_queues, touched_requests, touched_sessions, touches_node, touches_request, touches_request_queue, true, unclaimed_nodes, unclaims_node, ℕ, [], ◌++◌, ◌==◌, ◌||◌, ◌∙◌, ◌∷◌, ◌≡◌, ◌≤◌, ◌⊎◌}
 
--- ## lists
-
-list_any-append : {X : Type 0} (p : X → Bool) (xs ys : List X) → list_any p (xs ++ ys) ≡ (list_any p xs || list_any p ys)
-list_any-append p [] ys = refl
-list_any-append p (x ∷ xs) ys = by (p x) (list_any-append p xs ys) where
-  by : (b : Bool) → list_any p (xs ++ ys) ≡ (list_any p xs || list_any p ys) → (b || list_any p (xs ++ ys)) ≡ ((b || list_any p xs) || list_any p ys)
-  by true rest = refl
-  by false rest = rest
+-- what is touched in one of two ways is in the list of that way
+either-listed : {K : Type 0} (p : K → Bool) (a b : Bool) (xs ys : List K) → (a ≡ true → list_any p xs ≡ true) → (b ≡ true → list_any p ys ≡ true) → (a || b) ≡ true → list_any p (xs ++ ys) ≡ true
+either-listed p true b xs ys first second is = rw (list_any-append p xs ys, first refl) refl
+either-listed p false b xs ys first second is = rw (list_any-append p xs ys, second is) (or_true (list_any p xs))
 
 -- ## nodes
 
 abbrev listed : NodeId → List NodeId → Bool
 listed n ns = list_any (λ m. same_node m n) ns
 
--- what is touched in one of two ways is in the list of that way
-either-listed : (n : NodeId) (a b : Bool) (xs ys : List NodeId) → (a ≡ true → listed n xs ≡ true) → (b ≡ true → listed n ys ≡ true) → (a || b) ≡ true → listed n (xs ++ ys) ≡ true
-either-listed n true b xs ys first second is = list_any-append (λ m. same_node m n) xs ys ∙ ap (λ (v : Bool). v || listed n ys) (first refl)
-either-listed n false b xs ys first second is = list_any-append (λ m. same_node m n) xs ys ∙ ap (λ (v : Bool). listed n xs || v) (second is) ∙ or_true (listed n xs)
-
 grown-listed : (g : Growth) (s : State) (n : NodeId) → grows_node g s n ≡ true → listed n (grown_nodes g s) ≡ true
-grown-listed Growth.Nothing s n is = is
-grown-listed (Growth.Session role) s n is = is
-grown-listed (Growth.Registration p) s n is = is
-grown-listed (Growth.Request priority asked) s n is = is
 grown-listed (Growth.Node kept) s n is = or_false (s.next_node == n.0) ∙ is
-grown-listed (Growth.JoinRequest r) s n is = is
 grown-listed (Growth.JoinNode m) s n is = or_false (m.0 == n.0) ∙ is
 grown-listed (Growth.Allocate m r tenant) s n is = or_false (m.0 == n.0) ∙ is
-grown-listed (Growth.Handles j) s n is = is
-grown-listed (Growth.Swept m x) s n is = is
+grown-listed _ s n is = is
 
 -- a node that is allocated to a request that is there is in its list
 freed-listed : (s : State) (r : RequestId) (n : NodeId) (request : RequestRecord) → AllocationsListed s → request_in r s.requests ≡ Some request
@@ -54,8 +39,7 @@ withdrawn-stands s ch r stand goes = by goes.kept.phase goes.withdraws.unstarted
       let asking : IsAsking s goes.number goes.kept = job.0 in
       let same : asking.id ≡ r = cc (asking.asks, goes.of_job) in
       (asking.request, subst (λ (x : RequestId). request_in x s.requests ≡ Some asking.request) same asking.stands)
-  by Phase.Using unstarted job = absurd cc
-  by Phase.Over unstarted job = absurd cc
+  by _ unstarted job = absurd cc
 
 -- a request that is removed is there before
 removed-stands : (c : Configuration) (s : State) (ch : Changes) (r : RequestId) → JobsStand s → RequestsPremise c s ch (RequestsChange.Remove r) → (request : RequestRecord) × (request_in r s.requests ≡ Some request)
@@ -80,59 +64,42 @@ own-listed s r n allocations there is =
 
 changed-listed : (c : Configuration) (s : State) (ch : Changes) (n : NodeId) → AllocationsListed s → JobsStand s → Premises c s ch
     → (change : NodesChange) → ch.nodes ≡ change → changes_node change s n ≡ true → listed n (changed_nodes change s) ≡ true
-changed-listed c s ch n allocations stand given NodesChange.Same this is = is
 changed-listed c s ch n allocations stand given (NodesChange.Put m kept) this is = or_false (m.0 == n.0) ∙ is
 changed-listed c s ch n allocations stand given (NodesChange.Remove m) this is = or_false (m.0 == n.0) ∙ is
 changed-listed c s ch n allocations stand given (NodesChange.Leave m) this is = or_false (m.0 == n.0) ∙ is
 changed-listed c s ch n allocations stand given (NodesChange.FreeAll r) this is = own-listed s r n allocations (freed-stands c s ch r stand given this) is
-changed-listed c s ch n allocations stand given (NodesChange.TakeOver numbers) this is = is
+changed-listed c s ch n allocations stand given _ this is = is
 
 -- a node whose request goes away
 unclaimed-listed : (c : Configuration) (s : State) (ch : Changes) (n : NodeId) → AllocationsListed s → JobsStand s → Premises c s ch
     → (change : RequestsChange) → ch.requests ≡ change → unclaims_node change s n ≡ true → listed n (unclaimed_nodes change s) ≡ true
-unclaimed-listed c s ch n allocations stand given RequestsChange.Same this is = is
-unclaimed-listed c s ch n allocations stand given (RequestsChange.Edit r edit) this is = is
 unclaimed-listed c s ch n allocations stand given (RequestsChange.Remove r) this is =
     own-listed s r n allocations (removed-stands c s ch r stand (subst (λ (change : RequestsChange). RequestsPremise c s ch change) this given.requests)) is
-unclaimed-listed c s ch n allocations stand given (RequestsChange.Leave r) this is = is
+unclaimed-listed c s ch n allocations stand given _ this is = is
 
 -- ## sessions that end
 
 -- a row in whose queue the session is has its id among those of such rows
 module _ {K E : Type 0} (id : E → K) (queue : E → List SessionId) (session : SessionId) (is_it : K → Bool) where
-  abbrev among : List K → Bool
-  among ids = list_any is_it ids
+  abbrev waiting : List E → List E
+  waiting rows = filter (λ e. is_queued session (queue e)) rows
 
-  abbrev waiting : List E → List K
-  waiting rows = map (λ e. id e) (filter (λ e. is_queued session (queue e)) rows)
-
-  -- with one row more, if the session is in its queue
-  abbrev waiting_with : E → List E → Bool → List K
-  waiting_with e rows b = map (λ e. id e) (cond b (e ∷ filter (λ e. is_queued session (queue e)) rows) (filter (λ e. is_queued session (queue e)) rows))
-
-  waiting-listed : (rows : List E) → is_queued session (option_map_or (λ e. queue e) (find (λ e. is_it (id e)) rows) []) ≡ true → among (waiting rows) ≡ true
+  waiting-listed : (rows : List E) → is_queued session (option_map_or (λ e. queue e) (find (λ e. is_it (id e)) rows) []) ≡ true → list_any is_it (map (λ e. id e) (waiting rows)) ≡ true
   waiting-listed [] is = is
-  waiting-listed (e ∷ rows) is = by (is_it (id e)) refl is (waiting-listed rows) where
-    here : (b : Bool) → is_queued session (queue e) ≡ b → is_it (id e) ≡ true → b ≡ true → among (waiting_with e rows b) ≡ true
-    here true there at has = ap (λ (b : Bool). b || among (waiting rows)) at
-    here false out at has = absurd cc
-
-    later : (b : Bool) → among (waiting rows) ≡ true → among (waiting_with e rows b) ≡ true
-    later true there = ap (λ (b : Bool). is_it (id e) || b) there ∙ or_true (is_it (id e))
-    later false there = there
-
-    by : (b : Bool) → is_it (id e) ≡ b → is_queued session (option_map_or (λ e. queue e) (cond b (Some e) (find (λ e. is_it (id e)) rows)) []) ≡ true
-        → (is_queued session (option_map_or (λ e. queue e) (find (λ e. is_it (id e)) rows) []) ≡ true → among (waiting rows) ≡ true)
-        → among (waiting_with e rows (is_queued session (queue e))) ≡ true
-    by true at is others = here (is_queued session (queue e)) refl at is
-    by false at is others = later (is_queued session (queue e)) (others is)
+  waiting-listed (e ∷ rows) is = by (is_it (id e)) (is_queued session (queue e)) refl refl is (waiting-listed rows) where
+    by : (b q : Bool) → is_it (id e) ≡ b → is_queued session (queue e) ≡ q → is_queued session (option_map_or (λ e. queue e) (cond b (Some e) (find (λ e. is_it (id e)) rows)) []) ≡ true
+        → (is_queued session (option_map_or (λ e. queue e) (find (λ e. is_it (id e)) rows) []) ≡ true → list_any is_it (map (λ e. id e) (waiting rows)) ≡ true)
+        → list_any is_it (map (λ e. id e) (cond q (e ∷ waiting rows) (waiting rows))) ≡ true
+    by true true here queued is others = rw here refl
+    by true false here queued is others = absurd cc
+    by false true here queued is others = rw (others is) (or_true (is_it (id e)))
+    by false false here queued is others = others is
 
 -- a node in whose queue the session is
 ended-listed : (s : State) (queued : List NodeId) (n : NodeId) (change : SessionsChange) → ((session : SessionId) → change ≡ SessionsChange.End session → queued ≡ queued_nodes session s)
     → ends_at_node change s n ≡ true → listed n (ended change queued) ≡ true
-ended-listed s queued n SessionsChange.Same all is = is
-ended-listed s queued n (SessionsChange.Mute session) all is = is
 ended-listed s queued n (SessionsChange.End session) all is = ap (listed n) (all session refl) ∙ waiting-listed (λ (e : NodeEntry). e.id) (λ (e : NodeEntry). e.queue) session (λ m. same_node m n) s.nodes is
+ended-listed s queued n _ all is = is
 
 -- ## requests
 
@@ -140,22 +107,13 @@ abbrev listed_request : RequestId → List RequestId → Bool
 listed_request r rs = list_any (λ x. same_request x r) rs
 
 grown_request-listed : (g : Growth) (s : State) (r : RequestId) → grows_request g s r ≡ listed_request r (grown_requests g s)
-grown_request-listed Growth.Nothing s r = refl
-grown_request-listed (Growth.Session role) s r = refl
-grown_request-listed (Growth.Registration p) s r = refl
 grown_request-listed (Growth.Request priority asked) s r = sym (or_false _)
-grown_request-listed (Growth.Node kept) s r = refl
-grown_request-listed (Growth.JoinRequest x) s r = refl
-grown_request-listed (Growth.JoinNode m) s r = refl
-grown_request-listed (Growth.Allocate m x tenant) s r = refl
-grown_request-listed (Growth.Handles j) s r = refl
-grown_request-listed (Growth.Swept m x) s r = refl
+grown_request-listed _ s r = refl
 
 changed_request-listed : (change : RequestsChange) (r : RequestId) → changes_request change r ≡ listed_request r (changed_requests change)
-changed_request-listed RequestsChange.Same r = refl
 changed_request-listed (RequestsChange.Edit x change) r = sym (or_false (same_request x r))
 changed_request-listed (RequestsChange.Remove x) r = sym (or_false (same_request x r))
-changed_request-listed (RequestsChange.Leave x) r = refl
+changed_request-listed _ r = refl
 
 pub request-listed : (s : State) (ch : Changes) (r : RequestId) → touches_request ch s r ≡ true → listed_request r (touched_requests ch s) ≡ true
 request-listed s ch r is =
@@ -164,42 +122,25 @@ request-listed s ch r is =
 
 -- ## queues of requests
 
--- what is touched in one of two ways is in the list of that way
-either-queued : (r : RequestId) (a b : Bool) (xs ys : List RequestId) → (a ≡ true → listed_request r xs ≡ true) → (b ≡ true → listed_request r ys ≡ true) → (a || b) ≡ true → listed_request r (xs ++ ys) ≡ true
-either-queued r true b xs ys first second is = list_any-append (λ x. same_request x r) xs ys ∙ ap (λ (v : Bool). v || listed_request r ys) (first refl)
-either-queued r false b xs ys first second is =
-    list_any-append (λ x. same_request x r) xs ys ∙ ap (λ (v : Bool). listed_request r xs || v) (second is) ∙ or_true (listed_request r xs)
-
 grown_queue-listed : (g : Growth) (r : RequestId) → grows_request_queue g r ≡ true → listed_request r (grown_queues g) ≡ true
 grown_queue-listed (Growth.JoinRequest x) r is = or_false (same_request x r) ∙ is
-grown_queue-listed Growth.Nothing r is = is
-grown_queue-listed (Growth.Session role) r is = is
-grown_queue-listed (Growth.Registration p) r is = is
-grown_queue-listed (Growth.Request priority asked) r is = is
-grown_queue-listed (Growth.Node kept) r is = is
-grown_queue-listed (Growth.JoinNode m) r is = is
-grown_queue-listed (Growth.Allocate m x tenant) r is = is
-grown_queue-listed (Growth.Handles j) r is = is
-grown_queue-listed (Growth.Swept m x) r is = is
+grown_queue-listed _ r is = is
 
 left_queue-listed : (change : RequestsChange) (r : RequestId) → leaves_request_queue change r ≡ true → listed_request r (left_queues change) ≡ true
-left_queue-listed RequestsChange.Same r is = is
-left_queue-listed (RequestsChange.Edit x change) r is = is
-left_queue-listed (RequestsChange.Remove x) r is = is
 left_queue-listed (RequestsChange.Leave x) r is = or_false (same_request x r) ∙ is
+left_queue-listed _ r is = is
 
 ended_queue-listed : (s : State) (queued : List RequestId) (r : RequestId) (change : SessionsChange) → ((session : SessionId) → change ≡ SessionsChange.End session → queued ≡ queued_requests session s)
     → ends_at_request change s r ≡ true → listed_request r (ended change queued) ≡ true
-ended_queue-listed s queued r SessionsChange.Same all is = is
-ended_queue-listed s queued r (SessionsChange.Mute session) all is = is
 ended_queue-listed s queued r (SessionsChange.End session) all is =
     ap (listed_request r) (all session refl) ∙ waiting-listed (λ (e : RequestEntry). e.id) (λ (e : RequestEntry). e.queue) session (λ x. same_request x r) s.requests is
+ended_queue-listed s queued r _ all is = is
 
 queue-listed : (s : State) (ch : Changes) (queued : List RequestId) → ((session : SessionId) → ch.sessions ≡ SessionsChange.End session → queued ≡ queued_requests session s)
     → (r : RequestId) → touches_request_queue ch s r ≡ true → listed_request r (touched_queues ch queued) ≡ true
 queue-listed s ch queued all r is =
-    either-queued r _ _ _ (ended ch.sessions queued)
-    (either-queued r _ _ (grown_queues ch.grows) (left_queues ch.requests) (grown_queue-listed ch.grows r) (left_queue-listed ch.requests r))
+    either-listed (λ x. same_request x r) _ _ _ (ended ch.sessions queued)
+    (either-listed (λ x. same_request x r) _ _ (grown_queues ch.grows) (left_queues ch.requests) (grown_queue-listed ch.grows r) (left_queue-listed ch.requests r))
     (ended_queue-listed s queued r ch.sessions all)
     is
 
@@ -219,28 +160,12 @@ edit-alone c s ch r RequestEdit.Fail may priority asked is = let none : ch.grows
 edit-alone c s ch r (RequestEdit.Revise relative) may priority asked is = let none : ch.grows ≡ Growth.Nothing = may.same_size in cc
 
 grown-one : (g : Growth) (s : State) → length (grown_requests g s ++ []) ≤ 1
-grown-one Growth.Nothing s = omega arith
-grown-one (Growth.Session role) s = omega arith
-grown-one (Growth.Registration p) s = omega arith
 grown-one (Growth.Request priority asked) s = omega arith
-grown-one (Growth.Node kept) s = omega arith
-grown-one (Growth.JoinRequest r) s = omega arith
-grown-one (Growth.JoinNode m) s = omega arith
-grown-one (Growth.Allocate m r tenant) s = omega arith
-grown-one (Growth.Handles j) s = omega arith
-grown-one (Growth.Swept m x) s = omega arith
+grown-one _ s = omega arith
 
 grown-none : (g : Growth) (s : State) → ((priority : ℕ) (asked : Asked) → g ≡ Growth.Request priority asked → ⊥) → grown_requests g s ≡ []
-grown-none Growth.Nothing s out = refl
-grown-none (Growth.Session role) s out = refl
-grown-none (Growth.Registration p) s out = refl
 grown-none (Growth.Request priority asked) s out = absurd (out priority asked refl)
-grown-none (Growth.Node kept) s out = refl
-grown-none (Growth.JoinRequest r) s out = refl
-grown-none (Growth.JoinNode m) s out = refl
-grown-none (Growth.Allocate m r tenant) s out = refl
-grown-none (Growth.Handles j) s out = refl
-grown-none (Growth.Swept m x) s out = refl
+grown-none _ s out = refl
 
 touched-once : (c : Configuration) (s : State) (ch : Changes) → Premises c s ch → length (touched_requests ch s) ≤ 1
 touched-once c s ch given = by ch.requests given.requests where
@@ -264,9 +189,9 @@ module _ (c : Configuration) (s : State) (ch : Changes) (queued_nodes_are : List
   node-listed : (n : NodeId) → touches_node ch s n ≡ true → listed n (touched_nodes ch queued_nodes_are s) ≡ true
   node-listed n is =
       let holds : Invariant c s = invariant-Runs c reached.journal s reached.runs in
-      either-listed n _ _ _ (unclaimed_nodes ch.requests s)
-      (either-listed n _ _ _ (ended ch.sessions queued_nodes_are)
-      (either-listed n _ _ (grown_nodes ch.grows s) (changed_nodes ch.nodes s)
+      either-listed (λ m. same_node m n) _ _ _ (unclaimed_nodes ch.requests s)
+      (either-listed (λ m. same_node m n) _ _ _ (ended ch.sessions queued_nodes_are)
+      (either-listed (λ m. same_node m n) _ _ (grown_nodes ch.grows s) (changed_nodes ch.nodes s)
       (grown-listed ch.grows s n)
       (changed-listed c s ch n holds.owned.allocations holds.jobs given ch.nodes refl))
       (ended-listed s queued_nodes_are n ch.sessions all_nodes))

@@ -1,8 +1,6 @@
 -- the members of groups: their ids and numbers, after a change from those before it, and made row by row
-use Rattle.np_classes.proofs.Prelude.{AllByRecursion, AreClasses, AreGrouped, AreNodeGroups, AreRequestGroups, Bool, Changes, ClassesOf, Configuration, Declined, Group, IsNumbered, IsOrder, IsPast, IsReached, IsTouched, List, Member, NodeEntry, NodeId, NodeRecord, None, NonePass, Option, PastOf, Placed, PoolId, RequestEntry, RequestId, RequestRecord, Rises, SessionId, Some, State, TouchedOf, all-filter, all-mapped, all-moved, ap, arith, cases_lt, changed, coming_group, coming_group_of, cond, contrapositive, decline_digits, decline_set, declined_group, declined_group_of, each-moved, false, filter, find, group-equal, groups_of_node, groups_of_request, has_member, holder, if◌then◌else◌, inl, inr, invariant-Runs, is_among, is_declined_by, is_failed, is_id_before, is_job_before, is_member_before, is_node_before, is_none, is_pending, is_requested, is_session_before, is_some, is_still_requested, is_unclaimed, job_equal, job_one_way, job_some_way, job_transitive, length, list_any, list_any-none, map, map-map, map-push, nat_lt, nat_tests, next_label, next_label_group, next_label_group_of, no_node_groups, no_request_groups, node_before, node_equal, node_groups, node_holder, node_in, node_is_in, node_one_way, node_some_way, node_transitive, numbered, option_and_then, option_map, option_map_or, or_false, past_node, past_queue, past_request, pending_group, pending_group_of, pinned_label_group, pinned_label_group_of, placed_all, pow-le-pow_right, queue_before, refl, request_before, request_equal, request_groups, request_holder, request_in, request_is_in, request_one_way, request_some_way, request_transitive, rises-all_moved, same_group, same_job, same_node, same_request, same_session, session_equal, session_one_way, session_some_way, session_transitive, shift, slice_get, spent_group, spent_group_of, subst, suc, sym, take, take-all, take_there, touches_node, touches_request, touches_request_queue, true, unheld_groups, unheld_pending_group, unheld_pending_group_of, with_all_moved, with_groups, with_moved, zero, ℕ, [], ◌&&◌, ◌*◌, ◌++◌, ◌+◌, ◌<◌, ◌==◌, ◌^◌, ◌||◌, ◌∙◌, ◌∷◌, ◌≡◌, ◌≤◌, ◌⊎◌}
+use Rattle.np_classes.proofs.Prelude.{AllByRecursion, AreClasses, AreGrouped, AreNodeGroups, AreRequestGroups, Bool, Changes, ClassesOf, Configuration, Declined, Group, IsNumbered, IsOrder, IsPast, IsReached, IsTouched, List, Member, NodeEntry, NodeId, NodeRecord, None, NonePass, Option, PastOf, Placed, PoolId, RequestEntry, RequestId, RequestRecord, Rises, SessionId, Some, State, TouchedOf, all-filter, all-mapped, all-moved, ap, arith, cases_lt, changed, coming_group, coming_group_of, cond, contrapositive, decline_digits, decline_set, declined_group, declined_group_of, each-moved, false, filter, find, group-equal, groups_of_node, groups_of_request, has_member, holder, if◌then◌else◌, inl, inr, invariant-Runs, is_among, is_declined_by, is_failed, is_id_before, is_job_before, is_member_before, is_node_before, is_none, is_pending, is_requested, is_session_before, is_some, is_still_requested, is_unclaimed, job_equal, job_one_way, job_some_way, job_transitive, length, list_any, list_any-none, map, map-map, map-push, nat_lt, nat_tests, next_label, next_label_group, next_label_group_of, no_node_groups, no_request_groups, node_before, node_equal, node_groups, node_holder, node_in, node_is_in, node_one_way, node_some_way, node_transitive, numbered, option_and_then, option_map, option_map_or, or_false, or_parts, past_node, past_queue, past_request, pending_group, pending_group_of, pinned_label_group, pinned_label_group_of, placed_all, pow-le-pow_right, queue_before, refl, request_before, request_equal, request_groups, request_holder, request_in, request_is_in, request_one_way, request_some_way, request_transitive, rises-all_moved, same_group, same_job, same_node, same_request, same_session, session_equal, session_one_way, session_some_way, session_transitive, shift, slice_get, spent_group, spent_group_of, subst, suc, sym, take, take-all, take_there, touches_node, touches_request, touches_request_queue, true, unheld_groups, unheld_pending_group, unheld_pending_group_of, with_all_moved, with_groups, with_moved, zero, ℕ, [], ◌&&◌, ◌*◌, ◌++◌, ◌+◌, ◌<◌, ◌==◌, ◌^◌, ◌||◌, ◌∙◌, ◌∷◌, ◌≡◌, ◌≤◌, ◌⊎◌}
 use Rattle.np_classes.proofs.Untouched.{node-untouched, queue-untouched, record-stays, unclaimed-untouched}
-
--- # the members of groups: their ids and numbers, after a change from those before it, and made row by row
 
 -- # an id is the same as itself, and not the same as one that comes before it
 
@@ -13,14 +11,10 @@ same_node-self a = grind (arith, nat_tests)
 
 -- ## the members that pass, by tests that say the same
 
--- one member more
-each-by : {X : Type 0} (p q : X → Bool) (x : X) (xs ys : List X) → q x ≡ p x → xs ≡ ys → cond (p x) (x ∷ xs) xs ≡ cond (q x) (x ∷ ys) ys
-each-by p q x xs ys same later = rw (same, later) refl
-
 -- the same members pass both
 pub filter-each : {X : Type 0} (p q : X → Bool) → ((x : X) → q x ≡ p x) → (xs : List X) → filter p xs ≡ filter q xs
 filter-each p q same [] = refl
-filter-each p q same (x ∷ xs) = each-by p q x (filter p xs) (filter q xs) (same x) (filter-each p q same xs)
+filter-each p q same (x ∷ xs) = rw (same x, filter-each p q same xs) refl
 
 -- ## ids
 
@@ -80,15 +74,11 @@ abbrev pub digit : Bool → ℕ
 digit b = if b then 1 else 0
 
 digit-few : (b : Bool) → digit b ≤ 1
-digit-few true = omega arith
-digit-few false = omega arith
+digit-few b = grind (arith, nat_tests)
 
 -- two digits with what stands before them
 digits-apart : (a b : Bool) (x y : ℕ) → digit a + 2 * x ≡ digit b + 2 * y → (a ≡ b) × (x ≡ y)
-digits-apart true true x y same = (refl, omega (arith, same))
-digits-apart true false x y same = absurd (omega (arith, same))
-digits-apart false true x y same = absurd (omega (arith, same))
-digits-apart false false x y same = (refl, omega (arith, same))
+digits-apart a b x y same = grind (arith, nat_tests)
 
 -- with one pool more
 pub digits-more : (declined : List Declined) (p n : ℕ) → decline_digits declined p (suc n) ≡ digit (is_declined_by (record { 0 = p }) declined) + 2 * decline_digits declined (suc p) n
@@ -160,11 +150,7 @@ sessions-in_order = record { transitive = session_transitive; one_way = session_
 -- no row has an id that is not listed
 pub none-found : {E K : Type 0} (id : E → K) (same : K → K → Bool) (i : K) (rows : List E) → list_any (λ j. same j i) (map id rows) ≡ false → find (λ e. same (id e) i) rows ≡ None
 none-found id same i [] out = refl
-none-found id same i (e ∷ rows) out = by (same (id e) i) out (none-found id same i rows) where
-  by : (b : Bool) → (b || list_any (λ j. same j i) (map id rows)) ≡ false → (list_any (λ j. same j i) (map id rows) ≡ false → find (λ e. same (id e) i) rows ≡ None)
-      → cond b (Some e) (find (λ e. same (id e) i) rows) ≡ None
-  by true out rest = absurd cc
-  by false out rest = rest out
+none-found id same i (e ∷ rows) out = let parts = or_parts (same (id e) i) (list_any (λ j. same j i) (map id rows)) out in rw parts.0 (none-found id same i rows parts.1)
 
 module _ {K : Type 0} (before same : K → K → Bool) (order : IsOrder before same) where
   -- ## some ids move, and all others stay
@@ -239,28 +225,14 @@ module _ {K : Type 0} (before same : K → K → Bool) (order : IsOrder before s
     pub below-next : (n : ℕ) (i : K) (ms later : List (Member K)) → number i ≡ n → AreGrouped before same (below n) ms
         → later ≡ with_groups before same i [] (now i) ms → AreGrouped before same (below (n + 1)) later
     below-next n i ms later is are put =
-        let here : below n i ≡ [] = rw (not_yet (number i) n is) refl in
-        let there : below (n + 1) i ≡ now i = rw (is_now (number i) n is) refl in
+        let here : below n i ≡ [] = grind (arith, nat_tests, is) in
+        let there : below (n + 1) i ≡ now i = grind (arith, nat_tests, is) in
         subst (AreGrouped before same (below (n + 1)))
         (ap (λ (was : List (Option Group)). with_moved before same i was (below (n + 1) i) ms) here ∙ ap (λ (groups : List (Option Group)). with_groups before same i [] groups ms) there ∙ sym put)
-        (grouped-moved (below n) (below (n + 1)) (i ∷ []) ms are stays)
+        (grouped-moved (below n) (below (n + 1)) (i ∷ []) ms are (λ j out. stays j (by_number i j (sym (or_false (same i j)) ∙ out))))
       where
-        not_yet : (k n : ℕ) → k ≡ n → nat_lt k n ≡ false
-        not_yet k n same = grind (arith, nat_tests)
-
-        is_now : (k n : ℕ) → k ≡ n → nat_lt k (n + 1) ≡ true
-        is_now k n same = grind (arith, nat_tests)
-
-        one_more : (k m n : ℕ) → k ≡ n → (k == m) ≡ false → nat_lt m (n + 1) ≡ nat_lt m n
-        one_more k m n same other = grind (arith, nat_tests)
-
-        stays : (j : K) → (same i j || false) ≡ false → below (n + 1) j ≡ below n j
-        stays j out =
-            ap (λ (b : Bool). cond b (now j) []) (one_more (number i) (number j) n is (by_number i j (or_false (same i j) out)))
-          where
-            or_false : (b : Bool) → (b || false) ≡ false → b ≡ false
-            or_false true none = absurd cc
-            or_false false none = refl
+        stays : (j : K) → (number i == number j) ≡ false → below (n + 1) j ≡ below n j
+        stays j other = grind (arith, nat_tests, is, other)
 
 -- ## calls
 
@@ -270,39 +242,20 @@ pub moved-by : {K P : Type 0} (before same : K → K → Bool) (now : K → List
     → new ≡ with_all_moved before same now (map place given) was
     → new ≡ with_all_moved before same now (map place listed) old
 moved-by before same now place old was new listed moved given was_is moved_is passed put =
-    put
-    ∙ ap (λ (ms : List (Member _)). with_all_moved before same now (map place given) ms) was_is
-    ∙ ap (λ (some : List _). with_all_moved before same now (map place some) old) (passed ∙ moved_is)
+    rw (put, was_is, passed, moved_is) refl
 
 -- # the group of the pending requests that nobody holds, beside the other groups of a request
 
 -- ## tests
 
 second-of : (a b x : Bool) → (b || false) ≡ true → (a || (b || x)) ≡ true
-second-of true b x is = refl
-second-of false true x is = refl
-second-of false false x is = absurd cc
-
-shift-own : (old new : Bool) → shift old new old ≡ new
-shift-own true true = refl
-shift-own true false = refl
-shift-own false true = refl
-shift-own false false = refl
+second-of a b x is = grind (arith, nat_tests)
 
 -- what is moved where a queue is noted, after what is moved where a record is
 pub noted-both : (q l before after old new : Bool) → (before ≡ true → old ≡ true) → (after ≡ true → new ≡ true) → (before ≡ true → new ≡ after)
     → (l ≡ false → q ≡ false → new ≡ old) → (l ≡ false → before ≡ false → after ≡ false → new ≡ old)
     → cond q (shift before after (cond l (shift old new old) old)) (cond l (shift old new old) old) ≡ new
-noted-both false true before after old new was among alone stays others = shift-own old new
-noted-both false false before after old new was among alone stays others = sym (stays refl refl)
-noted-both true true true true old new was among alone stays others = shift-own old new
-noted-both true true true false old new was among alone stays others = sym (alone refl)
-noted-both true true false true old new was among alone stays others = sym (among refl)
-noted-both true true false false old new was among alone stays others = shift-own old new
-noted-both true false true true old new was among alone stays others = was refl ∙ sym (among refl)
-noted-both true false true false old new was among alone stays others = sym (alone refl)
-noted-both true false false true old new was among alone stays others = sym (among refl)
-noted-both true false false false old new was among alone stays others = sym (others refl refl refl)
+noted-both q l before after old new was among alone stays others = grind (arith, nat_tests)
 
 -- ## the groups of another class
 
@@ -310,16 +263,13 @@ abbrev is_group : Group → Option Group → Bool
 is_group g o = option_map_or (λ h. same_group h g) o false
 
 mapped-other : {X : Type 0} (g : Group) (f : X → Group) → ((x : X) → same_group (f x) g ≡ false) → (b : Bool) (o : Option X) → is_group g (if b then option_map f o else None) ≡ false
-mapped-other g f other true None = refl
 mapped-other g f other true (Some x) = other x
-mapped-other g f other false o = refl
+mapped-other g f other _ _ = refl
 
 chained-other : {X Y : Type 0} (g : Group) (f : X → Y → Group) → ((x : X) (y : Y) → same_group (f x y) g ≡ false) → (b : Bool) (o : Option X) (p : Option Y)
     → is_group g (if b then option_and_then (λ x. option_map (f x) p) o else None) ≡ false
-chained-other g f other true None p = refl
-chained-other g f other true (Some x) None = refl
 chained-other g f other true (Some x) (Some y) = other x y
-chained-other g f other false o p = refl
+chained-other g f other _ _ _ = refl
 
 one-other : (g h : Group) → same_group h g ≡ false → (b : Bool) → is_group g (if b then Some h else None) ≡ false
 one-other g h other true = other
@@ -374,9 +324,7 @@ unheld-alone g o later unlocked after is =
     by p (Some k) = only-unheld p k after
 
 neither-second : (a x y rest : Bool) → (x || false) ≡ false → (y || false) ≡ false → (a || (y || rest)) ≡ (a || (x || rest))
-neither-second a true y rest no_x no_y = absurd cc
-neither-second a false true rest no_x no_y = absurd cc
-neither-second a false false rest no_x no_y = refl
+neither-second a x y rest no_x no_y = rw (sym (or_false x) ∙ no_x, sym (or_false y) ∙ no_y) refl
 
 -- the other groups of a request whose record stays
 pub others-stay : (g : Group) (o later : Option RequestRecord) (unlocked after : Bool) → later ≡ o
@@ -392,19 +340,16 @@ others-stay g o later unlocked after same out later_out =
 
 -- # the members of groups after a change, from those before it
 
--- the groups of a node that is not there are none
+-- the groups of what is not there are none
+among-option : {X : Type 0} (g : Group) (f : X → List (Option Group)) (none : List (Option Group)) → is_among g none ≡ false → (o : Option X) → is_among g (option_map_or f o none) ≡ option_map_or (λ k. is_among g (f k)) o false
+among-option g f none out None = out
+among-option g f none out (Some k) = refl
+
 pub node-among : (c : Configuration) (s : State) (g : Group) (n : NodeId) → is_among g (groups_of_node c s n) ≡ node_is_in c s g n
-node-among c s g n = by (node_in n s.nodes) where
-  by : (o : Option NodeRecord) → is_among g (option_map_or (λ k. node_groups c k (is_none (node_holder n s.nodes)) (is_unclaimed s k)) o no_node_groups) ≡ option_map_or (λ k. is_among g (node_groups c k (is_none (node_holder n s.nodes)) (is_unclaimed s k))) o false
-  by None = refl
-  by (Some k) = refl
+node-among c s g n = among-option g _ no_node_groups refl (node_in n s.nodes)
 
 pub request-among : (s : State) (g : Group) (r : RequestId) → is_among g (groups_of_request s r) ≡ request_is_in s g r
-request-among s g r = by (request_in r s.requests) where
-  by : (o : Option RequestRecord) → is_among g (option_map_or (λ k. request_groups k (is_none (request_holder r s.requests))) o no_request_groups)
-      ≡ option_map_or (λ k. is_among g (request_groups k (is_none (request_holder r s.requests)))) o false
-  by None = refl
-  by (Some k) = refl
+request-among s g r = among-option g _ no_request_groups refl (request_in r s.requests)
 
 -- the nodes by their groups
 pub nodes-grouped : (c : Configuration) (s : State) (ms : List (Member NodeId)) → AreNodeGroups c s ms → AreGrouped is_node_before same_node (groups_of_node c s) ms
@@ -432,11 +377,8 @@ module _ (c : Configuration) (s : State) (ch : Changes) (touched : TouchedOf) (r
       → new ≡ with_all_moved is_node_before same_node (groups_of_node c (changed c ch s)) (map node_before past.nodes) ms
       → AreNodeGroups c (changed c ch s) new
   nodes-noted past ms new listed old is =
-      grouped-nodes c (changed c ch s) new later
-      (subst (AreGrouped is_node_before same_node (groups_of_node c (changed c ch s)))
-      (sym (is
-      ∙ ap (λ (placed : List (Placed NodeId)). with_all_moved is_node_before same_node (groups_of_node c (changed c ch s)) placed ms)
-      (ap (map node_before) listed.nodes ∙ map-map node_before (past_node c s) touched.nodes)))
+      rw (is, listed.nodes, map-map node_before (past_node c s) touched.nodes)
+      (grouped-nodes c (changed c ch s) _ later
       (grouped-moved is_node_before same_node nodes-in_order (groups_of_node c s) (groups_of_node c (changed c ch s)) touched.nodes ms (nodes-grouped c s ms old) node-stays))
 
   -- where its record is not touched
@@ -498,18 +440,9 @@ module _ (c : Configuration) (s : State) (ch : Changes) (touched : TouchedOf) (r
       → new ≡ with_all_moved is_id_before same_request (unheld_groups (changed c ch s)) (map queue_before past.queues)
       (with_all_moved is_id_before same_request (groups_of_request (changed c ch s)) (map request_before past.requests) ms)
       → AreRequestGroups (changed c ch s) new
-  requests-noted past ms new listed old is = subst (AreRequestGroups (changed c ch s))
-      (sym (is
-      ∙ ap (λ (placed : List (Placed RequestId)). with_all_moved is_id_before same_request (unheld_groups (changed c ch s)) (map queue_before past.queues)
-      (with_all_moved is_id_before same_request (groups_of_request (changed c ch s)) placed ms))
-      (ap (map request_before) listed.requests ∙ map-map request_before (past_request s) touched.requests)
-      ∙ ap (λ (placed : List (Placed RequestId)). with_all_moved is_id_before same_request (unheld_groups (changed c ch s)) placed (noted_records ms))
-      (ap (map queue_before) listed.queues ∙ map-map queue_before (past_queue s) touched.queues)))
-      (record {
-        rises = rises-queues (noted_records ms) (rises-records ms old.rises);
-        each = each-noted ms old;
-        once = later.requests_rise;
-      })
+  requests-noted past ms new listed old is =
+      rw (is, listed.queues, listed.requests, map-map request_before (past_request s) touched.requests, map-map queue_before (past_queue s) touched.queues)
+      (record { rises = rises-queues (noted_records ms) (rises-records ms old.rises); each = each-noted ms old; once = later.requests_rise })
 
 -- ## all of it
 

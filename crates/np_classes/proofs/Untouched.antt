@@ -1,5 +1,5 @@
 -- what the changes of an event do not touch, nodes, requests, jobs and sessions, is after them as before
-use Rattle.np_classes.proofs.Prelude.{AllocationsListed, Bool, Changes, Configuration, Growth, HandlesChange, Invariant, IsAsking, IsReached, IsTouched, JobId, JobIn, JobRecord, JobsChange, List, Maker, NodeEntry, NodeId, NodeRecord, NodesChange, None, Option, Phase, RequestEntry, RequestId, RequestRecord, RequestsChange, SemId, SessionFacts, SessionId, SessionsChange, Some, State, TenantId, TouchedOf, allocated, ap, arith, asker_of, beginning, calm-request, change_at, change_first, changed, changed_job, changes_node, changes_request, cond, contrapositive, edited, ends_at_node, ends_at_request, facts_in, false, filter-not_none, fold, found-grown, freed, grown, grown-request, grows_node, grows_request, grows_request_queue, handles_changed, has_handle, insert_before, invariant-Runs, is_asked, is_none, is_queued, is_request, is_session, is_unclaimed, job_equal, job_of_request, jobs-grown, jobs_changed, joined, kept-change_at, leaves_request_queue, left, left-request, length, list_any, list_any-append, list_any-insert_before, made-look, muted, nat_lt, nat_tests, node_in, node_in-allocated, node_in-freed, node_in-in_use, node_in-left, node_in-other, node_in-put, node_in-queue, node_in-remove, node_queue, node_queue-allocated, node_queue-freed, node_queue-in_use, node_queue-left, node_queue-nowhere, node_queue-other, node_queue-put, node_queue-queue, node_queue-remove, nodes_changed, nodes_left, none-list_any, not, option_and_then, option_map, option_map_or, option_to_list, or_false, or_parts, put_node_queue, put_request_queue, refl, registers, releasing, request_equal, request_in, request_in-below, request_in-edit, request_in-insert, request_in-queue, request_in-remove, request_queue, request_queue-edit, request_queue-insert, request_queue-left, request_queue-nowhere, request_queue-queue, request_queue-remove, requests_changed, requests_left, same_job, same_request, same_session, semaphores_of, session_of, sessions_changed, set-other, slice_get, slice_get-change_at_other, standing, stopping, subst, suc, sym, taking, touches_job, touches_node, touches_request, touches_request_queue, touches_session, true, unclaims_node, unwrap_or, used_from, with_handle, with_mark, without_handle, zero, ℕ, [], ◌++◌, ◌+◌, ◌-◌, ◌<◌, ◌==◌, ◌||◌, ◌∙◌, ◌∷◌, ◌≡◌, ◌≢◌}
+use Rattle.np_classes.proofs.Prelude.{AllocationsListed, Bool, Changes, Configuration, Growth, HandlesChange, Invariant, IsAsking, IsReached, IsTouched, JobId, JobIn, JobRecord, JobsChange, List, Maker, NodeEntry, NodeId, NodeRecord, NodesChange, None, Option, Phase, RequestEntry, RequestId, RequestRecord, RequestsChange, SemId, SessionFacts, SessionId, SessionsChange, Some, State, TenantId, TouchedOf, allocated, ap, arith, asker_of, beginning, calm-request, change_at, change_first, changed, changed_job, changes_node, changes_request, cond, contrapositive, edited, ends_at_node, ends_at_request, facts_in, false, filter-not_none, fold, found-grown, freed, grown, grown-request, grows_node, grows_request, grows_request_queue, handles_changed, has_handle, invariant-Runs, is_asked, is_none, is_queued, is_request, is_session, is_unclaimed, job_of_request, jobs-grown, jobs_changed, joined, kept-change_at, leaves_request_queue, left, left-request, length, list_any, list_any-append, list_any-insert_before, made-look, muted, nat_lt, nat_tests, node_in, node_in-allocated, node_in-freed, node_in-in_use, node_in-left, node_in-other, node_in-put, node_in-queue, node_in-remove, node_queue, node_queue-allocated, node_queue-freed, node_queue-in_use, node_queue-left, node_queue-nowhere, node_queue-other, node_queue-put, node_queue-queue, node_queue-remove, nodes_changed, nodes_left, none-list_any, option_and_then, option_map, option_map_or, option_to_list, or_false, or_parts, put_node_queue, put_request_queue, refl, registers, releasing, request_equal, request_in, request_in-below, request_in-edit, request_in-insert, request_in-queue, request_in-remove, request_queue, request_queue-edit, request_queue-insert, request_queue-left, request_queue-nowhere, request_queue-queue, request_queue-remove, requests_changed, requests_left, same_job, same_request, same_session, semaphores_of, session_of, sessions_changed, set-other, slice_get, slice_get-change_at_other, standing, stopping, suc, sym, taking, touches_job, touches_node, touches_request, touches_request_queue, touches_session, true, unclaims_node, unwrap_or, used_from, with_handle, with_mark, without_handle, zero, ℕ, [], ◌++◌, ◌-◌, ◌<◌, ◌==◌, ◌||◌, ◌∙◌, ◌∷◌, ◌≡◌, ◌≢◌}
 use Rattle.np_changes.specs.Prelude.{is_among, ended}
 
 -- # what the changes of an event do not touch is found after them as before
@@ -71,10 +71,9 @@ left-same session queue out = filter-not_none (λ other. is_session other sessio
 
 -- the end of a session that is not in the node's queue
 left-untouched : (ended : SessionsChange) (s : State) (n : NodeId) (rows : List NodeEntry) → node_queue n rows ≡ node_queue n s.nodes → ends_at_node ended s n ≡ false → Alike n (nodes_left ended rows) rows
-left-untouched SessionsChange.Same s n rows same out = (refl, refl)
-left-untouched (SessionsChange.Mute session) s n rows same out = (refl, refl)
 left-untouched (SessionsChange.End session) s n rows same out =
     (node_in-left session n rows, node_queue-left session n rows ∙ left-same session (node_queue n rows) (ap (λ (queue : List SessionId). is_queued session queue) same ∙ out))
+left-untouched _ s n rows same out = (refl, refl)
 
 -- a node that the changes do not touch has the same record and the same queue after them
 pub node-untouched : (c : Configuration) (ch : Changes) (s : State) (n : NodeId) → touches_node ch s n ≡ false → (node_in n (changed c ch s).nodes ≡ node_in n s.nodes) × (node_queue n (changed c ch s).nodes ≡ node_queue n s.nodes)
@@ -146,12 +145,11 @@ queue-changed (Some by) (RequestsChange.Leave r0) r rows other calm = request_qu
 -- the end of a session that is not in the request's queue
 queue-left : (ended : SessionsChange) (s : State) (r : RequestId) (rows : List RequestEntry) → request_queue r rows ≡ request_queue r s.requests → ends_at_request ended s r ≡ false
     → request_queue r (requests_left ended rows) ≡ request_queue r rows
-queue-left SessionsChange.Same s r rows same out = refl
-queue-left (SessionsChange.Mute session) s r rows same out = refl
 queue-left (SessionsChange.End session) s r rows same out =
     request_queue-left session r rows ∙ left-same session (request_queue r rows) (ap (λ (queue : List SessionId). is_queued session queue) same ∙ out)
+queue-left _ s r rows same out = refl
 
--- a request of which the changes touch or_parts the record nor the queue has the same queue after them
+-- a request of which the changes touch neither the record nor the queue has the same queue after them
 pub queue-untouched : (c : Configuration) (ch : Changes) (s : State) (r : RequestId) → touches_request ch s r ≡ false → touches_request_queue ch s r ≡ false
     → request_queue r (changed c ch s).requests ≡ request_queue r s.requests
 queue-untouched c ch s r out calm =
@@ -172,13 +170,7 @@ edited-there b f r (Some q) = refl
 
 -- two requests that are not the same, in either order
 apart : (a b : RequestId) → same_request a b ≡ false → same_request b a ≡ false
-apart a b other = by (same_request b a) refl where
-  by : (x : Bool) → same_request b a ≡ x → x ≡ false
-  by true is =
-      let itself : same_request b b ≡ false = subst (λ (x : RequestId). same_request x b ≡ false) (sym (request_equal b a is)) other in
-      let same : same_request b b ≡ true = subst (λ (x : RequestId). same_request b x ≡ true) (sym (request_equal b a is)) is in
-      absurd cc
-  by false is = refl
+apart a b other = contrapositive (same_request b a) (same_request a b) (λ is. let e : b ≡ a = request_equal b a is in rw e (rw e at is)) other
 
 -- the request that a node is allocated to is there after a change as before it, if the node is not touched
 stays-there : (maker : Option Maker) (change : RequestsChange) (s : State) (n : NodeId) (k : NodeRecord) (r : RequestId) (rows : List RequestEntry)
@@ -259,19 +251,12 @@ job-untouched c ch s j out =
 
 -- a job more among those of one semaphore leaves the others
 with-other : (i j : JobId) (jobs : List JobId) → same_job i j ≡ false → is_among j (with_handle i jobs) ≡ is_among j jobs
-with-other i j jobs other = by (is_among i jobs) where
-  by : (b : Bool) → is_among j (cond b jobs (insert_before (λ k. nat_lt i.0 k.0) i jobs)) ≡ is_among j jobs
-  by true = refl
-  by false = list_any-insert_before (λ (k : JobId). k.0 == j.0) (λ k. nat_lt i.0 k.0) i jobs ∙ rw other refl
+with-other i j jobs other = grind (arith, other, list_any-insert_before (λ (k : JobId). k.0 == j.0) (λ k. nat_lt i.0 k.0) i jobs)
 
 -- and so does a job less
 without-other : (i j : JobId) (jobs : List JobId) → same_job i j ≡ false → is_among j (without_handle i jobs) ≡ is_among j jobs
 without-other i j [] other = refl
-without-other i j (k ∷ jobs) other = by (same_job k i) refl (without-other i j jobs other) where
-  by : (b : Bool) → same_job k i ≡ b → is_among j (without_handle i jobs) ≡ is_among j jobs
-      → is_among j (cond (not b) (k ∷ without_handle i jobs) (without_handle i jobs)) ≡ (same_job k j || is_among j jobs)
-  by true is later = let out : same_job k j ≡ false = subst (λ (l : JobId). same_job l j ≡ false) (sym (job_equal k i is)) other in rw out later
-  by false apart later = ap (λ (b : Bool). same_job k j || b) later
+without-other i j (k ∷ jobs) other = grind (arith, nat_tests, other, without-other i j jobs other)
 
 abbrev among : JobId → Option (List JobId) → Bool
 among j o = is_among j (unwrap_or o [])
@@ -303,22 +288,15 @@ module _ (s : State) (j : JobId) (kept : JobRecord) (asking : IsAsking s j kept)
   -- a change of the request names the job
   asker-is : (x : RequestId) → same_request x asking.id ≡ true → is_named (job_of_request x s) j ≡ true
   asker-is x same =
-      ap (λ (r : RequestId). is_named (job_of_request r s) j) (request_equal x asking.id same)
-      ∙ ap (λ (o : Option RequestRecord). is_named (option_and_then (λ request. request.job) o) j) asking.stands
-      ∙ ap (λ (o : Option JobId). is_named o j) asking.names
-      ∙ grind (arith, nat_tests)
+      rw (request_equal x asking.id same, asking.stands, asking.names) (grind (arith, nat_tests))
 
   not-asker : (x : RequestId) → is_named (job_of_request x s) j ≡ false → same_request x asking.id ≡ false
-  not-asker x out = by (same_request x asking.id) refl where
-    by : (b : Bool) → same_request x asking.id ≡ b → b ≡ false
-    by true same = sym (asker-is x same) ∙ out
-    by false other = refl
+  not-asker x out = contrapositive (same_request x asking.id) (is_named (job_of_request x s) j) (asker-is x) out
 
   not-changed : (change : RequestsChange) → is_named (asker_of change s) j ≡ false → changes_request change asking.id ≡ false
-  not-changed RequestsChange.Same out = refl
   not-changed (RequestsChange.Edit x edit) out = not-asker x out
   not-changed (RequestsChange.Remove x) out = not-asker x out
-  not-changed (RequestsChange.Leave x) out = refl
+  not-changed _ out = refl
 
 -- a request that is there does not grow
 not-grown : (g : Growth) (s : State) (r : RequestId) → r.seq < s.next_request → grows_request g s r ≡ false
@@ -332,7 +310,6 @@ asked-untouched c ch s j kept reached out stands asked = by kept.phase asked (in
   invariant = invariant-Runs c reached.journal s reached.runs
 
   by : (p : Phase) → is_asked p ≡ true → JobIn s j kept p → option_and_then (λ r. request_in r (changed c ch s).requests) kept.request ≡ option_and_then (λ r. request_in r s.requests) kept.request
-  by Phase.New is job = absurd cc
   by Phase.Asked is job =
       let low : job.0.id.seq < s.next_request = request_in-below job.0.id s.next_request job.0.request s.requests invariant.numbered.requests_below job.0.stands in
       let calm : touches_request ch s job.0.id ≡ false =
@@ -340,8 +317,7 @@ asked-untouched c ch s j kept reached out stands asked = by kept.phase asked (in
       ap (λ (o : Option RequestId). option_and_then (λ r. request_in r (changed c ch s).requests) o) job.0.asks
       ∙ request-untouched c ch s job.0.id calm
       ∙ sym (ap (λ (o : Option RequestId). option_and_then (λ r. request_in r s.requests) o) job.0.asks)
-  by Phase.Using is job = absurd cc
-  by Phase.Over is job = absurd cc
+  by _ is job = absurd cc
 
 -- # a session that the changes of an event do not touch is as it was
 
@@ -354,10 +330,7 @@ push-other (x ∷ xs) new (suc i) other = push-other xs new i (λ same. other (a
 
 -- a session with the number 0 is never found
 by-number : {X : Type 0} (number : ℕ) (a b : Option X) → ((number == 0) ≡ false → a ≡ b) → cond (number == 0) None a ≡ cond (number == 0) None b
-by-number number a b same = by (number == 0) refl where
-  by : (z : Bool) → (number == 0) ≡ z → cond z None a ≡ cond z None b
-  by true is = refl
-  by false is = same is
+by-number number a b same = grind (arith, nat_tests)
 
 -- the session is in the list
 abbrev lists_session : SessionId → List SessionId → Bool

@@ -168,13 +168,10 @@ module _ {X K V : Type 0} (key : X → K) (kept : X → V) (before same : K → 
   -- ## one row and the later ones
 
   later-other : (a b : K) → before a b ≡ true → same b a ≡ false
-  later-other a b first = by (same b a) refl where
-    by : (c : Bool) → same b a ≡ c → same b a ≡ false
-    by true is =
-        let turned : before a a ≡ true = subst (λ (k : K). before a k ≡ true) (equal b a is) first in
-        let back : before a a ≡ false = one_way a a turned in
-        absurd cc
-    by false is = is
+  later-other a b first =
+      let same = equal b a in
+      let back = one_way a b first in
+      grind arith
 
   none-after : (k : K) (xs : List X) → AllAfter k xs → at k xs ≡ None
   none-after k [] all = refl
@@ -182,10 +179,11 @@ module _ {X K V : Type 0} (key : X → K) (kept : X → V) (before same : K → 
 
   found-after : (a k : K) (v : V) (xs : List X) → AllAfter a xs → at k xs ≡ Some v → before a k ≡ true
   found-after a k v [] all is = absurd cc
-  found-after a k v (x ∷ xs) all is = by (same (key x) k) refl is (found-after a k v xs all.1) where
-    by : (b : Bool) → same (key x) k ≡ b → option_map kept (cond b (Some x) (find (λ y. same (key y) k) xs)) ≡ Some v → (at k xs ≡ Some v → before a k ≡ true) → before a k ≡ true
-    by true here found later = subst (λ (j : K). before a j ≡ true) (equal (key x) k here) all.0
-    by false other found later = later found
+  found-after a k v (x ∷ xs) all is =
+      let first = all.0 in
+      let here = equal (key x) k in
+      let later = found-after a k v xs all.1 in
+      grind arith
 
   at-first : (x : X) (xs : List X) → at (key x) (x ∷ xs) ≡ Some (kept x)
   at-first x xs = rw (itself (key x)) refl
@@ -237,15 +235,10 @@ module _ {X K V : Type 0} (key : X → K) (kept : X → V) (before same : K → 
 
   at-other : (r k : K) (xs : List X) → same r k ≡ false → at k (without r xs) ≡ at k xs
   at-other r k [] other = refl
-  at-other r k (x ∷ xs) other = by (same (key x) r) refl (at-other r k xs other) where
-    later : (b : Bool) → at k (without r xs) ≡ at k xs
-        → option_map kept (cond b (Some x) (find (λ y. same (key y) k) (without r xs))) ≡ option_map kept (cond b (Some x) (find (λ y. same (key y) k) xs))
-    later true rest = refl
-    later false rest = rest
-
-    by : (b : Bool) → same (key x) r ≡ b → at k (without r xs) ≡ at k xs → at k (cond b xs (x ∷ without r xs)) ≡ at k (x ∷ xs)
-    by true here rest = sym (at-past x xs k (ap (λ (j : K). same j k) (equal (key x) r here) ∙ other))
-    by false past rest = later (same (key x) k) rest
+  at-other r k (x ∷ xs) other =
+      let here = equal (key x) r in
+      let rest = at-other r k xs other in
+      grind arith
 
   at-removed : (r : K) (xs : List X) → InOrder xs → at r (without r xs) ≡ None
   at-removed r [] rises = refl
@@ -316,11 +309,7 @@ module _ (c : Configuration) (t : TenantId) where
   -- ## the rest of one request
 
   pub share-by : (k : RequestRecord) → share t (rest_by c k) ≡ waits_for c t k
-  share-by k = by (is_pending k.state) (tenant_of_request c k) (rest_of c k) where
-    by : (b : Bool) (o : Option TenantId) (a : Amount) → share t (if b then option_map (λ x. record { tenant = x; amount = a }) o else None) ≡ (if b && is_tenant t o then a else nothing)
-    by true (Some x) a = refl
-    by true None a = refl
-    by false o a = refl
+  share-by k = grind arith
 
   pub share-at : (s : State) (r : RequestId) → share t (rest_at c s r) ≡ option_map_or (waits_for c t) (request_in r s.requests) nothing
   share-at s r = by (request_in r s.requests) where

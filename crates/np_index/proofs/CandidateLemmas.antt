@@ -1,5 +1,5 @@
 -- the candidates of pools in order, with their ranks, and the least candidate of all lines
-use Rattle.np_index.proofs.Prelude.{AllByRecursion, AreOpen, Bool, Configuration, IfSome, IsLineFrom, List, Member, None, OpenOf, Option, PoolId, Rank, RequestEntry, Rises, Rises-filter, Some, State, all-insert_before, all-weaker, ap, arith, blocking, candidate_of, candidate_ranks, comes_before, cond, drop-there, earlier, earlier_rank, false, filter, find, find-passes, first-line, first_line, first_of, fold, holder, ids-in_order, in_order, inl, inr, insert_before, is_candidate, is_declined_by, is_id_before, is_none, is_past, is_pinned_away, is_rank_before, is_requested, is_requested_at, later-request-apart, least, line_after, line_of, list_any, list_any-insert_before, map, may_take_up, nat_lt, nat_tests, next-line, next_among, not, option_map, option_map_or, rank_equal, rank_of, rank_one_way, rank_transitive, ranks-are, ranks_of, refl, request-equal, request_entry, rises-insert_before, row-passes, same_rank, same_request, slice_get, slice_get-map, subst, suc, sym, true, waits-there, zero, ℕ, [], ◌&&◌, ◌-◌, ◌<◌, ◌==◌, ◌^◌, ◌||◌, ◌∙◌, ◌∷◌, ◌≡◌, ◌≤◌, ◌⊎◌}
+use Rattle.np_index.proofs.Prelude.{AllByRecursion, AreOpen, Bool, Configuration, IfSome, IsLineFrom, IsWalkedPast, List, Member, None, OpenOf, Option, PoolId, Rank, RequestEntry, Rises, Rises-filter, Some, State, all-from_at, all-insert_before, all-weaker, and-first, and-second, ap, arith, candidate_of, candidate_ranks, cases_order, comes_before, cond, earlier, earlier_rank, eqb-true, false, filter, find, find-passes, first-line, first_line, first_of, fold, ids-in_order, in_order, inl, inr, insert_before, is_candidate, is_id_before, is_past, is_rank_before, is_requested_at, later-request-apart, least, line_after, line_of, lines_left, list_any, list_any-insert_before, map, may_take_up, nat_tests, next-line, next_among, option_map, option_map_or, past-end, rank_equal, rank_of, rank_one_way, rank_transitive, ranks-are, ranks_of, refl, request-equal, request_entry, rises-insert_before, row-passes, same_rank, same_request, slice_get, slice_get-map, slice_get_past, subst, suc, sym, true, waits-there, ℕ, [], ◌&&◌, ◌-◌, ◌<◌, ◌==◌, ◌^◌, ◌||◌, ◌∙◌, ◌∷◌, ◌≡◌, ◌≤◌, ◌⊎◌}
 use Rattle.np_index.proofs.Firsts.{beats, earlier-is, find-always, find-least, find-next, find-none, found-least, found-there, has, is-beaten, none-found, passes, stays-beaten, takes}
 
 -- # the candidates of pools in order, with their ranks, and the least candidate of all lines
@@ -108,21 +108,7 @@ module _ (test : RequestEntry → Bool) where
   -- the ids of those entries have the rank's
   by-ids : (x : Rank) (es : List RequestEntry) → list_any (λ e. same_rank (rank e) x) (filter test es) ≡ list_any (λ r. same_request r x.request) (map (λ e. e.id) (filter (fits x) es))
   by-ids x [] = refl
-  by-ids x (e ∷ es) = by (test e) (e.kept.relative_priority == x.relative) refl (by-ids x es) where
-    one : (a b c : Bool) → b ≡ c → ((a && true) || b) ≡ (a || c)
-    one true b c same = refl
-    one false b c same = same
-
-    other : (a b c : Bool) → b ≡ c → ((a && false) || b) ≡ c
-    other true b c same = same
-    other false b c same = same
-
-    by : (b d : Bool) → (e.kept.relative_priority == x.relative) ≡ d
-        → list_any (λ k. same_rank (rank k) x) (filter test es) ≡ list_any (λ r. same_request r x.request) (map (λ k. k.id) (filter (fits x) es))
-        → list_any (λ k. same_rank (rank k) x) (cond b (e ∷ filter test es) (filter test es)) ≡ list_any (λ r. same_request r x.request) (map (λ k. k.id) (cond (b && d) (e ∷ filter (fits x) es) (filter (fits x) es)))
-    by true true is later = rw is (one (same_request e.id x.request) _ _ later)
-    by true false is later = rw is (other (same_request e.id x.request) _ _ later)
-    by false d is later = later
+  by-ids x (e ∷ es) = grind (arith, by-ids x es)
 
   module _ (es : List RequestEntry) (once : Rises (λ a b. is_id_before a.id b.id) es) where
     -- the ranks of those that pass, in order
@@ -146,8 +132,7 @@ module _ (c : Configuration) (s : State) (p : PoolId) where
   pub candidate-rank : (at : ℕ) → option_map (λ x. x.request) (slice_get (candidate_ranks c s p) at) ≡ candidate_of c s p at
   candidate-rank at = ap (option_map (λ (x : Rank). x.request)) (slice_get-map rank (in_order (filter (is_candidate c s p) s.requests)) at) ∙ by (slice_get (in_order (filter (is_candidate c s p) s.requests)) at) where
     by : (o : Option RequestEntry) → option_map (λ x. x.request) (option_map rank o) ≡ option_map (λ e. e.id) o
-    by None = refl
-    by (Some e) = refl
+    by o = grind arith
 
   module _ (once : Rises (λ a b. is_id_before a.id b.id) s.requests) where
     -- if no two requests have one id, the first candidate in order is the least
@@ -161,14 +146,6 @@ module _ (c : Configuration) (s : State) (p : PoolId) where
     candidates-rise = ranks-rise (is_candidate c s p) s.requests once
 
   module _ (kept : OpenOf) (are : AreOpen c s kept) (x : Rank) where
-    and-both : (a b : Bool) → a ≡ true → b ≡ true → (a && b) ≡ true
-    and-both a b first second = rw (first, second) refl
-
-    middle : (a b e : Bool) → (a && b && e) ≡ true → b ≡ true
-    middle true true e all = refl
-    middle true false e all = absurd cc
-    middle false b e all = absurd cc
-
     -- a rank of a line whose request may be taken up is that of a candidate
     pub line-candidate : (line : ℕ) → has x (ranks_of line kept.members) ≡ true → may_take_up c s p x.request ≡ true → has x (candidate_ranks c s p) ≡ true
     line-candidate line there takes =
@@ -176,37 +153,21 @@ module _ (c : Configuration) (s : State) (p : PoolId) where
         ∙ by (request_entry x.request s.requests) (sym ((ranks-are c s kept are line).each x) ∙ there) takes
       where
         by : (o : Option RequestEntry) → is_requested_at c kept.lines line x (option_map (λ e. e.kept) o) ≡ true → option_map_or (is_candidate c s p) o false ≡ true → option_map_or (fits (is_candidate c s p) x) o false ≡ true
-        by None at passes = absurd cc
-        by (Some e) at passes = and-both (is_candidate c s p e) (e.kept.relative_priority == x.relative) passes (middle (is_requested e.kept.state) (e.kept.relative_priority == x.relative) (line_of c kept.lines e.kept == line) at)
+        by o at passes = grind arith
 
     -- a candidate's rank is in the line of its request
     pub candidate-line : has x (candidate_ranks c s p) ≡ true → (line : ℕ) × (has x (ranks_of line kept.members) ≡ true) × (may_take_up c s p x.request ≡ true)
     candidate-line there = by (request_entry x.request s.requests) refl (sym (ranks-have (is_candidate c s p) s.requests are.once x) ∙ there) where
-      one : (a b : Bool) → (a && b) ≡ true → a ≡ true
-      one true b all = refl
-      one false b all = absurd cc
-
-      other : (a b : Bool) → (a && b) ≡ true → b ≡ true
-      other true b all = all
-      other false b all = absurd cc
-
-      requested : (a b d e k : Bool) → ((a && b && d && e) && k) ≡ true → a ≡ true
-      requested true b d e k all = refl
-      requested false b d e k all = absurd cc
-
-      equal : (a b : ℕ) → (a == b) ≡ true → a ≡ b
-      equal a b same = grind (arith, nat_tests)
-
       by : (o : Option RequestEntry) → request_entry x.request s.requests ≡ o → option_map_or (fits (is_candidate c s p) x) o false ≡ true
           → (line : ℕ) × (has x (ranks_of line kept.members) ≡ true) × (may_take_up c s p x.request ≡ true)
       by None none all = absurd cc
       by (Some e) found all =
-          let takes : is_candidate c s p e ≡ true = one (is_candidate c s p e) (e.kept.relative_priority == x.relative) all in
-          let same : e.kept.relative_priority ≡ x.relative = equal e.kept.relative_priority x.relative (other (is_candidate c s p e) (e.kept.relative_priority == x.relative) all) in (
+          let takes : is_candidate c s p e ≡ true = and-first (is_candidate c s p e) (e.kept.relative_priority == x.relative) all in
+          let same : e.kept.relative_priority ≡ x.relative = eqb-true e.kept.relative_priority x.relative (and-second (is_candidate c s p e) (e.kept.relative_priority == x.relative) all) in (
             line_of c kept.lines e.kept,
             waits-there c s kept are (line_of c kept.lines e.kept) x e.kept (record {
               there = ap (option_map (λ (k : RequestEntry). k.kept)) found;
-              requested = requested (is_requested e.kept.state) (is_none (holder e.queue)) (not (is_declined_by p e.kept.declined)) (not (is_pinned_away p e.kept)) (is_none (blocking c s p e.kept)) takes;
+              requested = grind (arith, takes);
               relative = same;
               of_line = refl;
             }),
@@ -217,22 +178,17 @@ module _ (c : Configuration) (s : State) (p : PoolId) where
 
 -- ## the least of all lines
 
--- the line was walked, where this one is the next
-abbrev pub IsDone : Option ℕ → ℕ → Type 0
-IsDone None line = Unit {0}
-IsDone (Some next) line = line < next
-
 -- the best so far passes and is in a line, and none that passes in the lines that were walked beats it
 pub record IsBest (test : Rank → Bool) (members : List (Member Rank)) (next : Option ℕ) (best : Option Rank) : Type 0 where
   pub one : (b : Rank) → best ≡ Some b → (line : ℕ) × (has b (ranks_of line members) ≡ true) × (test b ≡ true)
-  pub least : (line : ℕ) → IsDone next line → (x : Rank) → has x (ranks_of line members) ≡ true → test x ≡ true → beats best x ≡ false
+  pub least : (line : ℕ) → IsWalkedPast next line → (x : Rank) → has x (ranks_of line members) ≡ true → test x ≡ true → beats best x ≡ false
 
 -- a line that is left out has no ranks
-left-out : (members : List (Member Rank)) (start : ℕ) (next : Option ℕ) → IsLineFrom members start next → (line : ℕ) → start ≤ line → IsDone next line → ranks_of line members ≡ []
+left-out : (members : List (Member Rank)) (start : ℕ) (next : Option ℕ) → IsLineFrom members start next → (line : ℕ) → start ≤ line → IsWalkedPast next line → ranks_of line members ≡ []
 left-out members start None from line low done = from line low
 left-out members start (Some next) from line low done = from.none_before line low done
 
--- so none is drop-there
+-- so none is there
 none-there : (members : List (Member Rank)) (line : ℕ) (x : Rank) → ranks_of line members ≡ [] → has x (ranks_of line members) ≡ true → ⊥
 none-there members line x none is = let out : has x [] ≡ true = subst (λ (xs : List Rank). has x xs ≡ true) none is in absurd cc
 
@@ -249,20 +205,13 @@ module _ (test : Rank → Bool) (members : List (Member Rank)) where
       → IsLineFrom members (suc line) next → IsBest test members (Some line) best → IsBest test members next (earlier_rank best found)
   goes-on line next best found rises is from was = record {
     one = λ b here. one-of b (earlier-is best found b here);
-    least = λ other done x that ok. by other done x that ok (cases other);
+    least = λ other done x that ok. by other done x that ok (cases_order other line);
   } where
     one-of : (b : Rank) → (best ≡ Some b) ⊎ (found ≡ Some b) → (n : ℕ) × (has b (ranks_of n members) ≡ true) × (test b ≡ true)
     one-of b (inl old) = was.one b old
     one-of b (inr new) =
-        let drop-there : find test (ranks_of line members) ≡ Some b = sym is ∙ new in
-        (line, found-there test (ranks_of line members) b drop-there, find-passes test (ranks_of line members) b drop-there)
-
-    cases : (other : ℕ) → (other < line) ⊎ ((other ≡ line) ⊎ (suc line ≤ other))
-    cases other = by (nat_lt other line) refl (other == line) refl where
-      by : (a : Bool) → nat_lt other line ≡ a → (b : Bool) → (other == line) ≡ b → (other < line) ⊎ ((other ≡ line) ⊎ (suc line ≤ other))
-      by true less b same = let low : other < line = grind (arith, nat_tests) in inl low
-      by false more true same = let equal : other ≡ line = grind (arith, nat_tests) in inr (inl equal)
-      by false more false other_one = let high : suc line ≤ other = grind (arith, nat_tests) in inr (inr high)
+        let there : find test (ranks_of line members) ≡ Some b = sym is ∙ new in
+        (line, found-there test (ranks_of line members) b there, find-passes test (ranks_of line members) b there)
 
     here : (o : Option Rank) → o ≡ find test (ranks_of line members) → (x : Rank) → has x (ranks_of line members) ≡ true → test x ≡ true → beats (earlier_rank best o) x ≡ false
     here None none x that ok =
@@ -271,19 +220,15 @@ module _ (test : Rank → Bool) (members : List (Member Rank)) where
     here (Some f) some x that ok =
         is-beaten best f x (found-least test (ranks_of line members) f x rises (sym some) that ok)
 
-    by : (other : ℕ) → IsDone next other → (x : Rank) → has x (ranks_of other members) ≡ true → test x ≡ true → (other < line) ⊎ ((other ≡ line) ⊎ (suc line ≤ other)) → beats (earlier_rank best found) x ≡ false
-    by other done x that ok (inl less) = stays-beaten best found x (was.least other less x that ok)
-    by other done x that ok (inr (inl same)) = here found is x (subst (λ (n : ℕ). has x (ranks_of n members) ≡ true) same that) ok
-    by other done x that ok (inr (inr more)) = absurd (none-there members other x (left-out members (suc line) next from other more done) that)
-
--- how far the next line is from the greatest number of a line, none if drop-there is no next
-abbrev pub lines_left : Option ℕ → ℕ
-lines_left next = option_map_or (λ line. 2 ^ 64 - line) next 0
+    by : (other : ℕ) → IsWalkedPast next other → (x : Rank) → has x (ranks_of other members) ≡ true → test x ≡ true → (other ≡ line) ⊎ ((other < line) ⊎ (line < other)) → beats (earlier_rank best found) x ≡ false
+    by other done x that ok (inl same) = here found is x (subst (λ (n : ℕ). has x (ranks_of n members) ≡ true) same that) ok
+    by other done x that ok (inr (inl less)) = stays-beaten best found x (was.least other less x that ok)
+    by other done x that ok (inr (inr more)) = absurd (none-there members other x (left-out members (suc line) next from other (omega (arith, more)) done) that)
 
 -- ## the candidates
 
 module _ (c : Configuration) (s : State) (p : PoolId) (kept : OpenOf) (are : AreOpen c s kept) where
-  -- before the first line drop-there is no best
+  -- before the first line there is no best
   pub best-begins : (given : Option Rank) (next : Option ℕ) → next ≡ first_line kept.members → IsBest (passes c s p given) kept.members next None
   best-begins given next is = begins-so (passes c s p given) kept.members next (subst (IsLineFrom kept.members 0) (sym is) (first-line c s kept are))
 
@@ -291,7 +236,7 @@ module _ (c : Configuration) (s : State) (p : PoolId) (kept : OpenOf) (are : Are
     from : IsLineFrom kept.members (suc line) next
     from = subst (IsLineFrom kept.members (suc line)) (sym is) (next-line c s kept are line)
 
-    -- a line more, and the best is the earlier of the best so far and of what was found drop-there
+    -- a line more, and the best is the earlier of the best so far and of what was found there
     pub best-next : (given best found : Option Rank) → found ≡ earlier_rank best (next_among c s p given (ranks_of line kept.members)) → IsBest (passes c s p given) kept.members now best
         → IsBest (passes c s p given) kept.members next found
     best-next given best found earlier was =
@@ -310,10 +255,10 @@ module _ (c : Configuration) (s : State) (p : PoolId) (kept : OpenOf) (are : Are
   best-first : (given best : Option Rank) → IsBest (passes c s p given) kept.members None best → best ≡ find (is_past given) (candidate_ranks c s p)
   best-first given None is = sym (find-none (is_past given) (candidate_ranks c s p) none) where
     none : (y : Rank) → has y (candidate_ranks c s p) ≡ true → is_past given y ≡ false
-    none y drop-there = by (is_past given y) refl where
+    none y there = by (is_past given y) refl where
       by : (b : Bool) → is_past given y ≡ b → b ≡ false
       by true past =
-          let at = candidate-line c s p kept are y drop-there in
+          let at = candidate-line c s p kept are y there in
           let ok : (is_past given y && takes c s p y) ≡ true = rw (past, at.2) refl in
           let no : true ≡ false = is.least at.0 tt y at.1 ok in
           absurd cc
@@ -321,17 +266,9 @@ module _ (c : Configuration) (s : State) (p : PoolId) (kept : OpenOf) (are : Are
   best-first given (Some b) is =
       let at = is.one b refl in
       sym (find-least (is_past given) (candidate_ranks c s p) b (candidates-rise c s p are.once)
-      (line-candidate c s p kept are b at.0 at.1 (second (is_past given b) (takes c s p b) at.2))
-      (first (is_past given b) (takes c s p b) at.2)
-      (λ y drop-there past. let other = candidate-line c s p kept are y drop-there in let ok : (is_past given y && takes c s p y) ≡ true = rw (past, other.2) refl in is.least other.0 tt y other.1 ok))
-    where
-      first : (a b : Bool) → (a && b) ≡ true → a ≡ true
-      first true b all = refl
-      first false b all = absurd cc
-
-      second : (a b : Bool) → (a && b) ≡ true → b ≡ true
-      second true b all = all
-      second false b all = absurd cc
+      (line-candidate c s p kept are b at.0 at.1 (and-second (is_past given b) (takes c s p b) at.2))
+      (and-first (is_past given b) (takes c s p b) at.2)
+      (λ y there past. let other = candidate-line c s p kept are y there in let ok : (is_past given y && takes c s p y) ≡ true = rw (past, other.2) refl in is.least other.0 tt y other.1 ok))
 
 -- the one that is given is the candidate before the place, and none is given at place 0
 abbrev pub IsBefore : List Rank → ℕ → Option Rank → Type 0
@@ -341,7 +278,7 @@ IsBefore ranks place (Some x) = (0 < place) × (slice_get ranks (place - 1) ≡ 
 module _ (c : Configuration) (s : State) (p : PoolId) where
   -- so the first after it is the one at the place
   first-at : (kept : OpenOf) → AreOpen c s kept → (place : ℕ) (given : Option Rank) → IsBefore (candidate_ranks c s p) place given → find (is_past given) (candidate_ranks c s p) ≡ slice_get (candidate_ranks c s p) place
-  first-at kept are place None is = find-always (is_past None) (candidate_ranks c s p) (λ x. refl) ∙ ap (slice_get (candidate_ranks c s p)) (sym is)
+  first-at kept are place None is = find-always (is_past None) (candidate_ranks c s p) (all-from_at (λ x. is_past None x ≡ true) (candidate_ranks c s p) (λ at x there. refl)) ∙ ap (slice_get (candidate_ranks c s p)) (sym is)
   first-at kept are place (Some x) is =
       let next : suc (place - 1) ≡ place = omega (arith, is.0) in
       find-next (candidate_ranks c s p) (place - 1) x (candidates-rise c s p are.once) is.1
@@ -353,9 +290,6 @@ module _ (c : Configuration) (s : State) (p : PoolId) where
   best-at kept are place given best next end before is =
       best-first c s p kept are given best (subst (λ (o : Option ℕ). IsBest (passes c s p given) kept.members o best) end is) ∙ first-at kept are place given before
 
--- where drop-there is none, drop-there is none later
+-- where there is none, there is none later
 pub none-on : {X : Type 0} (xs : List X) (i j : ℕ) → slice_get xs i ≡ None → i ≤ j → slice_get xs j ≡ None
-none-on [] i j none low = refl
-none-on (x ∷ xs) zero j none low = absurd cc
-none-on (x ∷ xs) (suc i) zero none low = absurd (omega arith)
-none-on (x ∷ xs) (suc i) (suc j) none low = none-on xs i j none (omega arith)
+none-on xs i j none low = slice_get_past xs j (omega (arith, past-end xs i none, low))

@@ -1,5 +1,5 @@
 -- the first rank of a line that passes, of ranks in order, and the walk over the ranks of a line
-use Rattle.np_index.proofs.Prelude.{AllByRecursion, AreOpen, Asked, Bool, Configuration, IsOpenFrom, IsWaiting, List, Member, None, OpenOf, Option, PoolId, Rank, RequestEntry, RequestId, RequestRecord, Rises, Some, State, TenantId, all-at, all-filter, all-from_at, all-weaker, ap, arith, asked_of, blocking, closed-shut, cond, count_by, drop, drop-past, earlier_rank, false, false_from_ne_true, filter, filter-nothing, filter-open_from, find, inl, inr, is_candidate, is_closed_rank, is_none, is_open_to, is_past, is_rank_before, is_some, length, length-filter, line-blocks, list_any, may_take_up, nat_tests, new_record, next_among, not, open_record, option_and_then, option_map, option_map_or, rank-waits, rank_equal, rank_one_way, rank_transitive, ranks-are, ranks_of, refl, request_entry, request_in, same_rank, same_rank-itself, slice_get, subst, suc, sym, there, true, zero, ℕ, [], ◌&&◌, ◌+◌, ◌||◌, ◌∙◌, ◌∷◌, ◌≡◌, ◌⊎◌}
+use Rattle.np_index.proofs.Prelude.{AllByRecursion, AreOpen, Asked, Bool, Configuration, IsOpenFrom, IsWaiting, List, Member, None, OpenOf, Option, PoolId, Rank, RequestEntry, RequestId, RequestRecord, Rises, Some, State, TenantId, all-at, all-filter, all-from_at, all-weaker, ap, arith, asked_of, blocking, by_bool, closed-shut, cond, count_by, drop, drop-past, earlier_rank, false, false_from_ne_true, filter, filter-nothing, filter-open_from, find, find-passes, inl, inr, is_candidate, is_closed_rank, is_none, is_open_to, is_past, is_rank_before, is_some, key-least, key-there, length, length-filter, line-blocks, list_any, may_take_up, nat_tests, new_record, next_among, no-key, not, open_record, option_and_then, option_map, option_map_or, rank-waits, rank_equal, rank_one_way, rank_transitive, ranks-are, ranks_of, refl, request_entry, request_in, same_rank, same_rank-itself, slice_get, subst, suc, sym, there, true, zero, ℕ, [], ◌&&◌, ◌+◌, ◌∙◌, ◌∷◌, ◌≡◌, ◌⊎◌}
 
 -- # the first rank that passes, of ranks in order, and the earlier of two
 
@@ -8,15 +8,12 @@ use Rattle.np_index.proofs.Prelude.{AllByRecursion, AreOpen, Asked, Bool, Config
 -- the first that passes is the first of all that pass
 pub find-filtered : {X : Type 0} (q : X → Bool) (xs : List X) → find q xs ≡ slice_get (filter q xs) 0
 find-filtered q [] = refl
-find-filtered {X} q (x ∷ xs) = by (q x) (find-filtered q xs) where
-  by : (b : Bool) → find q xs ≡ slice_get (filter q xs) 0 → cond b (Some x) (find q xs) ≡ slice_get (cond b (x ∷ filter q xs) (filter q xs)) 0
-  by true later = refl
-  by false later = later
+find-filtered q (x ∷ xs) = grind (arith, find-filtered q xs)
 
 -- each passes, so it is the first of all
-pub find-always : {X : Type 0} (q : X → Bool) (xs : List X) → ((x : X) → q x ≡ true) → find q xs ≡ slice_get xs 0
+pub find-always : {X : Type 0} (q : X → Bool) (xs : List X) → AllByRecursion (λ x. q x ≡ true) xs → find q xs ≡ slice_get xs 0
 find-always q [] all = refl
-find-always q (x ∷ xs) all = rw (all x) refl
+find-always q (x ∷ xs) all = rw (all.0) refl
 
 -- from a place on a list in order is in order
 pub rises-drop : {X : Type 0} (before : X → X → Bool) (xs : List X) (at : ℕ) → Rises before xs → Rises before (drop at xs)
@@ -31,84 +28,35 @@ rises-drop before (x ∷ xs) (suc at) rises = rises-drop before xs at rises.1
 abbrev pub has : Rank → List Rank → Bool
 has x ranks = list_any (λ other. same_rank other x) ranks
 
--- what is true of each is true of one that is there
-has-each : (P : Rank → Type 0) (xs : List Rank) (x : Rank) → AllByRecursion P xs → has x xs ≡ true → P x
-has-each P [] x all there = absurd cc
-has-each P (y ∷ ys) x all there = by (same_rank y x) refl there (has-each P ys x all.1) where
-  by : (b : Bool) → same_rank y x ≡ b → (b || has x ys) ≡ true → (has x ys ≡ true → P x) → P x
-  by true is found later = subst P (rank_equal y x is) all.0
-  by false other found later = later found
-
 -- what `find` returns is there
 pub found-there : (q : Rank → Bool) (xs : List Rank) (x : Rank) → find q xs ≡ Some x → has x xs ≡ true
-found-there q [] x is = absurd cc
-found-there q (y ∷ ys) x is = by (q y) is (found-there q ys x) where
-  other : (b : Bool) → has x ys ≡ true → (b || has x ys) ≡ true
-  other true later = refl
-  other false later = later
-
-  by : (b : Bool) → cond b (Some y) (find q ys) ≡ Some x → (find q ys ≡ Some x → has x ys ≡ true) → (same_rank y x || has x ys) ≡ true
-  by true here later = let it : y ≡ x = cc in rw (subst (λ (z : Rank). same_rank y z ≡ true) it (same_rank-itself y)) refl
-  by false past later = other (same_rank y x) (later past)
+found-there q xs x is = key-there is_rank_before same_rank rank_one_way rank_equal same_rank-itself q xs x is
 
 -- none that passes comes before it
 pub found-least : (q : Rank → Bool) (xs : List Rank) (x y : Rank) → Rises is_rank_before xs → find q xs ≡ Some x → has y xs ≡ true → q y ≡ true → is_rank_before y x ≡ false
-found-least q [] x y rises is there passes = absurd cc
-found-least q (z ∷ zs) x y rises is there passes = by (q z) refl is (same_rank z y) refl there (λ found later. found-least q zs x y rises.1 found later passes) where
-  not_itself : is_rank_before x x ≡ false
-  not_itself = false_from_ne_true (is_rank_before x x) (λ first. let out : is_rank_before x x ≡ false = rank_one_way x x first in cc)
-
-  by : (b : Bool) → q z ≡ b → cond b (Some z) (find q zs) ≡ Some x → (e : Bool) → same_rank z y ≡ e → (e || has y zs) ≡ true
-      → (find q zs ≡ Some x → has y zs ≡ true → is_rank_before y x ≡ false) → is_rank_before y x ≡ false
-  by true first here true it found rest =
-      let one : z ≡ x = cc in
-      subst (λ (k : Rank). is_rank_before k x ≡ false) (sym one ∙ rank_equal z y it) not_itself
-  by true first here false other found rest =
-      let one : z ≡ x = cc in
-      subst (λ (k : Rank). is_rank_before y k ≡ false) one (rank_one_way z y (has-each (λ k. is_rank_before z k ≡ true) zs y rises.0 found))
-  by false fails past true it found rest = absurd (let no : q y ≡ false = subst (λ (k : Rank). q k ≡ false) (rank_equal z y it) fails in cc)
-  by false fails past false other found rest = rest past found
+found-least q xs x y rises is there passes = key-least is_rank_before same_rank rank_one_way rank_equal same_rank-itself q xs x y rises is there passes
 
 -- where `find` returns nothing, none passes
 pub none-found : (q : Rank → Bool) (xs : List Rank) (y : Rank) → find q xs ≡ None → has y xs ≡ true → q y ≡ false
-none-found q [] y none there = absurd cc
-none-found q (z ∷ zs) y none there = by (q z) refl none (same_rank z y) refl there (none-found q zs y) where
-  by : (b : Bool) → q z ≡ b → cond b (Some z) (find q zs) ≡ None → (e : Bool) → same_rank z y ≡ e → (e || has y zs) ≡ true
-      → (find q zs ≡ None → has y zs ≡ true → q y ≡ false) → q y ≡ false
-  by true first is e it found rest = absurd cc
-  by false fails is true it found rest = subst (λ (k : Rank). q k ≡ false) (rank_equal z y it) fails
-  by false fails is false other found rest = rest is found
+none-found q xs y none there = no-key is_rank_before same_rank rank_one_way rank_equal same_rank-itself q xs y none there
 
 -- if none passes, `find` returns nothing
 pub find-none : (q : Rank → Bool) (xs : List Rank) → ((y : Rank) → has y xs ≡ true → q y ≡ false) → find q xs ≡ None
-find-none q [] none = refl
-find-none q (z ∷ zs) none =
-    let here : (same_rank z z || has z zs) ≡ true = rw (same_rank-itself z) refl in
-    rw (none z here) (find-none q zs (λ y there. none y (later (same_rank z y) (has y zs) there)))
-  where
-    later : (a b : Bool) → b ≡ true → (a || b) ≡ true
-    later true b is = refl
-    later false b is = is
+find-none q xs none = by (find q xs) refl where
+  by : (o : Option Rank) → find q xs ≡ o → o ≡ None
+  by None is = refl
+  by (Some x) found = absurd (let out = none x (found-there q xs x found) in let passes = find-passes q xs x found in cc)
 
 -- one that passes, and that none that passes comes before, is the first
 pub find-least : (q : Rank → Bool) (xs : List Rank) (x : Rank) → Rises is_rank_before xs → has x xs ≡ true → q x ≡ true
     → ((y : Rank) → has y xs ≡ true → q y ≡ true → is_rank_before y x ≡ false) → find q xs ≡ Some x
-find-least q [] x rises there passes least = absurd cc
-find-least q (z ∷ zs) x rises there passes least =
-    by (q z) refl (same_rank z x) refl there (λ found. find-least q zs x rises.1 found passes (λ y at ok. least y (later (same_rank z y) (has y zs) at) ok)) where
-      later : (a b : Bool) → b ≡ true → (a || b) ≡ true
-      later true b is = refl
-      later false b is = is
-
-      by : (b : Bool) → q z ≡ b → (e : Bool) → same_rank z x ≡ e → (e || has x zs) ≡ true → (has x zs ≡ true → find q zs ≡ Some x) → cond b (Some z) (find q zs) ≡ Some x
-      by true first true it found rest = ap (λ (k : Rank). Some k) (rank_equal z x it)
-      by true first false other found rest =
-          let here : (same_rank z z || has z zs) ≡ true = rw (same_rank-itself z) refl in
-          let order : is_rank_before z x ≡ true = has-each (λ k. is_rank_before z k ≡ true) zs x rises.0 found in
-          let no : is_rank_before z x ≡ false = least z here first in
-          absurd cc
-      by false fails true it found rest = absurd (let no : q x ≡ false = subst (λ (k : Rank). q k ≡ false) (rank_equal z x it) fails in cc)
-      by false fails false other found rest = rest found
+find-least q xs x rises there passes least = by (find q xs) refl where
+  by : (o : Option Rank) → find q xs ≡ o → o ≡ Some x
+  by None none = absurd (let out = none-found q xs x none there in cc)
+  by (Some y) found =
+      let past = least y (found-there q xs y found) (find-passes q xs y found) in
+      let beyond = found-least q xs y x rises found there passes in
+      ap Some (rank_equal y x (grind (arith, nat_tests)))
 
 -- ## after a member
 
@@ -143,11 +91,7 @@ module _ (a : Rank) where
   -- and of those the ones that pass
   pub filter-after : (q : Rank → Bool) (xs : List Rank) → filter (λ x. is_rank_before a x && q x) xs ≡ filter q (filter (is_rank_before a) xs)
   filter-after q [] = refl
-  filter-after q (x ∷ xs) = by (is_rank_before a x) (filter-after q xs) where
-    by : (b : Bool) → filter (λ y. is_rank_before a y && q y) xs ≡ filter q (filter (is_rank_before a) xs)
-        → cond (b && q x) (x ∷ filter (λ y. is_rank_before a y && q y) xs) (filter (λ y. is_rank_before a y && q y) xs) ≡ filter q (cond b (x ∷ filter (is_rank_before a) xs) (filter (is_rank_before a) xs))
-    by true later = rw later refl
-    by false later = later
+  filter-after q (x ∷ xs) = grind (arith, filter-after q xs)
 
 -- the first after the one at a place is at the next place
 pub find-next : (xs : List Rank) (at : ℕ) (x : Rank) → Rises is_rank_before xs → slice_get xs at ≡ Some x → find (is_rank_before x) xs ≡ slice_get xs (suc at)
@@ -155,19 +99,10 @@ find-next [] at x rises is = absurd cc
 find-next (y ∷ ys) zero x rises is =
     let here : y ≡ x = cc in
     let not_itself : is_rank_before y y ≡ false = false_from_ne_true (is_rank_before y y) (λ first. let out : is_rank_before y y ≡ false = rank_one_way y y first in cc) in
-    subst (λ (k : Rank). find (is_rank_before k) (y ∷ ys) ≡ slice_get ys 0) here (rw not_itself (first ys rises.0))
-  where
-    first : (zs : List Rank) → AllByRecursion (λ z. is_rank_before y z ≡ true) zs → find (is_rank_before y) zs ≡ slice_get zs 0
-    first [] all = refl
-    first (z ∷ zs) all = rw (all.0) refl
+    subst (λ (k : Rank). find (is_rank_before k) (y ∷ ys) ≡ slice_get ys 0) here (rw not_itself (find-always (is_rank_before y) ys rises.0))
 find-next (y ∷ ys) (suc at) x rises is =
-    let order : is_rank_before y x ≡ true = at-place ys at rises.0 is in
+    let order : is_rank_before y x ≡ true = all-at (λ z. is_rank_before y z ≡ true) ys at x rises.0 is in
     rw (rank_one_way y x order) (find-next ys at x rises.1 is)
-  where
-    at-place : (zs : List Rank) (k : ℕ) → AllByRecursion (λ z. is_rank_before y z ≡ true) zs → slice_get zs k ≡ Some x → is_rank_before y x ≡ true
-    at-place [] k all there = absurd cc
-    at-place (z ∷ zs) zero all there = let here : z ≡ x = cc in subst (λ (w : Rank). is_rank_before y w ≡ true) here all.0
-    at-place (z ∷ zs) (suc k) all there = at-place zs k all.1 there
 
 -- ## two ranks
 
@@ -214,18 +149,14 @@ past-later x f b past other = grind (arith, nat_tests)
 pub stays-beaten : (best found : Option Rank) (x : Rank) → beats best x ≡ false → beats (earlier_rank best found) x ≡ false
 stays-beaten None found x out = absurd cc
 stays-beaten (Some b) None x out = out
-stays-beaten (Some b) (Some f) x out = by (is_rank_before f b) refl where
-  by : (t : Bool) → is_rank_before f b ≡ t → option_map_or (is_rank_before x) (cond t (Some f) (Some b)) true ≡ false
-  by true first = past-earlier x f b out first
-  by false past = out
+stays-beaten (Some b) (Some f) x out =
+    by_bool (λ (t : Bool). option_map_or (is_rank_before x) (cond t (Some f) (Some b)) true ≡ false) (is_rank_before f b) (λ first. past-earlier x f b out first) (λ past. out)
 
 -- nor does what does not come before the other
 pub is-beaten : (best : Option Rank) (f x : Rank) → is_rank_before x f ≡ false → beats (earlier_rank best (Some f)) x ≡ false
 is-beaten None f x out = out
-is-beaten (Some b) f x out = by (is_rank_before f b) refl where
-  by : (t : Bool) → is_rank_before f b ≡ t → option_map_or (is_rank_before x) (cond t (Some f) (Some b)) true ≡ false
-  by true first = out
-  by false past = past-later x f b out past
+is-beaten (Some b) f x out =
+    by_bool (λ (t : Bool). option_map_or (is_rank_before x) (cond t (Some f) (Some b)) true ≡ false) (is_rank_before f b) (λ first. out) (λ past. past-later x f b out past)
 
 -- # the walk over the ranks of a line
 
@@ -233,10 +164,7 @@ is-beaten (Some b) f x out = by (is_rank_before f b) refl where
 
 -- what `is_none` answers
 none-told : {X : Type 0} (o : Option X) (b : Bool) → is_some o ≡ not b → is_none o ≡ b
-none-told None true is = refl
-none-told None false is = absurd cc
-none-told (Some x) true is = absurd cc
-none-told (Some x) false is = refl
+none-told o b is = grind arith
 
 -- the pool's launcher may take the rank's request up
 abbrev pub takes : Configuration → State → PoolId → Rank → Bool
@@ -256,49 +184,27 @@ module _ (c : Configuration) (s : State) (p : PoolId) (r : RequestId) where
   -- one that is not open is not taken up
   pub shut-fails : open_record p r s ≡ None → may_take_up c s p r ≡ false
   shut-fails shut = by (request_entry r s.requests) shut where
-    one : (e : RequestEntry) (a b : Bool) → cond a (Some e.kept) None ≡ None → (a && b) ≡ false
-    one e true b is = absurd cc
-    one e false b is = refl
-
     by : (o : Option RequestEntry) → option_and_then (λ e. cond (is_open_to p e) (Some e.kept) None) o ≡ None → option_map_or (is_candidate c s p) o false ≡ false
-    by None is = refl
-    by (Some e) is = one e (is_open_to p e) (is_none (blocking c s p e.kept)) is
+    by o is = grind arith
 
   module _ (kept : RequestRecord) (opens : open_record p r s ≡ Some kept) where
     -- one that is open is taken up if its tenant has room
     pub open-takes : may_take_up c s p r ≡ is_none (blocking c s p kept)
     open-takes = by (request_entry r s.requests) opens where
-      one : (e : RequestEntry) (a : Bool) → cond a (Some e.kept) None ≡ Some kept → (a && is_none (blocking c s p e.kept)) ≡ is_none (blocking c s p kept)
-      one e true is = let same : e.kept ≡ kept = cc in ap (λ (k : RequestRecord). is_none (blocking c s p k)) same
-      one e false is = absurd cc
-
       by : (o : Option RequestEntry) → option_and_then (λ e. cond (is_open_to p e) (Some e.kept) None) o ≡ Some kept → option_map_or (is_candidate c s p) o false ≡ is_none (blocking c s p kept)
-      by None is = absurd cc
-      by (Some e) is = one e (is_open_to p e) is
+      by o is = grind arith
 
     -- and its record is that of the state
     open-there : request_in r s.requests ≡ Some kept
     open-there = by (request_entry r s.requests) opens where
-      one : (e : RequestEntry) (a : Bool) → cond a (Some e.kept) None ≡ Some kept → Some e.kept ≡ Some kept
-      one e true is = is
-      one e false is = absurd cc
-
       by : (o : Option RequestEntry) → option_and_then (λ e. cond (is_open_to p e) (Some e.kept) None) o ≡ Some kept → option_map (λ e. e.kept) o ≡ Some kept
-      by None is = absurd cc
-      by (Some e) is = one e (is_open_to p e) is
+      by o is = grind arith
 
   -- one whose tenant has no room is not taken up
   blocked-fails : (kept : RequestRecord) → request_in r s.requests ≡ Some kept → is_none (blocking c s p kept) ≡ false → may_take_up c s p r ≡ false
   blocked-fails kept there blocked = by (request_entry r s.requests) there where
-    out : (a b : Bool) → b ≡ false → (a && b) ≡ false
-    out true b is = is
-    out false b is = refl
-
     by : (o : Option RequestEntry) → option_map (λ e. e.kept) o ≡ Some kept → option_map_or (is_candidate c s p) o false ≡ false
-    by None is = absurd cc
-    by (Some e) is =
-        let same : e.kept ≡ kept = cc in
-        out (is_open_to p e) (is_none (blocking c s p e.kept)) (ap (λ (k : RequestRecord). is_none (blocking c s p k)) same ∙ blocked)
+    by o is = grind arith
 
 -- ## the walk over the ranks of a line
 
@@ -315,12 +221,8 @@ IsWalked c s p members line given place =
 module _ (c : Configuration) (s : State) (p : PoolId) (kept : OpenOf) (are : AreOpen c s kept) (line : ℕ) where
   closed-fails : (x : Rank) → is_closed_rank line p x kept.members ≡ true → takes c s p x ≡ false
   closed-fails x closed = by (request_entry x.request s.requests) (closed-shut c s kept are line p x closed) where
-    out : (a b : Bool) → a ≡ false → (a && b) ≡ false
-    out a b is = rw is refl
-
     by : (o : Option RequestEntry) → option_map_or (is_open_to p) o false ≡ false → option_map_or (is_candidate c s p) o false ≡ false
-    by None shut = refl
-    by (Some e) shut = out (is_open_to p e) (is_none (blocking c s p e.kept)) shut
+    by o shut = grind arith
 
   passed-over : (place found : ℕ) → IsOpenFrom kept.members line p place found
       → filter (takes c s p) (drop place (ranks_of line kept.members)) ≡ filter (takes c s p) (drop found (ranks_of line kept.members))
@@ -396,13 +298,9 @@ module _ (c : Configuration) (s : State) (p : PoolId) (kept : OpenOf) (are : Are
           same : here.0 ≡ k
           same = let one : Some here.0 ≡ Some k = sym here.1.there ∙ open-there c s p x.request k opens in cc
 
-          out : (a b : Bool) → b ≡ false → (a && b) ≡ false
-          out true b fails = fails
-          out false b fails = refl
-
           none : (at : ℕ) (y : Rank) → slice_get (ranks_of line kept.members) at ≡ Some y → passes c s p given y ≡ false
           none at y that =
               let other : (found : RequestRecord) × IsWaiting c s kept.lines line y found = rank-waits c s kept are line at y that in
               let alike : blocking c s p other.0 ≡ blocking c s p here.0 = line-blocks c s p kept.lines other.0 here.0 n (other.1.of_line ∙ number) (here.1.of_line ∙ number) in
-              out (is_past given y) (takes c s p y)
-              (blocked-fails c s p y.request other.0 other.1.there (ap is_none (alike ∙ ap (blocking c s p) same) ∙ blocked))
+              let fails : takes c s p y ≡ false = blocked-fails c s p y.request other.0 other.1.there (ap is_none (alike ∙ ap (blocking c s p) same) ∙ blocked) in
+              grind arith

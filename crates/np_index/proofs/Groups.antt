@@ -1,6 +1,5 @@
 -- the groups of nodes and requests: what is in one, its members in order, and walks over groups beside one another
-use Rattle.np_index.proofs.Prelude.{AllByRecursion, AreClasses, AreNodeGroups, AreRequestGroups, Bool, ClassesOf, Configuration, Group, IsLeast, LabelId, List, Member, NodeEntry, NodeId, NodeRecord, None, Option, PoolId, RequestEntry, RequestId, RequestRecord, Rises, Rises-filter, Some, State, TenantId, UnheldKind, above-apart, all-find, all-weaker, and_false, and_true, any-same, ap, arith, below-apart, coming_group, cond, decline_set, declined_group, due_of, false, filter, filter-each, find, find-passes, free_group, group-equal, group-itself, group-not_before, group-some_way, group-transitive, group_after, group_from, group_if, has_member, holder, ids-has, ids-in_order, ids-rise, ids_in, if◌then◌else◌, is_alike, is_among, is_beside, is_coming, is_failed, is_free_ready, is_group_before, is_id_before, is_in_tenant_group, is_kind, is_member_before, is_min_ready_for, is_node_before, is_none, is_pending, is_pending_by, is_pinned_as, is_pool, is_ready, is_requested, is_some, is_spare, is_spent_min_ready, is_still_requested, is_unclaimed, is_unheld_as, is_unheld_pending, kind_group, label_group, label_if, least-found, list_any, list_any-none, map, nat_lt, nat_tests, next_label, next_label_group, node_entry, node_equal, node_groups, node_one_way, none-find, not, not-true, option_and_then, option_map, option_map_or, or_false, or_right, pending_group, pinned_label_group, refl, request-itself, request_entry, request_equal, request_groups, request_holder, request_in, request_one_way, row-passes, rows-found, same-list, same_group, same_kind, same_member, same_node, same_node-self, same_request, slice_get, spare_group, spent_group, subst, suc, sym, tenant_group, third_if, true, unheld_class, unheld_group, unheld_group_of, unheld_kind, unheld_pending_group, zero, ℕ, [], ◌&&◌, ◌+◌, ◌<◌, ◌==◌, ◌||◌, ◌∙◌, ◌∷◌, ◌≡◌}
-use Rattle.np_index.proofs.Prelude.{later-node-apart, later-request-apart}
+use Rattle.np_index.proofs.Prelude.{AllByRecursion, AreClasses, AreNodeGroups, AreRequestGroups, Bool, ClassesOf, Configuration, Group, IsLeast, LabelId, List, Member, NodeEntry, NodeId, None, Option, PoolId, RequestEntry, RequestId, RequestRecord, Rises, Rises-filter, Some, State, TenantId, UnheldKind, all-find, all-weaker, and_false, any-same, ap, arith, coming_group, coming_group_of, cond, decline_set, declined_group, declined_group_of, due_of, false, filter, find, find-passes, free_group, group-equal, group-itself, group-not_before, group-some_way, group-transitive, group_after, group_from, group_if, has_member, holder, ids-has, ids-in_order, ids-rise, ids_in, if◌then◌else◌, is_alike, is_among, is_beside, is_coming, is_free_ready, is_group_before, is_id_before, is_in_tenant_group, is_kind, is_member_before, is_node_before, is_none, is_pending_by, is_pinned_as, is_place, is_ready, is_spare, is_spent_min_ready, is_still_requested, is_unclaimed, is_unheld_as, is_unheld_pending, kind_group, label_group, label_if, later-node-apart, later-request-apart, least-found, list_any, list_any-none, map, nat_lt, nat_tests, next_label, next_label_group_of, node_entry, node_equal, node_groups, node_one_way, none-find, not, not-true, option_map, option_map_or, or_right, pending_group, pending_group_of, pinned_label_group_of, refl, request-itself, request_entry, request_equal, request_groups, request_holder, request_in, request_one_way, row-passes, rows-found, same-list, same_group, same_kind, same_member, same_node, same_node-self, same_request, spare_group, spent_group, spent_group_of, subst, sym, tenant_group, third_if, true, unheld_group, unheld_group_of, unheld_kind, unheld_pending_group, unheld_pending_group_of, ℕ, [], ◌&&◌, ◌<◌, ◌==◌, ◌||◌, ◌∙◌, ◌∷◌, ◌≡◌}
 
 -- # whether a member of a list passes a test
 
@@ -16,12 +15,7 @@ any-each p q (x ∷ xs) all = rw (all.0, any-each p q xs all.1) refl
 -- a test that is one of two others
 pub any-either : {X : Type 0} (p q r : X → Bool) → ((x : X) → p x ≡ (q x || r x)) → (xs : List X) → list_any p xs ≡ (list_any q xs || list_any r xs)
 any-either p q r either [] = refl
-any-either p q r either (x ∷ xs) = by (p x) (q x) (r x) (list_any q xs) (list_any r xs) (either x) (any-either p q r either xs) where
-  by : (a b d e f : Bool) → a ≡ (b || d) → list_any p xs ≡ (e || f) → (a || list_any p xs) ≡ ((b || e) || (d || f))
-  by a true d e f is later = rw is refl
-  by a false true true f is later = rw is refl
-  by a false true false f is later = rw is refl
-  by a false false e f is later = rw is later
+any-either p q r either (x ∷ xs) = let here = either x in grind (arith, any-either p q r either xs)
 
 -- ## the first member that passes
 
@@ -36,13 +30,7 @@ any-find {X = X} p (x ∷ xs) some = by (p x) (any-find p xs) some where
 -- if it passes another test, some member passes that
 pub find-any : {X : Type 0} (p q : X → Bool) (xs : List X) (x : X) → find p xs ≡ Some x → q x ≡ true → list_any q xs ≡ true
 find-any p q [] x found is = absurd cc
-find-any {X = X} p q (y ∷ xs) x found is = by (p y) (find-any p q xs x) found where
-  by : (b : Bool) → (find p xs ≡ Some x → q x ≡ true → list_any q xs ≡ true) → cond b (Some y) (find p xs) ≡ Some x → (q y || list_any q xs) ≡ true
-  by true later here =
-      let same : y ≡ x = cc in
-      let passes : q y ≡ true = ap q same ∙ is in
-      rw passes refl
-  by false later there = or_right (q y) (list_any q xs) (later there is)
+find-any p q (y ∷ xs) x found is = grind (arith, find-any p q xs x)
 
 -- a member that passes the first test passes the second
 pub any-weaker : {X : Type 0} (p q : X → Bool) → ((x : X) → p x ≡ true → q x ≡ true) → (xs : List X) → list_any p xs ≡ true → list_any q xs ≡ true
@@ -63,173 +51,49 @@ module _ (c : Configuration) (s : State) (classes : ClassesOf) (are : AreClasses
 
 -- # what it says of a node or a request that it is in a group
 
--- the option holds the group
-abbrev pub holds : Group → Option Group → Bool
-holds g o = option_map_or (λ h. same_group h g) o false
-
--- the row is in one group if a condition is true
-holds-if : (g h : Group) (b : Bool) → holds g (if b then Some h else None) ≡ (b && same_group h g)
-holds-if g h true = refl
-holds-if g h false = refl
-
--- a group of another class
-apart-if : (g h : Group) (b : Bool) → same_group h g ≡ false → holds g (if b then Some h else None) ≡ false
-apart-if g h true other = other
-apart-if g h false other = refl
-
--- one that an option names
-apart-map : {X : Type 0} (g : Group) (f : X → Group) (o : Option X) → ((x : X) → same_group (f x) g ≡ false) → holds g (option_map f o) ≡ false
-apart-map g f None other = refl
-apart-map g f (Some x) other = other x
-
--- ## one of several groups
-
--- the first fails, and the question is whether one of the others passes
-past : {a rest x : Bool} → a ≡ false → rest ≡ x → (a || rest) ≡ x
-past {a} {rest} {x} other later = ap (λ (b : Bool). b || rest) other ∙ later
-
--- the question is whether the first passes, and none of the others does
-here : {a rest x : Bool} → a ≡ x → rest ≡ false → (a || rest) ≡ x
-here {a} {rest} {x} is later = ap (λ (b : Bool). a || b) later ∙ or_false a ∙ is
-
 -- ## nodes
-
-and_assoc : (a b c : Bool) → ((a && b) && c) ≡ (a && (b && c))
-and_assoc true b c = refl
-and_assoc false b c = refl
-
--- what follows is true
-two-true : (a b : Bool) → (a && (b && true)) ≡ (a && b)
-two-true a b = ap (λ (x : Bool). a && x) (and_true b)
 
 -- the groups of a row
 abbrev pub groups_of : Configuration → State → NodeEntry → List (Option Group)
 groups_of c s e = node_groups c e.kept (is_none (holder e.queue)) (is_unclaimed s e.kept)
 
--- what is in a group only under a condition
-holds-when : (g : Group) (b : Bool) (o : Option Group) → holds g (if b then o else None) ≡ (b && holds g o)
-holds-when g true o = refl
-holds-when g false o = refl
+-- the groups by kind are none of the others
+low : (p q : PoolId) (l : LabelId) (kind : UnheldKind) (due : ℕ) (free spare : Bool) (t : Option TenantId) (rest : List (Option Group))
+    → is_among (unheld_group p kind due) (Some (kind_group q l) ∷ group_if free (free_group l) ∷ group_if spare (spare_group q l) ∷ option_map (λ t. tenant_group t q l) t ∷ rest) ≡ is_among (unheld_group p kind due) rest
+low p q l UnheldKind.Free due free spare t rest = grind arith
+low p q l _ due free spare t rest = grind arith
 
-no-when : (g : Group) (b : Bool) (o : Option Group) → holds g o ≡ false → holds g (if b then o else None) ≡ false
-no-when g true o other = other
-no-when g false o other = refl
-
--- what is named by an option
-holds-map : {X : Type 0} (g : Group) (f : X → Group) (o : Option X) → holds g (option_map f o) ≡ option_map_or (λ x. same_group (f x) g) o false
-holds-map g f None = refl
-holds-map g f (Some x) = refl
-
--- the classes of the kinds follow those of the others
-class-apart : (kind : UnheldKind) (n : ℕ) → nat_lt n 4 ≡ true → (unheld_class kind == n) ≡ false
-class-apart UnheldKind.Free n low = grind (arith, nat_tests)
-class-apart _ n low = grind (arith, nat_tests)
-
-unheld-apart : (p : PoolId) (kind : UnheldKind) (due : ℕ) (g : Group) → nat_lt g.class 4 ≡ true → same_group (unheld_group p kind due) g ≡ false
-unheld-apart p kind due g low = rw (class-apart kind g.class low) refl
-
-class-turned : (kind : UnheldKind) (n : ℕ) → nat_lt n 4 ≡ true → (n == unheld_class kind) ≡ false
-class-turned UnheldKind.Free n low = grind (arith, nat_tests)
-class-turned _ n low = grind (arith, nat_tests)
-
-low-apart : (p : PoolId) (kind : UnheldKind) (due : ℕ) (g : Group) → nat_lt g.class 4 ≡ true → same_group g (unheld_group p kind due) ≡ false
-low-apart p kind due g low = rw (class-turned kind g.class low) refl
-
--- one class for each kind
-kinds-by : (kind other : UnheldKind) (d : UnheldKind → ℕ) (due : ℕ) → ((unheld_class other == unheld_class kind) && (d other == due)) ≡ (same_kind kind other && (d kind == due))
-kinds-by UnheldKind.Free UnheldKind.Free d due = refl
-kinds-by UnheldKind.LeftOver UnheldKind.LeftOver d due = refl
-kinds-by UnheldKind.Hold UnheldKind.Hold d due = refl
-kinds-by UnheldKind.Abandoned UnheldKind.Abandoned d due = refl
-kinds-by _ _ d due = refl
-
-due-by : (u k p d same is : Bool) → (k && d) ≡ (same && is) → (u && (k && (p && d))) ≡ (((p && u) && same) && is)
-due-by true k true d same is alike = alike
-due-by true k false d same is alike = and_false k
-due-by false k true d same is alike = refl
-due-by false k false d same is alike = refl
-
-none-by : (u p is : Bool) → (u && false) ≡ (((p && u) && false) && is)
-none-by true true is = refl
-none-by true false is = refl
-none-by false true is = refl
-none-by false false is = refl
-
--- a group that is none of a node's of each class
-module _ (g : Group) (e : NodeEntry) where
-  free-no : same_group (free_group e.kept.label) g ≡ false → holds g (group_if (is_ready e.kept.state && is_none e.kept.allocated_to) (free_group e.kept.label)) ≡ false
-  free-no other = apart-if g (free_group e.kept.label) (is_ready e.kept.state && is_none e.kept.allocated_to) other
-
-  spare-no : same_group (spare_group e.kept.pool e.kept.label) g ≡ false → holds g (group_if (is_ready e.kept.state && is_none e.kept.allocated_to && is_none (holder e.queue)) (spare_group e.kept.pool e.kept.label)) ≡ false
-  spare-no other = apart-if g (spare_group e.kept.pool e.kept.label) (is_ready e.kept.state && is_none e.kept.allocated_to && is_none (holder e.queue)) other
-
-  tenants-no : ((t : TenantId) → same_group (tenant_group t e.kept.pool e.kept.label) g ≡ false) → holds g (option_map (λ t. tenant_group t e.kept.pool e.kept.label) e.kept.tenant) ≡ false
-  tenants-no other = apart-map g (λ t. tenant_group t e.kept.pool e.kept.label) e.kept.tenant other
-
--- a group of a class before those of the kinds
-unheld-no : (g : Group) (c : Configuration) (k : NodeRecord) (unlocked unclaimed : Bool) → nat_lt g.class 4 ≡ true → holds g (unheld_group_of c k unlocked unclaimed) ≡ false
-unheld-no g c k unlocked unclaimed low =
-    no-when g unlocked (option_map (λ kind. unheld_group k.pool kind (due_of c kind k)) (unheld_kind unclaimed k))
-    (apart-map g (λ kind. unheld_group k.pool kind (due_of c kind k)) (unheld_kind unclaimed k) (λ kind. unheld-apart k.pool kind (due_of c kind k) g low))
+-- the group by the kind of a node that nobody holds
+kind-by : (p q : PoolId) (kind : UnheldKind) (d : UnheldKind → ℕ) (due : ℕ) (o : Option UnheldKind) (unlocked : Bool) → is_among (unheld_group p kind due) ((if unlocked then option_map (λ k. unheld_group q k (d k)) o else None) ∷ [])
+    ≡ ((((q.0 == p.0) && unlocked) && option_map_or (same_kind kind) o false) && (d kind == due))
+kind-by p q UnheldKind.Free d due o unlocked = grind arith
+kind-by p q _ d due o unlocked = grind arith
 
 module _ (c : Configuration) (s : State) (e : NodeEntry) where
-  rest-no : (g : Group) → nat_lt g.class 4 ≡ true → is_among g (unheld_group_of c e.kept (is_none (holder e.queue)) (is_unclaimed s e.kept) ∷ []) ≡ false
-  rest-no g low = past (unheld-no g c e.kept (is_none (holder e.queue)) (is_unclaimed s e.kept) low) refl
-
   module _ (p : PoolId) (l : LabelId) where
     -- the nodes of a pool and a label
     pub kind-test : is_among (kind_group p l) (groups_of c s e) ≡ is_kind p l e
-    kind-test =
-        let g = kind_group p l in
-        here (two-true (e.kept.pool.0 == p.0) (e.kept.label.0 == l.0)) (past (free-no g e refl) (past (spare-no g e refl) (past (tenants-no g e (λ t. refl)) (rest-no g refl))))
-
-    spare-is : holds (spare_group p l) (group_if (is_ready e.kept.state && is_none e.kept.allocated_to && is_none (holder e.queue)) (spare_group e.kept.pool e.kept.label)) ≡ is_spare p l e
-    spare-is =
-        holds-if (spare_group p l) (spare_group e.kept.pool e.kept.label) (is_ready e.kept.state && is_none e.kept.allocated_to && is_none (holder e.queue))
-        ∙ ap (λ (b : Bool). (is_ready e.kept.state && is_none e.kept.allocated_to && is_none (holder e.queue)) && b) (two-true (e.kept.pool.0 == p.0) (e.kept.label.0 == l.0))
+    kind-test = grind arith
 
     -- the unused ones among them
     pub spare-test : is_among (spare_group p l) (groups_of c s e) ≡ is_spare p l e
-    spare-test =
-        let g = spare_group p l in
-        past refl (past (free-no g e refl) (here spare-is (past (tenants-no g e (λ t. refl)) (rest-no g refl))))
+    spare-test = grind arith
 
-  module _ (l : LabelId) where
-    free-is : holds (free_group l) (group_if (is_ready e.kept.state && is_none e.kept.allocated_to) (free_group e.kept.label)) ≡ is_free_ready l e
-    free-is =
-        holds-if (free_group l) (free_group e.kept.label) (is_ready e.kept.state && is_none e.kept.allocated_to)
-        ∙ ap (λ (b : Bool). (is_ready e.kept.state && is_none e.kept.allocated_to) && b) (and_true (e.kept.label.0 == l.0))
-
-    -- the free ready nodes of a label
-    pub free-test : is_among (free_group l) (groups_of c s e) ≡ is_free_ready l e
-    free-test =
-        let g = free_group l in
-        past refl (here free-is (past (spare-no g e refl) (past (tenants-no g e (λ t. refl)) (rest-no g refl))))
+  -- the free ready nodes of a label
+  pub free-test : (l : LabelId) → is_among (free_group l) (groups_of c s e) ≡ is_free_ready l e
+  free-test l = grind arith
 
   -- a tenant's nodes of a pool and a label
   pub tenant-test : (t : TenantId) (p : PoolId) (l : LabelId) → is_among (tenant_group t p l) (groups_of c s e) ≡ is_in_tenant_group (tenant_group t p l) e
-  tenant-test t p l =
-      let g = tenant_group t p l in
-      past refl (past (free-no g e refl) (past (spare-no g e refl) (here (holds-map g (λ t. tenant_group t e.kept.pool e.kept.label) e.kept.tenant) (rest-no g refl))))
+  tenant-test t p l = grind arith
 
-  module _ (p : PoolId) (kind : UnheldKind) (due : ℕ) where
-    kind-is : (o : Option UnheldKind) (unlocked : Bool) → (unlocked && holds (unheld_group p kind due) (option_map (λ k. unheld_group e.kept.pool k (due_of c k e.kept)) o))
-        ≡ ((((e.kept.pool.0 == p.0) && unlocked) && option_map_or (same_kind kind) o false) && (due_of c kind e.kept == due))
-    kind-is None unlocked = none-by unlocked (e.kept.pool.0 == p.0) (due_of c kind e.kept == due)
-    kind-is (Some other) unlocked =
-        due-by unlocked (unheld_class other == unheld_class kind) (e.kept.pool.0 == p.0) (due_of c other e.kept == due) (same_kind kind other) (due_of c kind e.kept == due)
-        (kinds-by kind other (λ k. due_of c k e.kept) due)
-
-    -- the nodes of a pool that nobody holds, of a kind, that are due at a tick
-    pub due-test : is_among (unheld_group p kind due) (groups_of c s e) ≡ (is_unheld_as s p kind e && (due_of c kind e.kept == due))
-    due-test =
-        let g = unheld_group p kind due in
-        let unlocked = is_none (holder e.queue) in
-        past (low-apart p kind due (kind_group e.kept.pool e.kept.label) refl)
-        (past (free-no g e (low-apart p kind due (free_group e.kept.label) refl)) (past (spare-no g e (low-apart p kind due (spare_group e.kept.pool e.kept.label) refl))
-        (past (tenants-no g e (λ t. low-apart p kind due (tenant_group t e.kept.pool e.kept.label) refl))
-        (here (holds-when g unlocked (option_map (λ k. unheld_group e.kept.pool k (due_of c k e.kept)) (unheld_kind (is_unclaimed s e.kept) e.kept))
-        ∙ kind-is (unheld_kind (is_unclaimed s e.kept) e.kept) unlocked) refl))))
+  -- the nodes of a pool that nobody holds, of a kind, that are due at a tick
+  pub due-test : (p : PoolId) (kind : UnheldKind) (due : ℕ) → is_among (unheld_group p kind due) (groups_of c s e) ≡ (is_unheld_as s p kind e && (due_of c kind e.kept == due))
+  due-test p kind due =
+      let unlocked = is_none (holder e.queue) in
+      low p e.kept.pool e.kept.label kind due (is_ready e.kept.state && is_none e.kept.allocated_to) (is_ready e.kept.state && is_none e.kept.allocated_to && unlocked) e.kept.tenant
+      (unheld_group_of c e.kept unlocked (is_unclaimed s e.kept) ∷ [])
+      ∙ kind-by p e.kept.pool kind (λ k. due_of c k e.kept) due (unheld_kind (is_unclaimed s e.kept) e.kept) unlocked
 
 -- ## requests
 
@@ -237,114 +101,25 @@ module _ (c : Configuration) (s : State) (e : NodeEntry) where
 abbrev pub groups_of_request : RequestEntry → List (Option Group)
 groups_of_request e = request_groups e.kept (is_none (holder e.queue))
 
-other-class : (h g : Group) → (h.class == g.class) ≡ false → same_group h g ≡ false
-other-class h g other = rw other refl
-
--- one that a pool and a label name
-apart-both : (g : Group) (f : PoolId → LabelId → Group) (l : Option LabelId) (o : Option PoolId) → ((p : PoolId) (l : LabelId) → same_group (f p l) g ≡ false) → holds g (option_and_then (λ p. option_map (f p) l) o) ≡ false
-apart-both g f l None other = refl
-apart-both g f l (Some p) other = apart-map g (f p) l (other p)
-
--- each option names groups of one class alone, the first of this class, and each later one of the next
-abbrev AreClassed : ℕ → List (Option Group) → Type 0
-AreClassed n [] = Unit {0}
-AreClassed n (o ∷ os) = ((g : Group) → (n == g.class) ≡ false → holds g o ≡ false) × AreClassed (suc n) os
-
-earlier-class : (g : Group) (n : ℕ) (os : List (Option Group)) → AreClassed n os → g.class < n → is_among g os ≡ false
-earlier-class g n [] are low = refl
-earlier-class g n (o ∷ os) are low = past (are.0 g (above-apart n g.class low)) (earlier-class g (suc n) os are.1 (omega (arith, low)))
-
-by-class : (g : Group) (n k : ℕ) (os : List (Option Group)) → AreClassed n os → g.class ≡ n + k → is_among g os ≡ option_map_or (λ o. holds g o) (slice_get os k) false
-by-class g n k [] are is = refl
-by-class g n zero (o ∷ os) are is = here refl (earlier-class g (suc n) os are.1 (omega (arith, is)))
-by-class g n (suc k) (o ∷ os) are is = past (are.0 g (below-apart n g.class (omega (arith, is)))) (by-class g (suc n) k os are.1 (omega (arith, is)))
-
-classed : (k : RequestRecord) (unlocked : Bool) → AreClassed 0 (request_groups k unlocked)
-classed k unlocked = (
-  λ g other. no-when g (is_pending k.state) (option_map pending_group k.pool) (apart-map g pending_group k.pool (λ p. other-class (pending_group p) g other)),
-  (
-    λ g other. no-when g (is_pending k.state && unlocked) (option_map unheld_pending_group k.pool) (apart-map g unheld_pending_group k.pool (λ p. other-class (unheld_pending_group p) g other)),
-    (
-      λ g other. no-when g ((is_requested k.state || is_pending k.state) && is_some k.pinned) (option_map coming_group (slice_get k.labels 0)) (apart-map g coming_group (slice_get k.labels 0) (λ l. other-class (coming_group l) g other)),
-      (
-        λ g other. no-when g (is_failed k.state) (option_and_then (λ p. option_map (spent_group p) (slice_get k.labels 0)) k.pinned) (apart-both g spent_group (slice_get k.labels 0) k.pinned (λ p l. other-class (spent_group p l) g other)),
-        (
-          λ g other. apart-if g (declined_group (decline_set k.declined)) (is_still_requested k) (other-class (declined_group (decline_set k.declined)) g other),
-          (
-            λ g other. no-when g (is_pending k.state && is_none k.pinned) (option_and_then (λ p. option_map (next_label_group p) (next_label k)) k.pool) (apart-both g next_label_group (next_label k) k.pool (λ p l. other-class (next_label_group p l) g other)),
-            (
-              λ g other. no-when g (is_pending k.state && is_some k.pinned) (option_and_then (λ p. option_map (pinned_label_group p) (next_label k)) k.pool) (apart-both g pinned_label_group (next_label k) k.pool (λ p l. other-class (pinned_label_group p l) g other)),
-              tt,
-            ),
-          ),
-        ),
-      ),
-    ),
-  ),
-)
-
--- so a request is in a group if the option of the group's class holds it
-of-class : (g : Group) (e : RequestEntry) → is_among g (groups_of_request e) ≡ option_map_or (λ o. holds g o) (slice_get (groups_of_request e) g.class) false
-of-class g e = by-class g 0 g.class (groups_of_request e) (classed e.kept (is_none (holder e.queue))) (omega arith)
-
-pool-by : (g : Group) (f : PoolId → Group) (p : PoolId) → ((q : PoolId) → same_group (f q) g ≡ (q.0 == p.0)) → (o : Option PoolId) → holds g (option_map f o) ≡ is_pool p o
-pool-by g f p alike None = refl
-pool-by g f p alike (Some q) = alike q
-
-both-by : (g : Group) (f : PoolId → LabelId → Group) (p : PoolId) (l : LabelId) → ((q : PoolId) (m : LabelId) → same_group (f q m) g ≡ ((q.0 == p.0) && (m.0 == l.0))) → (o : Option PoolId) (next : Option LabelId)
-    → holds g (option_and_then (λ q. option_map (f q) next) o) ≡ (is_pool p o && option_map_or (λ other. other.0 == l.0) next false)
-both-by g f p l alike None next = refl
-both-by g f p l alike (Some q) None = sym (and_false (q.0 == p.0))
-both-by g f p l alike (Some q) (Some m) = alike q m
-
 -- the requests that are pending by a pool
 pub pending-test : (p : PoolId) (e : RequestEntry) → is_among (pending_group p) (groups_of_request e) ≡ is_pending_by p e.kept
-pending-test p e =
-    of-class (pending_group p) e ∙ holds-when (pending_group p) (is_pending e.kept.state) (option_map pending_group e.kept.pool)
-    ∙ ap (λ (b : Bool). is_pending e.kept.state && b) (pool-by (pending_group p) pending_group p (λ q. and_true (q.0 == p.0)) e.kept.pool)
-
--- the later two answers the other way round
-and_turned : (a b d : Bool) → ((a && b) && d) ≡ ((a && d) && b)
-and_turned true true d = sym (and_true d)
-and_turned true false d = sym (and_false d)
-and_turned false b d = refl
+pending-test p e = grind arith
 
 -- the requests that are pending by a pool and that nobody holds
 pub unheld_pending-test : (p : PoolId) (e : RequestEntry) → is_among (unheld_pending_group p) (groups_of_request e) ≡ is_unheld_pending p e
-unheld_pending-test p e =
-    let unlocked = is_none (holder e.queue) in
-    of-class (unheld_pending_group p) e ∙ holds-when (unheld_pending_group p) (is_pending e.kept.state && unlocked) (option_map unheld_pending_group e.kept.pool)
-    ∙ ap (λ (b : Bool). (is_pending e.kept.state && unlocked) && b) (pool-by (unheld_pending_group p) unheld_pending_group p (λ q. and_true (q.0 == p.0)) e.kept.pool)
-    ∙ and_turned (is_pending e.kept.state) unlocked (is_pool p e.kept.pool)
-
-comer-by : (l : LabelId) (o : Option LabelId) → holds (coming_group l) (option_map coming_group o) ≡ option_map_or (λ other. other.0 == l.0) o false
-comer-by l None = refl
-comer-by l (Some x) = and_true (x.0 == l.0)
+unheld_pending-test p e = grind arith
 
 -- the min-ready requests for a label that are not over
 pub coming-test : (l : LabelId) (e : RequestEntry) → is_among (coming_group l) (groups_of_request e) ≡ is_coming l e
-coming-test l e =
-    let able = is_requested e.kept.state || is_pending e.kept.state in
-    of-class (coming_group l) e ∙ holds-when (coming_group l) (able && is_some e.kept.pinned) (option_map coming_group (slice_get e.kept.labels 0))
-    ∙ ap (λ (b : Bool). (able && is_some e.kept.pinned) && b) (comer-by l (slice_get e.kept.labels 0))
-    ∙ and_assoc able (is_some e.kept.pinned) (option_map_or (λ other. other.0 == l.0) (slice_get e.kept.labels 0) false)
-
--- what a pool names is there
-some-pool : (p : PoolId) (o : Option PoolId) (b : Bool) → (is_pool p o && b) ≡ (is_pool p o && (is_some o && b))
-some-pool p None b = refl
-some-pool p (Some q) b = refl
+coming-test l e = grind arith
 
 -- the failed min-ready requests of a pool for a label
 pub spent-test : (p : PoolId) (l : LabelId) (e : RequestEntry) → is_among (spent_group p l) (groups_of_request e) ≡ is_spent_min_ready p l e
-spent-test p l e =
-    let first = slice_get e.kept.labels 0 in
-    of-class (spent_group p l) e ∙ holds-when (spent_group p l) (is_failed e.kept.state) (option_and_then (λ q. option_map (spent_group q) first) e.kept.pinned)
-    ∙ ap (λ (b : Bool). is_failed e.kept.state && b) (both-by (spent_group p l) spent_group p l (λ q m. two-true (q.0 == p.0) (m.0 == l.0)) e.kept.pinned first ∙ some-pool p e.kept.pinned (option_map_or (λ other. other.0 == l.0) first false))
-    ∙ sym (and_assoc (is_failed e.kept.state) (is_pool p e.kept.pinned) (is_min_ready_for l e.kept))
+spent-test p l e = grind arith
 
 -- the requests that are requested, and that the pools of this set declined
 pub declined-test : (set : ℕ) (e : RequestEntry) → is_among (declined_group set) (groups_of_request e) ≡ (is_still_requested e.kept && (decline_set e.kept.declined == set))
-declined-test set e = of-class (declined_group set) e ∙ holds-if (declined_group set) (declined_group (decline_set e.kept.declined)) (is_still_requested e.kept)
+declined-test set e = grind arith
 
 -- ## requests by their next label
 
@@ -352,73 +127,51 @@ declined-test set e = of-class (declined_group set) e ∙ holds-if (declined_gro
 abbrev pub waits_for : Bool → PoolId → LabelId → RequestRecord → Bool
 waits_for pinned p l k = is_pinned_as pinned k && (is_pending_by p k && option_map_or (λ other. other.0 == l.0) (next_label k) false)
 
-waiting-by : (a b c d : Bool) → ((a && b) && (c && d)) ≡ (b && ((a && c) && d))
-waiting-by true true c d = refl
-waiting-by true false c d = refl
-waiting-by false true c d = refl
-waiting-by false false c d = refl
-
-label-by : (g : Group) (f : PoolId → LabelId → Group) (pins : Bool) (p : PoolId) (l : LabelId) (k : RequestRecord) → ((q : PoolId) (m : LabelId) → same_group (f q m) g ≡ ((q.0 == p.0) && (m.0 == l.0)))
-    → holds g (if is_pending k.state && pins then option_and_then (λ q. option_map (f q) (next_label k)) k.pool else None) ≡ (pins && (is_pending_by p k && option_map_or (λ other. other.0 == l.0) (next_label k) false))
-label-by g f pins p l k alike =
-    holds-when g (is_pending k.state && pins) (option_and_then (λ q. option_map (f q) (next_label k)) k.pool)
-    ∙ ap (λ (b : Bool). (is_pending k.state && pins) && b) (both-by g f p l alike k.pool (next_label k))
-    ∙ waiting-by (is_pending k.state) pins (is_pool p k.pool) (option_map_or (λ other. other.0 == l.0) (next_label k) false)
-
 -- the requests of a pool that wait for a label
 pub label-test : (pinned : Bool) (p : PoolId) (l : LabelId) (e : RequestEntry) → is_among (label_group pinned p l) (groups_of_request e) ≡ waits_for pinned p l e.kept
-label-test false p l e =
-    of-class (next_label_group p l) e
-    ∙ label-by (next_label_group p l) next_label_group (is_none e.kept.pinned) p l e.kept (λ q m. two-true (q.0 == p.0) (m.0 == l.0))
-label-test true p l e =
-    of-class (pinned_label_group p l) e
-    ∙ label-by (pinned_label_group p l) pinned_label_group (is_some e.kept.pinned) p l e.kept (λ q m. two-true (q.0 == p.0) (m.0 == l.0))
+label-test pinned p l e = grind arith
 
 -- # the members of a group are the rows that are in it, in order
 
+-- ## any rows
+
+module _ {X K : Type 0} (before same : K → K → Bool) (id : X → K) (one_way : (a b : K) → before a b ≡ true → before b a ≡ false) (equal : (a b : K) → same a b ≡ true → a ≡ b)
+    (later : (a b : K) → before a b ≡ true → same b a ≡ false) (itself : (a : K) → same a a ≡ true) (ms : List (Member K)) (rises : Rises (is_member_before before) ms)
+    (rows : List X) (once : Rises (λ a b. before (id a) (id b)) rows) where
+  -- the ids of a group are those of the rows that pass, in order, if it has the id of each such row and no other
+  rows-by : (g : Group) (test : X → Bool) → ((k : K) → has_member same g k ms ≡ option_map_or test (find (λ (x : X). same (id x) k) rows) false) → ids_in g ms ≡ map id (filter test rows)
+  rows-by g test each =
+      same-list before same one_way equal itself (ids_in g ms) (map id (filter test rows)) (ids-rise g before ms rises)
+      (ids-in_order before same id equal later (filter test rows) (Rises-filter (λ (a b : X). before (id a) (id b)) test rows once))
+      (λ k. ids-has same g k ms ∙ each k ∙ sym (row-passes before same id equal later test k rows once))
+
 -- ## nodes
 
-module _ (c : Configuration) (s : State) (ms : List (Member NodeId)) (are : AreNodeGroups c s ms) where
-  node-by : (g : Group) (o : Option NodeEntry) → option_map_or (λ (e : NodeEntry). is_among g (groups_of c s e)) o false
-      ≡ option_map_or (λ k. is_among g (node_groups c k (is_none (holder (option_map_or (λ (e : NodeEntry). e.queue) o []))) (is_unclaimed s k))) (option_map (λ (e : NodeEntry). e.kept) o) false
-  node-by g None = refl
-  node-by g (Some e) = refl
-
-  -- the ids of a group are those of the nodes that are in it, by number
-  pub grouped-nodes : (g : Group) → ids_in g ms ≡ map (λ e. e.id) (filter (λ e. is_among g (groups_of c s e)) s.nodes)
-  grouped-nodes g =
-      let test = λ (e : NodeEntry). is_among g (groups_of c s e) in
-      let id = λ (e : NodeEntry). e.id in
-      same-list is_node_before same_node node_one_way node_equal same_node-self (ids_in g ms) (map id (filter test s.nodes))
-      (ids-rise g is_node_before ms are.rises)
-      (ids-in_order is_node_before same_node id node_equal later-node-apart (filter test s.nodes) (Rises-filter (λ (a b : NodeEntry). is_node_before a.id b.id) test s.nodes are.once))
-      (λ n. ids-has same_node g n ms ∙ are.each g n ∙ sym (row-passes is_node_before same_node id node_equal later-node-apart test n s.nodes are.once ∙ node-by g (node_entry n s.nodes)))
-
-  -- by another test that says the same
-  pub nodes-by : (g : Group) (test : NodeEntry → Bool) → ((e : NodeEntry) → is_among g (groups_of c s e) ≡ test e) → ids_in g ms ≡ map (λ e. e.id) (filter test s.nodes)
-  nodes-by g test same = grouped-nodes g ∙ ap (λ (es : List NodeEntry). map {A = NodeEntry} {B = NodeId} (λ e. e.id) es) (filter-each (λ (e : NodeEntry). is_among g (groups_of c s e)) test (λ e. sym (same e)) s.nodes)
+-- the ids of a group are those of the nodes that are in it, by number
+pub nodes-by : (c : Configuration) (s : State) (ms : List (Member NodeId)) → AreNodeGroups c s ms → (g : Group) (test : NodeEntry → Bool) → ((e : NodeEntry) → is_among g (groups_of c s e) ≡ test e)
+    → ids_in g ms ≡ map (λ e. e.id) (filter test s.nodes)
+nodes-by c s ms are g test same =
+    rows-by is_node_before same_node (λ (e : NodeEntry). e.id) node_one_way node_equal later-node-apart same_node-self ms are.rises s.nodes are.once g test
+    (λ n. are.each g n ∙ by (node_entry n s.nodes))
+  where
+    by : (o : Option NodeEntry) → option_map_or (λ k. is_among g (node_groups c k (is_none (holder (option_map_or (λ (e : NodeEntry). e.queue) o []))) (is_unclaimed s k))) (option_map (λ (e : NodeEntry). e.kept) o) false
+        ≡ option_map_or test o false
+    by None = refl
+    by (Some e) = same e
 
 -- ## requests
 
-module _ (s : State) (ms : List (Member RequestId)) (are : AreRequestGroups s ms) where
-  request-by : (g : Group) (o : Option RequestEntry) → option_map_or (λ (e : RequestEntry). is_among g (groups_of_request e)) o false
-      ≡ option_map_or (λ k. is_among g (request_groups k (is_none (holder (option_map_or (λ (e : RequestEntry). e.queue) o []))))) (option_map (λ (e : RequestEntry). e.kept) o) false
-  request-by g None = refl
-  request-by g (Some e) = refl
-
-  -- the ids of a group are those of the requests that are in it, by priority and then sequence
-  pub grouped-requests : (g : Group) → ids_in g ms ≡ map (λ e. e.id) (filter (λ e. is_among g (groups_of_request e)) s.requests)
-  grouped-requests g =
-      let test = λ (e : RequestEntry). is_among g (groups_of_request e) in
-      let id = λ (e : RequestEntry). e.id in
-      same-list is_id_before same_request request_one_way request_equal request-itself (ids_in g ms) (map id (filter test s.requests))
-      (ids-rise g is_id_before ms are.rises)
-      (ids-in_order is_id_before same_request id request_equal later-request-apart (filter test s.requests) (Rises-filter (λ (a b : RequestEntry). is_id_before a.id b.id) test s.requests are.once))
-      (λ r. ids-has same_request g r ms ∙ are.each g r ∙ sym (row-passes is_id_before same_request id request_equal later-request-apart test r s.requests are.once ∙ request-by g (request_entry r s.requests)))
-
-  -- by another test that says the same
-  pub requests-by : (g : Group) (test : RequestEntry → Bool) → ((e : RequestEntry) → is_among g (groups_of_request e) ≡ test e) → ids_in g ms ≡ map (λ e. e.id) (filter test s.requests)
-  requests-by g test same = grouped-requests g ∙ ap (λ (es : List RequestEntry). map {A = RequestEntry} {B = RequestId} (λ e. e.id) es) (filter-each (λ (e : RequestEntry). is_among g (groups_of_request e)) test (λ e. sym (same e)) s.requests)
+-- the ids of a group are those of the requests that are in it, by priority and then sequence
+pub requests-by : (s : State) (ms : List (Member RequestId)) → AreRequestGroups s ms → (g : Group) (test : RequestEntry → Bool) → ((e : RequestEntry) → is_among g (groups_of_request e) ≡ test e)
+    → ids_in g ms ≡ map (λ e. e.id) (filter test s.requests)
+requests-by s ms are g test same =
+    rows-by is_id_before same_request (λ (e : RequestEntry). e.id) request_one_way request_equal later-request-apart request-itself ms are.rises s.requests are.once g test
+    (λ r. are.each g r ∙ by (request_entry r s.requests))
+  where
+    by : (o : Option RequestEntry) → option_map_or (λ k. is_among g (request_groups k (is_none (holder (option_map_or (λ (e : RequestEntry). e.queue) o []))))) (option_map (λ (e : RequestEntry). e.kept) o) false
+        ≡ option_map_or test o false
+    by None = refl
+    by (Some e) = same e
 
 -- # the walk over groups that differ in their third number alone
 
@@ -430,9 +183,7 @@ is_below None k = true
 is_below (Some n) k = nat_lt k n
 
 pub not-both : (a b : Bool) → (not a || not b) ≡ true → a ≡ true → b ≡ false
-not-both true true is first = absurd cc
-not-both true false is first = refl
-not-both false b is first = absurd cc
+not-both a b is first = grind arith
 
 -- what is true of each member is true of a group with a member
 pub group-each : {K : Type 0} (P : Group → Type 0) (ms : List (Member K)) → AllByRecursion (λ (m : Member K). P m.group) ms → (g : Group) → list_any (λ (m : Member K). same_group m.group g) ms ≡ true → P g
@@ -545,11 +296,7 @@ AreFlat class first ms = AllByRecursion (λ m. is_beside m.group (first_group cl
 -- so is that of a group with a member
 flat-group : {K : Type 0} (class first : ℕ) (ms : List (Member K)) → AreFlat class first ms → (h : Group) → list_any (λ (m : Member K). same_group m.group h) ms ≡ true
     → is_beside h (first_group class first) ≡ true → h.third ≡ 0
-flat-group {K = K} class first ms flat h some here =
-    let found = any-find (λ (m : Member K). same_group m.group h) ms some in
-    let same : found.0.group ≡ h = group-equal found.0.group h (find-passes (λ (m : Member K). same_group m.group h) ms found.0 found.1) in
-    let third = all-find (λ (m : Member K). is_beside m.group (first_group class first) ≡ true → m.group.third ≡ 0) (λ (m : Member K). same_group m.group h) ms found.0 flat found.1 in
-    subst (λ (g : Group). is_beside g (first_group class first) ≡ true → g.third ≡ 0) same third here
+flat-group class first ms flat h some here = group-each (λ g. is_beside g (first_group class first) ≡ true → g.third ≡ 0) ms flat h some here
 
 pub beside-of : (class first : ℕ) (l : LabelId) → is_beside (group_of class first l) (first_group class first) ≡ true
 beside-of class first l = grind (arith, nat_tests)
@@ -587,23 +334,15 @@ group-turn g m other = grind (arith, nat_tests)
 -- ## one member
 
 past-by : (a b t : Bool) → (b ≡ true → a ≡ false) → (not a && (b && t)) ≡ (b && t)
-past-by true true t past = absurd (let no : true ≡ false = past refl in cc)
-past-by true false t past = refl
-past-by false b t past = refl
+past-by a b t past = grind arith
 
 -- a member that is not before the least one that passes, passes
 kept-by : (a b w : Bool) → (not a || not b) ≡ true → (b ≡ false → a ≡ true) → (a && w) ≡ (not b && w)
-kept-by true true w least up = absurd cc
-kept-by true false w least up = refl
-kept-by false true w least up = refl
-kept-by false false w least up = absurd (let no : false ≡ true = up refl in cc)
+kept-by a b w least up = grind arith
 
 -- none beside it passes, if the least is not beside it
 gone-by : (a b k t : Bool) → (not a || not b) ≡ true → (k ≡ true → b ≡ true) → (a && (k && t)) ≡ false
-gone-by false b k t least all = refl
-gone-by true b false t least all = refl
-gone-by true true true t least all = absurd cc
-gone-by true false true t least all = absurd (let no : false ≡ true = all refl in cc)
+gone-by a b k t least all = grind arith
 
 module _ (class first : ℕ) (test : LabelId → Bool) where
   -- of the class and the first number, and its label passes
@@ -732,38 +471,16 @@ either : {P : Type 0} (a b : Bool) → (a ≡ true → P) → (b ≡ true → P)
 either true b first second is = first refl
 either false b first second is = second is
 
-module _ (g : Group) where
-  third-of : (h : Group) → h.third ≡ 0 → same_group h g ≡ true → g.third ≡ 0
-  third-of h flat same = grind (arith, nat_tests)
-
-  flat-map : {X : Type 0} (f : X → Group) (o : Option X) → ((x : X) → (f x).third ≡ 0) → holds g (option_map f o) ≡ true → g.third ≡ 0
-  flat-map f None flat is = absurd cc
-  flat-map f (Some x) flat is = third-of (f x) (flat x) is
-
-  flat-both : (f : PoolId → LabelId → Group) (l : Option LabelId) (o : Option PoolId) → ((p : PoolId) (l : LabelId) → (f p l).third ≡ 0)
-      → holds g (option_and_then (λ p. option_map (f p) l) o) ≡ true → g.third ≡ 0
-  flat-both f l None flat is = absurd cc
-  flat-both f l (Some p) flat is = flat-map (f p) l (flat p) is
-
-  flat-when : (b : Bool) (o : Option Group) → (holds g o ≡ true → g.third ≡ 0) → holds g (if b then o else None) ≡ true → g.third ≡ 0
-  flat-when true o flat is = flat is
-  flat-when false o flat is = absurd cc
-
-  -- the groups by the pools that declined are of one class
-  other-class-flat : (b : Bool) (set : ℕ) → (g.class == 4) ≡ false → holds g (if b then Some (declined_group set) else None) ≡ true → g.third ≡ 0
-  other-class-flat true set other is = absurd (let clash : (g.class == 4) ≡ true = grind (arith, nat_tests) in cc)
-  other-class-flat false set other is = absurd cc
-
-  pub third-test : (k : RequestRecord) (unlocked : Bool) → (g.class == 4) ≡ false → is_among g (request_groups k unlocked) ≡ true → g.third ≡ 0
-  third-test k unlocked other =
-      either _ _ (flat-when (is_pending k.state) (option_map pending_group k.pool) (flat-map pending_group k.pool (λ p. refl)))
-      (either _ _ (flat-when (is_pending k.state && unlocked) (option_map unheld_pending_group k.pool) (flat-map unheld_pending_group k.pool (λ p. refl)))
-      (either _ _ (flat-when ((is_requested k.state || is_pending k.state) && is_some k.pinned) (option_map coming_group (slice_get k.labels 0)) (flat-map coming_group (slice_get k.labels 0) (λ l. refl)))
-      (either _ _ (flat-when (is_failed k.state) (option_and_then (λ p. option_map (spent_group p) (slice_get k.labels 0)) k.pinned) (flat-both spent_group (slice_get k.labels 0) k.pinned (λ p l. refl)))
-      (either _ _ (other-class-flat (is_still_requested k) (decline_set k.declined) other)
-      (either _ _ (flat-when (is_pending k.state && is_none k.pinned) (option_and_then (λ p. option_map (next_label_group p) (next_label k)) k.pool) (flat-both next_label_group (next_label k) k.pool (λ p l. refl)))
-      (either _ _ (flat-when (is_pending k.state && is_some k.pinned) (option_and_then (λ p. option_map (pinned_label_group p) (next_label k)) k.pool) (flat-both pinned_label_group (next_label k) k.pool (λ p l. refl)))
-      (λ is. absurd cc)))))))
+-- a group of a request has no third number, unless it is by the pools that declined
+pub third-test : (g : Group) (k : RequestRecord) (unlocked : Bool) → (g.class == 4) ≡ false → is_among g (request_groups k unlocked) ≡ true → g.third ≡ 0
+third-test g k unlocked other =
+    either (is_place g (pending_group_of k)) _ (λ is. grind (arith, nat_tests))
+    (either (is_place g (unheld_pending_group_of k unlocked)) _ (λ is. grind (arith, nat_tests))
+    (either (is_place g (coming_group_of k)) _ (λ is. grind (arith, nat_tests))
+    (either (is_place g (spent_group_of k)) _ (λ is. grind (arith, nat_tests))
+    (either (is_place g (declined_group_of k)) _ (λ is. grind (arith, nat_tests))
+    (either (is_place g (next_label_group_of k)) _ (λ is. grind (arith, nat_tests))
+    (either (is_place g (pinned_label_group_of k)) _ (λ is. grind (arith, nat_tests)) (λ is. absurd cc)))))))
 
 -- ## the members of a state
 

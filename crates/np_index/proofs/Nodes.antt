@@ -9,21 +9,12 @@ use Rattle.np_index.proofs.Groups.{after-up, any-find, any-weaker, beside-before
 -- the first of those that pass
 pub first-passes : {X Y : Type 0} (p : X → Bool) (f : X → Y) (xs : List X) → slice_get (map f (filter p xs)) 0 ≡ option_map f (find p xs)
 first-passes p f [] = refl
-first-passes {X = X} {Y = Y} p f (x ∷ xs) = by (p x) (first-passes p f xs) where
-  by : (b : Bool) → slice_get (map f (filter p xs)) 0 ≡ option_map f (find p xs)
-      → slice_get (map f (cond b (x ∷ filter p xs) (filter p xs))) 0 ≡ option_map f (cond b (Some x) (find p xs))
-  by true later = refl
-  by false later = later
+first-passes p f (x ∷ xs) = grind (arith, first-passes p f xs)
 
 -- the first of those that pass one test that passes another
 find-both : {X : Type 0} (p q : X → Bool) (xs : List X) → find q (filter p xs) ≡ find (λ x. p x && q x) xs
 find-both p q [] = refl
-find-both {X = X} p q (x ∷ xs) = by (p x) (q x) refl (find-both p q xs) where
-  by : (b d : Bool) → q x ≡ d → find q (filter p xs) ≡ find (λ y. p y && q y) xs
-      → find q (cond b (x ∷ filter p xs) (filter p xs)) ≡ cond (b && q x) (Some x) (find (λ y. p y && q y) xs)
-  by true true is later = rw is refl
-  by true false is later = rw is later
-  by false d is later = later
+find-both p q (x ∷ xs) = grind (arith, find-both p q xs)
 
 -- ## the soonest of rows
 
@@ -53,11 +44,7 @@ module _ (c : Configuration) (kind : UnheldKind) (due : ℕ) where
   due-better (Some b) e after is = let first : nat_lt (due_of c kind e.kept) (due_of c kind b.kept) ≡ true = grind (arith, nat_tests) in rw first refl
 
   after-stays : (best : Option NodeEntry) (e : NodeEntry) → is_after best ≡ true → IsLater e → is_due e ≡ false → is_after (sooner c kind best e) ≡ true
-  after-stays None e after later other = grind (arith, nat_tests)
-  after-stays (Some b) e after later other = by (nat_lt (due_of c kind e.kept) (due_of c kind b.kept)) where
-    by : (x : Bool) → is_after (cond x (Some e) (Some b)) ≡ true
-    by true = grind (arith, nat_tests)
-    by false = after
+  after-stays best e after later other = grind (arith, nat_tests)
 
   -- the first that is due at the tick is found, if none is due before
   soonest-by : (rows : List NodeEntry) (best : Option NodeEntry) (e : NodeEntry) → is_after best ≡ true → AllByRecursion IsLater rows → find is_due rows ≡ Some e → fold (sooner c kind) best rows ≡ Some e
@@ -99,12 +86,8 @@ module _ (c : Configuration) (s : State) (classes : ClassesOf) (are : AreClasses
   pub none-due : first_third ≡ None → None ≡ first_due c p kind s
   none-due none =
       let out = all-weaker (λ (e : NodeEntry). is_unheld_as s p kind e ≡ true → is_below first_third (due_of c kind e.kept) ≡ false) (λ (e : NodeEntry). is_unheld_as s p kind e ≡ false)
-      (λ e past. by (is_unheld_as s p kind e) (subst (λ (o : Option ℕ). is_unheld_as s p kind e ≡ true → is_below o (due_of c kind e.kept) ≡ false) none past)) s.nodes row-past in
+      (λ e past. let clash = subst (λ (o : Option ℕ). is_unheld_as s p kind e ≡ true → is_below o (due_of c kind e.kept) ≡ false) none past in grind arith) s.nodes row-past in
       ap (λ (rows : List NodeEntry). option_map (λ (e : NodeEntry). e.id) (soonest c kind rows)) (sym (filter-nothing (is_unheld_as s p kind) s.nodes out))
-    where
-      by : (b : Bool) → (b ≡ true → true ≡ false) → b ≡ false
-      by true past = absurd (let no : true ≡ false = past refl in cc)
-      by false past = refl
 
   module _ (due : ℕ) (is : first_third ≡ Some due) where
     -- the node at the first place of the group
@@ -153,15 +136,10 @@ module _ (c : Configuration) (s : State) (classes : ClassesOf) (are : AreClasses
 
 -- ## of any rows
 
--- some row passes if one does: one row more
-some-by : {X : Type 0} (p : X → Bool) (x : X) (xs : List X) (b : Bool) → nat_lt 0 (length (filter p xs)) ≡ list_any p xs → nat_lt 0 (length (cond b (x ∷ filter p xs) (filter p xs))) ≡ (b || list_any p xs)
-some-by p x xs true later = grind (arith, nat_tests)
-some-by p x xs false later = later
-
--- so a group with a member has one that passes
+-- a group with a member has one that passes
 some-passes : {X : Type 0} (p : X → Bool) (xs : List X) → nat_lt 0 (length (filter p xs)) ≡ list_any p xs
 some-passes p [] = refl
-some-passes p (x ∷ xs) = some-by p x xs (p x) (some-passes p xs)
+some-passes p (x ∷ xs) = grind (arith, nat_tests, some-passes p xs)
 
 module _ (c : Configuration) (s : State) (classes : ClassesOf) (are : AreClasses c s classes) where
   -- ## nodes
@@ -339,18 +317,10 @@ module _ (t : TenantId) where
 
   -- what was found beside the tenant's groups is beside them
   found-beside : (found : Option Group) → option_map_or (λ h. is_beside h (first_of t)) (beside_if (first_of t) found) true ≡ true
-  found-beside None = refl
-  found-beside (Some h) = by (is_beside h (first_of t)) refl where
-    by : (b : Bool) → is_beside h (first_of t) ≡ b → option_map_or (λ k. is_beside k (first_of t)) (if b then Some h else None) true ≡ true
-    by true is = is
-    by false is = refl
+  found-beside found = grind arith
 
   found-is : (found : Option Group) (h : Group) → beside_if (first_of t) found ≡ Some h → found ≡ Some h
-  found-is None h is = absurd cc
-  found-is (Some k) h is = by (is_beside k (first_of t)) is where
-    by : (b : Bool) → (if b then Some k else None) ≡ Some h → Some k ≡ Some h
-    by true here = here
-    by false here = absurd cc
+  found-is found h is = grind arith
 
   -- ## the first group that passes
 
@@ -474,10 +444,7 @@ module _ (c : Configuration) (s : State) (t : TenantId) where
       past-by k beside there = by (is_group_before g k) refl where
         up-to : is_group_before g k ≡ false → (o : Option Group) → ((h : Group) → o ≡ Some h → is_group_before g h ≡ true) → is_past o k ≡ true
         up-to upto None more = refl
-        up-to upto (Some h) more = first (is_group_before k h) refl where
-          first : (b : Bool) → is_group_before k h ≡ b → b ≡ true
-          first true is = refl
-          first false is = let clash : is_group_before g k ≡ true = after-up g k h (more h refl) is in absurd cc
+        up-to upto (Some h) more = let clash = after-up g k h (more h refl) in grind arith
 
         by : (b : Bool) → is_group_before g k ≡ b → is_past after_next k ≡ (is_group_before k g || same_group k g)
         by true later =
@@ -489,10 +456,7 @@ module _ (c : Configuration) (s : State) (t : TenantId) where
             ∙ sym (ap (λ (b : Bool). is_group_before k g || b) (group-is k g ∙ ap (λ (b : Bool). not (is_group_before k g) && not b) upto) ∙ or_not (is_group_before k g))
 
       before-apart : (k : Group) → (is_group_before k g && same_group k g) ≡ false
-      before-apart k = by (is_group_before k g) refl where
-        by : (b : Bool) → is_group_before k g ≡ b → (b && same_group k g) ≡ false
-        by true is = group-apart k g is
-        by false is = refl
+      before-apart k = let apart = group-apart k g in grind arith
 
       rows-parted : (e : NodeEntry) → IsThere e → IsParted (is_passed (Some g)) (is_in_tenant_group g) (is_passed after_next) e
       rows-parted e there = by (is_tenant t e.kept.tenant) there (in-own t e.kept.tenant e.kept.pool e.kept.label g here) refl where

@@ -1,5 +1,5 @@
 -- what groups say of requests: the first that every pool declined, and those that wait, are stuck or under way
-use Rattle.np_index.proofs.Prelude.{AllByRecursion, Amount, AreClasses, AreRequestGroups, Bool, ClassesOf, Configuration, Declined, Group, LabelId, List, Member, None, Option, PoolId, Registration, RequestEntry, RequestId, RequestRecord, Rises, Some, State, add-one, all-find, all-weaker, amount_of, and-first, and-second, and_from, any-same, any_found, any_later, ap, arith, as_it_is, both-ways, cond, count_by, count_of, decline_set, declined_group, drop, eq-eqb, eqb-true, false, find, find-none, find-passes, first_of_set, fits, group-equal, group-itself, group_after, group_from, has_member, holder, ids_in, if◌then◌else◌, is_among, is_beside, is_declined_by, is_declined_by_all, is_id_before, is_late, is_none, is_of_set, is_pending_by, is_pinned_as, is_requested, is_short, is_some, is_spare, is_still_requested, is_stuck_as, is_stuck_at, is_stuck_label, is_under_way_as, label_group, label_if, length, limit_of, list_any, member, nat_lt, nat_tests, next_label, none-find, none-list_any, not, option_map, option_map_or, plus, refl, request-itself, request_entry, request_groups, request_in, request_is_in, request_one_way, same-declines, same_group, same_label, same_member, same_request, slice_get, subst, sum_by-cons, sym, third_if, true, undeclined, ℕ, [], ◌&&◌, ◌+◌, ◌-◌, ◌<◌, ◌==◌, ◌||◌, ◌∙◌, ◌∷◌, ◌≡◌, ◌≤◌}
+use Rattle.np_index.proofs.Prelude.{AllByRecursion, Amount, AreClasses, AreRequestGroups, Bool, ClassesOf, Configuration, Declined, Group, LabelId, List, Member, None, Option, PoolId, Registration, RequestEntry, RequestId, RequestRecord, Rises, Some, State, add-one, all-find, all-from_at, all-weaker, amount_of, and-first, and-second, and_from, and_true, any-same, any_found, any_later, ap, arith, as_it_is, both-ways, cond, contrapositive, count_by, count_of, decline_set, declined_group, drop, eq-eqb, eqb-true, false, find, find-none, find-passes, first_of_set, fits, group-equal, group-itself, group_after, group_from, has_member, holder, ids_in, if◌then◌else◌, is_among, is_beside, is_declined_by, is_declined_by_all, is_id_before, is_late, is_none, is_of_set, is_pending_by, is_pinned_as, is_requested, is_short, is_some, is_spare, is_still_requested, is_stuck_as, is_stuck_label, is_under_way_as, label_group, label_if, length, limit_of, list_any, member, nat_lt, nat_tests, next_label, none-find, none-list_any, not, option_map, option_map_or, plus, refl, request-itself, request_entry, request_groups, request_in, request_is_in, request_one_way, same-declines, same_group, same_label, same_member, same_request, slice_get, subst, sum_by-cons, sym, third_if, true, undeclined, ℕ, [], ◌&&◌, ◌+◌, ◌-◌, ◌<◌, ◌==◌, ◌||◌, ◌∙◌, ◌∷◌, ◌≡◌, ◌≤◌}
 use Rattle.np_index.specs.Sets.{earlier}
 use Rattle.np_index.proofs.Groups.{AreFlat, after-greater, after-has, after-more, after-past, after-rest, any-either, any-find, any-weaker, beside-is, beside-of, declined-test, find-any, first_group, flat-requests, from-past, group_of, groups_of_request, has_label, has_third, is_below, is_wanted, label-test, now-rest, requests-by, requests-found, rest_from, start-has, start-rest, third-test, waits_for}
 use Rattle.np_index.proofs.Nodes.{first-passes}
@@ -10,14 +10,9 @@ use Rattle.np_index.proofs.Nodes.{first-passes}
 
 -- what can't be true is false
 never : (b : Bool) → (b ≡ true → b ≡ false) → b ≡ false
-never true fails = fails refl
-never false fails = refl
+never b fails = grind arith
 
 -- ## of any list
-
-every : {X : Type 0} (P : X → Type 0) → ((x : X) → P x) → (xs : List X) → AllByRecursion P xs
-every P all [] = tt
-every P all (x ∷ xs) = (all x, every P all xs)
 
 count-each : {X : Type 0} (p q : X → Bool) (xs : List X) → AllByRecursion (λ x. p x ≡ q x) xs → count_by p xs ≡ count_by q xs
 count-each p q [] all = refl
@@ -27,24 +22,18 @@ count-each p q (x ∷ xs) all =
 -- a narrower test, that passes all or none of those that pass the wider
 module _ {X : Type 0} (wide narrow : X → Bool) (within : (x : X) → narrow x ≡ true → wide x ≡ true) where
   out : (x : X) → wide x ≡ false → narrow x ≡ false
-  out x fails = never (narrow x) (λ is. let clash : true ≡ false = sym (within x is) ∙ fails in absurd cc)
+  out x fails = contrapositive (narrow x) (wide x) (within x) fails
 
   narrow-none : (xs : List X) → find wide xs ≡ None → find narrow xs ≡ None
   narrow-none xs none = find-none narrow xs (all-weaker (λ x. wide x ≡ false) (λ x. narrow x ≡ false) out xs (none-find wide xs none))
 
   narrow-found : (xs : List X) (x : X) → find wide xs ≡ Some x → narrow x ≡ true → find narrow xs ≡ Some x
   narrow-found [] x found is = absurd cc
-  narrow-found (y ∷ ys) x found is = by (wide y) refl (narrow-found ys x) found where
-    by : (b : Bool) → wide y ≡ b → (find wide ys ≡ Some x → narrow x ≡ true → find narrow ys ≡ Some x) → cond b (Some y) (find wide ys) ≡ Some x → find narrow (y ∷ ys) ≡ Some x
-    by true passes rest here =
-        let same : y ≡ x = cc in
-        let first : narrow y ≡ true = ap narrow same ∙ is in
-        rw first here
-    by false fails rest there = rw (out y fails) (rest there is)
+  narrow-found (y ∷ ys) x found is = let fails = out y in grind (arith, narrow-found ys x)
 
   narrow-fails : ((x y : X) → wide x ≡ true → wide y ≡ true → narrow x ≡ narrow y) → (xs : List X) (x : X) → find wide xs ≡ Some x → narrow x ≡ false → find narrow xs ≡ None
   narrow-fails alike xs x found fails =
-      find-none narrow xs (every (λ y. narrow y ≡ false) (λ y. never (narrow y) (λ is. alike y x (within y is) (find-passes wide xs x found) ∙ fails)) xs)
+      find-none narrow xs (all-from_at (λ y. narrow y ≡ false) xs (λ at y there. never (narrow y) (λ is. alike y x (within y is) (find-passes wide xs x found) ∙ fails)))
 
 -- the first by id of those that pass one of two tests
 module _ (p q r : RequestEntry → Bool) where
@@ -133,13 +122,8 @@ module _ (s : State) (known : list_any is_late s.registrations ≡ false) where
 
   set-alike : (set : ℕ) (x y : RequestEntry) → is_with set x ≡ true → is_with set y ≡ true → is_of_set s set x ≡ is_of_set s set y
   set-alike set x y first second =
-      let first_set : (decline_set x.kept.declined == set) ≡ true = and-second (is_still_requested x.kept) (decline_set x.kept.declined == set) first in
-      let second_set : (decline_set y.kept.declined == set) ≡ true = and-second (is_still_requested y.kept) (decline_set y.kept.declined == set) second in
-      let first_is : is_requested x.kept.state ≡ true = and-first (is_requested x.kept.state) (not (length x.kept.declined == 0)) (and-first (is_still_requested x.kept) (decline_set x.kept.declined == set) first) in
-      let second_is : is_requested y.kept.state ≡ true = and-first (is_requested y.kept.state) (not (length y.kept.declined == 0)) (and-first (is_still_requested y.kept) (decline_set y.kept.declined == set) second) in
-      let same : undeclined s.registrations x.kept ≡ undeclined s.registrations y.kept =
-      same-undeclined x.kept y.kept (eqb-true (decline_set x.kept.declined) set first_set ∙ sym (eqb-true (decline_set y.kept.declined) set second_set)) in
-      rw (first_set, second_set, first_is, second_is, same) refl
+      let same = same-undeclined x.kept y.kept in
+      grind (arith, nat_tests)
 
 -- ## the first request of a set
 
@@ -148,10 +132,7 @@ module _ (c : Configuration) (s : State) (classes : ClassesOf) (are : AreClasses
   found_first = find (is_with s known set) s.requests
 
   within : (e : RequestEntry) → is_of_set s set e ≡ true → is_with s known set e ≡ true
-  within e is =
-      and_from (is_still_requested e.kept) (decline_set e.kept.declined == set)
-      (still-requested s some e.kept (and-first (is_declined_by_all s e.kept) (decline_set e.kept.declined == set) is))
-      (and-second (is_declined_by_all s e.kept) (decline_set e.kept.declined == set) is)
+  within e is = let still = still-requested s some e.kept in grind arith
 
   place-first : (group : Group) → group ≡ declined_group set → slice_get (ids_in group classes.requests) 0 ≡ option_map (λ (e : RequestEntry). e.id) found_first
   place-first group is =
@@ -192,10 +173,7 @@ module _ (c : Configuration) (s : State) (classes : ClassesOf) (are : AreClasses
         set-is = and-second (is_still_requested first-kept.0.kept) (decline_set first-kept.0.kept.declined == set) (find-passes (is_with s known set) s.requests first-kept.0 first-kept.1)
 
         by-record : (b : Bool) → b ≡ is_declined_by_all s k → is_of_set s set first-kept.0 ≡ b
-        by-record b answer = rw set-is (by-answer (is_declined_by_all s first-kept.0.kept) b (ap (is_declined_by_all s) same-kept ∙ sym answer)) where
-          by-answer : (a d : Bool) → a ≡ d → (a && true) ≡ d
-          by-answer true d same = same
-          by-answer false d same = same
+        by-record b answer = rw set-is (and_true (is_declined_by_all s first-kept.0.kept) ∙ ap (is_declined_by_all s) same-kept ∙ sym answer)
 
         pub first-passes-all : (b : Bool) → b ≡ is_declined_by_all s k → b ≡ true → Some r ≡ first_of_set set s
         first-passes-all b answer all =
@@ -215,12 +193,8 @@ first_below s next = option_map (λ e. e.id) (find (λ e. is_declined_by_all s e
 
 -- those below the next are those below this one and this one, if there is none between
 below-by : (next : Option ℕ) (n k : ℕ) → ((m : ℕ) → next ≡ Some m → nat_lt n m ≡ true) → (nat_lt n k ≡ true → is_below next k ≡ false) → is_below next k ≡ (nat_lt k n || (k == n))
-below-by next n k more past = by (nat_lt n k) refl past next more past where
-  by : (b : Bool) → nat_lt n k ≡ b → (nat_lt n k ≡ true → is_below next k ≡ false) → (o : Option ℕ) → ((m : ℕ) → o ≡ Some m → nat_lt n m ≡ true) → (nat_lt n k ≡ true → is_below o k ≡ false)
-      → is_below o k ≡ (nat_lt k n || (k == n))
-  by true is _ o greater beyond = beyond is ∙ grind (arith, nat_tests)
-  by false is _ None greater beyond = grind (arith, nat_tests)
-  by false is _ (Some m) greater beyond = let later : nat_lt n m ≡ true = greater m refl in grind (arith, nat_tests)
+below-by None n k more past = grind (arith, nat_tests)
+below-by (Some m) n k more past = let later = more m refl in grind (arith, nat_tests)
 
 module _ (c : Configuration) (s : State) (classes : ClassesOf) (are : AreClasses c s classes) (some : 0 < length s.registrations) where
   -- the set of a request that every registered pool declined has a group with a member
@@ -247,12 +221,8 @@ module _ (c : Configuration) (s : State) (classes : ClassesOf) (are : AreClasses
       (sym (find-none (λ (e : RequestEntry). is_declined_by_all s e.kept && is_below next (decline_set e.kept.declined)) s.requests
       (all-weaker (λ (e : RequestEntry). is_declined_by_all s e.kept ≡ true → has_third 4 0 0 is_id_before classes.requests are.requests.rises (decline_set e.kept.declined) ≡ true)
       (λ (e : RequestEntry). (is_declined_by_all s e.kept && is_below next (decline_set e.kept.declined)) ≡ false)
-      (λ e there. by (is_declined_by_all s e.kept) (is_below next (decline_set e.kept.declined))
-      (λ is. from-past 4 0 0 is_id_before classes.requests are.requests.rises (decline_set e.kept.declined) (there is))) s.requests rows-there)))
-    where
-      by : (a b : Bool) → (a ≡ true → b ≡ false) → (a && b) ≡ false
-      by true b past = past refl
-      by false b past = refl
+      (λ e there. let past = λ (is : is_declined_by_all s e.kept ≡ true). from-past 4 0 0 is_id_before classes.requests are.requests.rises (decline_set e.kept.declined) (there is) in grind arith)
+      s.requests rows-there)))
 
   module _ (n : ℕ) where
     abbrev next_set : Option ℕ
@@ -313,19 +283,9 @@ pub label-group : (pinned : Bool) (p : PoolId) (l : LabelId) → label_group pin
 label-group true p l = refl
 label-group false p l = refl
 
--- pinned or not, as it says
-pinned-by : (pinned : Bool) (o : Option PoolId) → (if pinned then is_some o else is_none o) ≡ true → is_some o ≡ pinned
-pinned-by true (Some q) is = refl
-pinned-by true None is = absurd cc
-pinned-by false (Some q) is = absurd cc
-pinned-by false None is = refl
-
 -- a group beside others is of their class
 class-apart : (class first : ℕ) (g : Group) → is_beside g (first_group class first) ≡ true → (class == 4) ≡ false → (g.class == 4) ≡ false
 class-apart class first g here other = grind (arith, nat_tests)
-
-label-itself : (l : LabelId) → (l.0 == l.0) ≡ true
-label-itself l = eq-eqb l.0 l.0 refl
 
 other-class : (pinned : Bool) → (class_of pinned == 4) ≡ false
 other-class true = refl
@@ -347,7 +307,7 @@ module _ (p : PoolId) (pinned : Bool) (test : LabelId → Bool) where
   for-next k None next alike pending passes = absurd cc
   for-next k (Some l) next alike pending passes = record {
     label = l;
-    waits = and_from (is_pinned_as pinned k) _ alike (and_from (is_pending_by p k) _ pending (rw next (label-itself l)));
+    waits = and_from (is_pinned_as pinned k) _ alike (and_from (is_pending_by p k) _ pending (rw next (eq-eqb l.0 l.0 refl)));
     passes = passes;
   }
 
@@ -359,17 +319,8 @@ module _ (p : PoolId) (pinned : Bool) (test : LabelId → Bool) where
       (and-first (is_pending_by p e.kept) next waits) (and-second (is_pending_by p e.kept) next waits)
 
   -- the other way round
-  at-next : (l : LabelId) (o : Option LabelId) → option_map_or (λ other. other.0 == l.0) o false ≡ true → test l ≡ true → option_map_or test o false ≡ true
-  at-next l None waits passes = absurd cc
-  at-next l (Some m) waits passes = ap test (same_label m l waits) ∙ passes
-
   for-waits : (e : RequestEntry) (l : LabelId) → waits_for pinned p l e.kept ≡ true → test l ≡ true → waits_at e ≡ true
-  for-waits e l waits passes =
-      let next = option_map_or (λ (other : LabelId). other.0 == l.0) (next_label e.kept) false in
-      let rest = and-second (is_pinned_as pinned e.kept) (is_pending_by p e.kept && next) waits in
-      and_from (is_pinned_as pinned e.kept) (is_pending_by p e.kept && option_map_or test (next_label e.kept) false) (and-first (is_pinned_as pinned e.kept) (is_pending_by p e.kept && next) waits)
-      (and_from (is_pending_by p e.kept) (option_map_or test (next_label e.kept) false) (and-first (is_pending_by p e.kept) next rest)
-      (at-next l (next_label e.kept) (and-second (is_pending_by p e.kept) next rest) passes))
+  for-waits e l waits passes = let same = λ (m : LabelId). same_label m l in grind arith
 
   -- a member of a group by next label, whose label passes
   abbrev pub is_wanted_member : Member RequestId → Bool
@@ -420,13 +371,7 @@ module _ (p : PoolId) (pinned : Bool) (test : LabelId → Bool) where
 module _ (c : Configuration) (s : State) (p : PoolId) (pinned : Bool) where
   -- stuck at its next label
   stuck-at : (e : RequestEntry) → waits_at p pinned (is_stuck_label c s p pinned) e ≡ is_stuck_as c s p pinned e
-  stuck-at e = by (is_pinned_as pinned e.kept) refl where
-    by : (b : Bool) → is_pinned_as pinned e.kept ≡ b
-        → (b && (is_pending_by p e.kept && option_map_or (is_stuck_label c s p pinned) (next_label e.kept) false)) ≡ (b && (is_pending_by p e.kept && option_map_or (is_stuck_at c s p e.kept) (next_label e.kept) false))
-    by true alike =
-        ap (λ (a : Bool). is_pending_by p e.kept && option_map_or (λ l. is_short c s p l && (a || not (list_any (is_spare p l) s.nodes))) (next_label e.kept) false)
-        (sym (pinned-by pinned e.kept.pinned alike))
-    by false other = refl
+  stuck-at e = grind arith
 
   -- a member of a group at whose label requests are stuck is a stuck request
   pub members-stuck : (classes : ClassesOf) → AreClasses c s classes → list_any (is_wanted_member p pinned (is_stuck_label c s p pinned)) classes.requests ≡ list_any (is_stuck_as c s p pinned) s.requests
@@ -548,11 +493,7 @@ module _ (test : RequestEntry → Bool) (rows : List RequestEntry) where
 
   -- a request passes if one does that is not pinned, or one that is
   pub passes-either : (list_any (passes_as false) rows || list_any (passes_as true) rows) ≡ list_any test rows
-  passes-either = sym (any-either test (passes_as false) (passes_as true) (λ e. by e.kept.pinned (test e)) rows) where
-    by : (o : Option PoolId) (b : Bool) → b ≡ ((is_none o && b) || (is_some o && b))
-    by (Some q) b = refl
-    by None true = refl
-    by None false = refl
+  passes-either = sym (any-either test (passes_as false) (passes_as true) (λ e. grind arith) rows)
 
   pub either-first : (some : Bool) → some ≡ list_any (passes_as false) rows → some ≡ true → some ≡ list_any test rows
   either-first some is found =

@@ -1,15 +1,9 @@
 -- the lookups of a state: the jobs that are not over, and all lookups after a change
-use Rattle.np_lookups.proofs.Prelude.{All-get_or, AllByRecursion, AreLookupsOf, AreUnfinished, Asked, AsksForJob, Bool, Changes, Configuration, DistinctSessions, FinishesJob, Growth, HasRoom, IfSome, Invariant, IsLiveQueue, IsPlanned, IsReached, IsSound, Job, JobId, JobRecord, JobsChange, JobsPremise, List, LookupsOf, Maker, MakerPremise, NodeEntry, NodeId, NodesChange, NodesPremise, None, Option, Phase, Premises, PutsJob, RequestEntry, RequestId, RequesterId, RequestsChange, RequestsPremise, SessionFacts, SessionId, SessionsChange, SessionsPremise, Some, State, TakesOver, Withdraws, above-apart, all-find, all-weaker, and_false, and_true, ap, append-nil, arith, below-apart, by, change_at, changed, cond, ended, ending, false, get_or, get_or_from_slice_get, grown, grown-numbered, has_ended, holder, holder_at, inl, inr, invariant-Runs, is_asked, is_id_before, is_job_before, is_new, is_node_before, is_over, is_queued, is_session, is_unfinished_job, jobs-grown, jobs_changed, joins_node, joins_request, leaves_node, leaves_request, length, length-append, length-change_at, length-take-le, list_at, lists_ended, lists_joined, lists_left, lists_removed, lookups_grown, lookups_settled, map, muted, nat_tests, new_job, node_entry, node_equal, node_one_way, node_queue, nodes_changed, not, option_map, option_map_or, premises, queue_at, queued_nodes, queued_requests, refl, remove_first, removed_node, removed_request, request_after_withdraw, request_entry, request_equal, request_one_way, request_queue, requests_changed, same_job, same_node, same_request, session-low, sessions_changed, slice_get, slice_get-get_or, slice_get_within, slice_set, subst, suc, sym, take, take_there, true, unfinished_changed, unfinished_from, with_mark, without_id, zero, ℕ, [], ◌&&◌, ◌++◌, ◌+◌, ◌-◌, ◌<◌, ◌==◌, ◌∙◌, ◌∷◌, ◌≡◌, ◌≤◌, ◌⊎◌}
-use Rattle.np_lookups.proofs.QueueLemmas.{at-ended, at-joined, at-left, at-without, here-list, here-list_or, leaves, length-ended, length-joined, length-left, length-removed, list_ended, list_joined, list_left, list_removed, nodes-changed, nodes-grown, nodes-left, other-list, requests-changed, requests-grown, requests-left, rows-absent, waiting}
-use Rattle.np_lookups.proofs.OwnerLemmas.{AreUnused, owners-changed, unused-reached}
-
--- # the lookups of a state: the jobs that are not over, and all lookups after a change
+use Rattle.np_lookups.proofs.Prelude.{All-get_or, AllByRecursion, AreLookupsOf, AreUnfinished, Bool, Changes, Configuration, DistinctSessions, Growth, HasRoom, IfSome, Invariant, IsLiveQueue, IsPlanned, IsReached, IsSound, Job, JobId, JobRecord, JobsChange, JobsPremise, List, Locked, LookupsOf, Maker, MakerPremise, NodeEntry, NodeId, NodesChange, NodesPremise, None, Option, Premises, PutsJob, RequestEntry, RequestId, RequesterId, RequestsChange, RequestsPremise, SessionFacts, SessionId, SessionsChange, SessionsPremise, Some, State, Wait, [], above-apart, all-weaker, and_false, and_true, ap, append-nil, arith, below-apart, by, by_bool, change_at, changed, cond, ended, ending, false, find, get_or, get_or_from_slice_get, grown, grown-numbered, has_ended, holder, holder_at, inl, inr, invariant-Runs, is_id_before, is_job_before, is_node_before, is_over, is_queued, is_unfinished_job, jobs-grown, jobs_changed, joins_node, joins_request, leaves_node, leaves_request, length, length-append, length-change_at, length-take-le, list_at, lists_ended, lists_joined, lists_left, lists_removed, lookups_grown, lookups_settled, muted, nat_tests, new_job, node_equal, node_one_way, node_queue, nodes_changed, not-past, option_map, option_map_or, or_right, premises, queue_at, queued_nodes, queued_requests, refl, remove_first, removed_node, removed_request, request_equal, request_one_way, request_queue, requests_changed, same_job, same_node, same_request, session-low, sessions_changed, slice_get, slice_get-get_or, slice_get_within, slice_set, subst, suc, sym, take, take_there, true, unfinished_changed, unfinished_from, with_id, with_mark, without_id, zero, ℕ, ◌++◌, ◌+◌, ◌-◌, ◌<◌, ◌==◌, ◌∙◌, ◌∷◌, ◌≡◌, ◌≤◌, ◌⊎◌}
+use Rattle.np_lookups.proofs.QueueLemmas.{at-changed, at-ended, at-joined, at-left, at-without, length-changed, length-removed, list_ended, list_joined, list_left, list_removed, nodes-changed, nodes-grown, nodes-left, requests-changed, requests-grown, requests-left, rows-absent, waiting}
+use Rattle.np_lookups.proofs.OwnerLemmas.{AreUnused, KeepsNodes, TakesNodes, early-open, owners-changed, put-nodes, unused-reached}
 
 -- # the jobs of a requester that are not over, determined by which jobs are over
-
--- for each job whether it is over
-abbrev pub overs : List JobRecord → List Bool
-overs jobs = map (λ kept. is_over kept.phase) jobs
 
 abbrev pub job_id : ℕ → JobId
 job_id n = record { 0 = n }
@@ -19,170 +13,82 @@ abbrev pub is_own : Configuration → RequesterId → ℕ → Bool
 is_own c q n = option_map_or (λ row. row.requester.0 == q.0) (slice_get c.jobs n) false
 
 module _ (c : Configuration) (q : RequesterId) where
-  -- the requester's jobs that are not over among these jobs, of which the first has this number
-  abbrev pub open_from : ℕ → List Bool → List JobId
-  open_from n [] = []
-  open_from n (over ∷ rest) = cond (is_own c q n && not over) (job_id n ∷ open_from (suc n) rest) (open_from (suc n) rest)
+  -- ## one job changed
 
-  pub unfinished-open : (n : ℕ) (jobs : List JobRecord) → unfinished_from c q n jobs ≡ open_from n (overs jobs)
-  unfinished-open n [] = refl
-  unfinished-open n (kept ∷ jobs) =
-      ap (λ (rest : List JobId). cond (is_own c q n && not (is_over kept.phase)) (job_id n ∷ rest) rest) (unfinished-open (suc n) jobs)
+  -- if it is over exactly if it was before
+  pub unfinished-put : (n k : ℕ) (jobs : List JobRecord) (old put : JobRecord) → slice_get jobs k ≡ Some old → is_over put.phase ≡ is_over old.phase
+      → unfinished_from c q n (slice_set jobs k put) ≡ unfinished_from c q n jobs
+  unfinished-put n k [] old put there same = refl
+  unfinished-put n zero (first ∷ jobs) old put there same = let here : first ≡ old = cc in rw (here, same) refl
+  unfinished-put n (suc k) (first ∷ jobs) old put there same = grind (arith, unfinished-put (suc n) k jobs old put there same)
 
-  -- ## one job over
+  -- by a mark
+  pub unfinished-mark : (m : NodeId) (n k : ℕ) (jobs : List JobRecord) → unfinished_from c q n (change_at k (with_mark m) jobs) ≡ unfinished_from c q n jobs
+  unfinished-mark m n k [] = refl
+  unfinished-mark m n zero (kept ∷ jobs) = refl
+  unfinished-mark m n (suc k) (kept ∷ jobs) = grind (arith, unfinished-mark m (suc n) k jobs)
 
   -- no job before the first is among them
-  out_before : (n : ℕ) (bs : List Bool) (m : ℕ) → m < n → remove_first (λ other. same_job other (job_id m)) (open_from n bs) ≡ open_from n bs
+  out_before : (n : ℕ) (jobs : List JobRecord) (m : ℕ) → m < n → remove_first (λ other. same_job other (job_id m)) (unfinished_from c q n jobs) ≡ unfinished_from c q n jobs
   out_before n [] m less = refl
-  out_before n (over ∷ rest) m less = by (is_own c q n && not over) (out_before (suc n) rest m (omega arith)) where
-    by : (b : Bool) → remove_first (λ other. same_job other (job_id m)) (open_from (suc n) rest) ≡ open_from (suc n) rest
-        → remove_first (λ other. same_job other (job_id m)) (cond b (job_id n ∷ open_from (suc n) rest) (open_from (suc n) rest)) ≡ cond b (job_id n ∷ open_from (suc n) rest) (open_from (suc n) rest)
-    by true later = rw (above-apart n m less) (ap (λ (jobs : List JobId). job_id n ∷ jobs) later)
-    by false later = later
+  out_before n (kept ∷ jobs) m less = grind (arith, above-apart n m less, out_before (suc n) jobs m (omega arith))
 
-  over-here : (n m : ℕ) (over : Bool) (rest : List Bool) → m ≡ n → remove_first (λ other. same_job other (job_id m)) (open_from n (over ∷ rest)) ≡ open_from n (true ∷ rest)
-  over-here n m over rest is = by (is_own c q n) over where
-    gone : remove_first (λ other. same_job other (job_id m)) (open_from (suc n) rest) ≡ open_from (suc n) rest
-    gone = out_before (suc n) rest m (omega arith)
-
-    here : (n == m) ≡ true
-    here = grind (arith, nat_tests)
-
-    by : (own over : Bool) → remove_first (λ other. same_job other (job_id m)) (cond (own && not over) (job_id n ∷ open_from (suc n) rest) (open_from (suc n) rest)) ≡ cond (own && not true) (job_id n ∷ open_from (suc n) rest) (open_from (suc n) rest)
-    by true true = gone
-    by true false = rw here refl
-    by false true = gone
-    by false false = gone
-
-  -- if the job with this number is over, it is no longer among them
-  pub open-over : (n k m : ℕ) (bs : List Bool) → m ≡ n + k → remove_first (λ other. same_job other (job_id m)) (open_from n bs) ≡ open_from n (slice_set bs k true)
-  open-over n k m [] is = refl
-  open-over n zero m (over ∷ rest) is = over-here n m over rest (omega arith)
-  open-over n (suc k) m (over ∷ rest) is = by (is_own c q n && not over) (open-over (suc n) k m rest (omega arith)) where
-    by : (b : Bool) → remove_first (λ other. same_job other (job_id m)) (open_from (suc n) rest) ≡ open_from (suc n) (slice_set rest k true)
-        → remove_first (λ other. same_job other (job_id m)) (cond b (job_id n ∷ open_from (suc n) rest) (open_from (suc n) rest)) ≡ cond b (job_id n ∷ open_from (suc n) (slice_set rest k true)) (open_from (suc n) (slice_set rest k true))
-    by true later = rw (below-apart n m (omega arith)) (ap (λ (jobs : List JobId). job_id n ∷ jobs) later)
-    by false later = later
-
-  -- if the job is not the requester's, nothing changes
-  pub open-other : (n k m : ℕ) (bs : List Bool) → m ≡ n + k → is_own c q m ≡ false → open_from n (slice_set bs k true) ≡ open_from n bs
-  open-other n k m [] is other = refl
-  open-other n zero m (over ∷ rest) is other =
-      let number : m ≡ n = omega arith in
-      let here : is_own c q n ≡ false = ap (λ (i : ℕ). is_own c q i) (sym number) ∙ other in
-      rw here refl
-  open-other n (suc k) m (over ∷ rest) is other =
-      ap (λ (jobs : List JobId). cond (is_own c q n && not over) (job_id n ∷ jobs) jobs) (open-other (suc n) k m rest (omega arith) other)
+  -- if it is over, it is no longer among those of its requester
+  pub unfinished-over : (n k m : ℕ) (jobs : List JobRecord) (put : JobRecord) → m ≡ n + k → is_over put.phase ≡ true
+      → unfinished_from c q n (slice_set jobs k put) ≡ cond (is_own c q m) (remove_first (λ other. same_job other (job_id m)) (unfinished_from c q n jobs)) (unfinished_from c q n jobs)
+  unfinished-over n k m [] put is over = grind arith
+  unfinished-over n zero m (first ∷ jobs) put is over =
+      let number : n ≡ m = omega arith in
+      let here : (m == m) ≡ true = grind (arith, nat_tests) in
+      rw number (grind (arith, over, here, out_before (suc m) jobs m (omega arith)))
+  unfinished-over n (suc k) m (first ∷ jobs) put is over =
+      let other : (n == m) ≡ false = below-apart n m (omega arith) in
+      grind (arith, other, unfinished-over (suc n) k m jobs put (omega arith) over)
 
   -- ## one job more
 
   pub unfinished-push : (n m : ℕ) (jobs : List JobRecord) (kept : JobRecord) → m ≡ n + length jobs
       → unfinished_from c q n (jobs ++ kept ∷ []) ≡ unfinished_from c q n jobs ++ cond (is_unfinished_job c q (job_id m) kept) (job_id m ∷ []) []
   unfinished-push n m [] kept is = let number : m ≡ n = omega arith in rw number refl
-  unfinished-push n m (first ∷ jobs) kept is = by (is_unfinished_job c q (job_id n) first) (unfinished-push (suc n) m jobs kept (omega arith)) where
-    by : (b : Bool) → unfinished_from c q (suc n) (jobs ++ kept ∷ []) ≡ unfinished_from c q (suc n) jobs ++ cond (is_unfinished_job c q (job_id m) kept) (job_id m ∷ []) []
-        → cond b (job_id n ∷ unfinished_from c q (suc n) (jobs ++ kept ∷ [])) (unfinished_from c q (suc n) (jobs ++ kept ∷ [])) ≡ cond b (job_id n ∷ unfinished_from c q (suc n) jobs) (unfinished_from c q (suc n) jobs) ++ cond (is_unfinished_job c q (job_id m) kept) (job_id m ∷ []) []
-    by true later = ap (λ (ids : List JobId). job_id n ∷ ids) later
-    by false later = later
+  unfinished-push n m (first ∷ jobs) kept is = grind (arith, unfinished-push (suc n) m jobs kept (omega arith))
 
   pub all-below : (n m : ℕ) (jobs : List JobRecord) → n + length jobs ≤ m → AllByRecursion (λ j. j.0 < m) (unfinished_from c q n jobs)
   all-below n m [] within = tt
-  all-below n m (kept ∷ jobs) within = by (is_unfinished_job c q (job_id n) kept) (all-below (suc n) m jobs (omega arith)) where
-    by : (b : Bool) → AllByRecursion (λ (j : JobId). j.0 < m) (unfinished_from c q (suc n) jobs) → AllByRecursion (λ (j : JobId). j.0 < m) (cond b (job_id n ∷ unfinished_from c q (suc n) jobs) (unfinished_from c q (suc n) jobs))
-    by true later = (omega arith, later)
-    by false later = later
+  all-below n m (kept ∷ jobs) within =
+      by_bool (λ (b : Bool). AllByRecursion (λ (j : JobId). j.0 < m) (cond b (job_id n ∷ unfinished_from c q (suc n) jobs) (unfinished_from c q (suc n) jobs))) (is_unfinished_job c q (job_id n) kept)
+      (λ _. (omega arith, all-below (suc n) m jobs (omega arith))) (λ _. all-below (suc n) m jobs (omega arith))
 
 -- # what the changes of an event make of the jobs that are not over
 
--- ## which jobs are over
-
-overs-set : (rows : List JobRecord) (i : ℕ) (kept : JobRecord) → overs (slice_set rows i kept) ≡ slice_set (overs rows) i (is_over kept.phase)
-overs-set [] i kept = refl
-overs-set (first ∷ rows) zero kept = refl
-overs-set (first ∷ rows) (suc i) kept = ap (λ (bs : List Bool). is_over first.phase ∷ bs) (overs-set rows i kept)
-
--- a job that is over if and only if it was over before
-put-same : (rows : List JobRecord) (i : ℕ) (old put : JobRecord) → slice_get rows i ≡ Some old → is_over put.phase ≡ is_over old.phase → overs (slice_set rows i put) ≡ overs rows
-put-same [] i old put there as_it_was = refl
-put-same (first ∷ rows) zero old put there as_it_was = let here : first ≡ old = cc in rw (as_it_was, here) refl
-put-same (first ∷ rows) (suc i) old put there as_it_was = ap (λ (bs : List Bool). is_over first.phase ∷ bs) (put-same rows i old put there as_it_was)
-
-marked-same : (n : NodeId) (i : ℕ) (rows : List JobRecord) → overs (change_at i (with_mark n) rows) ≡ overs rows
-marked-same n i [] = refl
-marked-same n zero (job ∷ rows) = refl
-marked-same n (suc i) (job ∷ rows) = ap (λ (bs : List Bool). is_over job.phase ∷ bs) (marked-same n i rows)
-
--- ## a job whose record is put, and that is not over then
-
-new-open : (p : Phase) → is_new p ≡ true → is_over p ≡ false
-new-open Phase.New is = refl
-new-open _ is = absurd cc
-
-asked-open : (p : Phase) → is_asked p ≡ true → is_over p ≡ false
-asked-open Phase.Asked is = refl
-asked-open _ is = absurd cc
-
--- it was not over before
-record WasOpen (s : State) (j : JobId) : Type 0 where
-  pub old : JobRecord
-  pub stands : slice_get s.jobs j.0 ≡ Some old
-  pub open_is : is_over old.phase ≡ false
-
-was-open : (c : Configuration) (s : State) (ch : Changes) (j : JobId) (later : JobRecord) → ch.jobs ≡ JobsChange.Put j later → PutsJob c s ch j later → is_over later.phase ≡ false → WasOpen s j
-was-open c s ch j later puts premise open_is = by premise.way where
-  by : ((priority : ℕ) × (asked : Asked) × (asks : AsksForJob c s ch priority asked) × ((ch.grows ≡ Growth.Request priority asked) × (asks.number ≡ j)))
-      ⊎ (((r : RequestId) × (takes : TakesOver c s ch r) × ((ch.requests ≡ RequestsChange.Remove r) × (takes.number ≡ j)))
-      ⊎ (FinishesJob c s ch j premise.kept later
-      ⊎ (Withdraws s ch j premise.kept × (ch.requests ≡ request_after_withdraw premise.kept.request))))
-      → WasOpen s j
-  by (inl is) = let asks = is.2 in subst (WasOpen s) is.3.1 (record { old = asks.kept; stands = asks.stands; open_is = new-open asks.kept.phase asks.new })
-  by (inr (inl is)) = let takes = is.1 in subst (WasOpen s) is.2.1 (record { old = takes.kept; stands = takes.stands; open_is = asked-open takes.kept.phase takes.asked })
-  by (inr (inr (inl finishes))) = let over = finishes.record_after in absurd cc
-  by (inr (inr (inr withdraws))) = let over = withdraws.0.puts in absurd cc
-
--- ## the lists
+-- a job whose record is put, and that is not over then, was not over before
+was-open : (c : Configuration) (s : State) (ch : Changes) (j : JobId) (later : JobRecord) → ch.jobs ≡ JobsChange.Put j later → PutsJob c s ch j later → is_over later.phase ≡ false
+    → (old : JobRecord) × (slice_get s.jobs j.0 ≡ Some old) × (is_over old.phase ≡ false)
+was-open c s ch j later puts premise open_is = by (put-nodes c s ch j later puts premise) where
+  by : KeepsNodes s j later ⊎ TakesNodes c s ch j later → (old : JobRecord) × (slice_get s.jobs j.0 ≡ Some old) × (is_over old.phase ≡ false)
+  by (inl keeps) = (keeps.kept, keeps.stands, early-open keeps.kept.phase (keeps.early open_is))
+  by (inr takes) = (takes.takes.kept, takes.stands, early-open takes.takes.kept.phase (or_right _ _ takes.takes.asked))
 
 module _ (c : Configuration) (s t : State) (lists : List (List JobId)) (old : AreUnfinished c s lists) where
-  -- the same jobs are over
-  same-over : overs t.jobs ≡ overs s.jobs → AreUnfinished c t lists
-  same-over same = record {
-    each = λ q.
-        old.each q ∙ unfinished-open c q 0 s.jobs ∙ ap (λ (bs : List Bool). open_from c q 0 bs) (sym same) ∙ sym (unfinished-open c q 0 t.jobs);
-  }
-
-  module _ (j : JobId) (over : overs t.jobs ≡ slice_set (overs s.jobs) j.0 true) where
-    -- a requester without the job
-    unchanged : (q : RequesterId) → is_own c q j.0 ≡ false → list_at q.0 lists ≡ unfinished_from c q 0 t.jobs
-    unchanged q other =
-        old.each q ∙ unfinished-open c q 0 s.jobs
-        ∙ sym (open-other c q 0 j.0 j.0 (overs s.jobs) (omega arith) other)
-        ∙ ap (λ (bs : List Bool). open_from c q 0 bs) (sym over)
-        ∙ sym (unfinished-open c q 0 t.jobs)
-
-    -- the job leaves the list of its requester
-    one-over : (o : Option Job) → slice_get c.jobs j.0 ≡ o → AreUnfinished c t (option_map_or (λ row. change_at row.requester.0 (without_id same_job j) lists) o lists)
-    one-over None none = record { each = λ q. unchanged q (rw none refl) }
-    one-over (Some row) is_row = record { each = λ q. by q (row.requester.0 == q.0) refl } where
-      by : (q : RequesterId) (b : Bool) → (row.requester.0 == q.0) ≡ b → list_at q.0 (change_at row.requester.0 (without_id same_job j) lists) ≡ unfinished_from c q 0 t.jobs
-      by q true own =
-          here-list_or row.requester.0 q.0 (without_id same_job j) lists refl own
-          ∙ ap (without_id same_job j) (old.each q ∙ unfinished-open c q 0 s.jobs)
-          ∙ open-over c q 0 j.0 j.0 (overs s.jobs) (omega arith)
-          ∙ ap (λ (bs : List Bool). open_from c q 0 bs) (sym over)
-          ∙ sym (unfinished-open c q 0 t.jobs)
-      by q false own =
-          other-list row.requester.0 q.0 (without_id same_job j) lists own
-          ∙ unchanged q (let told : is_own c q j.0 ≡ (row.requester.0 == q.0) = rw is_row refl in told ∙ own)
+  -- the job leaves the list of its requester, if it has one
+  one-over : (j : JobId) (q : RequesterId) (o : Option Job) → list_at q.0 (option_map_or (λ row. change_at row.requester.0 (without_id same_job j) lists) o lists)
+      ≡ cond (option_map_or (λ row. row.requester.0 == q.0) o false) (without_id same_job j (list_at q.0 lists)) (list_at q.0 lists)
+  one-over j q None = refl
+  one-over j q (Some row) = at-changed row.requester.0 q.0 (without_id same_job j) lists (λ _. refl)
 
   after-jobs : (ch : Changes) (change : JobsChange) → ch.jobs ≡ change → t.jobs ≡ jobs_changed change s.jobs → JobsPremise c s ch change → AreUnfinished c t (unfinished_changed c change lists)
-  after-jobs ch JobsChange.Same is jobs_are premise = same-over (ap overs jobs_are)
-  after-jobs ch (JobsChange.EndNode j n) is jobs_are premise = same-over (ap overs jobs_are ∙ marked-same n j.0 s.jobs)
+  after-jobs ch JobsChange.Same is jobs_are premise = record { each = λ q. old.each q ∙ ap (unfinished_from c q 0) (sym jobs_are) }
+  after-jobs ch (JobsChange.EndNode j n) is jobs_are premise = record { each = λ q. old.each q ∙ sym (ap (unfinished_from c q 0) jobs_are ∙ unfinished-mark c q n 0 j.0 s.jobs) }
   after-jobs ch (JobsChange.Put j kept) is jobs_are premise = by (is_over kept.phase) refl where
     by : (b : Bool) → is_over kept.phase ≡ b → AreUnfinished c t (cond b (option_map_or (λ row. change_at row.requester.0 (without_id same_job j) lists) (slice_get c.jobs j.0) lists) lists)
-    by true over = one-over j (ap overs jobs_are ∙ overs-set s.jobs j.0 kept ∙ ap (slice_set (overs s.jobs) j.0) over) (slice_get c.jobs j.0) refl
-    by false open_is =
-        let was = was-open c s ch j kept is premise open_is in
-        same-over (ap overs jobs_are ∙ put-same s.jobs j.0 was.old kept was.stands (open_is ∙ sym was.open_is))
+    by true over = record {
+      each = λ q.
+          one-over j q (slice_get c.jobs j.0)
+          ∙ ap (λ (jobs : List JobId). cond (is_own c q j.0) (without_id same_job j jobs) jobs) (old.each q)
+          ∙ sym (ap (unfinished_from c q 0) jobs_are ∙ unfinished-over c q 0 j.0 j.0 s.jobs kept (omega arith) over);
+    }
+    by false open_is = let was = was-open c s ch j kept is premise open_is in record {
+      each = λ q. old.each q ∙ sym (ap (unfinished_from c q 0) jobs_are ∙ unfinished-put c q 0 j.0 s.jobs was.0 kept was.1 (open_is ∙ sym was.2));
+    }
 
 pub unfinished-changed : (c : Configuration) (s : State) (ch : Changes) (lists : List (List JobId)) → JobsPremise c s ch ch.jobs → AreUnfinished c s lists → AreUnfinished c (changed c ch s) (unfinished_changed c ch.jobs lists)
 unfinished-changed c s ch lists premise old =
@@ -253,20 +159,13 @@ module _ (c : Configuration) (s : State) (number : ℕ) (lists : List (List JobI
     pub made-more : (later : List (List JobId)) → later ≡ change_at row.requester.0 (λ jobs. jobs ++ job_id number ∷ []) lists → has_ended s (job_id number) ≡ false → IsMadeTo c s (number + 1) later
     made-more later added is = record {
       many = ap length added ∙ length-change_at row.requester.0 (λ jobs. jobs ++ job_id number ∷ []) lists ∙ made.many;
-      each = λ q. ap (λ (ls : List (List JobId)). list_at q.0 ls) added ∙ by q (row.requester.0 == q.0) refl;
+      each = λ q.
+          ap (list_at q.0) added
+          ∙ at-changed row.requester.0 q.0 (λ jobs. jobs ++ job_id number ∷ []) lists (λ none. absurd (not-past lists row.requester.0 owner-there none))
+          ∙ grind (arith, more q, told q, made.each q, append-nil (list_at q.0 lists));
     } where
       told : (q : RequesterId) → is_unfinished_job c q (job_id number) kept ≡ (row.requester.0 == q.0)
       told q = rw (is_row, over_as false is) (and_true (row.requester.0 == q.0))
-
-      with_job : (q : RequesterId) (b : Bool) → (row.requester.0 == q.0) ≡ b → unfinished_from c q 0 (take (number + 1) s.jobs) ≡ list_at q.0 lists ++ cond b (job_id number ∷ []) []
-      with_job q b own =
-          more q
-          ∙ ap (λ (jobs : List JobId). jobs ++ cond (is_unfinished_job c q (job_id number) kept) (job_id number ∷ []) []) (sym (made.each q))
-          ∙ ap (λ (x : Bool). list_at q.0 lists ++ cond x (job_id number ∷ []) []) (told q ∙ own)
-
-      by : (q : RequesterId) (b : Bool) → (row.requester.0 == q.0) ≡ b → list_at q.0 (change_at row.requester.0 (λ jobs. jobs ++ job_id number ∷ []) lists) ≡ unfinished_from c q 0 (take (number + 1) s.jobs)
-      by q true own = here-list row.requester.0 q.0 (λ jobs. jobs ++ job_id number ∷ []) lists owner-there own ∙ sym (with_job q true own)
-      by q false own = other-list row.requester.0 q.0 (λ jobs. jobs ++ job_id number ∷ []) lists own ∙ sym (append-nil (list_at q.0 lists)) ∙ sym (with_job q false own)
 
 -- # the lookups of a state, changed as the state is, are those of the changed state
 
@@ -300,6 +199,12 @@ changed-sessions (SessionsChange.End x) facts = length-change_at (x.0 - 1) ended
 session-more : (c : Configuration) (s : State) (ch : Changes) → length (changed c ch s).sessions ≤ length s.sessions + 1
 session-more c s ch = omega (arith, changed-sessions ch.sessions (grown c ch.maker ch.grows s).sessions, grown-sessions c s ch.maker ch.grows)
 
+-- what is true of the queue of each row, and of no session, is true of the queue of one that is looked up
+queue-found : {I K : Type 0} (P : List SessionId → Type 0) (p : Locked I K → Bool) (rows : List (Locked I K)) → P [] → AllByRecursion (λ e. P e.queue) rows → P (option_map_or (λ e. e.queue) (find p rows) [])
+queue-found P p [] none all = none
+queue-found {I} {K} P p (x ∷ rows) none all =
+    by_bool (λ (b : Bool). P (option_map_or (λ (e : Locked I K). e.queue) (cond b (Some x) (find p rows)) [])) (p x) (λ _. all.0) (λ _. queue-found P p rows none all.1)
+
 module _ (c : Configuration) (s : State) (ch : Changes) (old : Invariant c s) (given : Premises c s ch) (x : SessionId) where
   -- ## nodes
 
@@ -307,20 +212,10 @@ module _ (c : Configuration) (s : State) (ch : Changes) (old : Invariant c s) (g
   node-removed : (change : NodesChange) → ch.nodes ≡ change → NodesPremise c s ch change → (lists : List (List NodeId)) → list_at x.0 lists ≡ queued_nodes x s
       → list_at x.0 (lists_removed same_node (removed_node change) (queue_at (removed_node change) s) (lists_left same_node (leaves_node ch.maker change) (lists_joined is_node_before same_node (joins_node ch.maker ch.grows s.next_node) lists)))
       ≡ list_removed same_node (removed_node change) (list_at x.0 (lists_left same_node (leaves_node ch.maker change) (lists_joined is_node_before same_node (joins_node ch.maker ch.grows s.next_node) lists)))
-  node-removed (NodesChange.Remove n) is premise lists here = rw premise.same_size (at-without same_node x n (node_queue n s.nodes) lists once ∙ out (is_queued x (node_queue n s.nodes)) refl) where
-    once-by : (o : Option NodeEntry) → node_entry n s.nodes ≡ o → DistinctSessions (option_map_or (λ e. e.queue) o [])
-    once-by None found = tt
-    once-by (Some e) found = (all-find (λ (e : NodeEntry). IsLiveQueue s e.queue) (λ e. e.id.0 == n.0) s.nodes e old.queued.at_nodes found).once
-
-    once : DistinctSessions (node_queue n s.nodes)
-    once = once-by (node_entry n s.nodes) refl
-
-    out : (b : Bool) → is_queued x (node_queue n s.nodes) ≡ b → cond b (without_id same_node n (list_at x.0 lists)) (list_at x.0 lists) ≡ without_id same_node n (list_at x.0 lists)
-    out true is_there = refl
-    out false is_out =
-        here
-        ∙ sym (rows-absent is_node_before same_node node_one_way node_equal x s.nodes old.numbered.nodes_rise n is_out)
-        ∙ ap (without_id same_node n) (sym here)
+  node-removed (NodesChange.Remove n) is premise lists here = rw premise.same_size (
+      at-without same_node x n (node_queue n s.nodes) lists
+      (queue-found DistinctSessions (λ (e : NodeEntry). e.id.0 == n.0) s.nodes tt (all-weaker (λ (e : NodeEntry). IsLiveQueue s e.queue) (λ (e : NodeEntry). DistinctSessions e.queue) (λ e live. live.once) s.nodes old.queued.at_nodes))
+      ∙ grind (arith, here, rows-absent is_node_before same_node node_one_way node_equal x s.nodes old.numbered.nodes_rise n))
   node-removed _ is premise lists here = refl
 
   node-list : (lists : List (List NodeId)) → list_at x.0 lists ≡ queued_nodes x s → length s.sessions < length lists
@@ -329,9 +224,9 @@ module _ (c : Configuration) (s : State) (ch : Changes) (old : Invariant c s) (g
   node-list lists here many =
       let t = grown c ch.maker ch.grows s in
       let joined_there : list_at x.0 (lists_joined is_node_before same_node (joins_node ch.maker ch.grows s.next_node) lists) ≡ waiting x t.nodes =
-      at-joined is_node_before same_node x (joins_node ch.maker ch.grows s.next_node) lists (joins_node-within s ch.maker ch.grows (length lists) given.maker many)
+      at-joined same_node x is_node_before (joins_node ch.maker ch.grows s.next_node) lists (joins_node-within s ch.maker ch.grows (length lists) given.maker many)
       ∙ ap (list_joined is_node_before same_node x (joins_node ch.maker ch.grows s.next_node)) here
-      ∙ sym (nodes-grown c x s ch old.numbered given.grows) in
+      ∙ sym (nodes-grown c x s ch ch.maker ch.grows refl old.numbered given.grows) in
       at-ended x (ending ch.sessions) _
       ∙ ap (list_ended x (ending ch.sessions)) (
       node-removed ch.nodes refl given.nodes lists here
@@ -346,33 +241,21 @@ module _ (c : Configuration) (s : State) (ch : Changes) (old : Invariant c s) (g
   -- a request that goes leaves the list of its holder, and no other has it
   request-removed : (change : RequestsChange) → RequestsPremise c s ch change
       → list_left same_request x (leaves_request ch.maker change (holder_at (removed_request change) s)) (list_joined is_id_before same_request x (joins_request ch.maker ch.grows) (queued_requests x s))
-      ≡ list_removed same_request (removed_request change) (list_left same_request x (leaves ch.maker change) (list_joined is_id_before same_request x (joins_request ch.maker ch.grows) (queued_requests x s)))
-  request-removed (RequestsChange.Remove r) premise = rw (same_size premise) (by (request_queue r s.requests) refl few) where
-    same_size : RequestsPremise c s ch (RequestsChange.Remove r) → ch.grows ≡ Growth.Nothing
-    same_size (inl fulfilled) = fulfilled.fulfils.same_size
-    same_size (inr (inl takes)) = takes.same_size
-    same_size (inr (inr withdrawn)) = withdrawn.withdraws.same_size
+      ≡ list_removed same_request (removed_request change) (list_left same_request x (leaves_request ch.maker change None) (list_joined is_id_before same_request x (joins_request ch.maker ch.grows) (queued_requests x s)))
+  request-removed (RequestsChange.Remove r) premise =
+      rw (same_size premise) (by (request_queue r s.requests) (queue-found (λ queue. length queue ≤ 1) (λ (e : RequestEntry). same_request e.id r) s.requests (omega arith) old.queued.one_a_request)
+      (rows-absent is_id_before same_request request_one_way request_equal x s.requests old.numbered.requests_rise r))
+    where
+      same_size : RequestsPremise c s ch (RequestsChange.Remove r) → ch.grows ≡ Growth.Nothing
+      same_size (inl fulfilled) = fulfilled.fulfils.same_size
+      same_size (inr (inl takes)) = takes.same_size
+      same_size (inr (inr withdrawn)) = withdrawn.withdraws.same_size
 
-    few-by : (o : Option RequestEntry) → request_entry r s.requests ≡ o → length (option_map_or (λ (e : RequestEntry). e.queue) o []) ≤ 1
-    few-by None found = omega arith
-    few-by (Some e) found = all-find (λ (e : RequestEntry). length e.queue ≤ 1) (λ e. same_request e.id r) s.requests e old.queued.one_a_request found
-
-    few : length (request_queue r s.requests) ≤ 1
-    few = few-by (request_entry r s.requests) refl
-
-    absent : (queue : List SessionId) → request_queue r s.requests ≡ queue → is_queued x queue ≡ false → queued_requests x s ≡ without_id same_request r (queued_requests x s)
-    absent queue is out =
-        sym (rows-absent is_id_before same_request request_one_way request_equal x s.requests old.numbered.requests_rise r (ap (is_queued x) is ∙ out))
-
-    held-by : (h : SessionId) (b : Bool) → is_session h x ≡ b → request_queue r s.requests ≡ h ∷ [] → cond b (without_id same_request r (queued_requests x s)) (queued_requests x s) ≡ without_id same_request r (queued_requests x s)
-    held-by h true at is = refl
-    held-by h false at is = absent (h ∷ []) is (rw at refl)
-
-    by : (queue : List SessionId) → request_queue r s.requests ≡ queue → length queue ≤ 1
-        → list_left same_request x (option_map (λ session. record { session = session; id = r }) (holder (request_queue r s.requests))) (queued_requests x s) ≡ without_id same_request r (queued_requests x s)
-    by [] is one = rw is (absent [] is refl)
-    by (h ∷ []) is one = rw is (held-by h (is_session h x) refl is)
-    by (h ∷ g ∷ queue) is one = absurd (omega arith)
+      by : (queue : List SessionId) → length queue ≤ 1 → (is_queued x queue ≡ false → without_id same_request r (queued_requests x s) ≡ queued_requests x s)
+          → list_left same_request x (option_map (λ session. record { session = session; id = r }) (holder queue)) (queued_requests x s) ≡ without_id same_request r (queued_requests x s)
+      by [] one absent = sym (absent refl)
+      by (h ∷ []) one absent = grind (arith, absent)
+      by (h ∷ g ∷ queue) one absent = absurd (omega arith)
   request-removed _ premise = refl
 
   request-list : (lists : List (List RequestId)) → list_at x.0 lists ≡ queued_requests x s → length s.sessions < length lists
@@ -385,10 +268,10 @@ module _ (c : Configuration) (s : State) (ch : Changes) (old : Invariant c s) (g
       ∙ ap (list_ended x (ending ch.sessions)) (
       at-left same_request x wait _
       ∙ ap (list_left same_request x wait) (
-      at-joined is_id_before same_request x (joins_request ch.maker ch.grows) lists (joins_request-within s ch.maker ch.grows (length lists) given.maker many)
+      at-joined same_request x is_id_before (joins_request ch.maker ch.grows) lists (joins_request-within s ch.maker ch.grows (length lists) given.maker many)
       ∙ ap (list_joined is_id_before same_request x (joins_request ch.maker ch.grows)) here)
       ∙ request-removed ch.requests given.requests
-      ∙ ap (λ (list : List RequestId). list_removed same_request (removed_request ch.requests) (list_left same_request x (leaves ch.maker ch.requests) list)) (sym (requests-grown c x s ch old.numbered given.grows))
+      ∙ ap (λ (list : List RequestId). list_removed same_request (removed_request ch.requests) (list_left same_request x (leaves_request ch.maker ch.requests None) list)) (sym (requests-grown c x s ch ch.maker ch.grows old.numbered given.grows))
       ∙ sym (requests-changed x ch.maker ch.requests t.requests (grown-numbered c s ch.maker ch.grows old.numbered).requests_rise))
       ∙ sym (requests-left x ch.sessions (requests_changed ch.maker ch.requests t.requests))
 
@@ -400,18 +283,26 @@ lookups-changed c s ch l old unused given is room = record {
   unfinished = unfinished-changed c s ch l.unfinished given.jobs is.unfinished;
   requests = record {
     each = λ x. request-list c s ch old given x l.requests (is.requests.each x) is.requests.many;
-    many =
-        let wait = leaves_request ch.maker ch.requests (holder_at (removed_request ch.requests) s) in
-        let more = lists_joined is_id_before same_request (joins_request ch.maker ch.grows) l.requests in
-        omega (arith, session-more c s ch, room.requests, length-ended (ending ch.sessions) (lists_left same_request wait more), length-left same_request wait more, length-joined is_id_before same_request (joins_request ch.maker ch.grows) l.requests);
+    many = omega (
+      arith,
+      session-more c s ch,
+      room.requests,
+      length-changed (λ (e : SessionId). e.0) (λ _ _. []) (ending ch.sessions) _
+          ∙ length-changed (λ (w : Wait RequestId). w.session.0) (λ w. without_id same_request w.id) (leaves_request ch.maker ch.requests (holder_at (removed_request ch.requests) s)) _
+          ∙ length-changed (λ (w : Wait RequestId). w.session.0) (λ w. with_id is_id_before same_request w.id) (joins_request ch.maker ch.grows) l.requests,
+    );
   };
   nodes = record {
     each = λ x. node-list c s ch old given x l.nodes (is.nodes.each x) is.nodes.many;
-    many =
-        let more = lists_joined is_node_before same_node (joins_node ch.maker ch.grows s.next_node) l.nodes in
-        let fewer = lists_left same_node (leaves_node ch.maker ch.nodes) more in
-        let queue = queue_at (removed_node ch.nodes) s in
-        omega (arith, session-more c s ch, room.nodes, length-ended (ending ch.sessions) (lists_removed same_node (removed_node ch.nodes) queue fewer), length-removed same_node (removed_node ch.nodes) queue fewer, length-left same_node (leaves_node ch.maker ch.nodes) more, length-joined is_node_before same_node (joins_node ch.maker ch.grows s.next_node) l.nodes);
+    many = omega (
+      arith,
+      session-more c s ch,
+      room.nodes,
+      length-changed (λ (e : SessionId). e.0) (λ _ _. []) (ending ch.sessions) _
+          ∙ length-removed same_node (removed_node ch.nodes) (queue_at (removed_node ch.nodes) s) _
+          ∙ length-changed (λ (w : Wait NodeId). w.session.0) (λ w. without_id same_node w.id) (leaves_node ch.maker ch.nodes) _
+          ∙ length-changed (λ (w : Wait NodeId). w.session.0) (λ w. with_id is_node_before same_node w.id) (joins_node ch.maker ch.grows s.next_node) l.nodes,
+    );
   };
   owners = owners-changed c s ch old unused given l.owners is.owners;
 }

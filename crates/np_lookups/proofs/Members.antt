@@ -1,5 +1,6 @@
 -- the members of groups of requests: after a move, after a change, and made request by request
-use Rattle.np_lookups.proofs.Prelude.{AllByRecursion, AreAsKept, AreBy, AreListed, AreOpen, Bool, Changes, Configuration, Declined, Group, IsEither, IsPrepared, IsReached, JobId, List, Member, None, NonePass, OpenOf, Option, Past, PoolId, Rank, RequestEntry, RequestId, RequestRecord, RequestView, Rises, Some, State, all-at, all-map, all-weaker, and_false, and_true, ap, apart, arith, changed, closed_group, closed_member, cond, contrapositive, false, find, find-none, find-push_new, find-push_other, has-with, has-without, has_member, inl, inr, invariant-Runs, is-below, is_closed_to, is_declined_by, is_elsewhere, is_found_closed, is_found_in, is_found_open, is_id_before, is_listed, is_member_before, is_rank_before, is_requested, is_some, length, line_of, list_any, list_any-append, map, member, member-equal, nat_lt, nat_tests, not, numbered, open_group, open_member, option_map, option_map_or, or_false, or_true, passes_moved, passes_with, past_of, pool_of, rank_equal, rank_is_in, rank_of, rank_one_way, rank_some_way, rank_transitive, refl, request-untouched, request_equal, request_in, request_one_way, request_view, rises-with, rises-without, same_group, same_members, same_rank, same_request, slice_get, subst, suc, suc-not_zero, sym, take, take-all, take_there, touches_request, true, with_moved, with_one, without_one, zero, ℕ, [], ◌&&◌, ◌*◌, ◌++◌, ◌+◌, ◌-◌, ◌<◌, ◌==◌, ◌||◌, ◌∙◌, ◌∷◌, ◌≡◌, ◌≤◌, ◌⊎◌}
+use Rattle.np_lookups.proofs.Prelude.{AreAsKept, AreBy, AreListed, AreOpen, Bool, Changes, Configuration, Declined, Group, IsEither, IsPrepared, IsReached, JobId, List, Member, None, NonePass, OpenOf, Option, Past, PoolId, Rank, RequestEntry, RequestId, RequestRecord, RequestView, Rises, Some, State, [], all-at, all-map, all-weaker, and_false, ap, apart, arith, by_bool, changed, closed_group, closed_member, cond, contrapositive, false, find, find-none, find-push_new, find-push_other, has-with, has-without, has_member, inl, inr, invariant-Runs, is-below, is_closed_to, is_declined_by, is_elsewhere, is_found_closed, is_found_in, is_found_open, is_id_before, is_listed, is_member_before, is_rank_before, is_requested, is_some, length, line_of, list_any, list_any-append, map, member, member-equal, nat_lt, nat_tests, not, numbered, open_group, open_member, option_map, option_map_or, or_false, passes_moved, passes_with, past_of, pool_of, rank_equal, rank_is_in, rank_of, rank_one_way, rank_some_way, rank_transitive, refl, request-untouched, request_equal, request_in, request_one_way, request_view, rises-with, rises-without, same_group, same_members, same_rank, same_request, slice_get, subst, suc, sym, take, take-all, take_there, touches_request, true, with_moved, with_one, without_one, zero, ℕ, ◌&&◌, ◌*◌, ◌++◌, ◌+◌, ◌-◌, ◌<◌, ◌==◌, ◌||◌, ◌∙◌, ◌∷◌, ◌≡◌, ◌≤◌, ◌⊎◌}
+use Rattle.np_lookups.proofs.QueueLemmas.{earlier}
 
 -- # the members of groups after a request is moved from those that one record has it in to another's
 
@@ -8,9 +9,6 @@ use Rattle.np_lookups.proofs.Prelude.{AllByRecursion, AreAsKept, AreBy, AreListe
 -- members by a test that says the same
 pub groups-by : (was now : Group → Rank → Bool) (ms : List (Member Rank)) → ((g : Group) (x : Rank) → was g x ≡ now g x) → AreBy was ms → AreBy now ms
 groups-by was now ms alike are = record { rises = are.rises; each = λ g x. are.each g x ∙ alike g x }
-
-gone : (e a : Bool) → false ≡ (e && (a && false))
-gone e a = sym (ap (λ (b : Bool). e && b) (and_false a) ∙ and_false e)
 
 -- ## one member
 
@@ -42,19 +40,15 @@ same-at None (Some b) g x same = absurd cc
 same-at (Some a) None g x same = absurd cc
 same-at (Some a) (Some b) g x same = ap (λ (m : Member Rank). same_group m.group g && same_rank m.id x) (member-equal same_rank rank_equal a b same)
 
--- where the rank stays
-stays : (h a b : Bool) → (h ≡ a) ⊎ (h ≡ b) → a ≡ b → h ≡ b
-stays h a b (inl is) same = is ∙ same
-stays h a b (inr is) same = is
+-- where a rank stays, if it is the request's and in these groups
+stays : (among own was now old new passes : Bool) → was ≡ (among && (own && old)) → now ≡ (among && (own && new))
+    → (among ≡ true → own ≡ true → (passes ≡ old) ⊎ (passes ≡ new)) → was ≡ now → passes ≡ cond (among && own) new passes
+stays among own was now old new passes was_is now_is either same = grind (arith, was_is, now_is, either)
 
 -- where it goes
-goes : (h a b : Bool) → (h ≡ a) ⊎ (h ≡ b) → (b || (not a && h)) ≡ b
-goes h a true is = refl
-goes true true false is = refl
-goes true false false (inl is) = absurd cc
-goes true false false (inr is) = absurd cc
-goes false true false is = refl
-goes false false false is = refl
+goes : (among own was now old new passes : Bool) → was ≡ (among && (own && old)) → now ≡ (among && (own && new))
+    → (among ≡ true → own ≡ true → (passes ≡ old) ⊎ (passes ≡ new)) → (now || (not was && passes)) ≡ cond (among && own) new passes
+goes among own was now old new passes was_is now_is either = grind (arith, was_is, now_is, either)
 
 -- of the request's ranks at most one is in these groups, before and after
 module _ (among : Group → Bool) (r : RequestId) (was now : Option (Member Rank)) (old new : Group → Rank → Bool)
@@ -67,22 +61,10 @@ module _ (among : Group → Bool) (r : RequestId) (was now : Option (Member Rank
   passes_one g x = cond (among g && same_request r x.request) (new g x) (passes g x)
 
   left_alone : same_members was now ≡ true → (g : Group) (x : Rank) → passes g x ≡ passes_one g x
-  left_alone same g x = by (among g) (same_request r x.request) refl refl where
-    by : (q e : Bool) → among g ≡ q → same_request r x.request ≡ e → passes g x ≡ cond (q && e) (new g x) (passes g x)
-    by true true here is =
-        let one : is_at g x was ≡ old g x = rw (here, is) at (was_is g x) in
-        let other : is_at g x now ≡ new g x = rw (here, is) at (now_is g x) in
-        stays (passes g x) (old g x) (new g x) (either g x here is) (sym one ∙ same-at was now g x same ∙ other)
-    by true false here is = refl
-    by false e other is = refl
+  left_alone same g x = stays (among g) (same_request r x.request) _ _ (old g x) (new g x) (passes g x) (was_is g x) (now_is g x) (either g x) (same-at was now g x same)
 
   moved_on : (g : Group) (x : Rank) → (is_at g x now || (not (is_at g x was) && passes g x)) ≡ passes_one g x
-  moved_on g x = rw (was_is g x, now_is g x) (by (among g) (same_request r x.request) refl refl) where
-    by : (q e : Bool) → among g ≡ q → same_request r x.request ≡ e
-        → ((q && (e && new g x)) || (not (q && (e && old g x)) && passes g x)) ≡ cond (q && e) (new g x) (passes g x)
-    by true true here is = goes (passes g x) (old g x) (new g x) (either g x here is)
-    by true false here is = refl
-    by false e other is = refl
+  moved_on g x = goes (among g) (same_request r x.request) _ _ (old g x) (new g x) (passes g x) (was_is g x) (now_is g x) (either g x)
 
   pub one-moved : (ms : List (Member Rank)) → AreBy passes ms → AreBy passes_one (with_moved was now ms)
   one-moved ms are = by (same_members was now) refl where
@@ -122,78 +104,53 @@ open-not_closed g line p is = grind (arith, nat_tests)
 closed-not_open : (g : Group) (line : ℕ) (p : PoolId) → is_closed_of p g ≡ true → same_group (open_group line) g ≡ false
 closed-not_open g line p is = grind (arith, nat_tests)
 
-closed-first : (g : Group) (p : PoolId) → is_closed_of p g ≡ true → p.0 ≡ g.first
-closed-first g p is = grind (arith, nat_tests)
-
 abbrev pub pool_by : ℕ → PoolId
 pool_by n = record { 0 = n }
 
 -- ## the groups of a record
 
--- the group is that of the line, or it is that of those that are closed to the pool and the record is
-abbrev is_said : ℕ → ℕ → Group → RequestRecord → PoolId → Bool
-is_said pools line g k p = same_group (open_group line) g || (same_group (closed_group line p) g && (nat_lt p.0 pools && is_closed_to p k))
+-- such a group is that of its pool
+pool-is : (g : Group) (p : PoolId) → is_closed_of p g ≡ true → pool_of g ≡ p
+pool-is g p is = let first : g.first ≡ p.0 = grind (arith, nat_tests) in ap pool_by first
+
+-- a member that there is if a test passes
+at-if : (b : Bool) (m : Member Rank) (g : Group) (x : Rank) → is_at g x (cond b (Some m) None) ≡ (b && (same_group m.group g && same_rank m.id x))
+at-if true m g x = refl
+at-if false m g x = refl
+
+-- of what an open member is at, and what is said of the record, each says the other
+open-table : (own asked here closed is same relative : Bool) → (own ≡ true → closed ≡ false) → (own ≡ false → here ≡ false)
+    → (asked && (here && (same && relative))) ≡ (own && (same && (relative && (asked && (here || (closed && is))))))
+open-table own asked here closed is same relative other out = grind (arith, other, out)
+
+-- and so for a closed one
+closed-table : (own asked shut here opened closed low is same relative : Bool) → (own ≡ true → opened ≡ false) → (own ≡ true → closed ≡ here) → (own ≡ true → low ≡ true) → (own ≡ true → is ≡ shut) → (own ≡ false → here ≡ false)
+    → ((asked && shut) && (here && (same && relative))) ≡ (own && (same && (relative && (asked && (opened || (closed && (low && is)))))))
+closed-table own asked shut here opened closed low is same relative other alike within says out = grind (arith, other, alike, within, says, out)
 
 module _ (pools : ℕ) (of : RequestRecord → ℕ) (r : RequestId) where
   open-is : (found : Option RequestRecord) (g : Group) (x : Rank)
       → is_at g x (open_member (option_map_or of found 0) r found) ≡ (is_open g && (same_request r x.request && is_found_in pools of g x found))
   open-is None g x = sym (ap (λ (b : Bool). is_open g && b) (and_false (same_request r x.request)) ∙ and_false (is_open g))
-  open-is (Some k) g x = by (nat_lt g.first pools && is_closed_to (pool_of g) k) (is_requested k.state) (is_open g) refl where
-    table : (s e a : Bool) → (s && (e && a)) ≡ (e && (a && (s || false)))
-    table true true true = refl
-    table true true false = refl
-    table true false a = refl
-    table false true true = refl
-    table false true false = refl
-    table false false a = refl
-
-    fails : (o e a d : Bool) → false ≡ (o && (e && (a && (false && d))))
-    fails true e a d = gone e a
-    fails false e a d = refl
-
-    by : (d b o : Bool) → is_open g ≡ o
-        → is_at g x (cond b (Some (record { group = open_group (of k); id = record { request = r; relative = k.relative_priority } })) None)
-        ≡ (o && (same_request r x.request && ((k.relative_priority == x.relative) && (b && (same_group (open_group (of k)) g || (same_group (closed_group (of k) (pool_of g)) g && d))))))
-    by d true true is = rw (open-not_closed g (of k) (pool_of g) is) (table (same_group (open_group (of k)) g) (same_request r x.request) (k.relative_priority == x.relative))
-    by d true false out = rw (not-open g (of k) out) refl
-    by d false o is = fails o (same_request r x.request) (k.relative_priority == x.relative) (same_group (open_group (of k)) g || (same_group (closed_group (of k) (pool_of g)) g && d))
+  open-is (Some k) g x =
+      at-if (is_requested k.state) (member (open_group (of k)) (rank_of r k)) g x
+      ∙ open-table (is_open g) (is_requested k.state) (same_group (open_group (of k)) g) (same_group (closed_group (of k) (pool_of g)) g) (nat_lt g.first pools && is_closed_to (pool_of g) k)
+      (same_request r x.request) (k.relative_priority == x.relative) (open-not_closed g (of k) (pool_of g)) (not-open g (of k))
 
   module _ (p : PoolId) (within : nat_lt p.0 pools ≡ true) where
     closed-is : (found : Option RequestRecord) (g : Group) (x : Rank)
         → is_at g x (closed_member (option_map_or of found 0) p r found) ≡ (is_closed_of p g && (same_request r x.request && is_found_in pools of g x found))
     closed-is None g x = sym (ap (λ (b : Bool). is_closed_of p g && b) (and_false (same_request r x.request)) ∙ and_false (is_closed_of p g))
-    closed-is (Some k) g x = by (is_closed_of p g) refl where
-      table : (b d : Bool) → is_at g x (cond (b && d) (Some (record { group = closed_group (of k) p; id = record { request = r; relative = k.relative_priority } })) None) ≡ cond (b && d) (same_group (closed_group (of k) p) g && (same_request r x.request && (k.relative_priority == x.relative))) false
-      table true true = refl
-      table true false = refl
-      table false d = refl
-
-      here : (b d s e a : Bool) → cond (b && d) (s && (e && a)) false ≡ (e && (a && (b && (false || (s && (true && d))))))
-      here true true true e a = ap (λ (b : Bool). e && b) (sym (and_true a))
-      here true true false e a = gone e a
-      here true false true e a = gone e a
-      here true false false e a = gone e a
-      here false d s e a = gone e a
-
-      none : (b d : Bool) → cond (b && d) (false && (same_request r x.request && (k.relative_priority == x.relative))) false ≡ false
-      none true true = refl
-      none true false = refl
-      none false d = refl
-
-      by : (q : Bool) → is_closed_of p g ≡ q
-          → is_at g x (cond (is_requested k.state && is_closed_to p k) (Some (record { group = closed_group (of k) p; id = record { request = r; relative = k.relative_priority } })) None)
-          ≡ (q && (same_request r x.request && ((k.relative_priority == x.relative) && (is_requested k.state && is_said pools (of k) g k (pool_of g)))))
-      by true is =
-          table (is_requested k.state) (is_closed_to p k)
-          ∙ subst (λ (n : ℕ). cond (is_requested k.state && is_closed_to p k) (same_group (closed_group (of k) p) g && (same_request r x.request && (k.relative_priority == x.relative))) false
-          ≡ (same_request r x.request && ((k.relative_priority == x.relative) && (is_requested k.state && is_said pools (of k) g k (pool_by n)))))
-          (closed-first g p is)
-          (rw (closed-not_open g (of k) p is, within) (here (is_requested k.state) (is_closed_to p k) (same_group (closed_group (of k) p) g) (same_request r x.request) (k.relative_priority == x.relative)))
-      by false out = table (is_requested k.state) (is_closed_to p k) ∙ rw (not-closed g (of k) p out) (none (is_requested k.state) (is_closed_to p k))
+    closed-is (Some k) g x =
+        at-if (is_requested k.state && is_closed_to p k) (member (closed_group (of k) p) (rank_of r k)) g x
+        ∙ closed-table (is_closed_of p g) (is_requested k.state) (is_closed_to p k) (same_group (closed_group (of k) p) g) (same_group (open_group (of k)) g) (same_group (closed_group (of k) (pool_of g)) g)
+        (nat_lt g.first pools) (is_closed_to (pool_of g) k) (same_request r x.request) (k.relative_priority == x.relative)
+        (closed-not_open g (of k) p) (λ is. ap (λ (q : PoolId). same_group (closed_group (of k) q) g) (pool-is g p is)) (λ is. ap (λ (q : PoolId). nat_lt q.0 pools) (pool-is g p is) ∙ within)
+        (λ is. ap (λ (q : PoolId). is_closed_to q k) (pool-is g p is)) (not-closed g (of k) p)
 
 -- ## the groups so far
 
--- a group of requested requests, or one of those that are closed to a pool is-below this number
+-- a group of requested requests, or one of those that are closed to a pool below this number
 abbrev pub is_done : ℕ → Group → Bool
 is_done n g = is_open g || (is_closed g && nat_lt g.first n)
 
@@ -218,16 +175,7 @@ not-done p g is = grind (arith, nat_tests)
 -- a group of no pool, and not of requested requests, has no rank
 none-found : (pools : ℕ) (of : RequestRecord → ℕ) (g : Group) (x : Rank) (found : Option RequestRecord) → is_done pools g ≡ false → is_found_in pools of g x found ≡ false
 none-found pools of g x None out = refl
-none-found pools of g x (Some k) out =
-    ap (λ (b : Bool). (k.relative_priority == x.relative) && (is_requested k.state && b)) (by (is_open g) (is_closed g) (nat_lt g.first pools) refl refl out)
-    ∙ ap (λ (b : Bool). (k.relative_priority == x.relative) && b) (and_false (is_requested k.state)) ∙ and_false (k.relative_priority == x.relative)
-  where
-    by : (a s l : Bool) → is_open g ≡ a → is_closed g ≡ s → (a || (s && l)) ≡ false
-        → (same_group (open_group (of k)) g || (same_group (closed_group (of k) (pool_of g)) g && (l && is_closed_to (pool_of g) k))) ≡ false
-    by true s l is other all = absurd cc
-    by false true true is other all = absurd cc
-    by false true false is other all = rw (not-open g (of k) is) (and_false (same_group (closed_group (of k) (pool_of g)) g))
-    by false false l is other all = rw (not-open g (of k) is, not-closed g (of k) (pool_of g) other) refl
+none-found pools of g x (Some k) out = grind (arith, not-open g (of k), not-closed g (of k) (pool_of g))
 
 -- ## a record that has the request in no group
 
@@ -240,10 +188,8 @@ none-closed line p r None out = refl
 none-closed line p r (Some k) out = by (is_requested k.state) k.pinned k.declined (Some (member (closed_group line p) (rank_of r k))) out where
   by : (b : Bool) (pinned : Option PoolId) (declined : List Declined) (one : Option (Member Rank)) → (b && (is_some pinned || not (length declined == 0))) ≡ false
       → cond (b && (is_declined_by p declined || is_elsewhere p pinned)) one None ≡ None
-  by false pinned declined one out = refl
-  by true None [] one out = refl
-  by true None (d ∷ declined) one out = absurd (let turned : true ≡ false = sym (ap (λ (b : Bool). not b) (suc-not_zero (length declined))) ∙ out in cc)
-  by true (Some q) declined one out = absurd cc
+  by b pinned [] one out = grind (arith, nat_tests)
+  by b pinned (d ∷ declined) one out = grind (arith, nat_tests)
 
 not_open-not_closed : (found : Option RequestRecord) → is_found_open found ≡ false → is_found_closed found ≡ false
 not_open-not_closed None out = refl
@@ -252,6 +198,10 @@ not_open-not_closed (Some k) out = rw out refl
 -- what a call is passed, as it is defined
 pub moved-as : (a b k l : Option (Member Rank)) (ms later : List (Member Rank)) → later ≡ with_moved a b ms → a ≡ k → b ≡ l → later ≡ with_moved k l ms
 moved-as a b k l ms later is was now = rw (← was, ← now) is
+
+-- a rank of no group that the record before or after is in
+left-out : (own done old new passes : Bool) → (own ≡ true → (passes ≡ old) ⊎ (passes ≡ new)) → (done ≡ false → old ≡ false) → (done ≡ false → new ≡ false) → cond (own && done) new passes ≡ cond own new passes
+left-out own done old new passes either was now = grind (arith, either, was, now)
 
 module _ (pools : ℕ) (of : RequestRecord → ℕ) (r : RequestId) (was now : Option RequestRecord) (passes : Group → Rank → Bool) (either : IsEither pools of r was now passes) where
   abbrev line_was : ℕ
@@ -297,19 +247,15 @@ module _ (pools : ℕ) (of : RequestRecord → ℕ) (r : RequestId) (was now : O
           → cond (q && e) (is_found_in pools of g x now) (cond (e && is_done p.0 g) (is_found_in pools of g x now) (passes g x))
           ≡ cond (e && is_done (p.0 + 1) g) (is_found_in pools of g x now) (passes g x)
       by g x true true here = rw (own-done p g here) refl
-      by g x true false here = refl
       by g x false true other = ap (λ (b : Bool). cond (is_open g || b) (is_found_in pools of g x now) (passes g x)) (sym (other-done p g other))
+      by g x true false here = refl
       by g x false false other = refl
 
   -- and no other group has ranks
   pub all-moved : (ms : List (Member Rank)) → AreBy (passes_so_far pools of r now pools passes) ms → AreBy (passes_with pools of r now passes) ms
-  all-moved ms are = groups-by _ (passes_with pools of r now passes) ms (λ g x. by g x (same_request r x.request) (is_done pools g) refl refl) are where
-    by : (g : Group) (x : Rank) (e d : Bool) → same_request r x.request ≡ e → is_done pools g ≡ d
-        → cond (e && d) (is_found_in pools of g x now) (passes g x) ≡ cond e (is_found_in pools of g x now) (passes g x)
-    by g x true true is done = refl
-    by g x true false is out =
-        stays (passes g x) (is_found_in pools of g x was) (is_found_in pools of g x now) (either g x is) (none-found pools of g x was out ∙ sym (none-found pools of g x now out))
-    by g x false d is done = refl
+  all-moved ms are =
+      groups-by _ (passes_with pools of r now passes) ms
+      (λ g x. left-out (same_request r x.request) (is_done pools g) (is_found_in pools of g x was) (is_found_in pools of g x now) (passes g x) (either g x) (none-found pools of g x was) (none-found pools of g x now)) are
 
   -- if it was closed to no pool and is to none
   pub none-closed-moved : is_found_closed was ≡ false → is_found_closed now ≡ false → (ms : List (Member Rank)) → AreBy (passes_so_far pools of r now 0 passes) ms
@@ -352,6 +298,10 @@ kept-push moved past r = list_any-append (λ (w : Past). same_request w.request 
 abbrev Moves_one : ℕ → (RequestRecord → ℕ) → Past → Option RequestRecord → List (Member Rank) → List (Member Rank) → Type 0
 Moves_one pools of past found ms later = (passes : Group → Rank → Bool) → IsEither pools of past.request past.kept found passes → AreBy passes ms → AreBy (passes_with pools of past.request found passes) later
 
+-- one that is listed is where the state has it
+once-listed : (own listed is found passes : Bool) → (own ≡ true → is ≡ found) → cond own found (cond listed is passes) ≡ cond (listed || own) is passes
+once-listed own listed is found passes has = grind (arith, has)
+
 module _ (c : Configuration) (s : State) (lines : List JobId) (moved : List Past) (at : ℕ) (past : Past) (there : slice_get moved at ≡ Some past) (passes : Group → Rank → Bool) where
   abbrev now : Option RequestRecord
   now = request_in past.request s.requests
@@ -364,26 +314,17 @@ module _ (c : Configuration) (s : State) (lines : List JobId) (moved : List Past
   state-has g x same = ap (λ (r : RequestId). found_in g x (request_in r s.requests)) (sym (request_equal past.request x.request same))
 
   moved-either : AreAsKept c lines moved passes → IsEither (length c.pools) (line_of c lines) past.request past.kept now (passes_moved c s lines (take at moved) passes)
-  moved-either kept g x same = by (is_listed x.request (take at moved)) where
-    one : (g : Group) (rank : Rank) → same_request past.request rank.request ≡ true → passes g rank ≡ found_in g rank past.kept
-    one = all-at (λ (w : Past). (g : Group) (rank : Rank) → same_request w.request rank.request ≡ true → passes g rank ≡ found_in g rank w.kept) moved at past kept there
-
-    by : (b : Bool) → (cond b (rank_is_in c s lines g x) (passes g x) ≡ found_in g x past.kept) ⊎ (cond b (rank_is_in c s lines g x) (passes g x) ≡ found_in g x now)
-    by true = inr (state-has g x same)
-    by false = inl (one g x same)
+  moved-either kept g x same =
+      by_bool (λ (b : Bool). (cond b (rank_is_in c s lines g x) (passes g x) ≡ found_in g x past.kept) ⊎ (cond b (rank_is_in c s lines g x) (passes g x) ≡ found_in g x now)) (is_listed x.request (take at moved))
+      (λ _. inr (state-has g x same))
+      (λ _. inl (all-at (λ (w : Past). (g : Group) (rank : Rank) → same_request w.request rank.request ≡ true → passes g rank ≡ found_in g rank w.kept) moved at past kept there g x same))
 
   moved-next : (g : Group) (x : Rank)
       → passes_with (length c.pools) (line_of c lines) past.request now (passes_moved c s lines (take at moved) passes) g x ≡ passes_moved c s lines (take (at + 1) moved) passes g x
   moved-next g x =
-      by (same_request past.request x.request) refl
+      once-listed (same_request past.request x.request) (is_listed x.request (take at moved)) (rank_is_in c s lines g x) (found_in g x now) (passes g x) (state-has g x)
       ∙ ap (λ (b : Bool). cond b (rank_is_in c s lines g x) (passes g x)) (sym (kept-push (take at moved) past x.request))
       ∙ ap (λ (some : List Past). passes_moved c s lines some passes g x) (sym (take_there moved at past there))
-    where
-      by : (b : Bool) → same_request past.request x.request ≡ b
-          → cond b (found_in g x now) (cond (is_listed x.request (take at moved)) (rank_is_in c s lines g x) (passes g x))
-          ≡ cond (is_listed x.request (take at moved) || b) (rank_is_in c s lines g x) (passes g x)
-      by true same = rw (or_true (is_listed x.request (take at moved))) (sym (state-has g x same))
-      by false other = rw (or_false (is_listed x.request (take at moved))) refl
 
   moved-more : (ms : List (Member Rank)) → AreBy (passes_with (length c.pools) (line_of c lines) past.request now (passes_moved c s lines (take at moved) passes)) ms
       → AreBy (passes_moved c s lines (take (at + 1) moved) passes) ms
@@ -393,10 +334,7 @@ module _ (c : Configuration) (s : State) (lines : List JobId) (moved : List Past
       → Moves_one pools (line_of config lines) past found ms later → AreAsKept c lines moved passes → AreBy (passes_moved c s lines (take at moved) passes) ms
       → AreBy (passes_moved c s lines (take (at + 1) moved) passes) later
   move-next config pools found ms later site pools_are found_is moves kept are =
-      let of_site : Moves_one pools (line_of c lines) past found ms later = subst (λ (k : Configuration). Moves_one pools (line_of k lines) past found ms later) site moves in
-      let one : Moves_one (length c.pools) (line_of c lines) past found ms later = subst (λ (n : ℕ). Moves_one n (line_of c lines) past found ms later) pools_are of_site in
-      let it : Moves_one (length c.pools) (line_of c lines) past now ms later = subst (λ (o : Option RequestRecord). Moves_one (length c.pools) (line_of c lines) past o ms later) found_is one in
-      moved-more later (it (passes_moved c s lines (take at moved) passes) (moved-either kept) are)
+      moved-more later ((rw (site, pools_are, found_is) at moves) (passes_moved c s lines (take at moved) passes) (moved-either kept) are)
 
 -- ## all of them
 
@@ -411,12 +349,11 @@ module _ (c : Configuration) (s : State) (lines : List JobId) (ch : Changes) (mo
       moved prepared.kept
 
   rank-stays : (g : Group) (x : Rank) → passes_moved c (changed c ch s) lines moved (rank_is_in c s lines) g x ≡ rank_is_in c (changed c ch s) lines g x
-  rank-stays g x = by (is_listed x.request moved) refl where
-    by : (b : Bool) → is_listed x.request moved ≡ b → cond b (rank_is_in c (changed c ch s) lines g x) (rank_is_in c s lines g x) ≡ rank_is_in c (changed c ch s) lines g x
-    by true listed = refl
-    by false out =
-        ap (is_found_in (length c.pools) (line_of c lines) g x)
-        (sym (request-untouched c ch s x.request (contrapositive (touches_request ch s x.request) (is_listed x.request moved) (prepared.touched x.request) out)))
+  rank-stays g x =
+      by_bool (λ (b : Bool). cond b (rank_is_in c (changed c ch s) lines g x) (rank_is_in c s lines g x) ≡ rank_is_in c (changed c ch s) lines g x) (is_listed x.request moved)
+      (λ _. refl)
+      (λ out. ap (is_found_in (length c.pools) (line_of c lines) g x)
+      (sym (request-untouched c ch s x.request (contrapositive (touches_request ch s x.request) (is_listed x.request moved) (prepared.touched x.request) out))))
 
 -- the same for all
 abbrev pub Moves : List JobId → List Past → List (Member Rank) → List (Member Rank) → Configuration → State → Type 0
@@ -426,8 +363,7 @@ Moves lines moved old new c t = (passes : Group → Rank → Bool) → AreAsKept
 pub open-noted : (c site : Configuration) (s t : State) (ch : Changes) (moved : List Past) (old new : OpenOf) → new.lines ≡ old.lines → Moves old.lines moved old.members new.members site t
     → IsReached c s → IsPrepared s ch moved → site ≡ c → t ≡ changed c ch s → AreOpen c s old → AreOpen c (changed c ch s) new
 open-noted c site s t ch moved old new same_lines moves reached prepared same_site after was =
-    let later : Moves old.lines moved old.members new.members site (changed c ch s) = subst (Moves old.lines moved old.members new.members site) after moves in
-    let all : Moves old.lines moved old.members new.members c (changed c ch s) = subst (λ (k : Configuration). Moves old.lines moved old.members new.members k (changed c ch s)) same_site later in
+    let all : Moves old.lines moved old.members new.members c (changed c ch s) = rw (same_site, after) at moves in
     let are : AreBy (rank_is_in c (changed c ch s) old.lines) new.members =
     groups-by _ (rank_is_in c (changed c ch s) old.lines) new.members (rank-stays c s old.lines ch moved prepared)
     (all (rank_is_in c s old.lines) (as-kept c s old.lines ch moved prepared) (record { rises = was.rises; each = was.each })) in
@@ -449,17 +385,10 @@ room-next n i k less = let one : n - i ≡ n - (i + 1) + 1 = omega arith in rw o
 abbrev pub is_row_in : ℕ → (RequestRecord → ℕ) → List RequestEntry → Group → Rank → Bool
 is_row_in pools of rows g x = is_found_in pools of g x (request_in x.request rows)
 
--- the rows up to a place come before the one there
-earlier : (rows : List RequestEntry) (at : ℕ) (e : RequestEntry) → Rises (λ a b. is_id_before a.id b.id) rows → slice_get rows at ≡ Some e
-    → AllByRecursion (λ other. is_id_before other.id e.id ≡ true) (take at rows)
-earlier [] at e rises there = absurd cc
-earlier (y ∷ rows) zero e rises there = tt
-earlier (y ∷ rows) (suc at) e rises there = (all-at (λ other. is_id_before y.id other.id ≡ true) rows at e rises.0 there, earlier rows at e rises.1 there)
-
 module _ (pools : ℕ) (of : RequestRecord → ℕ) (rows : List RequestEntry) (rises : Rises (λ a b. is_id_before a.id b.id) rows) (at : ℕ) (e : RequestEntry) (there : slice_get rows at ≡ Some e) where
   none-yet : (x : Rank) → same_request e.id x.request ≡ true → find (λ other. same_request other.id x.request) (take at rows) ≡ None
   none-yet x same =
-      let first = earlier rows at e rises there in
+      let first = earlier (λ (a b : RequestEntry). is_id_before a.id b.id) rows at e rises there in
       let others : NonePass (λ other. same_request other.id x.request) (take at rows) =
       all-weaker (λ (other : RequestEntry). is_id_before other.id e.id ≡ true) (λ (other : RequestEntry). same_request other.id x.request ≡ false)
       (λ other order. rw (← request_equal e.id x.request same) (apart is_id_before same_request request_one_way request_equal other.id e.id order)) (take at rows) first in
@@ -469,10 +398,11 @@ module _ (pools : ℕ) (of : RequestRecord → ℕ) (rows : List RequestEntry) (
   row-either g x same = inl (ap (λ (o : Option RequestEntry). is_found_in pools of g x (option_map (λ k. k.kept) o)) (none-yet x same))
 
   pub row-next : (g : Group) (x : Rank) → passes_with pools of e.id (Some e.kept) (is_row_in pools of (take at rows)) g x ≡ is_row_in pools of (take (at + 1) rows) g x
-  row-next g x = by (same_request e.id x.request) refl ∙ ap (λ (some : List RequestEntry). is_row_in pools of some g x) (sym (take_there rows at e there)) where
-    by : (b : Bool) → same_request e.id x.request ≡ b → passes_with pools of e.id (Some e.kept) (is_row_in pools of (take at rows)) g x ≡ is_row_in pools of (take at rows ++ e ∷ []) g x
-    by true same = rw same (ap (λ (o : Option RequestEntry). is_found_in pools of g x (option_map (λ k. k.kept) o)) (sym (find-push_new (λ (other : RequestEntry). same_request other.id x.request) e (take at rows) same (none-yet x same))))
-    by false other = rw other (ap (λ (o : Option RequestEntry). is_found_in pools of g x (option_map (λ k. k.kept) o)) (sym (find-push_other (λ (k : RequestEntry). same_request k.id x.request) e (take at rows) other)))
+  row-next g x =
+      by_bool (λ (b : Bool). cond b (is_found_in pools of g x (Some e.kept)) (is_row_in pools of (take at rows) g x) ≡ is_row_in pools of (take at rows ++ e ∷ []) g x) (same_request e.id x.request)
+      (λ same. ap (λ (o : Option RequestEntry). is_found_in pools of g x (option_map (λ k. k.kept) o)) (sym (find-push_new (λ (other : RequestEntry). same_request other.id x.request) e (take at rows) same (none-yet x same))))
+      (λ other. ap (λ (o : Option RequestEntry). is_found_in pools of g x (option_map (λ k. k.kept) o)) (sym (find-push_other (λ (k : RequestEntry). same_request k.id x.request) e (take at rows) other)))
+      ∙ ap (λ (some : List RequestEntry). is_row_in pools of some g x) (sym (take_there rows at e there))
 
 -- what a call makes of the members by a test
 abbrev pub Adds : ℕ → (RequestRecord → ℕ) → RequestView → List (Member Rank) → List (Member Rank) → Type 0
@@ -493,9 +423,7 @@ module _ (c : Configuration) (s : State) (lines : List JobId) (reached : IsReach
   rows-next at view None is seen ms later config pools site many are adds = absurd cc
   rows-next at view (Some e) is seen ms later config pools site many are adds =
       let same : request_view e ≡ view = cc in
-      let of_site : Adds pools (line_of c lines) view ms later = subst (λ (k : Configuration). Adds pools (line_of k lines) view ms later) site adds in
-      let all : Adds (length c.pools) (line_of c lines) view ms later = subst (λ (n : ℕ). Adds n (line_of c lines) view ms later) many of_site in
-      let more : Adds (length c.pools) (line_of c lines) (request_view e) ms later = subst (λ (v : RequestView). Adds (length c.pools) (line_of c lines) v ms later) (sym same) all in
+      let more : Adds (length c.pools) (line_of c lines) (request_view e) ms later = rw (site, many, ← same) at adds in
       groups-by _ (is_row_in (length c.pools) (line_of c lines) (take (at + 1) s.requests)) later (row-next (length c.pools) (line_of c lines) s.requests rise at e is)
       (more (is_row_in (length c.pools) (line_of c lines) (take at s.requests)) (row-either (length c.pools) (line_of c lines) s.requests rise at e is) are)
 

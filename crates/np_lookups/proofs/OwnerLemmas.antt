@@ -1,8 +1,6 @@
 -- the owners of nodes: the first job that has a node, after a change, and made node by node
-use Rattle.np_lookups.proofs.Prelude.{AllByRecursion, AreOwners, Asked, AsksForJob, Bool, Changes, Configuration, EndAs, Ending, EndsNode, Entry, Event, FinishesJob, Frees, GivesUp, Growth, Invariant, IsReached, Job, JobId, JobRecord, JobsChange, JobsPremise, List, Maker, Marked, NodeEntry, NodeId, NodeRecord, NodeState, NodesChange, NodesPremise, None, Option, Phase, Premises, PutsJob, PutsNode, Reports, RequestId, RequestsChange, Rises, Some, Starts, State, TakesOver, Withdraws, all-at, all-change_at, all-set, ap, arith, cases_lt, change_at, changed, cond, ended_as, eqb-true, false, false_from_ne_true, false≢true, found-same, freed, grown, grown-node, grown-numbered, inl, inr, invariant-changed, invariant-start, is_asked, is_building, is_marked, is_new, is_ok, is_ready, is_request, is_using, jobs-grown, jobs_changed, judge, le_refl, leave-node, length, length-append, length-set, list_any, list_any-map, map, marked, member-there, nat_lt, nat_tests, new_job, next, next-more, next_id, node-place, node_in, node_in-allocated, node_in-below, node_in-freed, node_in-in_use, node_in-other, node_in-put, node_in-remove, node_in-removed, nodes-after, nodes_changed, none-some, option_map, or_parts, owner_at, owner_of, owners_changed, owners_grown, owners_with, owns-if, plan, plan-next, position, position-here, position-later, premises, refl, remove_node, request_after_withdraw, same_Some, set-other, slice_get, slice_get_past, slice_get_within, slice_set, start, state_after, subst, suc, sym, true, unended, unwrap_or, used_from, with_mark, zero, ℕ, [], ◌++◌, ◌+◌, ◌<◌, ◌==◌, ◌||◌, ◌∙◌, ◌∷◌, ◌≡◌, ◌≤◌, ◌⊎◌}
+use Rattle.np_lookups.proofs.Prelude.{AllByRecursion, AreOwners, Asked, AsksForJob, Bool, Changes, Configuration, EndAs, EndsNode, Entry, Event, FinishesJob, Frees, GivesUp, Growth, Invariant, IsReached, Job, JobId, JobRecord, JobsChange, JobsPremise, List, Maker, Marked, NodeEntry, NodeId, NodeRecord, NodeState, NodesChange, NodesPremise, None, Option, Phase, Premises, PutsJob, PutsNode, Reports, RequestId, RequestsChange, Rises, Some, Starts, State, TakesOver, Withdraws, all-at, all-change_at, all-map, all-set, ap, arith, by_bool, cases_lt, change_at, changed, cond, ended_as, eqb-true, false, false_from_ne_true, false≢true, found-same, freed, grown, grown-node, grown-numbered, inl, inr, invariant-changed, invariant-start, is_asked, is_building, is_marked, is_new, is_ok, is_over, is_ready, is_request, is_using, jobs-grown, jobs_changed, judge, le_refl, leave-node, length, length-append, length-set, list_any, list_any-map, list_any-none, map, marked, member-there, nat_lt, nat_tests, new_job, next, next-more, node-place, node_in, node_in-allocated, node_in-below, node_in-freed, node_in-in_use, node_in-other, node_in-put, node_in-remove, node_in-removed, nodes-after, nodes_changed, none-list_any, none-some, option_map, or_left, or_right, owner_at, owner_of, owners_changed, owners_grown, owners_with, owns-if, plan, plan-next, position, position-here, position-later, premises, refl, remove_node, request_after_withdraw, same_Some, set-here, set-other, slice_get, slice_get-left, slice_get-middle, slice_get_past, slice_get_within, slice_set, start, state_after, subst, suc, sym, true, unended, unwrap_or, used_from, with_mark, zero, ℕ, [], ◌++◌, ◌+◌, ◌<◌, ◌==◌, ◌||◌, ◌∙◌, ◌∷◌, ◌≡◌, ◌≤◌, ◌⊎◌}
 use Rattle.np_lookups.proofs.QueueLemmas.{at-push}
-
--- # the owners of nodes: the first job that has a node, after a change, and made node by node
 
 -- # the place of the first member that passes, as one member of the list changes
 
@@ -10,28 +8,20 @@ module _ {X : Type 0} (p : X → Bool) where
   -- ## if none passes
 
   pub none-there : (xs : List X) (i : ℕ) (x : X) → list_any p xs ≡ false → slice_get xs i ≡ Some x → p x ≡ false
-  none-there [] i x none is = absurd cc
-  none-there (y ∷ xs) zero x none is = let same : y ≡ x = cc in subst (λ (z : X). p z ≡ false) same (or_parts (p y) (list_any p xs) none).0
-  none-there (y ∷ xs) (suc i) x none is = none-there xs i x (or_parts (p y) (list_any p xs) none).1 is
+  none-there xs i x none is = all-at (λ y. p y ≡ false) xs i x (none-list_any p xs none) is
 
   pub none-set : (xs : List X) (i : ℕ) (x : X) → list_any p xs ≡ false → p x ≡ false → list_any p (slice_set xs i x) ≡ false
-  none-set [] i x none out = refl
-  none-set (y ∷ xs) zero x none out = rw out ((or_parts (p y) (list_any p xs) none).1)
-  none-set (y ∷ xs) (suc i) x none out = let parts = or_parts (p y) (list_any p xs) none in rw parts.0 (none-set xs i x parts.1 out)
+  none-set xs i x none out = list_any-none p (slice_set xs i x) (all-set (λ y. p y ≡ false) xs i x out (none-list_any p xs none))
 
   pub none-first : (xs : List X) → list_any p xs ≡ false → position p xs ≡ None
   none-first [] none = refl
-  none-first (x ∷ xs) none =
-      let parts = or_parts (p x) (list_any p xs) none in
-      position-later p x xs parts.0 ∙ ap (λ (o : Option ℕ). option_map (λ (i : ℕ). suc i) o) (none-first xs parts.1)
+  none-first (x ∷ xs) none = grind (arith, position-later p x xs, none-first xs)
 
   -- a member that passes is the first if there was none before
   pub first-set : (xs : List X) (i : ℕ) (x y : X) → list_any p xs ≡ false → slice_get xs i ≡ Some x → p y ≡ true → position p (slice_set xs i y) ≡ Some i
   first-set [] i x y none is passes = absurd cc
   first-set (z ∷ xs) zero x y none is passes = position-here p y xs passes
-  first-set (z ∷ xs) (suc i) x y none is passes =
-      let parts = or_parts (p z) (list_any p xs) none in
-      position-later p z (slice_set xs i y) parts.0 ∙ ap (λ (o : Option ℕ). option_map (λ (k : ℕ). suc k) o) (first-set xs i x y parts.1 is passes)
+  first-set (z ∷ xs) (suc i) x y none is passes = grind (arith, position-later p z (slice_set xs i y), first-set xs i x y)
 
   -- ## if the member passes after the change as before it
 
@@ -39,10 +29,7 @@ module _ {X : Type 0} (p : X → Bool) where
   ahead b o = cond b (Some 0) (option_map (λ (i : ℕ). suc i) o)
 
   position-cons : (x : X) (xs : List X) → position p (x ∷ xs) ≡ ahead (p x) (position p xs)
-  position-cons x xs = by (p x) refl where
-    by : (b : Bool) → p x ≡ b → position p (x ∷ xs) ≡ ahead b (position p xs)
-    by true is = position-here p x xs is
-    by false is = position-later p x xs is
+  position-cons x xs = grind (arith, position-here p x xs, position-later p x xs)
 
   pub first-same : (xs : List X) (i : ℕ) (x y : X) → slice_get xs i ≡ Some x → p y ≡ p x → position p (slice_set xs i y) ≡ position p xs
   first-same [] i x y is same = absurd cc
@@ -80,13 +67,18 @@ unended-has n (m ∷ numbers) = ap (λ (b : Bool). (m.0 == n.0) || b) (unended-h
 abbrev pub is_early : Phase → Bool
 is_early p = is_new p || is_asked p
 
--- it keeps the nodes that it had, and uses none after the change
+pub early-open : (p : Phase) → is_early p ≡ true → is_over p ≡ false
+early-open Phase.New is = refl
+early-open Phase.Asked is = refl
+early-open _ is = absurd cc
+
+-- it keeps the nodes that it had, uses none after the change, and if it is not over then, it was new or asked
 pub record KeepsNodes (s : State) (j : JobId) (later : JobRecord) : Type 0 where
   pub kept : JobRecord
   pub stands : slice_get s.jobs j.0 ≡ Some kept
   pub same : later.nodes ≡ kept.nodes
   pub idle : is_using later.phase ≡ false
-  pub early : is_early later.phase ≡ true → is_early kept.phase ≡ true
+  pub early : is_over later.phase ≡ false → is_early kept.phase ≡ true
 
 -- it takes over those of its request
 pub record TakesNodes (c : Configuration) (s : State) (ch : Changes) (j : JobId) (later : JobRecord) : Type 0 where
@@ -96,58 +88,41 @@ pub record TakesNodes (c : Configuration) (s : State) (ch : Changes) (j : JobId)
   pub all : later.nodes ≡ map unended takes.request.nodes
   pub in_use : later.phase ≡ Phase.Using
 
-stands-for : (s : State) (i j : JobId) (kept : JobRecord) → i ≡ j → slice_get s.jobs i.0 ≡ Some kept → slice_get s.jobs j.0 ≡ Some kept
-stands-for s i j kept same stands = subst (λ (x : JobId). slice_get s.jobs x.0 ≡ Some kept) same stands
-
-asked-early : (p : Phase) → is_new p ≡ true → is_early p ≡ true
-asked-early p new = rw new refl
+put-is : (i j : JobId) (a b : JobRecord) → JobsChange.Put i a ≡ JobsChange.Put j b → a ≡ b
+put-is i j a b is = cc
 
 pub put-nodes : (c : Configuration) (s : State) (ch : Changes) (j : JobId) (later : JobRecord) → ch.jobs ≡ JobsChange.Put j later → PutsJob c s ch j later → KeepsNodes s j later ⊎ TakesNodes c s ch j later
 put-nodes c s ch j later at puts = by puts.way where
+  over_after : (kept after : JobRecord) → slice_get s.jobs j.0 ≡ Some kept → after.nodes ≡ kept.nodes → after.phase ≡ Phase.Over → KeepsNodes s j after
+  over_after kept after stands same over = record {
+    kept = kept;
+    stands = stands;
+    same = same;
+    idle = ap is_using over;
+    early = λ not_over. absurd (false≢true (sym not_over ∙ ap is_over over));
+  }
+
   by : ((priority : ℕ) × (asked : Asked) × (asks : AsksForJob c s ch priority asked) × ((ch.grows ≡ Growth.Request priority asked) × (asks.number ≡ j)))
       ⊎ (((r : RequestId) × (takes : TakesOver c s ch r) × ((ch.requests ≡ RequestsChange.Remove r) × (takes.number ≡ j)))
       ⊎ (FinishesJob c s ch j puts.kept later
       ⊎ (Withdraws s ch j puts.kept × (ch.requests ≡ request_after_withdraw puts.kept.request))))
       → KeepsNodes s j later ⊎ TakesNodes c s ch j later
-  by (inl is) =
-      let asks = is.2 in
-      let both : JobsChange.Put j later ≡ JobsChange.Put asks.number (record asks.kept { phase = Phase.Asked; request = Some (next_id asks.job.priority s) }) = sym at ∙ asks.puts in
-      let same : later ≡ record asks.kept { phase = Phase.Asked; request = Some (next_id asks.job.priority s) } = cc in
-      inl (record {
-        kept = asks.kept;
-        stands = stands-for s asks.number j asks.kept is.3.1 asks.stands;
-        same = ap (λ (x : JobRecord). x.nodes) same;
-        idle = ap (λ (x : JobRecord). is_using x.phase) same;
-        early = λ _. asked-early asks.kept.phase asks.new;
-      })
-  by (inr (inl is)) =
-      let takes = is.1 in
-      let both : JobsChange.Put j later ≡ JobsChange.Put takes.number (record takes.kept { nodes = map unended takes.request.nodes; phase = Phase.Using; pool = takes.request.pool }) = sym at ∙ takes.puts in
-      let same : later ≡ record takes.kept { nodes = map unended takes.request.nodes; phase = Phase.Using; pool = takes.request.pool } = cc in
-      inr (record {
-        request = is.0;
-        takes = takes;
-        stands = stands-for s takes.number j takes.kept is.2.1 takes.stands;
-        all = ap (λ (x : JobRecord). x.nodes) same;
-        in_use = ap (λ (x : JobRecord). x.phase) same;
-      })
-  by (inr (inr (inl finishes))) = inl (record {
-    kept = puts.kept;
-    stands = puts.stands;
-    same = ap (λ (x : JobRecord). x.nodes) finishes.record_after;
-    idle = ap (λ (x : JobRecord). is_using x.phase) finishes.record_after;
-    early = λ early. absurd (let out : is_early later.phase ≡ false = ap (λ (x : JobRecord). is_early x.phase) finishes.record_after in cc);
-  })
-  by (inr (inr (inr withdraws))) =
-      let both : JobsChange.Put j later ≡ JobsChange.Put j (record puts.kept { ending = Some Ending.Withdrawn; phase = Phase.Over }) = sym at ∙ withdraws.0.puts in
-      let same : later ≡ record puts.kept { ending = Some Ending.Withdrawn; phase = Phase.Over } = cc in
-      inl (record {
-        kept = puts.kept;
-        stands = puts.stands;
-        same = ap (λ (x : JobRecord). x.nodes) same;
-        idle = ap (λ (x : JobRecord). is_using x.phase) same;
-        early = λ early. absurd (let out : is_early later.phase ≡ false = ap (λ (x : JobRecord). is_early x.phase) same in cc);
-      })
+  by (inl is) = let asks = is.2 in rw (put-is j asks.number later _ (sym at ∙ asks.puts)) (inl (record {
+    kept = asks.kept;
+    stands = subst (λ (i : JobId). slice_get s.jobs i.0 ≡ Some asks.kept) is.3.1 asks.stands;
+    same = refl;
+    idle = refl;
+    early = λ _. or_left _ _ asks.new;
+  }))
+  by (inr (inl is)) = let takes = is.1 in rw (put-is j takes.number later _ (sym at ∙ takes.puts)) (inr (record {
+    request = is.0;
+    takes = takes;
+    stands = subst (λ (i : JobId). slice_get s.jobs i.0 ≡ Some takes.kept) is.2.1 takes.stands;
+    all = refl;
+    in_use = refl;
+  }))
+  by (inr (inr (inl finishes))) = rw (finishes.record_after) (inl (over_after puts.kept _ puts.stands refl refl))
+  by (inr (inr (inr withdraws))) = rw (put-is j j later _ (sym at ∙ withdraws.0.puts)) (inl (over_after puts.kept _ puts.stands refl refl))
 
 -- # a node that no job has used is no job's: this holds of every state that a run leads to
 
@@ -155,13 +130,7 @@ put-nodes c s ch j later at puts = by puts.way where
 
 -- building or ready
 abbrev pub is_unused : NodeState → Bool
-is_unused NodeState.Building = true
-is_unused NodeState.Ready = true
-is_unused NodeState.InUse = false
-is_unused NodeState.Used = false
-is_unused NodeState.Hold = false
-is_unused NodeState.Deleting = false
-is_unused NodeState.Failed = false
+is_unused state = is_building state || is_ready state
 
 -- no job has the node
 abbrev pub IsFree : List JobRecord → NodeId → Type 0
@@ -179,14 +148,6 @@ pub record AreUnused (s : State) : Type 0 where
   pub early : AllByRecursion IsBare s.jobs
   pub unused : UnusedFree s.jobs s.nodes
   pub later : (n : NodeId) → s.next_node ≤ n.0 → IsFree s.jobs n
-
-building-unused : (state : NodeState) → is_building state ≡ true → is_unused state ≡ true
-building-unused NodeState.Building is = refl
-building-unused _ is = absurd (false≢true is)
-
-ready-unused : (state : NodeState) → is_ready state ≡ true → is_unused state ≡ true
-ready-unused NodeState.Ready is = refl
-ready-unused _ is = absurd (false≢true is)
 
 -- ## the nodes, later
 
@@ -235,7 +196,7 @@ module _ (c : Configuration) (s : State) (ch : Changes) (inv : Invariant c s) (o
   put-was n kept puts unused = by puts.way where
     by : Starts s ch puts.node kept ⊎ (Reports c s ch puts.node kept ⊎ (EndsNode s ch n puts.node kept ⊎ (GivesUp s ch puts.node kept ⊎ Frees s ch puts.node kept))) → is_unused puts.node.state ≡ true
     by (inl starts) = ap (λ (x : NodeRecord). is_unused x.state) (sym starts.record_after) ∙ unused
-    by (inr (inl reports)) = building-unused puts.node.state (inv.owned.launches n puts.node puts.held.stands reports.running)
+    by (inr (inl reports)) = or_left _ _ (inv.owned.launches n puts.node puts.held.stands reports.running)
     by (inr (inr (inl ends))) = absurd (ended-used ends.as_what (ap (λ (x : NodeRecord). is_unused x.state) (sym ends.record_after) ∙ unused))
     by (inr (inr (inr (inl gives_up)))) = absurd (false≢true (ap (λ (x : NodeRecord). is_unused x.state) (sym gives_up.record_after) ∙ unused))
     by (inr (inr (inr (inr frees)))) = ap (λ (x : NodeRecord). is_unused x.state) (sym frees.record_after) ∙ unused
@@ -287,7 +248,7 @@ module _ (c : Configuration) (s : State) (ch : Changes) (inv : Invariant c s) (o
       let place = node-place n takes.request.nodes among in
       let label = member-there takes.request.labels place.0 (subst (λ (size : ℕ). place.0 < size) owns.as_many (slice_get_within takes.request.nodes place.0 n place.1)) in
       let is = owns.each place.0 n label.0 place.1 label.1 in
-      (old.unused n is.node is.stands (ready-unused is.node.state is.ready), node_in-below n s.next_node is.node s.nodes inv.numbered.nodes_below is.stands)
+      (old.unused n is.node is.stands (or_right _ _ is.ready), node_in-below n s.next_node is.node s.nodes inv.numbered.nodes_below is.stands)
 
   -- no job has a node that none had and none takes over
   still-free : (change : JobsChange) → ch.jobs ≡ change → JobsPremise c s ch change → (n : NodeId) → IsFree s.jobs n
@@ -305,7 +266,7 @@ module _ (c : Configuration) (s : State) (ch : Changes) (inv : Invariant c s) (o
       all-change_at IsBare j.0 (with_mark m) s.jobs (λ job bare early. ap (λ (marks : List Marked). map (marked m) marks) (bare early)) old.early
   still-bare (JobsChange.Put j later) at premise = all-set IsBare s.jobs j.0 later (by (put-nodes c s ch j later at premise)) old.early where
     by : KeepsNodes s j later ⊎ TakesNodes c s ch j later → IsBare later
-    by (inl keeps) = λ early. keeps.same ∙ all-at IsBare s.jobs j.0 keeps.kept old.early keeps.stands (keeps.early early)
+    by (inl keeps) = λ early. keeps.same ∙ all-at IsBare s.jobs j.0 keeps.kept old.early keeps.stands (keeps.early (early-open later.phase early))
     by (inr takes) = λ early. absurd (false≢true (sym (ap is_early takes.in_use) ∙ early))
 
   as-grown : (P : List JobRecord → Type 0) → P (jobs_changed ch.jobs s.jobs) → P t.jobs
@@ -324,16 +285,12 @@ module _ (c : Configuration) (s : State) (ch : Changes) (inv : Invariant c s) (o
 
 -- ## every state that a run leads to
 
-all-bare : (rows : List Job) → AllByRecursion IsBare (map (λ _. new_job) rows)
-all-bare [] = tt
-all-bare (row ∷ rows) = (λ early. refl, all-bare rows)
-
 all-free : (rows : List Job) (n : NodeId) → IsFree (map (λ _. new_job) rows) n
 all-free [] n = refl
 all-free (row ∷ rows) n = all-free rows n
 
 unused-start : (c : Configuration) → AreUnused (start c)
-unused-start c = record { early = all-bare c.jobs; unused = λ n k is unused. absurd cc; later = λ n past. all-free c.jobs n }
+unused-start c = record { early = all-map IsBare (λ (_ : Job). new_job) c.jobs (λ row early. refl); unused = λ n k is unused. absurd cc; later = λ n past. all-free c.jobs n }
 
 record Holds (c : Configuration) (s : State) : Type 0 where
   pub invariant : Invariant c s
@@ -365,30 +322,19 @@ length-with : (j : JobId) (nodes : List Marked) (owners : List (Option JobId)) �
 length-with j [] owners = refl
 length-with j (m ∷ nodes) owners = length-with j nodes (slice_set owners m.node.0 (Some j)) ∙ length-set owners m.node.0 (Some j)
 
-set-here : {X : Type 0} (xs : List X) (i : ℕ) (x : X) → i < length xs → slice_get (slice_set xs i x) i ≡ Some x
-set-here [] i x within = absurd (omega arith)
-set-here (y ∷ xs) zero x within = refl
-set-here (y ∷ xs) (suc i) x within = set-here xs i x (omega arith)
-
 owner_at-set : (i k : ℕ) (o : Option JobId) (owners : List (Option JobId)) → k < length owners → owner_at k (slice_set owners i o) ≡ cond (i == k) o (owner_at k owners)
-owner_at-set i k o owners within = by (i == k) refl where
-  by : (b : Bool) → (i == k) ≡ b → owner_at k (slice_set owners i o) ≡ cond b o (owner_at k owners)
-  by true is =
-      let same : i ≡ k = grind (arith, nat_tests) in
-      ap (λ (x : ℕ). owner_at k (slice_set owners x o)) same ∙ ap (λ (x : Option (Option JobId)). unwrap_or x None) (set-here owners k o within)
-  by false is = ap (λ (x : Option (Option JobId)). unwrap_or x None) (set-other owners i k o (λ same. absurd (grind (arith, nat_tests))))
+owner_at-set i k o owners within =
+    let there = member-there owners k within in
+    by_bool (λ (b : Bool). owner_at k (slice_set owners i o) ≡ cond b o (owner_at k owners)) (i == k)
+    (λ is. ap (λ (n : ℕ). owner_at k (slice_set owners n o)) (eqb-true i k is) ∙ ap (λ (x : Option (Option JobId)). unwrap_or x None) (set-here owners k o there.0 there.1))
+    (λ other. ap (λ (x : Option (Option JobId)). unwrap_or x None) (set-other owners i k o (λ same. absurd (grind (arith, nat_tests)))))
 
 -- at the place of a node is the job if it has the node, and else what was there
 owner_at-with : (j : JobId) (k : ℕ) (nodes : List Marked) (owners : List (Option JobId)) → k < length owners → owner_at k (owners_with j nodes owners) ≡ cond (list_any (λ m. m.node.0 == k) nodes) (Some j) (owner_at k owners)
 owner_at-with j k [] owners within = refl
 owner_at-with j k (m ∷ nodes) owners within =
     owner_at-with j k nodes (slice_set owners m.node.0 (Some j)) (omega (arith, length-set owners m.node.0 (Some j), within))
-    ∙ ap (λ (o : Option JobId). cond (list_any (λ x. x.node.0 == k) nodes) (Some j) o) (owner_at-set m.node.0 k (Some j) owners within)
-    ∙ by (m.node.0 == k) (list_any (λ x. x.node.0 == k) nodes) where
-      by : (a b : Bool) → cond b (Some j) (cond a (Some j) (owner_at k owners)) ≡ cond (a || b) (Some j) (owner_at k owners)
-      by true true = refl
-      by true false = refl
-      by false b = refl
+    ∙ grind (arith, owner_at-set m.node.0 k (Some j) owners within)
 
 -- ## owners, by the changes of an event
 
@@ -414,12 +360,9 @@ module _ (c : Configuration) (s : State) (ch : Changes) (inv : Invariant c s) (u
     -- the job had no node before
     had-none : (n : NodeId) (takes : TakesNodes c s ch j later) → is_marked n takes.takes.kept ≡ false
     had-none n takes =
-        let early : is_early takes.takes.kept.phase ≡ true = early-asked takes.takes.kept.phase takes.takes.asked in
+        let early : is_early takes.takes.kept.phase ≡ true = or_right _ _ takes.takes.asked in
         let none : takes.takes.kept.nodes ≡ [] = all-at _ s.jobs j.0 takes.takes.kept unused.early takes.stands early in
         ap (λ (marks : List Marked). list_any (λ m. m.node.0 == n.0) marks) none
-      where
-        early-asked : (p : _) → is_asked p ≡ true → is_early p ≡ true
-        early-asked p asked = grind (arith, nat_tests)
 
     taken-owner : (n : NodeId) → TakesNodes c s ch j later → owner_of n (slice_set s.jobs j.0 later) ≡ cond (is_marked n later) (Some j) (owner_of n s.jobs)
     taken-owner n takes = by (is_marked n later) refl where
@@ -469,15 +412,6 @@ pub record AreOwnersBelow (s : State) (number : ℕ) (owners : List (Option JobI
   pub many : length owners ≡ number
   pub each : (n : NodeId) → n.0 < number → owner_at n.0 owners ≡ owner_of n s.jobs
 
-owner_at-before : (i : ℕ) (owners : List (Option JobId)) (o : Option JobId) → i < length owners → owner_at i (owners ++ o ∷ []) ≡ owner_at i owners
-owner_at-before i [] o within = absurd (omega arith)
-owner_at-before zero (x ∷ owners) o within = refl
-owner_at-before (suc i) (x ∷ owners) o within = owner_at-before i owners o (omega arith)
-
-owner_at-end : (owners : List (Option JobId)) (o : Option JobId) → owner_at (length owners) (owners ++ o ∷ []) ≡ o
-owner_at-end [] o = refl
-owner_at-end (x ∷ owners) o = owner_at-end owners o
-
 -- one more
 pub owners-more : (s : State) (number : ℕ) (owners later : List (Option JobId)) (o : Option JobId) → AreOwnersBelow s number owners → later ≡ owners ++ o ∷ [] → o ≡ owner_of (record { 0 = number }) s.jobs → AreOwnersBelow s (number + 1) later
 owners-more s number owners later o made added read = record {
@@ -485,11 +419,11 @@ owners-more s number owners later o made added read = record {
   each = λ n below. ap (owner_at n.0) added ∙ by n below (cases_lt n.0 number);
 } where
   by : (n : NodeId) → n.0 < number + 1 → (n.0 < number) ⊎ (number ≤ n.0) → owner_at n.0 (owners ++ o ∷ []) ≡ owner_of n s.jobs
-  by n below (inl before) = owner_at-before n.0 owners o (omega (arith, made.many, before)) ∙ made.each n before
+  by n below (inl before) = ap (λ (x : Option (Option JobId)). unwrap_or x None) (slice_get-left owners [] o n.0 (omega (arith, made.many, before))) ∙ made.each n before
   by n below (inr past) =
       let last : n.0 ≡ length owners = omega (arith, made.many, below, past) in
       let same : number ≡ n.0 = omega (arith, below, past) in
-      ap (λ (i : ℕ). owner_at i (owners ++ o ∷ [])) last ∙ owner_at-end owners o ∙ read ∙ ap (λ (i : ℕ). owner_of (record { 0 = i }) s.jobs) same
+      ap (λ (x : Option (Option JobId)). unwrap_or x None) (slice_get-middle owners [] o n.0 last) ∙ read ∙ ap (λ (i : ℕ). owner_of (record { 0 = i }) s.jobs) same
 
 -- a node that was not made yet has none
 pub owners-all : (c : Configuration) (s : State) → IsReached c s → (number : ℕ) (owners : List (Option JobId)) → number ≡ s.next_node → AreOwnersBelow s number owners → AreOwners s owners

@@ -16,12 +16,13 @@ pub use Rattle.np_changes.specs.declared.changes.Maker.{Maker}
 pub use Rattle.np_changes.specs.declared.changes.NodesChange.{NodesChange}
 pub use Rattle.np_changes.specs.declared.changes.RequestsChange.{RequestsChange}
 pub use Rattle.np_changes.specs.declared.changes.SessionsChange.{SessionsChange}
+pub use Rattle.np_classes.proofs.MemberLemmas.{ids-in_order, row-passes}
 pub use Rattle.np_classes.proofs.Untouched.{request-untouched}
 pub use Rattle.np_classes.specs.Touched.{touches_request}
-pub use Rattle.np_lists.proofs.Changes.{Rises-filter, all-at, all-change_at, all-filter, all-find, all-map, all-mapped, all-set, all-weaker, change_at-back, change_at-past, change_at-set, change_first-same, filter-nothing, find-passes, insert_before-end, length-change_at, length-filter_at_most, list_any-map, list_any-none, list_any-there, none-list_any, slice_get-change_at, slice_get-change_at_other}
-pub use Rattle.np_lists.proofs.Members.{group-equal, group-itself, group-transitive, has-with, has-without, ids-has, ids-rise, member-equal, rises-with, rises-without, same-list, step}
-pub use Rattle.np_lists.proofs.Plain.{above-apart, and-first, and-second, and_false, and_true, below-apart, contrapositive, equal-numbers, find-alike, is-below, length-map, length-set, member-there, none-is, or_false, or_true, same_number, set-other, suc-not_zero, take-all, there-at}
-pub use Rattle.np_lists.proofs.Searches.{apart, find-none, remove_first-none}
+pub use Rattle.np_lists.proofs.Changes.{Rises-filter, all-at, all-change_at, all-filter, all-find, all-from_at, all-map, all-mapped, all-set, all-weaker, change_at-back, change_at-past, change_at-set, change_first-same, filter-nothing, find-passes, insert_before-end, length-change_at, length-filter_at_most, list_any-map, list_any-none, list_any-there, none-list_any, past-rank, slice_get-change_at, slice_get-change_at_other}
+pub use Rattle.np_lists.proofs.Members.{IsLeast, group-equal, has-with, has-without, ids-has, ids-rise, least-found, member-equal, none-after, prefix-rank, rises-with, rises-without, same-itself, same-list}
+pub use Rattle.np_lists.proofs.Plain.{above-apart, and-first, and-second, and_false, and_true, below-apart, by_bool, contrapositive, equal-numbers, find-alike, is-below, length-map, length-set, member-there, none-is, not-past, or_false, past-end, same_number, set-here, set-other, take-all, there-at}
+pub use Rattle.np_lists.proofs.Searches.{apart, find-none, none-find, remove_first-none, slice_get-left, slice_get-middle}
 pub use Rattle.np_lists.specs.Groups.{group_from, has_member, ids_in, is_group_before, is_member_before, member, same_group}
 pub use Rattle.np_lists.specs.declared.groups.Group.{Group}
 pub use Rattle.np_lists.specs.declared.groups.Member.{Member}
@@ -47,12 +48,11 @@ pub use Rattle.np_lookups.specs.declared.waits.Wait.{Wait}
 pub use Rattle.np_machine.specs.First.{blocking, short_tenant}
 pub use Rattle.np_machine.specs.Order.{is_elsewhere}
 pub use Rattle.np_machine.specs.Tenants.{is_tenant, limit_of_tenant, passes_tenant, tenant_of_request}
-pub use Rattle.np_text.specs.declared.word.Ending.{Ending}
 pub use Rattle.np_text.specs.declared.word.RequestState.TheVariants.{Requested}
 pub use Rattle.std.proofs.Common.{Bool, IfSome, List, None, Option, Some, ap, append-nil, arith, cond, drop, eq-eqb, eqb-true, false, get_or, inl, inr, le_refl, length, length-append, map, not, refl, subst, suc, sym, take, true, vec_len, zero, ℕ, [], ◌*◌, ◌++◌, ◌+◌, ◌-◌, ◌<◌, ◌∙◌, ◌∷◌, ◌≡◌, ◌≤◌, ◌⊎◌}
-pub use Rattle.std.proofs.lemmas.Bool.{cases_lt, false_from_ne_true, false≢true, or_parts}
+pub use Rattle.std.proofs.lemmas.Bool.{and_from, cases_lt, eqb-false, false_from_ne_true, false≢true, or_left, or_right}
 pub use Rattle.std.proofs.lemmas.Bool.Decides.{nat_tests}
-pub use Rattle.std.proofs.lemmas.List.{length-take-le, map-append}
+pub use Rattle.std.proofs.lemmas.List.{length-take-le, map-append, take_all}
 pub use Rattle.std.proofs.lemmas.List.Elements.{All-get_or, filter-append}
 pub use Rattle.std.proofs.lemmas.List.Folds.{list_any-append}
 pub use Rattle.std.proofs.lemmas.List.Sums.{count_by-le-length, sum_by-cons}

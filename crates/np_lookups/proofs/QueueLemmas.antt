@@ -1,24 +1,12 @@
 -- the ids of the rows in whose queues a session is: in order, after a change, and made session by session
-use Rattle.np_lookups.proofs.Prelude.{AllByRecursion, AreLookupsOf, AreNodesOf, AreRequestsOf, Bool, Changes, Configuration, DistinctSessions, Growth, GrowthPremise, IfSome, Invariant, IsLive, IsLiveQueue, IsMade, IsNumbered, IsQueued, IsReached, IsTaken, JobId, List, Locked, LookupsOf, Maker, NodeEntry, NodeId, NodeRecord, NodesChange, None, NonePass, Option, RequestEntry, RequestId, RequestsChange, Rises, Rises-filter, SessionId, SessionsChange, Some, State, Wait, all-at, all-filter, all-find, all-map, all-mapped, all-weaker, all_in_use, allocated, ap, append-nil, arith, by, cases_lt, change_at, change_at-back, change_at-set, change_first, change_first-same, cond, edited, ending, eq-eqb, eqb-true, false, false_from_ne_true, filter, filter-append, filter-nothing, find, find-passes, freed-id, freed-queue, freed_from, get_or, grown, ids_of, in_use, inl, inr, insert_before, insert_before-end, invariant-Runs, is_id_before, is_node_before, is_queued, is_session, is_some, joined, joins_node, joins_request, leaves_node, left, length, length-append, length-change_at, length-filter_at_most, length-map, list_any, list_any-append, list_any-none, list_at, lists_ended, lists_joined, lists_left, lists_removed, lists_without, map, map-append, nat_lt, nat_tests, new_record, next_id, node_entry, node_equal, node_one_way, nodes_changed, nodes_left, none-list_any, not, option_map, option_map_or, or_false, or_true, owners_grown, owners_taken_back, queued_nodes, queued_requests, refl, remove_first, remove_first-none, removed_node, removed_request, request_entry, request_equal, request_one_way, requests_changed, requests_left, row-of, same_node, same_request, session-low, slice_get, slice_get-change_at, slice_get-change_at_other, slice_get-get_or, slice_get_past, slice_set, subst, suc, sym, take, take_there, true, unwrap_or, with_id, without_id, zero, ℕ, [], ◌++◌, ◌+◌, ◌-◌, ◌<◌, ◌==◌, ◌||◌, ◌∙◌, ◌∷◌, ◌≡◌, ◌≤◌, ◌⊎◌}
-
--- # the ids of the rows in whose queues a session is: in order, after a change, and made session by session
+use Rattle.np_lookups.proofs.Prelude.{AllByRecursion, AreLookupsOf, AreNodesOf, AreRequestsOf, Bool, Changes, Configuration, DistinctSessions, Growth, GrowthPremise, IfSome, Invariant, IsLive, IsLiveQueue, IsMade, IsNumbered, IsQueued, IsReached, IsTaken, JobId, List, Locked, LookupsOf, Maker, NodeEntry, NodeId, NodeRecord, NodesChange, None, NonePass, Option, RequestEntry, RequestId, RequestsChange, Rises, Rises-filter, SessionId, SessionsChange, Some, State, TenantId, Wait, all-at, all-filter, all-find, all-from_at, all-mapped, all-weaker, all_in_use, allocated, ap, append-nil, arith, below-apart, by_bool, cases_lt, change_at, change_at-back, change_at-set, change_first, change_first-same, cond, edited, ending, eq-eqb, eqb-true, false, filter, filter-append, filter-nothing, find, find-passes, freed-id, freed-queue, freed_from, get_or, grown, ids-in_order, ids_of, in_use, inl, inr, insert_before, insert_before-end, invariant-Runs, is_id_before, is_node_before, is_queued, is_session, is_some, joined, joins_node, joins_request, leaves_node, leaves_request, left, length, length-append, length-change_at, length-filter_at_most, length-map, list_any, list_any-append, list_any-none, list_at, lists_ended, lists_joined, lists_left, lists_removed, lists_without, map, map-append, nat_lt, nat_tests, new_record, next_id, node_entry, node_equal, node_one_way, nodes_changed, nodes_left, none-after, none-list_any, not, not-past, option_map, option_map_or, or_false, owners_grown, owners_taken_back, queued_nodes, queued_requests, refl, remove_first, remove_first-none, removed_node, removed_request, request_entry, request_equal, request_one_way, requests_changed, requests_left, row-of, row-passes, same_node, same_request, session-low, slice_get, slice_get-change_at, slice_get-change_at_other, slice_get-get_or, slice_get_past, slice_set, subst, suc, sym, take, take_there, true, unwrap_or, with_id, without_id, zero, ℕ, [], ◌&&◌, ◌++◌, ◌+◌, ◌<◌, ◌==◌, ◌||◌, ◌∙◌, ◌∷◌, ◌≡◌, ◌≤◌, ◌⊎◌}
+pub use Rattle.np_lookups.proofs.Prelude.{apart, same-itself as itself}
 
 -- # lists of the ids of the rows that pass a test, after a change of the rows
 
 -- ## rows in any order
 
 module _ {E I : Type 0} (id : E → I) where
-  -- the ids of one row and those after it
-  step : (p : E → Bool) (x : E) (xs : List E) → ids_of id p (x ∷ xs) ≡ cond (p x) (id x ∷ ids_of id p xs) (ids_of id p xs)
-  step p x xs = by (p x) where
-    by : (b : Bool) → map id (cond b (x ∷ filter p xs) (filter p xs)) ≡ cond b (id x ∷ ids_of id p xs) (ids_of id p xs)
-    by true = refl
-    by false = refl
-
-  -- the same row before rows of the same ids
-  after : (p : E → Bool) (x : E) (xs ys : List E) → ids_of id p xs ≡ ids_of id p ys → ids_of id p (x ∷ xs) ≡ ids_of id p (x ∷ ys)
-  after p x xs ys same = step p x xs ∙ ap (λ (ids : List I). cond (p x) (id x ∷ ids) ids) same ∙ sym (step p x ys)
-
   -- what is true of the id of each row
   all-ids : (P : I → Type 0) (p : E → Bool) (rows : List E) → AllByRecursion (λ e. P (id e)) rows → AllByRecursion P (ids_of id p rows)
   all-ids P p rows all = all-mapped (λ e. P (id e)) P id (filter p rows) (λ e holds. holds) (all-filter (λ e. P (id e)) p rows all)
@@ -26,35 +14,17 @@ module _ {E I : Type 0} (id : E → I) where
   -- each row changed, with a test that says of the new row what another says of the old one
   pub ids-map : (p q : E → Bool) (f : E → E) (rows : List E) → ((e : E) → id (f e) ≡ id e) → ((e : E) → p (f e) ≡ q e) → ids_of id p (map f rows) ≡ ids_of id q rows
   ids-map p q f [] keeps passes = refl
-  ids-map p q f (x ∷ xs) keeps passes =
-      step p (f x) (map f xs)
-      ∙ rw (keeps x, passes x, ids-map p q f xs keeps passes) refl
-      ∙ sym (step q x xs)
+  ids-map p q f (x ∷ xs) keeps passes = grind (arith, keeps x, passes x, ids-map p q f xs keeps passes)
 
   -- one row changed, in nothing that the list shows
   pub ids-change_first : (p at : E → Bool) (f : E → E) (rows : List E) → ((e : E) → id (f e) ≡ id e) → ((e : E) → p (f e) ≡ p e) → ids_of id p (change_first at f rows) ≡ ids_of id p rows
   ids-change_first p at f [] keeps passes = refl
-  ids-change_first p at f (x ∷ xs) keeps passes = by (at x) (ids-change_first p at f xs keeps passes) where
-    by : (b : Bool) → ids_of id p (change_first at f xs) ≡ ids_of id p xs → ids_of id p (cond b (f x ∷ xs) (x ∷ change_first at f xs)) ≡ ids_of id p (x ∷ xs)
-    by true later = step p (f x) xs ∙ rw (keeps x, passes x) refl ∙ sym (step p x xs)
-    by false later = after p x (change_first at f xs) xs later
-
-  -- the changed row does not pass: as if it were left out
-  changed_out : (p at : E → Bool) (f : E → E) (rows : List E) → ((e : E) → p (f e) ≡ false) → ids_of id p (change_first at f rows) ≡ ids_of id p (remove_first at rows)
-  changed_out p at f [] fails = refl
-  changed_out p at f (x ∷ xs) fails = by (at x) (changed_out p at f xs fails) where
-    by : (b : Bool) → ids_of id p (change_first at f xs) ≡ ids_of id p (remove_first at xs)
-        → ids_of id p (cond b (f x ∷ xs) (x ∷ change_first at f xs)) ≡ ids_of id p (cond b xs (x ∷ remove_first at xs))
-    by true later = rw (fails x) refl
-    by false later = after p x (change_first at f xs) (remove_first at xs) later
+  ids-change_first p at f (x ∷ xs) keeps passes = grind (arith, keeps x, passes x, ids-change_first p at f xs keeps passes)
 
   -- a new row that does not pass, at its place
   pub ids-insert_out : (p at : E → Bool) (new : E) (rows : List E) → p new ≡ false → ids_of id p (insert_before at new rows) ≡ ids_of id p rows
   ids-insert_out p at new [] fails = rw fails refl
-  ids-insert_out p at new (x ∷ xs) fails = by (at x) (ids-insert_out p at new xs fails) where
-    by : (b : Bool) → ids_of id p (insert_before at new xs) ≡ ids_of id p xs → ids_of id p (cond b (new ∷ x ∷ xs) (x ∷ insert_before at new xs)) ≡ ids_of id p (x ∷ xs)
-    by true later = rw fails refl
-    by false later = after p x (insert_before at new xs) xs later
+  ids-insert_out p at new (x ∷ xs) fails = grind (arith, fails, ids-insert_out p at new xs fails)
 
   -- a new row at the end
   push : (p : E → Bool) (new : E) (rows : List E) → ids_of id p (rows ++ new ∷ []) ≡ ids_of id p rows ++ ids_of id p (new ∷ [])
@@ -68,22 +38,6 @@ module _ {E I : Type 0} (id : E → I) where
   pub ids-none : (p : E → Bool) (rows : List E) → AllByRecursion (λ e. p e ≡ false) rows → ids_of id p rows ≡ []
   ids-none p rows none = ap (map id) (filter-nothing p rows none)
 
-  -- each row changed, so that it does not pass
-  pub ids-map_none : (p : E → Bool) (f : E → E) (rows : List E) → ((e : E) → p (f e) ≡ false) → ids_of id p (map f rows) ≡ []
-  ids-map_none p f rows fails = ids-none p (map f rows) (all-map (λ e. p e ≡ false) f rows fails)
-
--- ## rows in the order of their ids
-
-module _ {E I : Type 0} (id : E → I) (before : I → I → Bool) where
-  -- the ids of rows in the order
-  rise-map : (rows : List E) → Rises (λ a b. before (id a) (id b)) rows → Rises before (map id rows)
-  rise-map [] rises = tt
-  rise-map (x ∷ xs) rises = (all-mapped (λ y. before (id x) (id y) ≡ true) (λ other. before (id x) other ≡ true) id xs (λ y first. first) rises.0, rise-map xs rises.1)
-
-  -- the ids of those that pass
-  pub ids-rise : (p : E → Bool) (rows : List E) → Rises (λ a b. before (id a) (id b)) rows → Rises before (ids_of id p rows)
-  ids-rise p rows rises = rise-map (filter p rows) (Rises-filter (λ a b. before (id a) (id b)) p rows rises)
-
 -- ## a list of ids
 
 -- an id that is not there
@@ -93,52 +47,30 @@ without_id-absent same i list absent = remove_first-none (λ other. same other i
 -- an id left out right after it is put in
 undo : {I : Type 0} (p q : I → Bool) (new : I) (list : List I) → p new ≡ true → NonePass p list → remove_first p (insert_before q new list) ≡ list
 undo p q new [] is none = rw is refl
-undo p q new (k ∷ ks) is none = by (q k) (undo p q new ks is none.1) where
-  by : (b : Bool) → remove_first p (insert_before q new ks) ≡ ks → remove_first p (cond b (new ∷ k ∷ ks) (k ∷ insert_before q new ks)) ≡ k ∷ ks
-  by true later = rw is refl
-  by false later = rw (none.0) (ap (λ (rest : List _). k ∷ rest) later)
-
--- an id that is not there, put in and then left out
-pub without-with : {I : Type 0} (before same : I → I → Bool) (itself : (a : I) → same a a ≡ true) (i : I) (list : List I) → list_any (λ other. same other i) list ≡ false
-    → without_id same i (with_id before same i list) ≡ list
-without-with before same itself i list absent =
-    rw absent (undo (λ other. same other i) (λ other. before i other) i list (itself i) (none-list_any (λ other. same other i) list absent))
+undo p q new (k ∷ ks) is none = grind (arith, is, none.0, undo p q new ks is none.1)
 
 -- ## an id in a list in the order
 
 module _ {I : Type 0} (before same : I → I → Bool)
     (one_way : (a b : I) → before a b ≡ true → before b a ≡ false)
     (equal : (a b : I) → same a b ≡ true → a ≡ b) where
-  -- an id is before none that is equal to it
-  never : (a b : I) → before a b ≡ true → a ≡ b → ⊥
-  never a b first alike =
-      let itself : before b b ≡ true = subst (λ (x : I). before x b ≡ true) alike first in
-      let back : before b b ≡ false = one_way b b itself in
-      cc
+  -- nor is the other the same as it
+  turned : (a b : I) → before a b ≡ true → same b a ≡ false
+  turned a b first = (none-list_any (λ other. same other a) (b ∷ []) (none-after before same one_way equal a (b ∷ []) (first, tt))).0
 
-  -- an id that is before another is not the same
-  pub apart : (a b : I) → before a b ≡ true → same a b ≡ false
-  apart a b first = false_from_ne_true (same a b) (λ is. never a b first (equal a b is))
-
-  -- none is the same as an id that is before all
-  later_other : (i : I) (list : List I) → AllByRecursion (λ other. before i other ≡ true) list → NonePass (λ other. same other i) list
-  later_other i list all =
-      all-weaker (λ other. before i other ≡ true) (λ other. same other i ≡ false)
-      (λ other first. false_from_ne_true (same other i) (λ is. never i other first (sym (equal other i is)))) list all
+  -- the ids of those of the rows that pass
+  ids-rise : {E : Type 0} (id : E → I) (p : E → Bool) (rows : List E) → Rises (λ a b. before (id a) (id b)) rows → Rises before (ids_of id p rows)
+  ids-rise id p rows rises = ids-in_order before same id equal turned (filter p rows) (Rises-filter (λ a b. before (id a) (id b)) p rows rises)
 
   -- an id before all goes to the front
   with_id-front : (i : I) (list : List I) → AllByRecursion (λ other. before i other ≡ true) list → with_id before same i list ≡ i ∷ list
   with_id-front i [] all = refl
-  with_id-front i (k ∷ ks) all =
-      let absent = list_any-none (λ other. same other i) (k ∷ ks) (later_other i (k ∷ ks) all) in
-      rw (absent, all.0) refl
+  with_id-front i (k ∷ ks) all = rw (none-after before same one_way equal i (k ∷ ks) all, all.0) refl
 
   -- an id after the first goes among the rest
   with_id-skip : (i k : I) (ks : List I) → before k i ≡ true → with_id before same i (k ∷ ks) ≡ k ∷ with_id before same i ks
-  with_id-skip i k ks first = rw (apart k i first, one_way k i first) (by (list_any (λ other. same other i) ks)) where
-    by : (b : Bool) → cond b (k ∷ ks) (k ∷ insert_before (λ other. before i other) i ks) ≡ k ∷ cond b ks (insert_before (λ other. before i other) i ks)
-    by true = refl
-    by false = refl
+  with_id-skip i k ks first = rw (apart before same one_way equal k i first, one_way k i first)
+      (by_bool (λ (b : Bool). cond b (k ∷ ks) (k ∷ insert_before (λ other. before i other) i ks) ≡ k ∷ cond b ks (insert_before (λ other. before i other) i ks)) (list_any (λ other. same other i) ks) (λ _. refl) (λ _. refl))
 
   -- an id after all goes to the end
   pub with_id-last : (i : I) (list : List I) → AllByRecursion (λ other. before other i ≡ true) list → with_id before same i list ≡ list ++ i ∷ []
@@ -158,78 +90,33 @@ module _ {E I : Type 0} (id : E → I) (before same : I → I → Bool)
       (all-ids id (λ other. before (id x) other ≡ true) p xs all)
 
   -- so it is none of them
-  none-after : (i : I) (x : E) (xs : List E) → same (id x) i ≡ true → AllByRecursion (λ y. before (id x) (id y) ≡ true) xs
-      → NonePass (λ other. same other i) (ids_of id p xs)
-  none-after i x xs is all = later_other before same one_way equal i (ids_of id p xs) (all-after i x xs is all)
-
-  -- an id is there exactly if its row is found and passes
-  pub ids-there : (i : I) (rows : List E) → Rises (λ a b. before (id a) (id b)) rows
-      → list_any (λ other. same other i) (ids_of id p rows) ≡ option_map_or p (find (λ e. same (id e) i) rows) false
-  ids-there i [] rises = refl
-  ids-there i (x ∷ xs) rises = ap (λ (ids : List I). list_any (λ other. same other i) ids) (step id p x xs) ∙ by (same (id x) i) (p x) refl refl (ids-there i xs rises.1) where
-    by : (b c : Bool) → same (id x) i ≡ b → p x ≡ c → list_any (λ other. same other i) (ids_of id p xs) ≡ option_map_or p (find (λ e. same (id e) i) xs) false
-        → list_any (λ other. same other i) (cond c (id x ∷ ids_of id p xs) (ids_of id p xs)) ≡ option_map_or p (cond b (Some x) (find (λ e. same (id e) i) xs)) false
-    by true true is passes later = rw (is, passes) refl
-    by true false is fails later = rw fails (list_any-none (λ other. same other i) (ids_of id p xs) (none-after i x xs is rises.0))
-    by false true is passes later = rw is later
-    by false false is fails later = later
+  absent : (i : I) (x : E) (xs : List E) → AllByRecursion (λ y. before (id x) (id y) ≡ true) xs → same (id x) i ≡ true → without_id same i (ids_of id p xs) ≡ ids_of id p xs
+  absent i x xs all is = without_id-absent same i (ids_of id p xs) (none-after before same one_way equal i (ids_of id p xs) (all-after i x xs is all))
 
   -- the row of an id passes after a change, whether it did before or not
   pub ids-joined : (i : I) (f : E → E) (rows : List E) → Rises (λ a b. before (id a) (id b)) rows → ((e : E) → id (f e) ≡ id e) → ((e : E) → p (f e) ≡ true)
       → (e0 : E) → find (λ e. same (id e) i) rows ≡ Some e0 → ids_of id p (change_first (λ e. same (id e) i) f rows) ≡ with_id before same i (ids_of id p rows)
   ids-joined i f [] rises keeps passes e0 found = absurd cc
-  ids-joined i f (x ∷ xs) rises keeps passes e0 found = by (same (id x) i) refl (λ there. ids-joined i f xs rises.1 keeps passes e0 there) found where
-    here : (c : Bool) → same (id x) i ≡ true → id x ∷ ids_of id p xs ≡ with_id before same i (cond c (id x ∷ ids_of id p xs) (ids_of id p xs))
-    here true is = rw is refl
-    here false is =
-        ap (λ (k : I). k ∷ ids_of id p xs) (equal (id x) i is)
-        ∙ sym (with_id-front before same one_way equal i (ids_of id p xs) (all-after i x xs is rises.0))
+  ids-joined i f (x ∷ xs) rises keeps passes e0 found = grind (arith, keeps x, passes x, equal (id x) i, front, skip, ids-joined i f xs rises.1 keeps passes e0) where
+    front : same (id x) i ≡ true → with_id before same i (ids_of id p xs) ≡ i ∷ ids_of id p xs
+    front is = with_id-front before same one_way equal i (ids_of id p xs) (all-after i x xs is rises.0)
 
-    past : (c : Bool) → before (id x) i ≡ true
-        → cond c (id x ∷ with_id before same i (ids_of id p xs)) (with_id before same i (ids_of id p xs)) ≡ with_id before same i (cond c (id x ∷ ids_of id p xs) (ids_of id p xs))
-    past true first = sym (with_id-skip before same one_way equal i (id x) (ids_of id p xs) first)
-    past false first = refl
-
-    by : (b : Bool) → same (id x) i ≡ b → (find (λ e. same (id e) i) xs ≡ Some e0 → ids_of id p (change_first (λ e. same (id e) i) f xs) ≡ with_id before same i (ids_of id p xs))
-        → cond b (Some x) (find (λ e. same (id e) i) xs) ≡ Some e0
-        → ids_of id p (cond b (f x ∷ xs) (x ∷ change_first (λ e. same (id e) i) f xs)) ≡ with_id before same i (ids_of id p (x ∷ xs))
-    by true is later there =
-        step id p (f x) xs
-        ∙ rw (keeps x, passes x) (here (p x) is)
-        ∙ sym (ap (λ (ids : List I). with_id before same i ids) (step id p x xs))
-    by false is later there =
+    skip : find (λ e. same (id e) i) xs ≡ Some e0 → with_id before same i (id x ∷ ids_of id p xs) ≡ id x ∷ with_id before same i (ids_of id p xs)
+    skip there =
         let alike : id e0 ≡ i = equal (id e0) i (find-passes (λ e. same (id e) i) xs e0 there) in
         let first : before (id x) (id e0) ≡ true = all-find (λ y. before (id x) (id y) ≡ true) (λ e. same (id e) i) xs e0 rises.0 there in
-        step id p x (change_first (λ e. same (id e) i) f xs)
-        ∙ ap (λ (ids : List I). cond (p x) (id x ∷ ids) ids) (later there)
-        ∙ past (p x) (subst (λ (k : I). before (id x) k ≡ true) alike first)
-        ∙ sym (ap (λ (ids : List I). with_id before same i ids) (step id p x xs))
+        with_id-skip before same one_way equal i (id x) (ids_of id p xs) (rw alike at first)
 
   -- the row of an id is taken out
   pub ids-removed : (i : I) (rows : List E) → Rises (λ a b. before (id a) (id b)) rows → ids_of id p (remove_first (λ e. same (id e) i) rows) ≡ without_id same i (ids_of id p rows)
   ids-removed i [] rises = refl
-  ids-removed i (x ∷ xs) rises = by (same (id x) i) refl (ids-removed i xs rises.1) ∙ sym (ap (λ (ids : List I). without_id same i ids) (step id p x xs)) where
-    here : (c : Bool) → same (id x) i ≡ true → ids_of id p xs ≡ without_id same i (cond c (id x ∷ ids_of id p xs) (ids_of id p xs))
-    here true is = rw is refl
-    here false is = sym (remove_first-none (λ other. same other i) (ids_of id p xs) (none-after i x xs is rises.0))
-
-    past : (c : Bool) → same (id x) i ≡ false
-        → cond c (id x ∷ without_id same i (ids_of id p xs)) (without_id same i (ids_of id p xs)) ≡ without_id same i (cond c (id x ∷ ids_of id p xs) (ids_of id p xs))
-    past true other = rw other refl
-    past false other = refl
-
-    by : (b : Bool) → same (id x) i ≡ b → ids_of id p (remove_first (λ e. same (id e) i) xs) ≡ without_id same i (ids_of id p xs)
-        → ids_of id p (cond b xs (x ∷ remove_first (λ e. same (id e) i) xs)) ≡ without_id same i (cond (p x) (id x ∷ ids_of id p xs) (ids_of id p xs))
-    by true is later = here (p x) is
-    by false is later =
-        step id p x (remove_first (λ e. same (id e) i) xs)
-        ∙ ap (λ (ids : List I). cond (p x) (id x ∷ ids) ids) later
-        ∙ past (p x) is
+  ids-removed i (x ∷ xs) rises = grind (arith, absent i x xs rises.0, ids-removed i xs rises.1)
 
   -- the row of an id does not pass after a change
   pub ids-left : (i : I) (f : E → E) (rows : List E) → Rises (λ a b. before (id a) (id b)) rows → ((e : E) → p (f e) ≡ false)
       → ids_of id p (change_first (λ e. same (id e) i) f rows) ≡ without_id same i (ids_of id p rows)
-  ids-left i f rows rises fails = changed_out id p (λ e. same (id e) i) f rows fails ∙ ids-removed i rows rises
+  ids-left i f [] rises fails = refl
+  ids-left i f (x ∷ xs) rises fails = grind (arith, fails x, absent i x xs rises.0, ids-left i f xs rises.1 fails)
 
   -- a new row that passes, after all
   pub ids-pushed : (new : E) (rows : List E) → AllByRecursion (λ e. before (id e) (id new) ≡ true) rows → p new ≡ true
@@ -245,7 +132,7 @@ module _ {E I : Type 0} (id : E → I) (before same : I → I → Bool)
 
 module _ {I : Type 0} (before : I → I → Bool) where
   -- the ids up to a place come before the one there
-  earlier : (xs : List I) (i : ℕ) (x : I) → Rises before xs → slice_get xs i ≡ Some x → AllByRecursion (λ other. before other x ≡ true) (take i xs)
+  pub earlier : (xs : List I) (i : ℕ) (x : I) → Rises before xs → slice_get xs i ≡ Some x → AllByRecursion (λ other. before other x ≡ true) (take i xs)
   earlier [] i x rises there = absurd cc
   earlier (y ∷ xs) zero x rises there = tt
   earlier (y ∷ xs) (suc i) x rises there = (all-at (λ other. before y other ≡ true) xs i x rises.0 there, earlier xs i x rises.1 there)
@@ -282,33 +169,12 @@ module _ (c : Configuration) (s : State) (reached : IsReached c s) (session : Se
   holds = invariant-Runs c reached.journal s reached.runs
 
   pub requests-rise : Rises is_id_before (queued_requests session s)
-  requests-rise = ids-rise (λ e. e.id) is_id_before (λ e. is_queued session e.queue) s.requests holds.numbered.requests_rise
+  requests-rise = ids-rise is_id_before same_request request_one_way request_equal (λ e. e.id) (λ e. is_queued session e.queue) s.requests holds.numbered.requests_rise
 
   pub nodes-rise : Rises is_node_before (queued_nodes session s)
-  nodes-rise = ids-rise (λ e. e.id) is_node_before (λ e. is_queued session e.queue) s.nodes holds.numbered.nodes_rise
+  nodes-rise = ids-rise is_node_before same_node node_one_way node_equal (λ e. e.id) (λ e. is_queued session e.queue) s.nodes holds.numbered.nodes_rise
 
 -- # rows in the order of their keys: a row is put in and left out, in one list or in that at a place
-
--- ## keys
-
-module _ {K : Type 0} (before same : K → K → Bool)
-    (one_way : (a b : K) → before a b ≡ true → before b a ≡ false)
-    (some_way : (a b : K) → before a b ≡ false → same a b ≡ false → before b a ≡ true) where
-  -- no key is before itself
-  not_before : (a : K) → before a a ≡ false
-  not_before a = false_from_ne_true (before a a) (λ is. let not : before a a ≡ false = one_way a a is in cc)
-
-  -- each key is the same as itself
-  pub itself : (a : K) → same a a ≡ true
-  itself a = by (same a a) refl where
-    by : (b : Bool) → same a a ≡ b → b ≡ true
-    by true is = refl
-    by false is =
-        let not : before a a ≡ false = not_before a in
-        let first : before a a ≡ true = some_way a a not is in
-        cc
-
--- ## rows
 
 module _ {K X : Type 0} (key : X → K) (before same : K → K → Bool)
     (one_way : (a b : K) → before a b ≡ true → before b a ≡ false) where
@@ -317,8 +183,7 @@ module _ {K X : Type 0} (key : X → K) (before same : K → K → Bool)
       → list_any (λ other. same (key other) (key row)) rows ≡ false → later ≡ insert_before (λ other. before (key row) (key other)) row rows
       → without_id (λ a b. same (key a) (key b)) row later ≡ rows
   row-undo some_way row rows later absent added =
-      let undo = without-with (λ a b. before (key a) (key b)) (λ a b. same (key a) (key b)) (λ a. itself before same one_way some_way (key a)) row rows absent in
-      rw added (rw absent at undo)
+      rw added (undo (λ other. same (key other) (key row)) (λ other. before (key row) (key other)) row rows (itself before same one_way some_way (key row)) (none-list_any (λ other. same (key other) (key row)) rows absent))
 
   -- a row after all others is before none of them
   pub none-later : (row : X) (rows : List X)
@@ -351,38 +216,19 @@ list-found P at lists old within was here =
 -- ## one list
 
 module _ {I : Type 0} where
-  pub other-list : (at place : ℕ) (f : List I → List I) (lists : List (List I)) → (at == place) ≡ false → list_at place (change_at at f lists) ≡ list_at place lists
-  other-list at place f lists other =
-      ap (λ (o : Option (List I)). unwrap_or o [])
-      (slice_get-change_at_other at place f lists (λ same. let is : (at == place) ≡ true = eq-eqb at place (sym same) in cc))
+  changed-or : (f : List I → List I) (o : Option (List I)) → (o ≡ None → f [] ≡ []) → unwrap_or (option_map f o) [] ≡ f (unwrap_or o [])
+  changed-or f None none = sym (none refl)
+  changed-or f (Some list) none = refl
 
-  within-by : (i : ℕ) (f : List I → List I) (lists : List (List I)) → i < length lists → unwrap_or (slice_get (change_at i f lists) i) [] ≡ f (unwrap_or (slice_get lists i) [])
-  within-by i f [] within = absurd (omega arith)
-  within-by zero f (list ∷ lists) within = refl
-  within-by (suc i) f (list ∷ lists) within = within-by i f lists (omega arith)
-
-  none-by : (f : List I → List I) (o : Option (List I)) → f [] ≡ [] → unwrap_or (option_map f o) [] ≡ f (unwrap_or o [])
-  none-by f None none = sym none
-  none-by f (Some list) none = refl
-
-  -- a list that is there
-  pub here-list : (at place : ℕ) (f : List I → List I) (lists : List (List I)) → at < length lists → (at == place) ≡ true → list_at place (change_at at f lists) ≡ f (list_at place lists)
-  here-list at place f lists within is =
-      subst (λ (i : ℕ). unwrap_or (slice_get (change_at at f lists) i) [] ≡ f (unwrap_or (slice_get lists i) [])) (eqb-true at place is) (within-by at f lists within)
-
-  -- any list, by a change that adds nothing to an empty one
-  pub here-list_or : (at place : ℕ) (f : List I → List I) (lists : List (List I)) → f [] ≡ [] → (at == place) ≡ true → list_at place (change_at at f lists) ≡ f (list_at place lists)
-  here-list_or at place f lists none is =
-      subst (λ (i : ℕ). unwrap_or (slice_get (change_at at f lists) i) [] ≡ f (unwrap_or (slice_get lists i) [])) (eqb-true at place is)
-      (ap (λ (o : Option (List I)). unwrap_or o []) (slice_get-change_at at f lists) ∙ none-by f (slice_get lists at) none)
-
-  -- the list of a session, if one list is changed
-  at-changed : (session x : SessionId) (f : List I → List I) (lists : List (List I)) → (is_session session x ≡ true → list_at x.0 (change_at session.0 f lists) ≡ f (list_at x.0 lists))
-      → list_at x.0 (change_at session.0 f lists) ≡ cond (is_session session x) (f (list_at x.0 lists)) (list_at x.0 lists)
-  at-changed session x f lists here = by (is_session session x) refl where
-    by : (b : Bool) → is_session session x ≡ b → list_at x.0 (change_at session.0 f lists) ≡ cond b (f (list_at x.0 lists)) (list_at x.0 lists)
-    by true is = here is
-    by false is = other-list session.0 x.0 f lists is
+  -- a list after a change of one that is there, or that adds nothing to an empty one
+  pub at-changed : (at place : ℕ) (f : List I → List I) (lists : List (List I)) → (slice_get lists at ≡ None → f [] ≡ [])
+      → list_at place (change_at at f lists) ≡ cond (at == place) (f (list_at place lists)) (list_at place lists)
+  at-changed at place f lists none =
+      by_bool (λ (b : Bool). list_at place (change_at at f lists) ≡ cond b (f (list_at place lists)) (list_at place lists)) (at == place)
+      (λ is. subst (λ (i : ℕ). list_at i (change_at at f lists) ≡ f (list_at i lists)) (eqb-true at place is)
+      (ap (λ (o : Option (List I)). unwrap_or o []) (slice_get-change_at at f lists) ∙ changed-or f (slice_get lists at) none))
+      (λ other. ap (λ (o : Option (List I)). unwrap_or o [])
+      (slice_get-change_at_other at place f lists (λ same. let is : (at == place) ≡ true = eq-eqb at place (sym same) in cc)))
 
 -- what is found past the end of a list is there if it is put at the end
 pub at-push : {X : Type 0} (x : X) (at : ℕ) (xs : List X) → unwrap_or (slice_get (xs ++ x ∷ []) at) x ≡ unwrap_or (slice_get xs at) x
@@ -393,13 +239,11 @@ at-push x (suc at) (y ∷ ys) = at-push x at ys
 
 -- ## what a change makes of the list of one session
 
-module _ {I : Type 0} (before same : I → I → Bool) (x : SessionId) where
-  abbrev pub list_joined : Option (Wait I) → List I → List I
-  list_joined wait list = option_map_or (λ w. cond (is_session w.session x) (with_id before same w.id list) list) wait list
+abbrev pub list_joined : {I : Type 0} → (I → I → Bool) → (I → I → Bool) → SessionId → Option (Wait I) → List I → List I
+list_joined before same x wait list = option_map_or (λ w. cond (is_session w.session x) (with_id before same w.id list) list) wait list
 
-module _ {I : Type 0} (same : I → I → Bool) (x : SessionId) where
-  abbrev pub list_left : Option (Wait I) → List I → List I
-  list_left wait list = option_map_or (λ w. cond (is_session w.session x) (without_id same w.id list) list) wait list
+abbrev pub list_left : {I : Type 0} → (I → I → Bool) → SessionId → Option (Wait I) → List I → List I
+list_left same x wait list = option_map_or (λ w. cond (is_session w.session x) (without_id same w.id list) list) wait list
 
 abbrev pub list_removed : {I : Type 0} → (I → I → Bool) → Option I → List I → List I
 list_removed same id list = option_map_or (λ i. without_id same i list) id list
@@ -411,45 +255,37 @@ list_ended x ending list = option_map_or (λ e. cond (is_session e x) [] list) e
 abbrev pub HasList : {I : Type 0} → Option (Wait I) → List (List I) → Type 0
 HasList wait lists = IfSome wait (λ w. w.session.0 < length lists)
 
-module _ {I : Type 0} (before same : I → I → Bool) (x : SessionId) where
-  pub at-joined : (wait : Option (Wait I)) (lists : List (List I)) → HasList wait lists → list_at x.0 (lists_joined before same wait lists) ≡ list_joined before same x wait (list_at x.0 lists)
-  at-joined None lists has = refl
-  at-joined (Some w) lists has = at-changed w.session x (with_id before same w.id) lists (here-list w.session.0 x.0 (with_id before same w.id) lists has)
+same-session : (y x : SessionId) → is_session y x ≡ true → y ≡ x
+same-session y x is = ap (λ (n : ℕ). record { 0 = n }) (eqb-true y.0 x.0 is)
 
 module _ {I : Type 0} (same : I → I → Bool) (x : SessionId) where
+  pub at-joined : (before : I → I → Bool) (wait : Option (Wait I)) (lists : List (List I)) → HasList wait lists → list_at x.0 (lists_joined before same wait lists) ≡ list_joined before same x wait (list_at x.0 lists)
+  at-joined before None lists has = refl
+  at-joined before (Some w) lists has = at-changed w.session.0 x.0 (with_id before same w.id) lists (λ none. absurd (not-past lists w.session.0 has none))
+
   pub at-left : (wait : Option (Wait I)) (lists : List (List I)) → list_at x.0 (lists_left same wait lists) ≡ list_left same x wait (list_at x.0 lists)
   at-left None lists = refl
-  at-left (Some w) lists = at-changed w.session x (without_id same w.id) lists (here-list_or w.session.0 x.0 (without_id same w.id) lists refl)
+  at-left (Some w) lists = at-changed w.session.0 x.0 (without_id same w.id) lists (λ _. refl)
 
   -- the list of each session of the queue, which has none twice
   pub at-without : (i : I) (queue : List SessionId) (lists : List (List I)) → DistinctSessions queue → list_at x.0 (lists_without same i queue lists) ≡ cond (is_queued x queue) (without_id same i (list_at x.0 lists)) (list_at x.0 lists)
   at-without i [] lists once = refl
-  at-without i (y ∷ queue) lists once = at-without i queue (change_at y.0 (without_id same i) lists) once.1 ∙ by (is_session y x) refl where
-    by : (b : Bool) → is_session y x ≡ b
-        → cond (is_queued x queue) (without_id same i (list_at x.0 (change_at y.0 (without_id same i) lists))) (list_at x.0 (change_at y.0 (without_id same i) lists))
-        ≡ cond (is_session y x || is_queued x queue) (without_id same i (list_at x.0 lists)) (list_at x.0 lists)
-    by true is =
-        let alike : y ≡ x = ap (λ (n : ℕ). record { 0 = n }) (eqb-true y.0 x.0 is) in
-        let last : is_queued x queue ≡ false = subst (λ (z : SessionId). is_queued z queue ≡ false) alike once.0 in
-        rw (is, last) (here-list_or y.0 x.0 (without_id same i) lists refl is)
-    by false is = rw (is, other-list y.0 x.0 (without_id same i) lists is) refl
+  at-without i (y ∷ queue) lists once =
+      at-without i queue (change_at y.0 (without_id same i) lists) once.1
+      ∙ grind (arith, at-changed y.0 x.0 (without_id same i) lists (λ _. refl), same-session y x, once.0)
 
 pub at-ended : {I : Type 0} (x : SessionId) (ending : Option SessionId) (lists : List (List I)) → list_at x.0 (lists_ended ending lists) ≡ list_ended x ending (list_at x.0 lists)
 at-ended x None lists = refl
-at-ended x (Some e) lists = at-changed e x (λ _. []) lists (here-list_or e.0 x.0 (λ _. []) lists refl)
+at-ended x (Some e) lists = at-changed e.0 x.0 (λ _. []) lists (λ _. refl)
 
 -- ## no list more and none less
 
-module _ {I : Type 0} (before same : I → I → Bool) where
-  pub length-joined : (wait : Option (Wait I)) (lists : List (List I)) → length (lists_joined before same wait lists) ≡ length lists
-  length-joined None lists = refl
-  length-joined (Some w) lists = length-change_at w.session.0 (with_id before same w.id) lists
+-- one list changed, if any is
+pub length-changed : {A I : Type 0} (at : A → ℕ) (f : A → List I → List I) (o : Option A) (lists : List (List I)) → length (option_map_or (λ a. change_at (at a) (f a) lists) o lists) ≡ length lists
+length-changed at f None lists = refl
+length-changed at f (Some a) lists = length-change_at (at a) (f a) lists
 
 module _ {I : Type 0} (same : I → I → Bool) where
-  pub length-left : (wait : Option (Wait I)) (lists : List (List I)) → length (lists_left same wait lists) ≡ length lists
-  length-left None lists = refl
-  length-left (Some w) lists = length-change_at w.session.0 (without_id same w.id) lists
-
   length-without : (i : I) (queue : List SessionId) (lists : List (List I)) → length (lists_without same i queue lists) ≡ length lists
   length-without i [] lists = refl
   length-without i (y ∷ queue) lists = length-without i queue (change_at y.0 (without_id same i) lists) ∙ length-change_at y.0 (without_id same i) lists
@@ -458,10 +294,6 @@ module _ {I : Type 0} (same : I → I → Bool) where
   length-removed None queue lists = refl
   length-removed (Some i) queue lists = length-without i queue lists
 
-pub length-ended : {I : Type 0} (ending : Option SessionId) (lists : List (List I)) → length (lists_ended ending lists) ≡ length lists
-length-ended None lists = refl
-length-ended (Some e) lists = length-change_at e.0 (λ _. []) lists
-
 -- # what a change of the queues of rows makes of the rows in whose queues one session is
 
 -- ## one queue
@@ -469,42 +301,14 @@ length-ended (Some e) lists = length-change_at e.0 (λ _. []) lists
 queued-push : (x y : SessionId) (queue : List SessionId) → is_queued x (queue ++ y ∷ []) ≡ (is_queued x queue || is_session y x)
 queued-push x y queue = list_any-append (λ (z : SessionId). is_session z x) queue (y ∷ []) ∙ ap (λ (b : Bool). is_queued x queue || b) (or_false (is_session y x))
 
--- a session that joins is in the queue
-queued-joined : (x y : SessionId) (queue : List SessionId) → is_session y x ≡ true → is_queued x (joined y queue) ≡ true
-queued-joined x y queue is = by (is_queued y queue) refl where
-  by : (b : Bool) → is_queued y queue ≡ b → is_queued x (cond b queue (queue ++ y ∷ [])) ≡ true
-  by true there =
-      let alike : y ≡ x = ap (λ (n : ℕ). record { 0 = n }) (eqb-true y.0 x.0 is) in
-      subst (λ (z : SessionId). is_queued z queue ≡ true) alike there
-  by false out = queued-push x y queue ∙ rw is (or_true (is_queued x queue))
+-- a session that joins is in the queue, and the others are where they were
+queued-joined : (x y : SessionId) (queue : List SessionId) → is_queued x (joined y queue) ≡ (is_session y x || is_queued x queue)
+queued-joined x y queue = grind (arith, queued-push x y queue, same-session y x)
 
--- the others are where they were
-queued-joined_other : (x y : SessionId) (queue : List SessionId) → is_session y x ≡ false → is_queued x (joined y queue) ≡ is_queued x queue
-queued-joined_other x y queue other = by (is_queued y queue) where
-  by : (b : Bool) → is_queued x (cond b queue (queue ++ y ∷ [])) ≡ is_queued x queue
-  by true = refl
-  by false = queued-push x y queue ∙ rw other (or_false (is_queued x queue))
-
--- a session that leaves is not in the queue
-queued-left : (x y : SessionId) (queue : List SessionId) → is_session y x ≡ true → is_queued x (left y queue) ≡ false
-queued-left x y [] is = refl
-queued-left x y (z ∷ queue) is = by (is_session z y) refl (queued-left x y queue is) where
-  by : (b : Bool) → is_session z y ≡ b → is_queued x (left y queue) ≡ false → is_queued x (cond (not b) (z ∷ left y queue) (left y queue)) ≡ false
-  by true at later = later
-  by false at later =
-      let alike : y ≡ x = ap (λ (n : ℕ). record { 0 = n }) (eqb-true y.0 x.0 is) in
-      let out : is_session z x ≡ false = subst (λ (w : SessionId). is_session z w ≡ false) alike at in
-      rw out later
-
-queued-left_other : (x y : SessionId) (queue : List SessionId) → is_session y x ≡ false → is_queued x (left y queue) ≡ is_queued x queue
-queued-left_other x y [] other = refl
-queued-left_other x y (z ∷ queue) other = by (is_session z y) refl (queued-left_other x y queue other) where
-  by : (b : Bool) → is_session z y ≡ b → is_queued x (left y queue) ≡ is_queued x queue → is_queued x (cond (not b) (z ∷ left y queue) (left y queue)) ≡ (is_session z x || is_queued x queue)
-  by true at later =
-      let alike : z ≡ y = ap (λ (n : ℕ). record { 0 = n }) (eqb-true z.0 y.0 at) in
-      let out : is_session z x ≡ false = subst (λ (w : SessionId). is_session w x ≡ false) (sym alike) other in
-      later ∙ rw out refl
-  by false at later = ap (λ (b : Bool). is_session z x || b) later
+-- a session that leaves is not in the queue, and the others are where they were
+queued-left : (x y : SessionId) (queue : List SessionId) → is_queued x (left y queue) ≡ (not (is_session y x) && is_queued x queue)
+queued-left x y [] = grind arith
+queued-left x y (z ∷ queue) = grind (arith, nat_tests, queued-left x y queue)
 
 -- ## the rows that a session waits at
 
@@ -525,10 +329,10 @@ module _ {I K : Type 0} where
 
   -- a session leaves all queues
   pub rows-ended : (x y : SessionId) (rows : List (Locked I K)) → waiting x (map (λ e. with_queue (left y e.queue) e) rows) ≡ list_ended x (Some y) (waiting x rows)
-  rows-ended x y rows = by (is_session y x) refl where
-    by : (b : Bool) → is_session y x ≡ b → waiting x (map (λ (e : Locked I K). with_queue (left y e.queue) e) rows) ≡ cond b [] (waiting x rows)
-    by true is = ids-map_none id_of (has x) (λ (e : Locked I K). with_queue (left y e.queue) e) rows (λ e. queued-left x y e.queue is)
-    by false is = ids-map id_of (has x) (has x) (λ (e : Locked I K). with_queue (left y e.queue) e) rows (λ e. refl) (λ e. queued-left_other x y e.queue is)
+  rows-ended x y rows =
+      ids-map id_of (has x) (λ (e : Locked I K). not (is_session y x) && has x e) (λ (e : Locked I K). with_queue (left y e.queue) e) rows (λ e. refl) (λ e. queued-left x y e.queue)
+      ∙ by_bool (λ (b : Bool). ids_of id_of (λ (e : Locked I K). not b && has x e) rows ≡ cond b [] (waiting x rows)) (is_session y x)
+      (λ _. ids-none id_of (λ (_ : Locked I K). false) rows (all-from_at (λ _. false ≡ false) rows (λ i e there. refl))) (λ _. refl)
 
 module _ {I K : Type 0} (same : I → I → Bool) where
   -- the queue of the row with the id
@@ -547,10 +351,13 @@ module _ {I K : Type 0} (before same : I → I → Bool)
   -- a session joins the queue of a row that is there, by any change that keeps the id
   pub rows-joined_by : (y : SessionId) (i : I) (f : Locked I K → Locked I K) (e0 : Locked I K) → ((e : Locked I K) → (f e).id ≡ e.id) → ((e : Locked I K) → (f e).queue ≡ joined y e.queue) → find (λ e. same e.id i) rows ≡ Some e0
       → waiting x (change_first (λ e. same e.id i) f rows) ≡ list_joined before same x (Some (record { session = y; id = i })) (waiting x rows)
-  rows-joined_by y i f e0 keeps joins found = by (is_session y x) refl where
-    by : (b : Bool) → is_session y x ≡ b → waiting x (change_first (λ (e : Locked I K). same e.id i) f rows) ≡ cond b (with_id before same i (waiting x rows)) (waiting x rows)
-    by true is = ids-joined id_of before same one_way equal (has x) i f rows rises keeps (λ e. rw (joins e) (queued-joined x y e.queue is)) e0 found
-    by false is = ids-change_first id_of (has x) (λ (e : Locked I K). same e.id i) f rows keeps (λ e. rw (joins e) (queued-joined_other x y e.queue is))
+  rows-joined_by y i f e0 keeps joins found =
+      by_bool (λ (b : Bool). waiting x (change_first (λ (e : Locked I K). same e.id i) f rows) ≡ cond b (with_id before same i (waiting x rows)) (waiting x rows)) (is_session y x)
+      (λ is. ids-joined id_of before same one_way equal (has x) i f rows rises keeps (λ e. joined_is e ∙ rw is refl) e0 found)
+      (λ is. ids-change_first id_of (has x) (λ (e : Locked I K). same e.id i) f rows keeps (λ e. joined_is e ∙ rw is refl))
+    where
+      joined_is : (e : Locked I K) → is_queued x (f e).queue ≡ (is_session y x || is_queued x e.queue)
+      joined_is e = ap (is_queued x) (joins e) ∙ queued-joined x y e.queue
 
   pub rows-joined : (y : SessionId) (i : I) (e0 : Locked I K) → find (λ e. same e.id i) rows ≡ Some e0
       → waiting x (change_first (λ e. same e.id i) (with_queue (joined y (queue_in same i rows))) rows) ≡ list_joined before same x (Some (record { session = y; id = i })) (waiting x rows)
@@ -561,18 +368,15 @@ module _ {I K : Type 0} (before same : I → I → Bool)
   -- a session leaves the queue of a row
   pub rows-left : (y : SessionId) (i : I)
       → waiting x (change_first (λ e. same e.id i) (with_queue (left y (queue_in same i rows))) rows) ≡ list_left same x (Some (record { session = y; id = i })) (waiting x rows)
-  rows-left y i = by (is_session y x) refl where
-    by : (b : Bool) → is_session y x ≡ b → waiting x (change_first (λ (e : Locked I K). same e.id i) (with_queue (left y (queue_in same i rows))) rows) ≡ cond b (without_id same i (waiting x rows)) (waiting x rows)
-    by true is =
-        ids-left id_of before same one_way equal (has x) i (with_queue (left y (queue_in same i rows))) rows rises
-        (λ e. queued-left x y (queue_in same i rows) is)
-    by false is =
-        ap (waiting x) (queue_at_found same (left y) i rows)
-        ∙ ids-change_first id_of (has x) (λ (e : Locked I K). same e.id i) (λ (e : Locked I K). with_queue (left y e.queue) e) rows (λ e. refl) (λ e. queued-left_other x y e.queue is)
+  rows-left y i =
+      by_bool (λ (b : Bool). waiting x (change_first (λ (e : Locked I K). same e.id i) (with_queue (left y (queue_in same i rows))) rows) ≡ cond b (without_id same i (waiting x rows)) (waiting x rows)) (is_session y x)
+      (λ is. ids-left id_of before same one_way equal (has x) i (with_queue (left y (queue_in same i rows))) rows rises (λ e. queued-left x y (queue_in same i rows) ∙ rw is refl))
+      (λ is. ap (waiting x) (queue_at_found same (left y) i rows)
+      ∙ ids-change_first id_of (has x) (λ (e : Locked I K). same e.id i) (λ (e : Locked I K). with_queue (left y e.queue) e) rows (λ e. refl) (λ e. queued-left x y e.queue ∙ rw is refl))
 
   -- the session is not in the row's queue
   pub rows-absent : (i : I) → is_queued x (queue_in same i rows) ≡ false → without_id same i (waiting x rows) ≡ waiting x rows
-  rows-absent i out = without_id-absent same i (waiting x rows) (ids-there id_of before same one_way equal (has x) i rows rises ∙ by (find (λ (e : Locked I K). same e.id i) rows) refl) where
+  rows-absent i out = without_id-absent same i (waiting x rows) (row-passes before same id_of equal (turned before same one_way equal) (has x) i rows rises ∙ by (find (λ (e : Locked I K). same e.id i) rows) refl) where
     by : (o : Option (Locked I K)) → find (λ (e : Locked I K). same e.id i) rows ≡ o → option_map_or (has x) o false ≡ false
     by None is = refl
     by (Some e) is = let there : is_queued x (queue_in same i rows) ≡ is_queued x e.queue = rw is refl in sym there ∙ out
@@ -581,19 +385,13 @@ module _ {I K : Type 0} (before same : I → I → Bool)
 
 -- ## what grows
 
--- the node whose queue is joined is there
-abbrev NodeStandsFor : Growth → State → Type 0
-NodeStandsFor (Growth.JoinNode n) s = (e : NodeEntry) × (node_entry n s.nodes ≡ Some e)
-NodeStandsFor (Growth.Allocate n r tenant) s = (e : NodeEntry) × (node_entry n s.nodes ≡ Some e)
-NodeStandsFor growth s = Unit {0}
-
-node-stands : (c : Configuration) (s : State) (ch : Changes) (growth : Growth) → ch.grows ≡ growth → GrowthPremise c s ch growth → NodeStandsFor growth s
-node-stands c s ch (Growth.JoinNode n) is premise = row-of (λ (e : NodeEntry). e.kept) (node_entry n s.nodes) premise.node premise.stands
-node-stands c s ch (Growth.Allocate n r tenant) is premise = by premise.from where
+-- a node that is allocated is there, since none is made then
+allocated-there : (c : Configuration) (s : State) (ch : Changes) (n : NodeId) (r : RequestId) (tenant : Option TenantId) → ch.grows ≡ Growth.Allocate n r tenant → GrowthPremise c s ch (Growth.Allocate n r tenant)
+    → (e : NodeEntry) × (node_entry n s.nodes ≡ Some e)
+allocated-there c s ch n r tenant is premise = by premise.from where
   by : IsTaken c s ch premise.pool r premise.request premise.label n ⊎ IsMade c s ch premise.pool r premise.request premise.label n → (e : NodeEntry) × (node_entry n s.nodes ≡ Some e)
   by (inl taken) = row-of (λ (e : NodeEntry). e.kept) (node_entry n s.nodes) taken.node taken.stands
-  by (inr made) = let other : Growth.Allocate n r tenant ≡ ch.grows = sym is in let node = other ∙ made.grows in absurd cc
-node-stands c s ch _ is premise = tt
+  by (inr made) = let node = sym is ∙ made.grows in absurd cc
 
 below : (next : ℕ) (e : NodeEntry) → e.id.0 < next → is_node_before e.id (record { 0 = next }) ≡ true
 below next e low = grind (arith, nat_tests)
@@ -602,25 +400,23 @@ below next e low = grind (arith, nat_tests)
 abbrev made : State → NodeRecord → SessionId → NodeEntry
 made s kept session = record { id = record { 0 = s.next_node }; kept = kept; queue = session ∷ [] }
 
-nodes-grown-by : (c : Configuration) (x : SessionId) (s : State) (maker : Option Maker) (growth : Growth) → IsNumbered s → NodeStandsFor growth s
+pub nodes-grown : (c : Configuration) (x : SessionId) (s : State) (ch : Changes) (maker : Option Maker) (growth : Growth) → ch.grows ≡ growth → IsNumbered s → GrowthPremise c s ch growth
     → waiting x (grown c maker growth s).nodes ≡ list_joined is_node_before same_node x (joins_node maker growth s.next_node) (waiting x s.nodes)
-nodes-grown-by c x s None (Growth.Node kept) numbered there = ids-push_out id_of (has x) (record { id = record { 0 = s.next_node }; kept = kept; queue = [] }) s.nodes refl
-nodes-grown-by c x s (Some m) (Growth.Node kept) numbered there = by (is_session m.session x) refl where
-  by : (b : Bool) → is_session m.session x ≡ b → waiting x (s.nodes ++ made s kept m.session ∷ []) ≡ cond b (with_id is_node_before same_node (record { 0 = s.next_node }) (waiting x s.nodes)) (waiting x s.nodes)
-  by true is =
-      ids-pushed id_of is_node_before same_node node_one_way node_equal (has x) (made s kept m.session) s.nodes
-      (all-weaker (λ (e : NodeEntry). e.id.0 < s.next_node) (λ (e : NodeEntry). is_node_before e.id (record { 0 = s.next_node }) ≡ true) (below s.next_node) s.nodes numbered.nodes_below)
-      (rw is refl)
-  by false is = ids-push_out id_of (has x) (made s kept m.session) s.nodes (rw is refl)
-nodes-grown-by c x s (Some m) (Growth.JoinNode n) numbered there = rows-joined is_node_before same_node node_one_way node_equal x s.nodes numbered.nodes_rise m.session n there.0 there.1
-nodes-grown-by c x s (Some m) (Growth.Allocate n r tenant) numbered there =
+nodes-grown c x s ch None (Growth.Node kept) is numbered premise = ids-push_out id_of (has x) (record { id = record { 0 = s.next_node }; kept = kept; queue = [] }) s.nodes refl
+nodes-grown c x s ch (Some m) (Growth.Node kept) is numbered premise =
+    by_bool (λ (b : Bool). waiting x (s.nodes ++ made s kept m.session ∷ []) ≡ cond b (with_id is_node_before same_node (record { 0 = s.next_node }) (waiting x s.nodes)) (waiting x s.nodes)) (is_session m.session x)
+    (λ is. ids-pushed id_of is_node_before same_node node_one_way node_equal (has x) (made s kept m.session) s.nodes
+    (all-weaker (λ (e : NodeEntry). e.id.0 < s.next_node) (λ (e : NodeEntry). is_node_before e.id (record { 0 = s.next_node }) ≡ true) (below s.next_node) s.nodes numbered.nodes_below)
+    (rw is refl))
+    (λ is. ids-push_out id_of (has x) (made s kept m.session) s.nodes (rw is refl))
+nodes-grown c x s ch (Some m) (Growth.JoinNode n) is numbered premise =
+    let there = row-of (λ (e : NodeEntry). e.kept) (node_entry n s.nodes) premise.node premise.stands in
+    rows-joined is_node_before same_node node_one_way node_equal x s.nodes numbered.nodes_rise m.session n there.0 there.1
+nodes-grown c x s ch (Some m) (Growth.Allocate n r tenant) is numbered premise =
+    let there = allocated-there c s ch n r tenant is premise in
     rows-joined_by is_node_before same_node node_one_way node_equal x s.nodes numbered.nodes_rise m.session n (allocated r tenant m.session) there.0 (λ e. refl) (λ e. refl) there.1
-nodes-grown-by c x s None growth numbered there = refl
-nodes-grown-by c x s (Some m) growth numbered there = refl
-
-pub nodes-grown : (c : Configuration) (x : SessionId) (s : State) (ch : Changes) → IsNumbered s → GrowthPremise c s ch ch.grows
-    → waiting x (grown c ch.maker ch.grows s).nodes ≡ list_joined is_node_before same_node x (joins_node ch.maker ch.grows s.next_node) (waiting x s.nodes)
-nodes-grown c x s ch numbered premise = nodes-grown-by c x s ch.maker ch.grows numbered (node-stands c s ch ch.grows refl premise)
+nodes-grown c x s ch None growth is numbered premise = refl
+nodes-grown c x s ch (Some m) growth is numbered premise = refl
 
 -- ## what happens to nodes
 
@@ -641,44 +437,27 @@ nodes-changed x maker tick (NodesChange.FreeAll r) rows rises = ids-map id_of (h
 nodes-changed x maker tick (NodesChange.TakeOver numbers) rows rises = in-use x tick numbers rows
 
 pub nodes-left : (x : SessionId) (change : SessionsChange) (rows : List NodeEntry) → waiting x (nodes_left change rows) ≡ list_ended x (ending change) (waiting x rows)
-nodes-left x SessionsChange.Same rows = refl
-nodes-left x (SessionsChange.Mute session) rows = refl
 nodes-left x (SessionsChange.End session) rows = rows-ended x session rows
+nodes-left x _ rows = refl
 
 -- # what the changes of an event make of the requests in whose queues one session is
 
 -- ## what grows
 
--- the request whose queue is joined is there
-abbrev RequestStandsFor : Growth → State → Type 0
-RequestStandsFor (Growth.JoinRequest r) s = (e : RequestEntry) × (request_entry r s.requests ≡ Some e)
-RequestStandsFor growth s = Unit {0}
-
-request-stands : (c : Configuration) (s : State) (ch : Changes) (growth : Growth) → GrowthPremise c s ch growth → RequestStandsFor growth s
-request-stands c s ch (Growth.JoinRequest r) premise = row-of (λ (e : RequestEntry). e.kept) (request_entry r s.requests) premise.request premise.stands
-request-stands c s ch _ premise = tt
-
-requests-grown-by : (c : Configuration) (x : SessionId) (s : State) (maker : Option Maker) (growth : Growth) → IsNumbered s → RequestStandsFor growth s
+pub requests-grown : (c : Configuration) (x : SessionId) (s : State) (ch : Changes) (maker : Option Maker) (growth : Growth) → IsNumbered s → GrowthPremise c s ch growth
     → waiting x (grown c maker growth s).requests ≡ list_joined is_id_before same_request x (joins_request maker growth) (waiting x s.requests)
-requests-grown-by c x s maker (Growth.Request priority asked) numbered there =
+requests-grown c x s ch maker (Growth.Request priority asked) numbered premise =
     ids-insert_out id_of (has x) (λ (e : RequestEntry). is_id_before (next_id priority s) e.id) (record { id = next_id priority s; kept = new_record asked; queue = [] }) s.requests refl
-requests-grown-by c x s (Some m) (Growth.JoinRequest r) numbered there = rows-joined is_id_before same_request request_one_way request_equal x s.requests numbered.requests_rise m.session r there.0 there.1
-requests-grown-by c x s None growth numbered there = refl
-requests-grown-by c x s (Some m) growth numbered there = refl
-
-pub requests-grown : (c : Configuration) (x : SessionId) (s : State) (ch : Changes) → IsNumbered s → GrowthPremise c s ch ch.grows
-    → waiting x (grown c ch.maker ch.grows s).requests ≡ list_joined is_id_before same_request x (joins_request ch.maker ch.grows) (waiting x s.requests)
-requests-grown c x s ch numbered premise = requests-grown-by c x s ch.maker ch.grows numbered (request-stands c s ch ch.grows premise)
+requests-grown c x s ch (Some m) (Growth.JoinRequest r) numbered premise =
+    let there = row-of (λ (e : RequestEntry). e.kept) (request_entry r s.requests) premise.request premise.stands in
+    rows-joined is_id_before same_request request_one_way request_equal x s.requests numbered.requests_rise m.session r there.0 there.1
+requests-grown c x s ch None growth numbered premise = refl
+requests-grown c x s ch (Some m) growth numbered premise = refl
 
 -- ## what happens to requests
 
--- the request whose queue the maker leaves
-abbrev pub leaves : Option Maker → RequestsChange → Option (Wait RequestId)
-leaves maker (RequestsChange.Leave r) = by maker r
-leaves maker change = None
-
 pub requests-changed : (x : SessionId) (maker : Option Maker) (change : RequestsChange) (rows : List RequestEntry) → Rises (λ a b. is_id_before a.id b.id) rows
-    → waiting x (requests_changed maker change rows) ≡ list_removed same_request (removed_request change) (list_left same_request x (leaves maker change) (waiting x rows))
+    → waiting x (requests_changed maker change rows) ≡ list_removed same_request (removed_request change) (list_left same_request x (leaves_request maker change None) (waiting x rows))
 requests-changed x maker RequestsChange.Same rows rises = refl
 requests-changed x maker (RequestsChange.Edit r change) rows rises = ids-change_first id_of (has x) (λ (e : RequestEntry). same_request e.id r) (λ (e : RequestEntry). record e { kept = edited change e.kept }) rows (λ e. refl) (λ e. refl)
 requests-changed x maker (RequestsChange.Remove r) rows rises = ids-removed id_of is_id_before same_request request_one_way request_equal (has x) r rows rises
@@ -686,20 +465,16 @@ requests-changed x None (RequestsChange.Leave r) rows rises = refl
 requests-changed x (Some m) (RequestsChange.Leave r) rows rises = rows-left is_id_before same_request request_one_way request_equal x rows rises m.session r
 
 pub requests-left : (x : SessionId) (change : SessionsChange) (rows : List RequestEntry) → waiting x (requests_left change rows) ≡ list_ended x (ending change) (waiting x rows)
-requests-left x SessionsChange.Same rows = refl
-requests-left x (SessionsChange.Mute session) rows = refl
 requests-left x (SessionsChange.End session) rows = rows-ended x session rows
+requests-left x _ rows = refl
 
 -- # only sessions that were begun have a number up to that of the last one, and only they wait in queues
-
-other-number : (x y : SessionId) → y.0 < x.0 → is_session y x ≡ false
-other-number x y less = grind (arith, nat_tests)
 
 -- a session with a number past that of the last one is in no queue
 pub past-out : (x : SessionId) (s : State) (queue : List SessionId) → length s.sessions < x.0 → AllByRecursion (IsLive s) queue → is_queued x queue ≡ false
 past-out x s queue past live =
     list_any-none (λ other. is_session other x) queue
-    (all-weaker (IsLive s) (λ other. is_session other x ≡ false) (λ other is. other-number x other (omega (arith, session-low other s is.facts is.begun))) queue live)
+    (all-weaker (IsLive s) (λ other. is_session other x ≡ false) (λ other is. below-apart other.0 x.0 (omega (arith, session-low other s is.facts is.begun))) queue live)
 
 -- # a session is in the queues of some of the rows
 
@@ -720,23 +495,23 @@ alone maker growth next owners is = absurd cc
 
 module _ (c : Configuration) (s : State) (l : LookupsOf) (is : AreLookupsOf c s l) where
   pub requests-more : (lists : List (List RequestId)) (list : List RequestId) → lists ≡ l.requests ++ list ∷ [] → list ≡ [] → AreLookupsOf c s (record l { requests = lists })
-  requests-more lists list more empty = let added : lists ≡ l.requests ++ [] ∷ [] = rw empty at more in record {
+  requests-more lists list more empty = record {
     unfinished = is.unfinished;
     requests = record {
-      each = λ x. ap (list_at x.0) added ∙ at-push [] x.0 l.requests ∙ is.requests.each x;
-      many = omega (arith, is.requests.many, simp length-append at (ap length added));
+      each = λ x. rw (more, empty) (at-push [] x.0 l.requests ∙ is.requests.each x);
+      many = omega (arith, is.requests.many, simp length-append at (ap length more));
     };
     nodes = is.nodes;
     owners = is.owners;
   }
 
   pub nodes-more : (lists : List (List NodeId)) (list : List NodeId) → lists ≡ l.nodes ++ list ∷ [] → list ≡ [] → AreLookupsOf c s (record l { nodes = lists })
-  nodes-more lists list more empty = let added : lists ≡ l.nodes ++ [] ∷ [] = rw empty at more in record {
+  nodes-more lists list more empty = record {
     unfinished = is.unfinished;
     requests = is.requests;
     nodes = record {
-      each = λ x. ap (list_at x.0) added ∙ at-push [] x.0 l.nodes ∙ is.nodes.each x;
-      many = omega (arith, is.nodes.many, simp length-append at (ap length added));
+      each = λ x. rw (more, empty) (at-push [] x.0 l.nodes ∙ is.nodes.each x);
+      many = omega (arith, is.nodes.many, simp length-append at (ap length more));
     };
     owners = is.owners;
   }
@@ -760,18 +535,19 @@ module _ (c : Configuration) (s : State) (reached : IsReached c s) where
   abbrev queued : IsQueued s
   queued = (invariant-Runs c reached.journal s reached.runs).queued
 
+  -- a session with a number past that of the last one waits at no row
+  none-past : {I K : Type 0} (rows : List (Locked I K)) → AllByRecursion (λ e. IsLiveQueue s e.queue) rows → (x : SessionId) → length s.sessions < x.0 → waiting x rows ≡ []
+  none-past {I} {K} rows live x past =
+      ids-none id_of (has x) rows (all-weaker (λ (e : Locked I K). IsLiveQueue s e.queue) (λ (e : Locked I K). has x e ≡ false) (λ e queue. past-out x s e.queue past queue.live) rows live)
+
   pub requests-by_session : (number : ℕ) (lists : List (List RequestId)) → length s.sessions < number → AreBelow (λ x. queued_requests x s) number lists → AreRequestsOf s lists
   requests-by_session number lists past made = record {
-    each = each-of (λ x. queued_requests x s) number lists made (λ x later.
-        ids-none (λ e. e.id) (λ e. is_queued x e.queue) s.requests
-        (all-weaker (λ e. IsLiveQueue s e.queue) (λ e. is_queued x e.queue ≡ false) (λ e queue. past-out x s e.queue (omega arith) queue.live) s.requests queued.at_requests));
+    each = each-of (λ x. queued_requests x s) number lists made (λ x later. none-past s.requests queued.at_requests x (omega arith));
     many = omega (arith, made.many);
   }
 
   pub nodes-by_session : (number : ℕ) (lists : List (List NodeId)) → length s.sessions < number → AreBelow (λ x. queued_nodes x s) number lists → AreNodesOf s lists
   nodes-by_session number lists past made = record {
-    each = each-of (λ x. queued_nodes x s) number lists made (λ x later.
-        ids-none (λ e. e.id) (λ e. is_queued x e.queue) s.nodes
-        (all-weaker (λ e. IsLiveQueue s e.queue) (λ e. is_queued x e.queue ≡ false) (λ e queue. past-out x s e.queue (omega arith) queue.live) s.nodes queued.at_nodes));
+    each = each-of (λ x. queued_nodes x s) number lists made (λ x later. none-past s.nodes queued.at_nodes x (omega arith));
     many = omega (arith, made.many);
   }

@@ -1,4 +1,4 @@
-use Rattle.np_lookups.proofs.Prelude.{List, None, Some, ap, arith, length, node_queue, queue-fits, refl, slice_get, slice_get_within, suc, sym, take, take_there, zero, ℕ, [], ◌++◌, ◌+◌, ◌<◌, ◌∙◌, ◌∷◌, ◌≡◌}
+use Rattle.np_lookups.proofs.Prelude.{List, None, Some, ap, arith, length, node_queue, past-end, queue-fits, slice_get, slice_get_within, sym, take, take_all, take_there, ℕ, [], ◌++◌, ◌+◌, ◌<◌, ◌∙◌, ◌∷◌, ◌≡◌}
 use Rattle.np_lookups.proofs.queues.queue_of.Goals as goal
 
 -- one more is read
@@ -10,14 +10,8 @@ one_more read later whole at n m x there here so_far added more =
     ∙ ap (λ (i : ℕ). take i whole) (sym more)
 
 -- past the end all is read
-take_past : {X : Type 0} (xs : List X) (i : ℕ) → slice_get xs i ≡ None → take i xs ≡ xs
-take_past [] zero is = refl
-take_past [] (suc i) is = refl
-take_past (x ∷ xs) zero is = absurd cc
-take_past (x ∷ xs) (suc i) is = ap (λ (ys : List _). x ∷ ys) (take_past xs i is)
-
 all_read : {X : Type 0} (read whole : List X) (at n : ℕ) → None ≡ slice_get whole at → at ≡ n → read ≡ take n whole → read ≡ whole
-all_read read whole at n none here so_far = so_far ∙ take_past whole n (rw (← here) (sym none))
+all_read read whole at n none here so_far = so_far ∙ take_all n whole (past-end whole n (rw (← here) (sym none)))
 
 pub overflow_cast-len : goal.overflow_cast-len
 overflow_cast-len g c =

@@ -1,6 +1,6 @@
-use Rattle.np_index.proofs.Prelude.{candidate_ranks}
+use Rattle.np_index.proofs.Prelude.{candidate_ranks, lines_left}
 use Rattle.np_index.proofs.Firsts.{passes}
-use Rattle.np_index.proofs.CandidateLemmas.{IsBefore, IsBest, lines_left}
+use Rattle.np_index.proofs.CandidateLemmas.{IsBefore, IsBest}
 use Rattle.np_index.proofs.index.Index.candidate_at.Given as goal
 
 abbrev pub invariant-loop-place : goal.invariant-loop-place
