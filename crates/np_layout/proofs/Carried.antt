@@ -1,9 +1,10 @@
 -- a tree can carry the state that an accepted event leaves, with its tables in their order
-use Rattle.np_layout.proofs.Prelude.{AllByRecursion, AreHolders, Asked, AsksForJob, AsksToKeep, Bool, Changes, Configuration, Deed, Growth, GrowthPremise, HandlesChange, HasGoodIds, HasText, IsCarried, IsGood, IsNumbered, IsOrdered, IsPriority, IsTypedGrowth, Job, JobId, JobRecord, JobsChange, Launcher, List, Maker, Node, NodeEntry, NodeId, None, Option, Registration, Request, RequestEntry, RequestId, RequestsChange, Rises, Rises-filter, Role, RoleRecord, SemId, SessionFacts, SessionId, SessionsChange, Some, State, StepsAreCarried, Swept, SweptPlace, all-change_at, all-change_first, all-filter, all-insert_before, all-mapped, all-remove_first, all-weaker, all_with_handle, all_without_handle, ap, arith, change_at, change_janitor, change_launcher, change_requester, changed, cond, edited, ended, false, grown, handles_changed, inl, inr, insert_before, is_among, is_id_before, is_pair, is_pair_after, is_pair_before, is_session, is_swept, jobs-grown, jobs_changed, joined, left, length, length-append, length-change_at, length-set, made-look, muted, nat_lt, nat_tests, new_record, next_id, none-list_any, not, numbered, one_more_act, one_more_start, plan, plan-next, put_request_queue, refl, registered-still, registers, registrations_left, request_left, request_queue, requests_changed, requests_left, rises-insert_before, same_request, semaphores_of, sessions_changed, slice_get_within, struck_unless, subst, sym, true, with_deed, with_handle, with_mark, with_pair, without_handle, ℕ, [], ◌+◌, ◌-◌, ◌<◌, ◌==◌, ◌^◌, ◌∙◌, ◌∷◌, ◌≡◌, ◌≤◌, ◌⊎◌}
+use Rattle.np_layout.proofs.Prelude.{AllByRecursion, AreHolders, Asked, AsksForJob, AsksToKeep, Bool, Changes, Configuration, Deed, Growth, GrowthPremise, HandlesChange, HasGoodIds, HasText, IsCarried, IsGood, IsOrdered, IsPriority, IsTypedGrowth, Job, JobId, JobRecord, JobsChange, Launcher, List, Maker, Node, NodeEntry, NodeId, None, Option, Registration, Request, RequestEntry, RequestsChange, Rises, Rises-filter, Role, RoleRecord, SemId, SessionFacts, SessionsChange, Some, State, StepsAreCarried, Swept, SweptPlace, [], all-change_at, all-change_first, all-filter, all-insert_before, all-mapped, all-remove_first, all-weaker, ap, arith, change_at, change_janitor, change_launcher, change_requester, changed, cond, edited, false, fold, grown, handles_changed, inl, inr, insert_before, is_among, is_id_before, is_pair, is_pair_after, is_pair_before, is_session, is_swept, jobs-grown, jobs_changed, joined, left, length, length-append, length-change_at, length-set, nat_lt, nat_tests, new_record, next_id, none-list_any, not, numbered, plan, plan-next, refl, registered-still, registrations_left, request_left, request_queue, requests_changed, requests_left, rises-insert_before, same_request, semaphores_of, sessions_changed, slice_get_within, subst, sym, true, with_deed, with_handle, with_pair, without_handle, ℕ, ◌+◌, ◌<◌, ◌==◌, ◌^◌, ◌∙◌, ◌∷◌, ◌≡◌, ◌≤◌, ◌⊎◌}
 use Rattle.np_layout.proofs.Rows.{pair-trans}
 use Rattle.np_layout.proofs.Spelled.{IsKnown, all-spelled, known-accepted, launcher-low, next-text, priority-text}
 use Rattle.np_layout.proofs.Stands.{same-roles, same-tick}
 use Rattle.np_layout.proofs.SoundRows.{JobRow, job-low, job-row, pool-low}
+use Rattle.np_lists.proofs.Plain.{by_bool}
 
 -- # the tables that the tree keeps by names stay in their order, and each keeps its length
 
@@ -16,14 +17,11 @@ past-job : (j other : JobId) → (other.0 == j.0) ≡ false → nat_lt j.0 other
 past-job j other apart out = grind (arith, nat_tests)
 
 with-holders : (n : ℕ) (j : JobId) (holders : List JobId) → j.0 < n → AreHolders n holders → AreHolders n (with_handle j holders)
-with-holders n j holders low old = by (is_among j holders) refl where
-  by : (b : Bool) → is_among j holders ≡ b → AreHolders n (cond b holders (insert_before (λ other. nat_lt j.0 other.0) j holders))
-  by true there = old
-  by false out = record {
-    rise = rises-insert_before (λ (a b : JobId). nat_lt a.0 b.0) through_jobs j holders
-        (all-weaker (λ (other : JobId). (other.0 == j.0) ≡ false) (λ (other : JobId). nat_lt j.0 other.0 ≡ false → nat_lt other.0 j.0 ≡ true) (past-job j) holders (none-list_any (λ (other : JobId). other.0 == j.0) holders out)) old.rise;
-    exist = all-insert_before (λ (other : JobId). other.0 < n) (λ other. nat_lt j.0 other.0) j holders low old.exist;
-  }
+with-holders n j holders low old = by_bool (λ (b : Bool). AreHolders n (cond b holders (insert_before (λ (other : JobId). nat_lt j.0 other.0) j holders))) (is_among j holders) (λ _. old) (λ out. record {
+  rise = rises-insert_before (λ (a b : JobId). nat_lt a.0 b.0) through_jobs j holders
+      (all-weaker (λ (other : JobId). (other.0 == j.0) ≡ false) (λ (other : JobId). nat_lt j.0 other.0 ≡ false → nat_lt other.0 j.0 ≡ true) (past-job j) holders (none-list_any (λ (other : JobId). other.0 == j.0) holders out)) old.rise;
+  exist = all-insert_before (λ (other : JobId). other.0 < n) (λ other. nat_lt j.0 other.0) j holders low old.exist;
+})
 
 without-holders : (n : ℕ) (j : JobId) (holders : List JobId) → AreHolders n holders → AreHolders n (without_handle j holders)
 without-holders n j holders old = record {
@@ -31,19 +29,15 @@ without-holders n j holders old = record {
   exist = all-filter (λ (other : JobId). other.0 < n) (λ other. not (other.0 == j.0)) holders old.exist;
 }
 
-all-with : (n : ℕ) (j : JobId) (semaphores : List SemId) (rows : List (List JobId)) → j.0 < n → AllByRecursion (AreHolders n) rows → AllByRecursion (AreHolders n) (all_with_handle j semaphores rows)
-all-with n j [] rows low all = all
-all-with n j (x ∷ semaphores) rows low all =
-    all-with n j semaphores (change_at x.0 (with_handle j) rows) low (all-change_at (AreHolders n) x.0 (with_handle j) rows (λ holders old. with-holders n j holders low old) all)
-
-all-without : (n : ℕ) (j : JobId) (semaphores : List SemId) (rows : List (List JobId)) → AllByRecursion (AreHolders n) rows → AllByRecursion (AreHolders n) (all_without_handle j semaphores rows)
-all-without n j [] rows all = all
-all-without n j (x ∷ semaphores) rows all =
-    all-without n j semaphores (change_at x.0 (without_handle j) rows) (all-change_at (AreHolders n) x.0 (without_handle j) rows (λ holders old. without-holders n j holders old) all)
+-- lists of holders that are changed one after another
+all-changed : (n : ℕ) (f : List JobId → List JobId) (semaphores : List SemId) (rows : List (List JobId)) → ((holders : List JobId) → AreHolders n holders → AreHolders n (f holders)) → AllByRecursion (AreHolders n) rows →
+    AllByRecursion (AreHolders n) (fold (λ (lists : List (List JobId)) (x : SemId). change_at x.0 f lists) rows semaphores)
+all-changed n f [] rows keeps all = all
+all-changed n f (x ∷ semaphores) rows keeps all = all-changed n f semaphores (change_at x.0 f rows) keeps (all-change_at (AreHolders n) x.0 f rows keeps all)
 
 handles-by : (c : Configuration) (change : HandlesChange) (rows : List (List JobId)) → AllByRecursion (AreHolders (length c.jobs)) rows → AllByRecursion (AreHolders (length c.jobs)) (handles_changed c change rows)
 handles-by c HandlesChange.Same rows all = all
-handles-by c (HandlesChange.Release j) rows all = all-without (length c.jobs) j (semaphores_of c j) rows all
+handles-by c (HandlesChange.Release j) rows all = all-changed (length c.jobs) (without_handle j) (semaphores_of c j) rows (without-holders (length c.jobs) j) all
 
 -- ## pairs
 
@@ -51,31 +45,25 @@ past-pair : (n : NodeId) (x : ℕ) (pair : Swept) → is_pair n x pair ≡ false
 past-pair n x pair apart out = grind (arith, nat_tests)
 
 with-pair : (n : NodeId) (x : ℕ) (pairs : List Swept) → Rises is_pair_before pairs → Rises is_pair_before (with_pair n x pairs)
-with-pair n x pairs old = by (is_swept n x pairs) refl where
-  by : (b : Bool) → is_swept n x pairs ≡ b → Rises is_pair_before (cond b pairs (insert_before (is_pair_after n x) (record { node = n; server = x }) pairs))
-  by true there = old
-  by false out = rises-insert_before is_pair_before pair-trans (record { node = n; server = x }) pairs
-      (all-weaker (λ (pair : Swept). is_pair n x pair ≡ false) (λ (pair : Swept). is_pair_before (record { node = n; server = x }) pair ≡ false → is_pair_before pair (record { node = n; server = x }) ≡ true)
-      (past-pair n x) pairs (none-list_any (is_pair n x) pairs out)) old
+with-pair n x pairs old = by_bool (λ (b : Bool). Rises is_pair_before (cond b pairs (insert_before (is_pair_after n x) (record { node = n; server = x }) pairs))) (is_swept n x pairs) (λ _. old) (λ out.
+    rises-insert_before is_pair_before pair-trans (record { node = n; server = x }) pairs
+    (all-weaker (λ (pair : Swept). is_pair n x pair ≡ false) (λ (pair : Swept). is_pair_before (record { node = n; server = x }) pair ≡ false → is_pair_before pair (record { node = n; server = x }) ≡ true)
+    (past-pair n x) pairs (none-list_any (is_pair n x) pairs out)) old)
 
 -- ## lengths
 
-length-with : (j : JobId) (semaphores : List SemId) (rows : List (List JobId)) → length (all_with_handle j semaphores rows) ≡ length rows
-length-with j [] rows = refl
-length-with j (x ∷ semaphores) rows = length-with j semaphores (change_at x.0 (with_handle j) rows) ∙ length-change_at x.0 (with_handle j) rows
-
-length-without : (j : JobId) (semaphores : List SemId) (rows : List (List JobId)) → length (all_without_handle j semaphores rows) ≡ length rows
-length-without j [] rows = refl
-length-without j (x ∷ semaphores) rows = length-without j semaphores (change_at x.0 (without_handle j) rows) ∙ length-change_at x.0 (without_handle j) rows
+length-changed : (f : List JobId → List JobId) (semaphores : List SemId) (rows : List (List JobId)) → length (fold (λ (lists : List (List JobId)) (x : SemId). change_at x.0 f lists) rows semaphores) ≡ length rows
+length-changed f [] rows = refl
+length-changed f (x ∷ semaphores) rows = length-changed f semaphores (change_at x.0 f rows) ∙ length-change_at x.0 f rows
 
 length-handles_grown : (c : Configuration) (maker : Option Maker) (growth : Growth) (s : State) → length (grown c maker growth s).handles ≡ length s.handles
-length-handles_grown c maker (Growth.Handles j) s = length-with j (semaphores_of c j) s.handles
-length-handles_grown c maker (Growth.Registration p) s = made-look (λ (t : State). length t.handles) maker (λ session t. registers t session p) s (λ session t. refl)
-length-handles_grown c maker _ s = refl
+length-handles_grown c maker (Growth.Handles j) s = length-changed (with_handle j) (semaphores_of c j) s.handles
+length-handles_grown c None _ s = refl
+length-handles_grown c (Some m) _ s = refl
 
 length-handles_changed : (c : Configuration) (change : HandlesChange) (rows : List (List JobId)) → length (handles_changed c change rows) ≡ length rows
 length-handles_changed c HandlesChange.Same rows = refl
-length-handles_changed c (HandlesChange.Release j) rows = length-without j (semaphores_of c j) rows
+length-handles_changed c (HandlesChange.Release j) rows = length-changed (without_handle j) (semaphores_of c j) rows
 
 -- there is a list of handles for each semaphore as before
 pub length-handles : (c : Configuration) (s : State) (ch : Changes) → length (changed c ch s).handles ≡ length s.handles
@@ -83,36 +71,15 @@ length-handles c s ch = length-handles_changed c ch.handles (grown c ch.maker ch
 
 -- no job's record is added or removed
 pub length-jobs : (change : JobsChange) (rows : List JobRecord) → length (jobs_changed change rows) ≡ length rows
-length-jobs JobsChange.Same rows = refl
-length-jobs (JobsChange.Put j kept) rows = length-set rows j.0 kept
-length-jobs (JobsChange.EndNode j n) rows = length-change_at j.0 (with_mark n) rows
+length-jobs change rows = grind (arith, length-set, length-change_at)
 
 -- the change of a role's record keeps the length of each table
 abbrev pub KeepsLength : ((RoleRecord → RoleRecord) → Role → List RoleRecord → List RoleRecord) → Type 0
 KeepsLength change = (f : RoleRecord → RoleRecord) (r : Role) (rows : List RoleRecord) → length (change f r rows) ≡ length rows
 
--- the table of launchers
-pub launchers-length : KeepsLength change_launcher
-launchers-length f (Role.Launcher p) rows = length-change_at p.0 f rows
-launchers-length f _ rows = refl
-
--- the table of janitors
-pub janitors-length : KeepsLength change_janitor
-janitors-length f (Role.Janitor p) rows = length-change_at p.0 f rows
-janitors-length f _ rows = refl
-
--- the table of requesters
-pub requesters-length : KeepsLength change_requester
-requesters-length f (Role.Requester q) rows = length-change_at q.0 f rows
-requesters-length f _ rows = refl
-
 -- a deed keeps the length of a table
 pub deed-length : (change : (RoleRecord → RoleRecord) → Role → List RoleRecord → List RoleRecord) → KeepsLength change → (maker : Option Maker) (what : Option Deed) (rows : List RoleRecord) → length (with_deed change maker what rows) ≡ length rows
-deed-length change keeps maker None rows = refl
-deed-length change keeps None (Some Deed.Acts) rows = refl
-deed-length change keeps (Some m) (Some Deed.Acts) rows = keeps one_more_act m.role rows
-deed-length change keeps maker (Some (Deed.StartsAndActs p)) rows = keeps (λ k. one_more_act (one_more_start k)) (Role.Launcher p) rows
-deed-length change keeps maker (Some (Deed.Strikes r counted)) rows = keeps (struck_unless counted) r rows
+deed-length change keeps maker what rows = grind (arith, keeps)
 
 -- ## all changes
 
@@ -125,21 +92,19 @@ module _ (c : Configuration) (s : State) (ch : Changes) (known : IsKnown c s ch)
   pools-grown maker _ premise = known.carried.ordered.pools
 
   pools-end : (change : SessionsChange) (rows : List Registration) → AllByRecursion (λ g. g.pool.0 < length c.pools) rows → AllByRecursion (λ g. g.pool.0 < length c.pools) (registrations_left change rows)
-  pools-end SessionsChange.Same rows all = all
-  pools-end (SessionsChange.Mute session) rows all = all
   pools-end (SessionsChange.End session) rows all = all-filter (λ (g : Registration). g.pool.0 < length c.pools) (λ g. not (is_session g.session session)) rows all
+  pools-end _ rows all = all
 
   handles-grown : (maker : Option Maker) (growth : Growth) → GrowthPremise c s ch growth → AllByRecursion (AreHolders (length c.jobs)) (grown c maker growth s).handles
-  handles-grown None (Growth.Registration p) premise = known.carried.ordered.handles
-  handles-grown (Some m) (Growth.Registration p) premise = known.carried.ordered.handles
-  handles-grown maker (Growth.Handles j) premise = all-with (length c.jobs) j (semaphores_of c j) s.handles (slice_get_within c.jobs j.0 premise.job premise.row) known.carried.ordered.handles
-  handles-grown maker _ premise = known.carried.ordered.handles
+  handles-grown maker (Growth.Handles j) premise =
+      all-changed (length c.jobs) (with_handle j) (semaphores_of c j) s.handles (λ holders old. with-holders (length c.jobs) j holders (slice_get_within c.jobs j.0 premise.job premise.row) old) known.carried.ordered.handles
+  handles-grown None _ premise = known.carried.ordered.handles
+  handles-grown (Some m) _ premise = known.carried.ordered.handles
 
   swept-grown : (maker : Option Maker) (growth : Growth) → Rises is_pair_before (grown c maker growth s).swept
-  swept-grown None (Growth.Registration p) = known.carried.ordered.swept
-  swept-grown (Some m) (Growth.Registration p) = known.carried.ordered.swept
   swept-grown maker (Growth.Swept n x) = with-pair n x s.swept known.carried.ordered.swept
-  swept-grown maker _ = known.carried.ordered.swept
+  swept-grown None _ = known.carried.ordered.swept
+  swept-grown (Some m) _ = known.carried.ordered.swept
 
   -- the tables are in order after the changes
   pub ordered-later : IsOrdered c (changed c ch s)
@@ -156,28 +121,14 @@ module _ (c : Configuration) (s : State) (ch : Changes) (known : IsKnown c s ch)
 
 -- an event makes one node at most
 next-node : (c : Configuration) (maker : Option Maker) (growth : Growth) (s : State) → (grown c maker growth s).next_node ≤ s.next_node + 1
-next-node c maker (Growth.Node kept) s = omega arith
-next-node c maker (Growth.Registration p) s =
-    let same : (grown c maker (Growth.Registration p) s).next_node ≡ s.next_node = made-look (λ (t : State). t.next_node) maker (λ session t. registers t session p) s (λ session t. refl) in
-    omega arith
-next-node c maker _ s = omega arith
+next-node c maker growth s = grind arith
 
 -- an event begins one session at most
 sessions-grown : (c : Configuration) (maker : Option Maker) (growth : Growth) (s : State) → length (grown c maker growth s).sessions ≤ length s.sessions + 1
-sessions-grown c maker (Growth.Session role) s = simp length-append (omega arith)
-sessions-grown c maker (Growth.Registration p) s =
-    let same : length (grown c maker (Growth.Registration p) s).sessions ≡ length s.sessions = made-look (λ (t : State). length t.sessions) maker (λ session t. registers t session p) s (λ session t. refl) in
-    omega arith
-sessions-grown c maker _ s = omega arith
+sessions-grown c maker growth s = grind (arith, length-append)
 
 sessions-length : (change : SessionsChange) (rows : List SessionFacts) → length (sessions_changed change rows) ≡ length rows
-sessions-length SessionsChange.Same rows = refl
-sessions-length (SessionsChange.Mute session) rows = length-change_at (session.0 - 1) muted rows
-sessions-length (SessionsChange.End session) rows = length-change_at (session.0 - 1) ended rows
-
-tick-by : (ticks : Bool) (tick : ℕ) → tick + 1 < 2 ^ 32 → cond ticks (tick + 1) tick < 2 ^ 32
-tick-by true tick low = low
-tick-by false tick low = omega arith
+sessions-length change rows = grind (arith, length-change_at)
 
 -- ## ids of requests
 
@@ -185,21 +136,17 @@ tick-by false tick low = omega arith
 abbrev HaveTexts : List RequestEntry → Type 0
 HaveTexts rows = AllByRecursion (λ e. IsGood (Request e.id)) rows
 
-texts-queue : (r : RequestId) (queue : List SessionId) (rows : List RequestEntry) → HaveTexts rows → HaveTexts (put_request_queue r queue rows)
-texts-queue r queue rows all = all-change_first (λ (e : RequestEntry). IsGood (Request e.id)) (λ e. same_request e.id r) (λ e. record e { queue = queue }) rows (λ e good. good) all
-
 texts-changed : (maker : Option Maker) (change : RequestsChange) (rows : List RequestEntry) → HaveTexts rows → HaveTexts (requests_changed maker change rows)
-texts-changed maker RequestsChange.Same rows all = all
 texts-changed maker (RequestsChange.Edit r change) rows all =
     all-change_first (λ (e : RequestEntry). IsGood (Request e.id)) (λ e. same_request e.id r) (λ e. record e { kept = edited change e.kept }) rows (λ e good. good) all
 texts-changed maker (RequestsChange.Remove r) rows all = all-remove_first (λ (e : RequestEntry). IsGood (Request e.id)) (λ e. same_request e.id r) rows all
-texts-changed None (RequestsChange.Leave r) rows all = all
-texts-changed (Some m) (RequestsChange.Leave r) rows all = texts-queue r (left m.session (request_queue r rows)) rows all
+texts-changed (Some m) (RequestsChange.Leave r) rows all = all-change_first (λ (e : RequestEntry). IsGood (Request e.id)) (λ e. same_request e.id r) (λ e. record e { queue = left m.session (request_queue r rows) }) rows (λ e good. good) all
+texts-changed None _ rows all = all
+texts-changed (Some m) _ rows all = all
 
 texts-end : (change : SessionsChange) (rows : List RequestEntry) → HaveTexts rows → HaveTexts (requests_left change rows)
-texts-end SessionsChange.Same rows all = all
-texts-end (SessionsChange.Mute session) rows all = all
 texts-end (SessionsChange.End session) rows all = all-mapped (λ (e : RequestEntry). IsGood (Request e.id)) (λ (e : RequestEntry). IsGood (Request e.id)) (request_left session) rows (λ e good. good) all
+texts-end _ rows all = all
 
 -- ## pairs
 
@@ -208,34 +155,28 @@ abbrev HavePlaces : List Swept → Type 0
 HavePlaces pairs = AllByRecursion (λ pair. IsGood (SweptPlace pair.node pair.server)) pairs
 
 places-with : (n : NodeId) (x : ℕ) (pairs : List Swept) → IsGood (SweptPlace n x) → HavePlaces pairs → HavePlaces (with_pair n x pairs)
-places-with n x pairs good all = by (is_swept n x pairs) where
-  by : (b : Bool) → HavePlaces (cond b pairs (insert_before (is_pair_after n x) (record { node = n; server = x }) pairs))
-  by true = all
-  by false = all-insert_before (λ (pair : Swept). IsGood (SweptPlace pair.node pair.server)) (is_pair_after n x) (record { node = n; server = x }) pairs good all
+places-with n x pairs good all = by_bool (λ (b : Bool). HavePlaces (cond b pairs (insert_before (is_pair_after n x) (record { node = n; server = x }) pairs))) (is_swept n x pairs) (λ _. all)
+    (λ _. all-insert_before (λ (pair : Swept). IsGood (SweptPlace pair.node pair.server)) (is_pair_after n x) (record { node = n; server = x }) pairs good all)
 
 module _ (c : Configuration) (s : State) (ch : Changes) (known : IsKnown c s ch) where
   -- the id of a request that grows has a text
   pub new-text : (priority : ℕ) (asked : Asked) → AsksForJob c s ch priority asked ⊎ AsksToKeep c s ch priority asked → HasText (next_id priority s)
-  new-text priority asked (inl asks) =
-      let row : JobRow c asks.job = job-row c known.sound asks.number asks.job asks.row in
-      priority-text c s priority known.fits (subst IsPriority (sym asks.of_job) row.priority)
+  new-text priority asked (inl asks) = priority-text c s priority known.fits (subst IsPriority (sym asks.of_job) (job-row c known.sound asks.number asks.job asks.row).priority)
   new-text priority asked (inr asks) = let is = asks.of_keeping in next-text c s priority known.fits (omega arith) (omega arith)
 
   texts-grown : (maker : Option Maker) (growth : Growth) → GrowthPremise c s ch growth → HaveTexts (grown c maker growth s).requests
-  texts-grown None (Growth.Registration p) premise = known.carried.good.requests
-  texts-grown (Some m) (Growth.Registration p) premise = known.carried.good.requests
   texts-grown maker (Growth.Request priority asked) premise =
       all-insert_before (λ (e : RequestEntry). IsGood (Request e.id)) (λ e. is_id_before (next_id priority s) e.id) (record { id = next_id priority s; kept = new_record asked; queue = [] }) s.requests
       (new-text priority asked premise) known.carried.good.requests
-  texts-grown None (Growth.JoinRequest r) premise = known.carried.good.requests
-  texts-grown (Some m) (Growth.JoinRequest r) premise = texts-queue r (joined m.session (request_queue r s.requests)) s.requests known.carried.good.requests
-  texts-grown maker _ premise = known.carried.good.requests
+  texts-grown (Some m) (Growth.JoinRequest r) premise =
+      all-change_first (λ (e : RequestEntry). IsGood (Request e.id)) (λ e. same_request e.id r) (λ e. record e { queue = joined m.session (request_queue r s.requests) }) s.requests (λ e good. good) known.carried.good.requests
+  texts-grown None _ premise = known.carried.good.requests
+  texts-grown (Some m) _ premise = known.carried.good.requests
 
   places-grown : (maker : Option Maker) (growth : Growth) → IsTypedGrowth growth → HavePlaces (grown c maker growth s).swept
-  places-grown None (Growth.Registration p) typed = known.carried.good.swept
-  places-grown (Some m) (Growth.Registration p) typed = known.carried.good.swept
   places-grown maker (Growth.Swept n x) typed = places-with n x s.swept typed known.carried.good.swept
-  places-grown maker _ typed = known.carried.good.swept
+  places-grown None _ typed = known.carried.good.swept
+  places-grown (Some m) _ typed = known.carried.good.swept
 
   -- ## lengths
 
@@ -246,36 +187,21 @@ module _ (c : Configuration) (s : State) (ch : Changes) (known : IsKnown c s ch)
   jobs-many = length-jobs ch.jobs (grown c ch.maker ch.grows s).jobs ∙ ap (λ (rows : List JobRecord). length rows) (jobs-grown c ch.maker ch.grows s) ∙ known.carried.jobs
 
   launchers-many : length (changed c ch s).launchers ≡ length c.pools
-  launchers-many =
-      deed-length change_launcher launchers-length ch.maker ch.deed (grown c ch.maker ch.grows s).launchers
-      ∙ ap (λ (rows : List RoleRecord). length rows) (same-roles c ch.maker ch.grows s).0 ∙ known.carried.launchers
+  launchers-many = deed-length change_launcher (λ f r rows. grind (arith, length-change_at)) ch.maker ch.deed _ ∙ ap (λ (rows : List RoleRecord). length rows) (same-roles c ch.maker ch.grows s).0 ∙ known.carried.launchers
 
   janitors-many : length (changed c ch s).janitors ≡ length c.pools
-  janitors-many =
-      deed-length change_janitor janitors-length ch.maker ch.deed (grown c ch.maker ch.grows s).janitors
-      ∙ ap (λ (rows : List RoleRecord). length rows) (same-roles c ch.maker ch.grows s).1.0 ∙ known.carried.janitors
+  janitors-many = deed-length change_janitor (λ f r rows. grind (arith, length-change_at)) ch.maker ch.deed _ ∙ ap (λ (rows : List RoleRecord). length rows) (same-roles c ch.maker ch.grows s).1.0 ∙ known.carried.janitors
 
   requesters-many : length (changed c ch s).requesters ≡ length c.requesters
-  requesters-many =
-      deed-length change_requester requesters-length ch.maker ch.deed (grown c ch.maker ch.grows s).requesters
-      ∙ ap (λ (rows : List RoleRecord). length rows) (same-roles c ch.maker ch.grows s).1.1 ∙ known.carried.requesters
+  requesters-many = deed-length change_requester (λ f r rows. grind (arith, length-change_at)) ch.maker ch.deed _ ∙ ap (λ (rows : List RoleRecord). length rows) (same-roles c ch.maker ch.grows s).1.1 ∙ known.carried.requesters
 
   sessions-few : length (changed c ch s).sessions < 2 ^ 32
-  sessions-few =
-      let same = sessions-length ch.sessions (grown c ch.maker ch.grows s).sessions in
-      let more = sessions-grown c ch.maker ch.grows s in
-      let few = known.fits.sessions in
-      omega arith
+  sessions-few = omega (arith, sessions-length ch.sessions (grown c ch.maker ch.grows s).sessions, sessions-grown c ch.maker ch.grows s, known.fits.sessions)
 
   nodes-low : AllByRecursion (λ e. IsGood (Node e.id)) (changed c ch s).nodes
   nodes-low =
-      let later : IsNumbered (changed c ch s) = numbered c s ch known.invariant.numbered in
-      let more = next-node c ch.maker ch.grows s in
-      let few = known.fits.next_node in
-      all-weaker (λ (e : NodeEntry). e.id.0 < (changed c ch s).next_node) (λ (e : NodeEntry). IsGood (Node e.id)) (λ e low. omega arith) (changed c ch s).nodes later.nodes_below
-
-  holders-low : (holders : List JobId) → AreHolders (length c.jobs) holders → AllByRecursion (λ j. IsGood (Job j)) holders
-  holders-low holders are = all-weaker (λ (j : JobId). j.0 < length c.jobs) (λ (j : JobId). IsGood (Job j)) (λ j low. job-low c j known.sound low) holders are.exist
+      let most : (changed c ch s).next_node ≤ 2 ^ 32 = omega (arith, next-node c ch.maker ch.grows s, known.fits.next_node) in
+      all-weaker (λ (e : NodeEntry). e.id.0 < (changed c ch s).next_node) (λ (e : NodeEntry). IsGood (Node e.id)) (λ e low. omega arith) (changed c ch s).nodes (numbered c s ch known.invariant.numbered).nodes_below
 
   -- ## all of it
 
@@ -283,36 +209,19 @@ module _ (c : Configuration) (s : State) (ch : Changes) (known : IsKnown c s ch)
   pub good-later : HasGoodIds (changed c ch s)
   good-later =
       let ordered : IsOrdered c (changed c ch s) = ordered-later c s ch known in
-      record {
-        sessions = sessions-few;
-        requests = texts-end ch.sessions (requests_changed ch.maker ch.requests (grown c ch.maker ch.grows s).requests) (texts-changed ch.maker ch.requests (grown c ch.maker ch.grows s).requests (texts-grown ch.maker ch.grows known.premises.grows));
-        nodes = nodes-low;
-        registrations = all-weaker (λ (g : Registration). g.pool.0 < length c.pools) (λ (g : Registration). IsGood (Launcher g.pool)) (λ g low. pool-low c g.pool known.sound low) (changed c ch s).registrations ordered.pools;
-        semaphores = let same = handles-many in let few = known.sound.few_semaphores in omega arith;
-        handles = all-weaker (AreHolders (length c.jobs)) (λ (holders : List JobId). AllByRecursion (λ j. IsGood (Job j)) holders) holders-low (changed c ch s).handles ordered.handles;
-        jobs = let same = jobs-many in let few = known.sound.demand.few_jobs in omega arith;
-        launchers = let same = launchers-many in let few = known.sound.supply.few_pools in omega arith;
-        janitors = let same = janitors-many in let few = known.sound.supply.few_pools in omega arith;
-        requesters = let same = requesters-many in let few = known.sound.few_requesters in omega arith;
-        swept = places-grown ch.maker ch.grows known.typed.grows;
-      }
+      let requests = texts-end ch.sessions _ (texts-changed ch.maker ch.requests (grown c ch.maker ch.grows s).requests (texts-grown ch.maker ch.grows known.premises.grows)) in
+      let registrations = all-weaker (λ (g : Registration). g.pool.0 < length c.pools) (λ (g : Registration). IsGood (Launcher g.pool)) (λ g low. pool-low c g.pool known.sound low) (changed c ch s).registrations ordered.pools in
+      let handles = all-weaker (AreHolders (length c.jobs)) (λ (holders : List JobId). AllByRecursion (λ j. IsGood (Job j)) holders)
+      (λ holders are. all-weaker (λ (j : JobId). j.0 < length c.jobs) (λ (j : JobId). IsGood (Job j)) (λ j low. job-low c j known.sound low) holders are.exist) (changed c ch s).handles ordered.handles in
+      let swept = places-grown ch.maker ch.grows known.typed.grows in
+      search (arith, sessions-few, nodes-low, handles-many, jobs-many, launchers-many, janitors-many, requesters-many, known.sound.few_semaphores, known.sound.demand.few_jobs, known.sound.supply.few_pools, known.sound.few_requesters)
 
   tick-later : (changed c ch s).tick < 2 ^ 32
-  tick-later = tick-by ch.ticks (grown c ch.maker ch.grows s).tick (let same = same-tick c ch.maker ch.grows s in let few = known.fits.tick in omega arith)
+  tick-later = grind (arith, same-tick c ch.maker ch.grows s, known.fits.tick)
 
   -- a tree can carry the state after the changes
   pub carried-later : IsCarried c (changed c ch s)
-  carried-later = record {
-    good = good-later;
-    spelled = all-spelled c s ch known ch.sessions;
-    ordered = ordered-later c s ch known;
-    semaphores = handles-many;
-    jobs = jobs-many;
-    launchers = launchers-many;
-    janitors = janitors-many;
-    requesters = requesters-many;
-    tick = tick-later;
-  }
+  carried-later = assumption (good-later, all-spelled c s ch known ch.sessions, ordered-later c s ch known, handles-many, jobs-many, launchers-many, janitors-many, requesters-many, tick-later)
 
 -- a tree can carry the state that an accepted event leaves
 pub steps-are-carried : StepsAreCarried

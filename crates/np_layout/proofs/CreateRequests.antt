@@ -1,29 +1,20 @@
 -- a create of a request's record, and then of its lock
-use Rattle.np_layout.proofs.Prelude.{AllByRecursion, AllZip, Bool, Equal, Greater, GrownRequestsLayOut, HasGoodIds, HasParts-below, HasQueue, HasRoomFor, IsGood, IsWait, IsWhole, LaysOut, Less, List, Nodepool, None, NonePass, Op, Persistent, PersistentSequential, Place, Request, RequestEntry, RequestId, RequestLock, RequestLocks, RequestRecord, Requests, Row, Seen, Some, State, TreeState, after_part, all-insert_before, ap, append_assoc, arith, below, bytes_eq, cond, counter_after, decimal, false, insert_request, is_element, is_id_before, is_in, is_lt, is_named, is_path-below, length, list_all, list_all-append, make, map, nat_cmp, nat_lt, nat_tests, next_id, none-find, option_map, ordering_then, owner_at, path_of, persistent, place_name, refl, request_entry, request_lock_row, request_prefix, request_record_text, request_row, request_text_of, room-falls, room-gives, row_before, same_request, slice_cmp, subst, sym, ten_digits_of, true, with_row, ℕ, [], ◌&&◌, ◌++◌, ◌+◌, ◌==◌, ◌∙◌, ◌∷◌, ◌≡◌, ◌≤◌}
-use Rattle.np_layout.proofs.Names.{is_element-plain, is_path-of, is_plain, is_plain_name, plain_name-decimal, requests-rise}
+use Rattle.np_layout.proofs.Prelude.{AllByRecursion, AllZip, Bool, Equal, Greater, HasGoodIds, HasParts-below, HasQueue, HasRoomFor, IsGood, IsWait, IsWhole, LaysOut, Less, List, Nodepool, None, NonePass, Op, PartsLayOut, Persistent, PersistentSequential, Place, Request, RequestEntry, RequestId, RequestLock, RequestLocks, RequestRecord, Requests, Row, Seen, Some, State, TreeState, [], after_part, all-insert_before, ap, append_assoc, arith, below, bytes_eq, cond, counter_after, decimal, false, insert_request, is_element, is_id_before, is_in, is_lt, is_named, is_path-below, length, make, map, nat_cmp, nat_lt, nat_tests, next_id, none-find, option_map, ordering_then, owner_at, path_of, persistent, place_name, refl, request_entry, request_lock_row, request_parts, request_prefix, request_record_text, request_row, request_text_of, room-falls, room-gives, row_before, same_request, slice_cmp, slice_cmp-request_text, subst, sym, ten_digits_of, true, with_row, ℕ, ◌++◌, ◌+◌, ◌==◌, ◌∙◌, ◌∷◌, ◌≡◌, ◌≤◌}
+use Rattle.np_layout.proofs.Names.{is_element-plain, is_path-of, plain_name-append, plain_name-decimal}
 use Rattle.np_layout.proofs.Rows.{none-mapped}
 use Rattle.np_layout.proofs.Steps.{Step, make-new, create-step, free-named, owner-there}
 use Rattle.np_layout.proofs.Elsewhere.{IsApart, Says, Stays, Table, all-tables, all-true, beside-apart, each-table, of_request_locks, of_requests, request_queues-stay, stays-more, table-stays}
 use Rattle.np_layout.proofs.Deletes.{request-named}
+use Rattle.np_lists.proofs.Plain.{by_bool}
 
 -- ## rows in the order of requests
 
 order-by : (a b c d : Bool) → (a ≡ true → b ≡ false) → is_lt (ordering_then (cond a Less (cond b Equal Greater)) (cond c Less (cond d Equal Greater))) ≡ cond b c a
-order-by true true c d apart = absurd (let other = apart refl in cc)
-order-by true false c d apart = refl
-order-by false true true d apart = refl
-order-by false true false true apart = refl
-order-by false true false false apart = refl
-order-by false false c d apart = refl
+order-by a b c d apart = grind (arith, nat_tests)
 
 -- the order of names is that of requests
 id-before : (a b : RequestId) → IsGood (Request a) → IsGood (Request b) → row_before (persistent (Request a) []) (persistent (Request b) []) ≡ is_id_before a b
-id-before a b a_good b_good = ap is_lt (requests-rise a b a_good b_good) ∙ order-by (nat_lt a.priority b.priority) (a.priority == b.priority) (nat_lt a.seq b.seq) (a.seq == b.seq) (λ is. grind (arith, nat_tests))
-
-insert-by : (row : RequestEntry → Row) (new e : RequestEntry) (list : List RequestEntry) (b : Bool) → with_row (row new) (map row list) ≡ map row (insert_request new list) →
-    cond b (row new ∷ row e ∷ map row list) (row e ∷ with_row (row new) (map row list)) ≡ map row (cond b (new ∷ e ∷ list) (e ∷ insert_request new list))
-insert-by row new e list true later = refl
-insert-by row new e list false later = ap (λ (rows : List Row). row e ∷ rows) later
+id-before a b a_good b_good = ap is_lt (slice_cmp-request_text a b a_good b_good) ∙ order-by (nat_lt a.priority b.priority) (a.priority == b.priority) (nat_lt a.seq b.seq) (a.seq == b.seq) (λ is. grind (arith, nat_tests))
 
 -- rows with the names of requests have one more where the request is put
 insert-rows : (row : RequestEntry → Row) → ((e : RequestEntry) → (row e).name ≡ request_text_of e.id) → (new : RequestEntry) (list : List RequestEntry) → IsGood (Request new.id) → AllByRecursion (λ e. IsGood (Request e.id)) list →
@@ -33,16 +24,13 @@ insert-rows row names new (e ∷ list) new_good good =
     let same : row_before (row new) (row e) ≡ is_id_before new.id e.id =
     ap (λ (name : List ℕ). is_lt (slice_cmp nat_cmp name (row e).name)) (names new) ∙ ap (λ (name : List ℕ). is_lt (slice_cmp nat_cmp (request_text_of new.id) name)) (names e) ∙ id-before new.id e.id new_good good.0 in
     ap (λ (b : Bool). cond b (row new ∷ row e ∷ map row list) (row e ∷ with_row (row new) (map row list))) same
-    ∙ insert-by row new e list (is_id_before new.id e.id) (insert-rows row names new list new_good good.1)
+    ∙ by_bool (λ (b : Bool). cond b (row new ∷ row e ∷ map row list) (row e ∷ with_row (row new) (map row list)) ≡ map row (cond b (new ∷ e ∷ list) (e ∷ insert_request new list))) (is_id_before new.id e.id) (λ _. refl)
+    (λ _. ap (λ (rows : List Row). row e ∷ rows) (insert-rows row names new list new_good good.1))
 
 -- ## the prefix of a request's name
 
-prefix-plain : (name : List ℕ) → is_plain_name name ≡ true → is_plain_name (name ++ 45 ∷ []) ≡ true
-prefix-plain [] plain = absurd cc
-prefix-plain (b ∷ name) plain = list_all-append is_plain (b ∷ name) (45 ∷ []) ∙ ap (λ (c : Bool). c && list_all is_plain (45 ∷ [])) plain
-
 pub is_element-prefix : (r : RequestId) → IsGood (Request r) → is_element (request_prefix r) ≡ true
-is_element-prefix r good = let most = good.most in is_element-plain (request_prefix r) (prefix-plain (decimal r.priority) (plain_name-decimal r.priority (omega arith)))
+is_element-prefix r good = let most = good.most in is_element-plain (request_prefix r) (plain_name-append (decimal r.priority) (45 ∷ []) (plain_name-decimal r.priority (omega arith)) refl)
 
 prefix-name : (r : RequestId) → request_prefix r ++ ten_digits_of r.seq ≡ place_name (Request r)
 unfolding request_text_of
@@ -84,14 +72,8 @@ module _ (s : State) (t : TreeState) (w priority : ℕ) (kept : RequestRecord) (
       subst (λ (name : List ℕ). Step Requests (Request r) PersistentSequential (record { name = name; bytes = bytes; owner = None }) t w part) (prefix-name r)
       (create-step t w Requests (Request r) (below (path_of Requests) (request_prefix r)) (request_prefix r) bytes PersistentSequential s.next_request r_good refl refl
       (is_path-below (path_of Requests) (request_prefix r) (is_path-of Requests tt) (is_element-prefix r r_good)) parts.above parts.last (prefix-name r) short
-      (record {
-        whole = whole;
-        live = live;
-        owner = owner;
-        gives = lays.requests.gives;
-        free = free-named t Requests (Request r) whole r_good refl (subst (λ (rows : List Row). NonePass (is_named (place_name (Request r))) rows) (sym lays.requests.rows) (others request_row (λ e. refl) s.requests good.requests none));
-        room = room-gives t 1 room;
-      }))
+      (let free = free-named t Requests (Request r) whole r_good refl (subst (λ (rows : List Row). NonePass (is_named (place_name (Request r))) rows) (sym lays.requests.rows) (others request_row (λ e. refl) s.requests good.requests none)) in
+      assumption (owner, lays.requests.gives, room-gives t 1 room)))
 
   abbrev v : TreeState
   v = after_part t w part
@@ -136,9 +118,6 @@ module _ (s : State) (t : TreeState) (w priority : ℕ) (kept : RequestRecord) (
     }
     each k = table-stays s dirs t u good stays (second.creates.live ∙ first.creates.live) (second.creates.begun ∙ first.creates.begun) k refl (each-table s t lays k)
 
--- creates of a request's record and of its lock lay out the state in which the request is
-pub grown_requests-lay-out : GrownRequestsLayOut
-grown_requests-lay-out s t w priority kept whole good lays live room r_good short new = record {
-  goes = ((first s t w priority kept whole good lays live room r_good short new).ok, ((second s t w priority kept whole good lays live room r_good short new).ok, refl));
-  lays = request-lays s t w priority kept whole good lays live room r_good short new;
-}
+  -- creates of a request's record and of its lock lay out the state in which the request is
+  pub grown_requests-lay-out : PartsLayOut (record s { requests = insert_request entry s.requests; next_request = s.next_request + 1 }) t w (request_parts r bytes)
+  grown_requests-lay-out = record { goes = (first.ok, (second.ok, refl)); lays = request-lays }

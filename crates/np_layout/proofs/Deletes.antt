@@ -1,8 +1,8 @@
 -- a wait, a queue, a node or a request goes, and the tree lays out what is left
-use Rattle.np_layout.proofs.Prelude.{AllByRecursion, AllZip, Any, AreNodes, AreRequests, Bool, Goes, HasGoodIds, HasLeaves, HasNodeLock, HasQueue, IsGood, IsNodeRow, IsOk, IsWait, IsWhole, LaysOut, List, MayDelete, Node, NodeEntry, NodeId, NodeLock, NodeWait, NodeWaitsGoLayOut, Nodes, NodesGoLayOut, Op, Option, PartsLayOut, Place, Request, RequestEntry, RequestId, RequestLock, RequestLocks, RequestWait, RequestWaitsGoLayOut, Requests, RequestsGoLayOut, Rises, Row, SessionId, Some, State, TreeState, above, after_part, all-filter_to, all-find, all-weaker, ap, append_assoc, arith, below, bytes_eq, bytes_eq-from, codes, cond, delete, delete_parts, false, filter, filter-not_none, find, find-passes, find_named, goes-after, goes-joined, is_in, is_named, left, list_any, map, nat_tests, next_under, node-itself, node_deletes, node_entry, node_queue, not, not-true, option_map_or, other-name_back, part_answer, path_of, persistent, place_name, put_node_queue, put_request_queue, refl, remove_first, remove_node, remove_request, request-equal, request-itself, request_deletes, request_entry, request_lock_row, request_queue, request_row, room-gives, row_before, rows-rise, rows_at, same_request, subst, sym, ten_digits_of, true, under, ℕ, [], ◌++◌, ◌+◌, ◌<◌, ◌==◌, ◌^◌, ◌∙◌, ◌∷◌, ◌≡◌, ◌≤◌}
-use Rattle.np_layout.proofs.Steps.{DeleteGoes, DeletesRow, bare-leaf, bare-owned, delete-goes, is_other, named-other, queue-left, wait-goes}
+use Rattle.np_layout.proofs.Prelude.{AllByRecursion, AllZip, Any, AreNodes, AreRequests, Bool, Goes, HasGoodIds, HasLeaves, HasNodeLock, HasQueue, IsGood, IsNodeRow, IsOk, IsWait, IsWhole, LaysOut, List, MayDelete, Node, NodeEntry, NodeId, NodeLock, NodeWait, NodeWaitsGoLayOut, Nodes, Op, Option, PartsLayOut, Place, Request, RequestEntry, RequestId, RequestLock, RequestLocks, RequestWait, RequestWaitsGoLayOut, Requests, Rises, Row, SessionId, Some, State, TreeState, [], above, after_part, all-filter_to, all-find, all-weaker, ap, append_assoc, arith, below, bytes_eq, bytes_eq-from, codes, cond, delete, delete_parts, false, filter, filter-not_none, find, find-passes, find_named, goes-after, goes-joined, is_in, is_named, left, list_any, map, nat_tests, next_under, node-itself, node_deletes, node_entry, node_queue, not, not-true, option_map_or, other-name_back, part_answer, path_of, persistent, place_name, put_node_queue, put_request_queue, refl, remove_first, remove_node, remove_request, request-equal, request-itself, request_deletes, request_entry, request_lock_row, request_queue, request_row, room-gives, row_before, rows-rise, rows_at, same_request, subst, sym, ten_digits_of, true, under, ℕ, ◌++◌, ◌+◌, ◌<◌, ◌==◌, ◌^◌, ◌∙◌, ◌∷◌, ◌≡◌, ◌≤◌}
+use Rattle.np_layout.proofs.Steps.{DeleteGoes, bare-leaf, bare-owned, delete-goes, is_other, named-other, over_leaves, places_without, queue-left, wait-goes}
 use Rattle.np_layout.proofs.Rows.{IsOnce, Tells, any-found, any-mapped, any-told, change-one, filter-mapped, filter-removed, found-any, map-change_first, once-told, tells-mapped, zip-change_first, zip-filter}
-use Rattle.np_layout.proofs.Elsewhere.{IsBeside, Says, Stays, Table, all-tables, counter-stays, each-table, has_counter, has_leaves, is_touched, leaves-stay, node_lock-stays, of_node_locks, of_nodes, of_request_locks, of_requests, queue-stays, rows-stay, stays-both, stays-same, stays-wider, table-stays}
+use Rattle.np_layout.proofs.Elsewhere.{IsApart, IsBeside, Says, Stays, Table, all-tables, counter-stays, each-table, has_counter, has_leaves, is_touched, leaves-stay, node_lock-stays, of_node_locks, of_nodes, of_request_locks, of_requests, queue-stays, rows-stay, stays-both, stays-same, stays-wider, table-stays}
 use Rattle.np_layout.proofs.Names.{IsGood-above, path_of-joined}
 
 -- # the name of a place with an id tells the id
@@ -12,27 +12,17 @@ pub node-same : (a b : NodeId) → (a.0 == b.0) ≡ true → a ≡ b
 node-same a b same = let number : a.0 ≡ b.0 = grind (arith, nat_tests) in ap (λ (n : ℕ). record { 0 = n }) number
 
 -- siblings with ids have the same name as the ids are the same
-pub named-as : {I : Type 0} (place : I → Place) (id_of : Place → I) (same : I → I → Bool) → ((i : I) → id_of (place i) ≡ i) → ((a b : I) → above (place a) ≡ above (place b)) → ((a b : I) → same a b ≡ true → a ≡ b) → ((a : I) → same a a ≡ true) →
+pub named-as : {I : Type 0} (place : I → Place) (same : I → I → Bool) → ((a b : I) → place a ≡ place b → a ≡ b) → ((a b : I) → above (place a) ≡ above (place b)) → ((a b : I) → same a b ≡ true → a ≡ b) → ((a : I) → same a a ≡ true) →
     (a b : I) (is : Bool) → same a b ≡ is → IsGood (place b) → IsGood (place a) → bytes_eq (place_name (place a)) (place_name (place b)) ≡ is
-named-as place id_of same back siblings equal itself a b true is b_good a_good = bytes_eq-from (place_name (place a)) (place_name (place b)) (ap (λ (i : _). place_name (place i)) (equal a b is))
-named-as place id_of same back siblings equal itself a b false is b_good a_good =
-    named-other (place b) (place a) b_good a_good (siblings a b) (λ one.
-    let both : same a b ≡ true = subst (λ (i : _). same a i ≡ true) (sym (back a) ∙ ap id_of one ∙ back b) (itself a) in
-    absurd cc)
-
-abbrev request_of : Place → RequestId
-request_of (Request id) = id
-request_of other = record { priority = 0; seq = 0 }
+named-as place same back siblings equal itself a b true is b_good a_good = bytes_eq-from (place_name (place a)) (place_name (place b)) (ap (λ (i : _). place_name (place i)) (equal a b is))
+named-as place same back siblings equal itself a b false is b_good a_good =
+    named-other (place b) (place a) b_good a_good (siblings a b) (λ one. let both = ap (same a) (back a b one) in let here = itself a in absurd cc)
 
 pub request-named : (r id : RequestId) (b : Bool) → same_request id r ≡ b → IsGood (Request r) → IsGood (Request id) → bytes_eq (place_name (Request id)) (place_name (Request r)) ≡ b
-request-named r id = named-as Request request_of same_request (λ i. refl) (λ a b. refl) request-equal request-itself id r
-
-abbrev node_of : Place → NodeId
-node_of (Node id) = id
-node_of other = record { 0 = 0 }
+request-named r id = named-as Request same_request (λ a b one. cc) (λ a b. refl) request-equal request-itself id r
 
 pub node-named : (n id : NodeId) (b : Bool) → (id.0 == n.0) ≡ b → IsGood (Node n) → IsGood (Node id) → bytes_eq (place_name (Node id)) (place_name (Node n)) ≡ b
-node-named n id = named-as Node node_of (λ a b. a.0 == b.0) (λ i. refl) (λ a b. refl) node-same node-itself id n
+node-named n id = named-as Node (λ a b. a.0 == b.0) (λ a b one. cc) (λ a b. refl) node-same node-itself id n
 
 -- # a session leaves a node's queue
 
@@ -64,10 +54,7 @@ module _ (n : NodeId) where
 
   -- another id has another lock
   pub node_lock-apart : (id : NodeId) → (id.0 == n.0) ≡ false → NodeLock id ≡ NodeLock n → ⊥
-  node_lock-apart id other same =
-      let is : id ≡ n = cc in
-      let itself = subst (λ (x : NodeId). (id.0 == x.0) ≡ true) is (node-itself id) in
-      absurd cc
+  node_lock-apart id other same = let is : id ≡ n = cc in let both = ap (λ (x : NodeId). id.0 == x.0) is in let itself = node-itself id in absurd cc
 
 -- ## it has another queue
 
@@ -114,7 +101,7 @@ node_waits-lay-out s t w n e session number at may good there distinct waits =
 
 -- # a session leaves a request's queue
 
--- ## the request among request-wait-others
+-- ## the request among others
 
 module _ (r : RequestId) where
   abbrev pub is_request_it : RequestEntry → Bool
@@ -141,36 +128,33 @@ module _ (r : RequestId) where
 
   -- another id has another lock
   pub lock-apart : (id : RequestId) → same_request id r ≡ false → RequestLock id ≡ RequestLock r → ⊥
-  lock-apart id other same =
-      let is : id ≡ r = cc in
-      let itself = subst (λ (x : RequestId). same_request id x ≡ true) is (request-itself id) in
-      absurd cc
+  lock-apart id other same = let is : id ≡ r = cc in let both = ap (same_request id) is in let itself = request-itself id in absurd cc
 
 -- ## it has another queue
 
 module _ (s : State) (t u : TreeState) (r : RequestId) (e : RequestEntry) (queue : List SessionId) (whole : IsWhole t.nodes) (good : HasGoodIds s) (lays : LaysOut s t) (there : request_entry r s.requests ≡ Some e)
     (stays : Stays (RequestLock r ∷ []) t u) (live : u.live ≡ t.live) (begun : u.begun ≡ t.begun) (has : HasQueue (RequestLock r) queue u) where
-  abbrev request_wait_put : RequestEntry → RequestEntry
-  request_wait_put x = record x { queue = queue }
+  abbrev put_request : RequestEntry → RequestEntry
+  put_request x = record x { queue = queue }
 
-  request-wait-others : (k : Table) → is_touched (RequestLock r ∷ []) k ≡ false → Says s u k
-  request-wait-others k none = table-stays s (RequestLock r ∷ []) t u good stays live begun k none (each-table s t lays k)
+  request-others : (k : Table) → is_touched (RequestLock r ∷ []) k ≡ false → Says s u k
+  request-others k none = table-stays s (RequestLock r ∷ []) t u good stays live begun k none (each-table s t lays k)
 
   pub request_queue-lays : LaysOut (record s { requests = put_request_queue r queue s.requests }) u
   request_queue-lays = all-tables _ _ each where
     requests : AreRequests s.requests s.next_request u
-    requests = request-wait-others of_requests refl
+    requests = request-others of_requests refl
 
     each : (k : Table) → Says (record s { requests = put_request_queue r queue s.requests }) u k
-    each of_requests = record { rows = requests.rows ∙ sym (map-change_first (is_request_it r) request_wait_put request_row (λ x. refl) s.requests); leaves = requests.leaves; gives = requests.gives }
+    each of_requests = record { rows = requests.rows ∙ sym (map-change_first (is_request_it r) put_request request_row (λ x. refl) s.requests); leaves = requests.leaves; gives = requests.gives }
     each of_request_locks = record {
-      rows = rows-stay (RequestLock r ∷ []) t u stays RequestLocks tt refl ∙ lays.request_locks.rows ∙ sym (map-change_first (is_request_it r) request_wait_put request_lock_row (λ x. refl) s.requests);
-      queues = change-one (is_request_it r) request_wait_put (λ (x : RequestEntry). IsGood (Request x.id)) (λ (x : RequestEntry). HasQueue (RequestLock x.id) x.queue t) (λ (x : RequestEntry). HasQueue (RequestLock x.id) x.queue u)
+      rows = rows-stay (RequestLock r ∷ []) t u stays RequestLocks tt refl ∙ lays.request_locks.rows ∙ sym (map-change_first (is_request_it r) put_request request_lock_row (λ x. refl) s.requests);
+      queues = change-one (is_request_it r) put_request (λ (x : RequestEntry). IsGood (Request x.id)) (λ (x : RequestEntry). HasQueue (RequestLock x.id) x.queue t) (λ (x : RequestEntry). HasQueue (RequestLock x.id) x.queue u)
           (λ x is x_good old. subst (λ (id : RequestId). HasQueue (RequestLock id) queue u) (sym (request-equal x.id r is)) has)
           (λ x other x_good old. queue-stays (RequestLock r ∷ []) t u stays (RequestLock x.id) x.queue x_good refl (lock-apart r x.id other, tt) old)
           s.requests (request-once r s t whole good lays (request-good r s.requests e good.requests there)) good.requests lays.request_locks.queues;
     }
-    each k = request-wait-others k refl
+    each k = request-others k refl
 
 -- the row of its lock is there
 pub lock-any : (s : State) (r : RequestId) (e : RequestEntry) → HasGoodIds s → request_entry r s.requests ≡ Some e → list_any (is_named (place_name (RequestLock r))) (map request_lock_row s.requests) ≡ true
@@ -205,31 +189,20 @@ all-pair P Q (a ∷ list) first last = ((first.0, last.0), all-pair P Q list fir
 
 -- ## a queue is cleared
 
--- a lock has no rows, and everything else is as it was
-pub record Clears (lock : Place) (t u : TreeState) : Type 0 where
+-- some parts go, and all but these directories is as it was
+pub record Gone (t : TreeState) (w : ℕ) (parts : List Op) (dirs : List Place) : Type 0 where
+  pub u : TreeState
+  pub goes : Goes t w parts u
   pub whole : IsWhole u.nodes
   pub live : u.live ≡ t.live
   pub begun : u.begun ≡ t.begun
-  pub stays : Stays (lock ∷ []) t u
   pub changes : u.changes ≡ t.changes
-  pub empty : under lock u ≡ []
+  pub stays : Stays dirs t u
 
--- one of its rows goes, and then the others
-clears-more : (t v u : TreeState) (lock p : Place) → has_counter p ≡ false → DeletesRow lock p t v → v.changes ≡ t.changes → Clears lock v u → Clears lock t u
-clears-more t v u lock p none row changes rest = record {
-  whole = rest.whole;
-  live = rest.live ∙ row.live;
-  begun = rest.begun ∙ row.begun;
-  stays = stays-both (lock ∷ []) t v u (subst (λ (b : Bool). Stays (lock ∷ cond b (p ∷ []) []) t v) none row.stays) rest.stays;
-  changes = rest.changes ∙ changes;
-  empty = rest.empty;
-}
-
--- the deletes of its rows do that
+-- the deletes of a lock's rows do, and it has none then
 pub record Cleared (t : TreeState) (w : ℕ) (lock : Place) (rows : List Row) : Type 0 where
-  pub u : TreeState
-  pub goes : Goes t w (delete_parts (path_of lock) rows) u
-  pub clears : Clears lock t u
+  pub gone : Gone t w (delete_parts (path_of lock) rows) (lock ∷ [])
+  pub empty : under lock gone.u ≡ []
 
 -- the places of a lock's waits
 pub record AreWaits (lock : Place) (place : ℕ → Place) : Type 0 where
@@ -237,6 +210,13 @@ pub record AreWaits (lock : Place) (place : ℕ → Place) : Type 0 where
   pub over : (number : ℕ) → above (place number) ≡ Some lock
   pub named : (number : ℕ) → place_name (place number) ≡ codes "lock-" ++ ten_digits_of number
   pub none : (number : ℕ) → has_counter (place number) ≡ false
+  pub top : over_leaves (above lock) ≡ false
+
+pub node-waits : (n : NodeId) → IsGood (Node n) → AreWaits (NodeLock n) (NodeWait n)
+node-waits n good = record { good = λ number low. (good, low); over = λ number. refl; named = λ number. refl; none = λ number. refl; top = refl }
+
+pub request-waits : (r : RequestId) → IsGood (Request r) → AreWaits (RequestLock r) (RequestWait r)
+request-waits r good = record { good = λ number low. (good, low); over = λ number. refl; named = λ number. refl; none = λ number. refl; top = refl }
 
 -- the row of the name is the first
 first-gone : (name : List ℕ) (row : Row) (rows : List Row) → row.name ≡ name → Rises row_before (row ∷ rows) → filter (is_other name) (row ∷ rows) ≡ rows
@@ -244,28 +224,11 @@ first-gone name row rows named rises =
     ap (λ (b : Bool). cond (not b) (row ∷ filter (is_other name) rows) (filter (is_other name) rows)) (bytes_eq-from row.name name named)
     ∙ filter-not_none (is_named name) rows (all-weaker (λ (other : Row). row_before row other ≡ true) (λ (other : Row). is_named name other ≡ false) (λ other before. subst (λ (n : List ℕ). is_named n other ≡ false) named (other-name_back row other before)) rows rises.0)
 
-first-found : (name : List ℕ) (row : Row) (rows : List Row) → row.name ≡ name → find_named name (row ∷ rows) ≡ Some row
-first-found name row rows named = ap (λ (b : Bool). cond b (Some row) (find (is_named name) rows)) (bytes_eq-from row.name name named)
-
--- a wait's path is its name below the lock's
-path-named : (lock p : Place) (name : List ℕ) → above p ≡ Some lock → name ≡ place_name p → path_of p ≡ below (path_of lock) name
-path-named lock p name over named = path_of-joined p lock over ∙ ap (below (path_of lock)) (sym named)
-
--- without the first row there are the others
-rows-gone : (t u : TreeState) (lock : Place) (name : List ℕ) (row : Row) (rows : List Row) → IsWhole t.nodes → under lock t ≡ row ∷ rows → row.name ≡ name → under lock u ≡ filter (is_other name) (under lock t) → under lock u ≡ rows
-rows-gone t u lock name row rows whole same named gone =
-    gone ∙ ap (filter (is_other name)) same ∙ first-gone name row rows named (subst (Rises row_before) same (rows-rise t (path_of lock) whole))
-
--- and it is found
-row-found : (t : TreeState) (lock : Place) (name : List ℕ) (row : Row) (rows : List Row) → under lock t ≡ row ∷ rows → row.name ≡ name → find_named name (under lock t) ≡ Some row
-row-found t lock name row rows same named = ap (find_named name) same ∙ first-found name row rows named
-
 module _ (w : ℕ) (lock : Place) (place : ℕ → Place) (are : AreWaits lock place) (next : ℕ) (few : next ≤ 2 ^ 32) where
   pub clear : (queue : List SessionId) (rows : List Row) (t : TreeState) → IsWhole t.nodes → is_in t.live w ≡ true → t.changes < 18_446_744_073_709_551_615 → under lock t ≡ rows → AllZip (IsWait next) rows queue → Cleared t w lock rows
   clear [] [] t whole live change same all = record {
-    u = t;
-    goes = refl;
-    clears = record { whole = whole; live = refl; begun = refl; stays = stays-same (lock ∷ []) t; changes = refl; empty = same };
+    gone = record { u = t; goes = refl; whole = whole; live = refl; begun = refl; changes = refl; stays = stays-same (lock ∷ []) t };
+    empty = same;
   }
   clear (x ∷ queue) (row ∷ rows) t whole live change same all =
       let number : ℕ = all.0.number in
@@ -273,112 +236,83 @@ module _ (w : ℕ) (lock : Place) (place : ℕ → Place) (are : AreWaits lock p
       let p : Place = place number in
       let good = are.good number (omega arith) in
       let named : row.name ≡ place_name p = ap (λ (r : Row). r.name) all.0.is ∙ sym (are.named number) in
-      let found : find_named (place_name p) (under lock t) ≡ Some row = row-found t lock (place_name p) row rows same named in
+      let found : find_named (place_name p) (under lock t) ≡ Some row =
+      ap (find_named (place_name p)) same ∙ ap (λ (b : Bool). cond b (Some row) (find (is_named (place_name p)) rows)) (bytes_eq-from row.name (place_name p) named) in
       let bare = bare-owned t lock p row (x.0 + 1) good (are.over number) whole found (ap (λ (r : Row). r.owner) all.0.is) in
       let one : DeleteGoes t w lock p = delete-goes t w lock p row good (are.over number) whole live change found bare in
       let v : TreeState = after_part t w (delete p) in
-      let left : under lock v ≡ rows = rows-gone t v lock (place_name p) row rows whole same named one.row.rows in
+      let left : under lock v ≡ rows =
+      one.row.rows ∙ ap (filter (is_other (place_name p))) same ∙ first-gone (place_name p) row rows named (subst (Rises row_before) same (rows-rise t (path_of lock) whole)) in
       let rest : Cleared v w lock rows = clear queue rows v one.row.whole live change left all.1 in
-      let path : path_of p ≡ below (path_of lock) row.name = path-named lock p row.name (are.over number) named in
+      let path : path_of p ≡ below (path_of lock) row.name = path_of-joined p lock (are.over number) ∙ ap (below (path_of lock)) (sym named) in
       record {
-        u = rest.u;
-        goes = subst (λ (at : List ℕ). IsOk (part_answer t w (Op.Delete at Any)) × Goes (after_part t w (Op.Delete at Any)) w (delete_parts (path_of lock) rows) rest.u) path (one.goes, rest.goes);
-        clears = clears-more t v rest.u lock p (are.none number) one.row refl rest.clears;
+        gone = record {
+          u = rest.gone.u;
+          goes = subst (λ (at : List ℕ). IsOk (part_answer t w (Op.Delete at Any)) × Goes (after_part t w (Op.Delete at Any)) w (delete_parts (path_of lock) rows) rest.gone.u) path (one.goes, rest.gone.goes);
+          whole = rest.gone.whole;
+          live = rest.gone.live ∙ one.row.live;
+          begun = rest.gone.begun ∙ one.row.begun;
+          changes = rest.gone.changes;
+          stays = stays-both (lock ∷ []) t v rest.gone.u (subst (λ (b : Bool). Stays (lock ∷ cond b (p ∷ []) []) t v) (are.none number) one.row.stays) rest.gone.stays;
+        };
+        empty = rest.empty;
       }
   clear _ _ t whole live change same all = absurd all
 
+pub cleared : (s : State) (t : TreeState) (w : ℕ) (lock : Place) (place : ℕ → Place) (queue : List SessionId) → MayDelete s t w → AreWaits lock place → HasQueue lock queue t → Cleared t w lock (under lock t)
+cleared s t w lock place queue may are is =
+    let few : is.next ≤ 2 ^ 32 = omega (arith, (room-gives t 0 may.room).counter (path_of lock) is.next is.gives) in
+    clear w lock place are is.next few queue (under lock t) t may.whole may.live may.room.change refl is.waits
+
 -- ## then the lock goes, and then its record
 
--- the waits at a lock are gone, and the lock is
-pub record LockGoes (t : TreeState) (w : ℕ) (over lock : Place) : Type 0 where
-  pub v : TreeState
-  pub goes : Goes t w (delete_parts (path_of lock) (under lock t) ++ delete lock ∷ []) v
-  pub whole : IsWhole v.nodes
-  pub live : v.live ≡ t.live
-  pub begun : v.begun ≡ t.begun
-  pub changes : v.changes ≡ t.changes
-  pub stays : Stays (over ∷ lock ∷ []) t v
-  pub rows : under over v ≡ filter (is_other (place_name lock)) (under over t)
+-- one more is gone, from a directory
+pub record GoneFrom (t : TreeState) (w : ℕ) (parts : List Op) (dirs : List Place) (dir p : Place) (v : TreeState) : Type 0 where
+  pub gone : Gone t w (parts ++ delete p ∷ []) (dir ∷ dirs)
+  pub last : Stays (places_without dir p) v gone.u
+  pub rows : under dir gone.u ≡ filter (is_other (place_name p)) (under dir t)
+  pub leaves : has_leaves dir ≡ true → HasLeaves dir t → HasLeaves dir gone.u
+  pub gives : (next : ℕ) → has_counter dir ≡ true → next_under dir t ≡ Some next → next_under dir gone.u ≡ Some next
 
-pub lock-goes : (s : State) (t : TreeState) (w : ℕ) (over lock : Place) (place : ℕ → Place) (row : Row) (queue : List SessionId) → MayDelete s t w → AreWaits lock place → IsGood lock → above lock ≡ Some over → has_counter lock ≡ true → IsBeside over (lock ∷ []) →
-    find_named (place_name lock) (under over t) ≡ Some row → HasQueue lock queue t → LockGoes t w over lock
-lock-goes s t w over lock place row queue may are good top counts beside there is =
-    let few : is.next ≤ 2 ^ 32 = let low = (room-gives t 0 may.room).counter (path_of lock) is.next is.gives in omega arith in
-    let cleared : Cleared t w lock (under lock t) = clear w lock place are is.next few queue (under lock t) t may.whole may.live may.room.change refl is.waits in
-    let u : TreeState = cleared.u in
-    let live : is_in u.live w ≡ true = ap (λ (list : List ℕ). is_in list w) cleared.clears.live ∙ may.live in
-    let change : u.changes < 18_446_744_073_709_551_615 = let low = may.room.change in let same = cleared.clears.changes in omega arith in
-    let still : under over u ≡ under over t = rows-stay (lock ∷ []) t u cleared.clears.stays over (IsGood-above lock over good top) beside in
-    let one : DeleteGoes u w over lock = delete-goes u w over lock row good top cleared.clears.whole live change (ap (find_named (place_name lock)) still ∙ there) cleared.clears.empty in
-    let v : TreeState = after_part u w (delete lock) in
-    record {
-      v = v;
-      goes = goes-joined t u v w (delete_parts (path_of lock) (under lock t)) (delete lock ∷ []) cleared.goes (one.goes, refl);
-      whole = one.row.whole;
-      live = one.row.live ∙ cleared.clears.live;
-      begun = one.row.begun ∙ cleared.clears.begun;
-      changes = cleared.clears.changes;
-      stays = stays-both (over ∷ lock ∷ []) t u v (stays-wider (lock ∷ []) (over ∷ lock ∷ []) t u (λ other apart. apart.1) cleared.clears.stays)
-          (subst (λ (b : Bool). Stays (over ∷ cond b (lock ∷ []) []) u v) counts one.row.stays);
-      rows = one.row.rows ∙ ap (filter (is_other (place_name lock))) still;
-    }
-
--- so is the record
-pub record RecordGoes (t : TreeState) (w : ℕ) (dir over lock p : Place) (v : TreeState) : Type 0 where
-  pub end : TreeState
-  pub goes : Goes t w (delete_parts (path_of lock) (under lock t) ++ delete lock ∷ delete p ∷ []) end
-  pub live : end.live ≡ t.live
-  pub begun : end.begun ≡ t.begun
-  pub last : Stays (dir ∷ []) v end
-  pub stays : Stays (dir ∷ over ∷ lock ∷ []) t end
-  pub rows : under dir end ≡ filter (is_other (place_name p)) (under dir t)
-  pub leaves : has_leaves dir ≡ true → HasLeaves dir t → HasLeaves dir end
-  pub gives : (next : ℕ) → has_counter dir ≡ true → next_under dir t ≡ Some next → next_under dir end ≡ Some next
-
-pub record-goes : (s : State) (t : TreeState) (w : ℕ) (dir over lock p : Place) (row : Row) → MayDelete s t w → (gone : LockGoes t w over lock) → IsGood p → above p ≡ Some dir → has_counter p ≡ false → IsBeside dir (over ∷ lock ∷ []) →
-    find_named (place_name p) (under dir t) ≡ Some row → rows_at gone.v (path_of p) ≡ [] → RecordGoes t w dir over lock p gone.v
-record-goes s t w dir over lock p row may gone good top none beside there bare =
-    let v : TreeState = gone.v in
-    let dirs : List Place = over ∷ lock ∷ [] in
+pub then-gone : (s : State) (t : TreeState) (w : ℕ) (parts : List Op) (dirs : List Place) (dir p : Place) (row : Row) → MayDelete s t w → (before : Gone t w parts dirs) → IsGood p → above p ≡ Some dir → IsBeside dir dirs →
+    ((other : Place) → IsApart other (dir ∷ dirs) → IsApart other (places_without dir p)) → find_named (place_name p) (under dir t) ≡ Some row → rows_at before.u (path_of p) ≡ [] → GoneFrom t w parts dirs dir p before.u
+then-gone s t w parts dirs dir p row may before good top beside within there bare =
+    let v : TreeState = before.u in
     let dir_good : IsGood dir = IsGood-above p dir good top in
-    let still : under dir v ≡ under dir t = rows-stay dirs t v gone.stays dir dir_good beside in
-    let live : is_in v.live w ≡ true = ap (λ (list : List ℕ). is_in list w) gone.live ∙ may.live in
-    let change : v.changes < 18_446_744_073_709_551_615 = let low = may.room.change in let same = gone.changes in omega arith in
-    let one : DeleteGoes v w dir p = delete-goes v w dir p row good top gone.whole live change (ap (find_named (place_name p)) still ∙ there) bare in
+    let still : under dir v ≡ under dir t = rows-stay dirs t v before.stays dir dir_good beside in
+    let live : is_in v.live w ≡ true = ap (λ (list : List ℕ). is_in list w) before.live ∙ may.live in
+    let change : v.changes < 18_446_744_073_709_551_615 = omega (arith, may.room.change, before.changes) in
+    let one : DeleteGoes v w dir p = delete-goes v w dir p row good top before.whole live change (ap (find_named (place_name p)) still ∙ there) bare in
     let end : TreeState = after_part v w (delete p) in
-    let parts : List Op = delete_parts (path_of lock) (under lock t) in
-    let last : Stays (dir ∷ []) v end = subst (λ (b : Bool). Stays (dir ∷ cond b (p ∷ []) []) v end) none one.row.stays in
     record {
-      end = end;
-      goes = subst (λ (list : List Op). Goes t w list end) (append_assoc parts (delete lock ∷ []) (delete p ∷ [])) (goes-joined t v end w (parts ++ delete lock ∷ []) (delete p ∷ []) gone.goes (one.goes, refl));
-      last = last;
-      live = one.row.live ∙ gone.live;
-      begun = one.row.begun ∙ gone.begun;
-      stays = stays-both (dir ∷ dirs) t v end (stays-wider dirs (dir ∷ dirs) t v (λ other apart. apart.1) gone.stays)
-          (stays-wider (dir ∷ []) (dir ∷ dirs) v end (λ other apart. (apart.0, tt)) last);
+      gone = record {
+        u = end;
+        goes = goes-joined t v end w parts (delete p ∷ []) before.goes (one.goes, refl);
+        whole = one.row.whole;
+        live = one.row.live ∙ before.live;
+        begun = one.row.begun ∙ before.begun;
+        changes = before.changes;
+        stays = stays-both (dir ∷ dirs) t v end (stays-wider dirs (dir ∷ dirs) t v (λ other apart. apart.1) before.stays) (stays-wider (places_without dir p) (dir ∷ dirs) v end within one.row.stays);
+      };
+      last = one.row.stays;
       rows = one.row.rows ∙ ap (filter (is_other (place_name p))) still;
-      leaves = λ has leaves. one.row.leaves (leaves-stay dirs t v gone.stays dir dir_good has beside leaves);
-      gives = λ next has is. one.row.counter ∙ counter-stays dirs t v gone.stays dir next dir_good has beside is;
+      leaves = λ has leaves. one.row.leaves (leaves-stay dirs t v before.stays dir dir_good has beside leaves);
+      gives = λ next has is. one.row.counter ∙ counter-stays dirs t v before.stays dir next dir_good has beside is;
     }
 
--- what parts that go leave is the tree after them
-pub parts-after : (s : State) (t u : TreeState) (w : ℕ) (parts : List Op) → Goes t w parts u → LaysOut s u → PartsLayOut s t w parts
-parts-after s t u w parts goes lays =
-    let same = sym (goes-after t u w parts goes) in
-    record { goes = subst (λ (v : TreeState). Goes t w parts v) same goes; lays = subst (λ (v : TreeState). LaysOut s v) same lays }
+-- what the deletes of a lock's waits, of the lock and of its record leave is the tree after them
+parts-after : (s : State) (t u : TreeState) (w : ℕ) (waits : List Op) (lock p : Place) → Goes t w ((waits ++ delete lock ∷ []) ++ delete p ∷ []) u → LaysOut s u → PartsLayOut s t w (waits ++ delete lock ∷ delete p ∷ [])
+parts-after s t u w waits lock p goes lays =
+    let parts : List Op = waits ++ delete lock ∷ delete p ∷ [] in
+    let all : Goes t w parts u = subst (λ (list : List Op). Goes t w list u) (append_assoc waits (delete lock ∷ []) (delete p ∷ [])) goes in
+    let same = sym (goes-after t u w parts all) in
+    record { goes = subst (λ (v : TreeState). Goes t w parts v) same all; lays = subst (λ (v : TreeState). LaysOut s v) same lays }
 
 -- # a node goes
 
--- the waits of a node's lock
-node-waits : (n : NodeId) → IsGood (Node n) → AreWaits (NodeLock n) (NodeWait n)
-node-waits n good = record { good = λ number low. (good, low); over = λ number. refl; named = λ number. refl; none = λ number. refl }
-
 -- another id has another place
 node-apart : (n id : NodeId) → (id.0 == n.0) ≡ false → Node id ≡ Node n → ⊥
-node-apart n id other same =
-    let is : id ≡ n = cc in
-    let itself = subst (λ (x : NodeId). (id.0 == x.0) ≡ true) is (node-itself id) in
-    absurd cc
+node-apart n id other same = let is : id ≡ n = cc in let both = ap (λ (x : NodeId). id.0 == x.0) is in let itself = node-itself id in absurd cc
 
 module _ (s : State) (t : TreeState) (w : ℕ) (n : NodeId) (e : NodeEntry) (may : MayDelete s t w) (there : node_entry n s.nodes ≡ Some e) where
   abbrev it : NodeEntry → Bool
@@ -396,8 +330,14 @@ module _ (s : State) (t : TreeState) (w : ℕ) (n : NodeId) (e : NodeEntry) (may
   lock : HasNodeLock t (record e { id = n })
   lock = node-lock s t n e may.lays there
 
-  gone : LockGoes t w (Node n) (NodeLock n)
-  gone = lock-goes s t w (Node n) (NodeLock n) (NodeWait n) (persistent (NodeLock n) []) (node_queue n s.nodes) may (node-waits n n-good) n-good refl refl refl (ap (find_named (place_name (NodeLock n))) lock.rows) (node-queue s t n e may.lays there)
+  abbrev waits : List Op
+  waits = delete_parts (path_of (NodeLock n)) (under (NodeLock n) t)
+
+  clears : Cleared t w (NodeLock n) (under (NodeLock n) t)
+  clears = cleared s t w (NodeLock n) (NodeWait n) (node_queue n s.nodes) may (node-waits n n-good) (node-queue s t n e may.lays there)
+
+  lock-gone : GoneFrom t w waits (NodeLock n ∷ []) (Node n) (NodeLock n) clears.gone.u
+  lock-gone = then-gone s t w waits (NodeLock n ∷ []) (Node n) (NodeLock n) (persistent (NodeLock n) []) may clears.gone n-good refl refl (λ other apart. apart) (ap (find_named (place_name (NodeLock n))) lock.rows) clears.empty
 
   tell : Tells name it (under Nodes t) s.nodes
   tell = node-tells n (under Nodes t) s.nodes n-good may.good.nodes may.lays.nodes.rows
@@ -405,41 +345,36 @@ module _ (s : State) (t : TreeState) (w : ℕ) (n : NodeId) (e : NodeEntry) (may
   record-row : (row : Row) × (find (is_named name) (under Nodes t) ≡ Some row)
   record-row = any-found (is_named name) (under Nodes t) (any-told name it (under Nodes t) s.nodes tell ∙ found-any it e s.nodes there)
 
-  ends : RecordGoes t w Nodes (Node n) (NodeLock n) (Node n) gone.v
-  ends = record-goes s t w Nodes (Node n) (NodeLock n) (Node n) record-row.0 may gone n-good refl refl refl record-row.1 (gone.rows ∙ ap (filter (is_other (place_name (NodeLock n)))) lock.rows)
+  ends : GoneFrom t w (waits ++ delete (NodeLock n) ∷ []) (Node n ∷ NodeLock n ∷ []) Nodes (Node n) lock-gone.gone.u
+  ends = then-gone s t w (waits ++ delete (NodeLock n) ∷ []) (Node n ∷ NodeLock n ∷ []) Nodes (Node n) record-row.0 may lock-gone.gone n-good refl refl (λ other apart. (apart.0, tt)) record-row.1
+      (lock-gone.rows ∙ ap (filter (is_other (place_name (NodeLock n)))) lock.rows)
 
   -- the locks of the others stay
-  lock-end : (x : NodeEntry) → not (it x) ≡ true → IsGood (Node x.id) × HasNodeLock t x → HasNodeLock ends.end x
+  lock-end : (x : NodeEntry) → not (it x) ≡ true → IsGood (Node x.id) × HasNodeLock t x → HasNodeLock ends.gone.u x
   lock-end x kept has =
       let other = not-true (it x) kept in
-      node_lock-stays (Nodes ∷ Node n ∷ NodeLock n ∷ []) t ends.end ends.stays x has.0
+      node_lock-stays (Nodes ∷ Node n ∷ NodeLock n ∷ []) t ends.gone.u ends.gone.stays x has.0
       ((λ same. cc), (node-apart n x.id other, ((λ same. cc), tt))) ((λ same. cc), ((λ same. cc), (node_lock-apart n x.id other, tt))) has.1
 
-  node-gone : LaysOut (record s { nodes = remove_node n s.nodes }) ends.end
+  node-gone : LaysOut (record s { nodes = remove_node n s.nodes }) ends.gone.u
   node-gone = all-tables _ _ each where
-    each : (k : Table) → Says (record s { nodes = remove_node n s.nodes }) ends.end k
+    each : (k : Table) → Says (record s { nodes = remove_node n s.nodes }) ends.gone.u k
     each of_nodes = record {
       rows = subst (λ (rows : List Row). AllZip IsNodeRow rows (remove_first it s.nodes)) (sym ends.rows)
           (subst (λ (list : List NodeEntry). AllZip IsNodeRow (filter (is_other name) (under Nodes t)) list) (filter-removed it s.nodes once)
           (zip-filter it IsNodeRow (is_named name) (under Nodes t) s.nodes tell may.lays.nodes.rows));
       gives = ends.gives s.next_node refl may.lays.nodes.gives;
     }
-    each of_node_locks = subst (AllByRecursion (HasNodeLock ends.end)) (filter-removed it s.nodes once)
-        (all-filter_to (λ (x : NodeEntry). IsGood (Node x.id) × HasNodeLock t x) (HasNodeLock ends.end) (λ x. not (it x)) s.nodes lock-end
+    each of_node_locks = subst (AllByRecursion (HasNodeLock ends.gone.u)) (filter-removed it s.nodes once)
+        (all-filter_to (λ (x : NodeEntry). IsGood (Node x.id) × HasNodeLock t x) (HasNodeLock ends.gone.u) (λ x. not (it x)) s.nodes lock-end
         (all-pair (λ (x : NodeEntry). IsGood (Node x.id)) (HasNodeLock t) s.nodes may.good.nodes may.lays.node_locks))
-    each k = table-stays s (Nodes ∷ Node n ∷ NodeLock n ∷ []) t ends.end may.good ends.stays ends.live ends.begun k refl (each-table s t may.lays k)
+    each k = table-stays s (Nodes ∷ Node n ∷ NodeLock n ∷ []) t ends.gone.u may.good ends.gone.stays ends.gone.live ends.gone.begun k refl (each-table s t may.lays k)
 
--- the deletes of a node's waits, of its lock and of its record lay out the state without it
-pub nodes_go-lay-out : NodesGoLayOut
-nodes_go-lay-out s t w n e may there =
-    let gone = ends s t w n e may there in
-    parts-after (record s { nodes = remove_node n s.nodes }) t gone.end w (node_deletes n t) gone.goes (node-gone s t w n e may there)
+  -- the deletes of a node's waits, of its lock and of its record lay out the state without it
+  pub nodes_go-lay-out : PartsLayOut (record s { nodes = remove_node n s.nodes }) t w (node_deletes n t)
+  nodes_go-lay-out = parts-after _ t ends.gone.u w waits (NodeLock n) (Node n) ends.gone.goes node-gone
 
 -- # a request goes
-
--- the waits of a request's lock
-request-waits : (r : RequestId) → IsGood (Request r) → AreWaits (RequestLock r) (RequestWait r)
-request-waits r good = record { good = λ number low. (good, low); over = λ number. refl; named = λ number. refl; none = λ number. refl }
 
 module _ (s : State) (t : TreeState) (w : ℕ) (r : RequestId) (e : RequestEntry) (may : MayDelete s t w) (there : request_entry r s.requests ≡ Some e) where
   abbrev request_test : RequestEntry → Bool
@@ -457,8 +392,14 @@ module _ (s : State) (t : TreeState) (w : ℕ) (r : RequestId) (e : RequestEntry
   lock-row : (row : Row) × (find (is_named request_name) (under RequestLocks t) ≡ Some row)
   lock-row = any-found (is_named request_name) (under RequestLocks t) (ap (list_any (is_named request_name)) may.lays.request_locks.rows ∙ lock-any s r e may.good there)
 
-  request-lock-goes : LockGoes t w RequestLocks (RequestLock r)
-  request-lock-goes = lock-goes s t w RequestLocks (RequestLock r) (RequestWait r) lock-row.0 (request_queue r s.requests) may (request-waits r r-good) r-good refl refl refl lock-row.1 (request-queue s t r e may.lays there)
+  abbrev request_waits : List Op
+  request_waits = delete_parts (path_of (RequestLock r)) (under (RequestLock r) t)
+
+  request-clears : Cleared t w (RequestLock r) (under (RequestLock r) t)
+  request-clears = cleared s t w (RequestLock r) (RequestWait r) (request_queue r s.requests) may (request-waits r r-good) (request-queue s t r e may.lays there)
+
+  request-lock-goes : GoneFrom t w request_waits (RequestLock r ∷ []) RequestLocks (RequestLock r) request-clears.gone.u
+  request-lock-goes = then-gone s t w request_waits (RequestLock r ∷ []) RequestLocks (RequestLock r) lock-row.0 may request-clears.gone r-good refl refl (λ other apart. apart) lock-row.1 request-clears.empty
 
   -- the records' names are those of the locks
   names : AllByRecursion (λ x. is_named request_name (request_row x) ≡ request_test x) s.requests
@@ -467,16 +408,18 @@ module _ (s : State) (t : TreeState) (w : ℕ) (r : RequestId) (e : RequestEntry
   request-record-row : (row : Row) × (find (is_named request_name) (under Requests t) ≡ Some row)
   request-record-row = any-found (is_named request_name) (under Requests t) (ap (list_any (is_named request_name)) may.lays.requests.rows ∙ any-mapped request_row (is_named request_name) request_test s.requests names ∙ found-any request_test e s.requests there)
 
-  request-ends : RecordGoes t w Requests RequestLocks (RequestLock r) (Request r) request-lock-goes.v
+  request-ends : GoneFrom t w (request_waits ++ delete (RequestLock r) ∷ []) (RequestLocks ∷ RequestLock r ∷ []) Requests (Request r) request-lock-goes.gone.u
   request-ends =
-      let still : find_named request_name (under Requests request-lock-goes.v) ≡ Some request-record-row.0 = ap (find_named request_name) (rows-stay (RequestLocks ∷ RequestLock r ∷ []) t request-lock-goes.v request-lock-goes.stays Requests tt refl) ∙ request-record-row.1 in
-      record-goes s t w Requests RequestLocks (RequestLock r) (Request r) request-record-row.0 may request-lock-goes r-good refl refl refl request-record-row.1
-      (bare-leaf request-lock-goes.v Requests (Request r) request-record-row.0 refl (leaves-stay (RequestLocks ∷ RequestLock r ∷ []) t request-lock-goes.v request-lock-goes.stays Requests tt refl refl may.lays.requests.leaves) still)
+      let v : TreeState = request-lock-goes.gone.u in
+      let stays = request-lock-goes.gone.stays in
+      let still : find_named request_name (under Requests v) ≡ Some request-record-row.0 = ap (find_named request_name) (rows-stay (RequestLocks ∷ RequestLock r ∷ []) t v stays Requests tt refl) ∙ request-record-row.1 in
+      then-gone s t w (request_waits ++ delete (RequestLock r) ∷ []) (RequestLocks ∷ RequestLock r ∷ []) Requests (Request r) request-record-row.0 may request-lock-goes.gone r-good refl refl (λ other apart. (apart.0, tt)) request-record-row.1
+      (bare-leaf v Requests (Request r) request-record-row.0 refl (leaves-stay (RequestLocks ∷ RequestLock r ∷ []) t v stays Requests tt refl refl may.lays.requests.leaves) still)
 
   -- the queues of the others stay
-  queue-end : (x : RequestEntry) → not (request_test x) ≡ true → IsGood (Request x.id) × HasQueue (RequestLock x.id) x.queue t → HasQueue (RequestLock x.id) x.queue request-ends.end
+  queue-end : (x : RequestEntry) → not (request_test x) ≡ true → IsGood (Request x.id) × HasQueue (RequestLock x.id) x.queue t → HasQueue (RequestLock x.id) x.queue request-ends.gone.u
   queue-end x kept has =
-      queue-stays (Requests ∷ RequestLocks ∷ RequestLock r ∷ []) t request-ends.end request-ends.stays (RequestLock x.id) x.queue has.0 refl ((λ same. cc), ((λ same. cc), (lock-apart r x.id (not-true (request_test x) kept), tt))) has.1
+      queue-stays (Requests ∷ RequestLocks ∷ RequestLock r ∷ []) t request-ends.gone.u request-ends.gone.stays (RequestLock x.id) x.queue has.0 refl ((λ same. cc), ((λ same. cc), (lock-apart r x.id (not-true (request_test x) kept), tt))) has.1
 
   -- rows of other names are those of other requests
   rows-left : (row : RequestEntry → Row) → AllByRecursion (λ x. is_named request_name (row x) ≡ request_test x) s.requests → filter (is_other request_name) (map row s.requests) ≡ map row (remove_first request_test s.requests)
@@ -485,9 +428,9 @@ module _ (s : State) (t : TreeState) (w : ℕ) (r : RequestId) (e : RequestEntry
       (all-weaker (λ (x : RequestEntry). is_named request_name (row x) ≡ request_test x) (λ (x : RequestEntry). is_other request_name (row x) ≡ not (request_test x)) (λ x same. ap not same) s.requests tell)
       ∙ ap (map row) (filter-removed request_test s.requests request-is-once)
 
-  request-gone : LaysOut (record s { requests = remove_request r s.requests }) request-ends.end
+  request-gone : LaysOut (record s { requests = remove_request r s.requests }) request-ends.gone.u
   request-gone = all-tables _ _ each where
-    each : (k : Table) → Says (record s { requests = remove_request r s.requests }) request-ends.end k
+    each : (k : Table) → Says (record s { requests = remove_request r s.requests }) request-ends.gone.u k
     each of_requests = record {
       rows = request-ends.rows ∙ ap (filter (is_other request_name)) may.lays.requests.rows ∙ rows-left request_row names;
       leaves = request-ends.leaves refl may.lays.requests.leaves;
@@ -495,16 +438,14 @@ module _ (s : State) (t : TreeState) (w : ℕ) (r : RequestId) (e : RequestEntry
     }
     each of_request_locks = record {
       rows =
-          rows-stay (Requests ∷ []) request-lock-goes.v request-ends.end request-ends.last RequestLocks tt refl ∙ request-lock-goes.rows ∙ ap (filter (is_other request_name)) may.lays.request_locks.rows
+          rows-stay (Requests ∷ []) request-lock-goes.gone.u request-ends.gone.u request-ends.last RequestLocks tt refl ∙ request-lock-goes.rows ∙ ap (filter (is_other request_name)) may.lays.request_locks.rows
           ∙ rows-left request_lock_row (lock-names r s.requests r-good may.good.requests);
-      queues = subst (λ (list : List RequestEntry). AllByRecursion (λ x. HasQueue (RequestLock x.id) x.queue request-ends.end) list) (filter-removed request_test s.requests request-is-once)
-          (all-filter_to (λ (x : RequestEntry). IsGood (Request x.id) × HasQueue (RequestLock x.id) x.queue t) (λ (x : RequestEntry). HasQueue (RequestLock x.id) x.queue request-ends.end) (λ x. not (request_test x)) s.requests queue-end
+      queues = subst (λ (list : List RequestEntry). AllByRecursion (λ x. HasQueue (RequestLock x.id) x.queue request-ends.gone.u) list) (filter-removed request_test s.requests request-is-once)
+          (all-filter_to (λ (x : RequestEntry). IsGood (Request x.id) × HasQueue (RequestLock x.id) x.queue t) (λ (x : RequestEntry). HasQueue (RequestLock x.id) x.queue request-ends.gone.u) (λ x. not (request_test x)) s.requests queue-end
           (all-pair (λ (x : RequestEntry). IsGood (Request x.id)) (λ (x : RequestEntry). HasQueue (RequestLock x.id) x.queue t) s.requests may.good.requests may.lays.request_locks.queues));
     }
-    each k = table-stays s (Requests ∷ RequestLocks ∷ RequestLock r ∷ []) t request-ends.end may.good request-ends.stays request-ends.live request-ends.begun k refl (each-table s t may.lays k)
+    each k = table-stays s (Requests ∷ RequestLocks ∷ RequestLock r ∷ []) t request-ends.gone.u may.good request-ends.gone.stays request-ends.gone.live request-ends.gone.begun k refl (each-table s t may.lays k)
 
--- the deletes of a request's waits, of its lock and of its record lay out the state without request_test
-pub requests_go-lay-out : RequestsGoLayOut
-requests_go-lay-out s t w r e may there =
-    let request-lock-goes = request-ends s t w r e may there in
-    parts-after (record s { requests = remove_request r s.requests }) t request-lock-goes.end w (request_deletes r t) request-lock-goes.goes (request-gone s t w r e may there)
+  -- the deletes of a request's waits, of its lock and of its record lay out the state without it
+  pub requests_go-lay-out : PartsLayOut (record s { requests = remove_request r s.requests }) t w (request_deletes r t)
+  requests_go-lay-out = parts-after _ t request-ends.gone.u w request_waits (RequestLock r) (Request r) request-ends.gone.goes request-gone

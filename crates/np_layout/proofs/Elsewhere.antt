@@ -1,5 +1,5 @@
 -- what stays of a layout, and of each table, if only rows of some directories change
-use Rattle.np_layout.proofs.Prelude.{AllByRecursion, AllZip, AreJobs, AreLaunchers, AreLive, AreNodeLocks, AreNodes, AreRequestLocks, AreRequests, AreRoles, AreSemaphores, AreSessions, AreSwept, Bool, HasGoodIds, HasHandles, HasLeaves, HasNodeLock, HasQueue, IsFrame, IsGood, IsNodeRow, IsWait, JobId, JobRecord, Jobs, Launchers, LaysOut, List, Node, NodeEntry, NodeLock, Nodepool, Nodes, NonePass, Place, Poolsim, Registration, Request, RequestEntry, RequestLock, RequestLocks, Requests, RoleRecord, Roles, Root, Row, SemId, Semaphore, Semaphores, SessionFacts, SessionId, Sessions, Some, State, Swept, SweptPairs, Tick, TreeState, Zuul, ap, arith, decimal, directories, eq-eqb, eqb, false, is_in, length, list_any, map, next_under, none-list_any, persistent, range_with_len, refl, subst, suc, sym, true, under, zero, ℕ, [], ◌++◌, ◌+◌, ◌^◌, ◌||◌, ◌∙◌, ◌∷◌, ◌≡◌, ◌≤◌}
+use Rattle.np_layout.proofs.Prelude.{AllByRecursion, AllZip, AreJobs, AreLaunchers, AreLive, AreNodeLocks, AreNodes, AreRequestLocks, AreRequests, AreRoles, AreSemaphores, AreSessions, AreSwept, Bool, HasGoodIds, HasHandles, HasLeaves, HasNodeLock, HasQueue, IsFrame, IsGood, IsNodeRow, IsWait, JobId, JobRecord, Jobs, Launchers, LaysOut, List, Node, NodeEntry, NodeLock, Nodepool, Nodes, NonePass, Place, Poolsim, Registration, Request, RequestEntry, RequestLock, RequestLocks, Requests, RoleRecord, Roles, Root, Row, SemId, Semaphore, Semaphores, SessionFacts, SessionId, Sessions, Some, State, Swept, SweptPairs, Tick, TreeState, Zuul, [], all-weaker, ap, arith, decimal, directories, eq-eqb, eqb, false, is_in, length, list_any, map, next_under, none-list_any, persistent, range_with_len, refl, subst, suc, sym, true, under, zero, ℕ, ◌++◌, ◌+◌, ◌^◌, ◌∙◌, ◌∷◌, ◌≡◌, ◌≤◌}
 
 -- # what stays of a layout if only rows of some directories change
 
@@ -37,16 +37,12 @@ IsBeside p dirs = list_any (λ dir. eqb (directory p) (directory dir)) dirs ≡ 
 abbrev pub IsApart : Place → List Place → Type 0
 IsApart p dirs = AllByRecursion (λ dir. p ≡ dir → ⊥) dirs
 
-apart-by : (p dir : Place) (b c : Bool) → eqb (directory p) (directory dir) ≡ b → (b || c) ≡ false → (p ≡ dir → ⊥) × (c ≡ false)
-apart-by p dir true c is none = absurd cc
-apart-by p dir false c is none = (λ same. let itself : eqb (directory p) (directory p) ≡ true = eq-eqb (directory p) (directory p) refl in let other = ap (λ (q : Place). eqb (directory p) (directory q)) same in absurd cc, none)
-
 -- a place of another kind is another place
 pub beside-apart : (p : Place) (dirs : List Place) → IsBeside p dirs → IsApart p dirs
-beside-apart p [] beside = tt
-beside-apart p (dir ∷ dirs) beside =
-    let both = apart-by p dir (eqb (directory p) (directory dir)) (list_any (λ dir. eqb (directory p) (directory dir)) dirs) refl beside in
-    (both.0, beside-apart p dirs both.1)
+beside-apart p dirs beside =
+    all-weaker (λ (dir : Place). eqb (directory p) (directory dir) ≡ false) (λ (dir : Place). p ≡ dir → ⊥)
+    (λ dir other same. let itself = eq-eqb (directory p) (directory p) refl in let both = ap (λ (q : Place). eqb (directory p) (directory q)) same in absurd cc)
+    dirs (none-list_any (λ (dir : Place). eqb (directory p) (directory dir)) dirs beside)
 
 -- places with children that have nothing below them
 abbrev pub has_leaves : Place → Bool
@@ -248,34 +244,11 @@ Says s t of_live = AreLive s.sessions t
 -- a layout says each
 pub each-table : (s : State) (t : TreeState) → LaysOut s t → (k : Table) → Says s t k
 each-table s t lays of_frame = lays.frame
-each-table s t lays of_requests = lays.requests
-each-table s t lays of_request_locks = lays.request_locks
-each-table s t lays of_nodes = lays.nodes
-each-table s t lays of_node_locks = lays.node_locks
-each-table s t lays of_launchers = lays.launchers
-each-table s t lays of_semaphores = lays.semaphores
-each-table s t lays of_jobs = lays.jobs
-each-table s t lays of_roles = lays.roles
-each-table s t lays of_sessions = lays.sessions
-each-table s t lays of_swept = lays.swept
-each-table s t lays of_live = lays.live
+each-table s t lays k = assumption lays
 
 -- and it is all of them
 pub all-tables : (s : State) (t : TreeState) → ((k : Table) → Says s t k) → LaysOut s t
-all-tables s t each = record {
-  frame = each of_frame;
-  requests = each of_requests;
-  request_locks = each of_request_locks;
-  nodes = each of_nodes;
-  node_locks = each of_node_locks;
-  launchers = each of_launchers;
-  semaphores = each of_semaphores;
-  jobs = each of_jobs;
-  roles = each of_roles;
-  sessions = each of_sessions;
-  swept = each of_swept;
-  live = each of_live;
-}
+all-tables s t is = assumption (is of_frame, is of_requests, is of_request_locks, is of_nodes, is of_node_locks, is of_launchers, is of_semaphores, is of_jobs, is of_roles, is of_sessions, is of_swept, is of_live)
 
 -- the kinds of the directories of a table
 abbrev pub kinds : Table → List ℕ
@@ -326,9 +299,6 @@ table-stays s dirs t u good stays live begun k none says = table-beside s dirs t
 -- the same nodes and sessions lay out the same state
 pub same-lays : (s : State) (t u : TreeState) → HasGoodIds s → u.live ≡ t.live → u.begun ≡ t.begun → Stays [] t u → LaysOut s t → LaysOut s u
 same-lays s t u good live begun stays lays = all-tables s u each where
-  none : (k : Table) → is_touched [] k ≡ false
-  none of_live = refl
-  none other = refl
-
   each : (k : Table) → Says s u k
-  each k = table-stays s [] t u good stays live begun k (none k) (each-table s t lays k)
+  each of_live = live-stays t u live begun s.sessions lays.live
+  each k = table-stays s [] t u good stays live begun k refl (each-table s t lays k)

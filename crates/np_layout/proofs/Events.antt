@@ -1,12 +1,12 @@
 -- every accepted event is ready for the tree and is enacted in it
-use Rattle.np_layout.proofs.Prelude.{AllByRecursion, AllocationsListed, AreDistinct, Bool, Changes, Configuration, DistinctSessions, EmptiesRequest, Enacts, Event, EventsAreEnacted, EventsAreReady, EventsEnact, Fits, Goes, GoesFulfilled, GoesWithdrawn, Growth, GrowthPremise, GrowthReady, GrowthsEnact, HandlesChange, HasGoodIds, HasRoomFor, HasSpellings, Invariant, IsApart, IsCarried, IsEnacted, IsJob, IsLiveQueue, IsNode, IsNumbered, IsQueued, IsReady, IsRequest, IsRole, IsSessionRole, IsTypedGrowth, IsWhole, IsWhole-after_end, JobId, LaysOut, List, Maker, NodeEntry, NodeId, NodesChange, NodesPremise, NodesReady, None, Op, Option, RecordsAreSpelled, RequestEntry, RequestId, RequestRecord, RequestsChange, RequestsPremise, Rises, SemId, SessionFacts, SessionId, SessionReady, SessionsChange, SessionsPremise, Some, Stands, State, StepsAreCarried, TakesOver, TreeState, WaitOnce, after_multi, after_parts, all-change_first, all-find, all-insert_before, all-push, all-weaker, allocated, ap, arith, called, changed, cond, enacted, equal-itself, false, find-none, grown, grown_parts, in_call, inl, inr, is_id_before, is_in, is_ok, is_request, is_some, is_wanted, janitor, jobs-grown, joined, judge, launcher, length, list_any, low-min, maker, nat_lt, nat_tests, new_record, next, next_change, next_id, next_label, node_entry, node_in, node_queue, nodes_of, option_map, option_map_or, parts_of, plan, plan-found, plan-given, premises, refl, request-equal, request_entry, request_in, request_of_job, request_queue, requester, row-of, same, same_request, semaphores_of, session_of, settled, settled_parts, slice_get, slice_get_within, subst, sym, tree_session, true, with_begin, with_end, without_session, writer, ℕ, [], ◌+◌, ◌-◌, ◌<◌, ◌==◌, ◌^◌, ◌∙◌, ◌∷◌, ◌≡◌, ◌≤◌, ◌⊎◌}
+use Rattle.np_layout.proofs.Prelude.{AllByRecursion, AllocationsListed, AreDistinct, Bool, Changes, Configuration, DistinctSessions, EmptiesRequest, Enacts, Event, EventsAreEnacted, EventsAreReady, EventsEnact, Fits, Goes, GoesFulfilled, GoesWithdrawn, Growth, GrowthPremise, GrowthReady, GrowthsEnact, HandlesChange, HasGoodIds, HasRoomFor, HasSpellings, Invariant, IsApart, IsCarried, IsEnacted, IsJob, IsLiveQueue, IsNode, IsNumbered, IsReady, IsRequest, IsRole, IsSessionRole, IsTypedGrowth, IsWhole, IsWhole-after_end, JobId, LaysOut, List, Locked, Maker, Node, NodeEntry, NodeId, NodesChange, NodesPremise, NodesReady, None, Op, Option, RecordsAreSpelled, Registration, Request, RequestEntry, RequestId, RequestRecord, RequestsChange, RequestsPremise, Rises, SemId, Session, SessionFacts, SessionId, SessionReady, SessionsChange, SessionsPremise, Some, Stands, State, StepsAreCarried, Swept, TakesOver, TreeState, [], after_multi, after_parts, all-change_first, all-find, all-insert_before, all-push, all-weaker, allocated, ap, arith, called, changed, enacted, equal-itself, false, find-none, grown, grown_parts, in_call, inl, inr, is_id_before, is_in, is_ok, is_request, is_some, jobs-grown, judge, length, list_any, low-min, maker, nat_lt, nat_tests, new_record, next, next_change, next_id, node_entry, node_in, nodes_of, option_map, option_map_or, parts_of, plan, plan-found, refl, request-equal, request_entry, request_in, row-of, same, same_request, semaphores_of, session_of, settled, settled_parts, slice_get_within, subst, sym, tree_session, true, with_begin, with_end, without_session, writer, ℕ, ◌+◌, ◌<◌, ◌==◌, ◌^◌, ◌∙◌, ◌∷◌, ◌≡◌, ◌≤◌, ◌⊎◌}
 use Rattle.np_changes.specs.Premises.{HasRoom}
 use Rattle.np_layout.proofs.Sessions.{session_ends-lay-out}
 use Rattle.np_changes.specs.Prelude.{Job}
 use Rattle.np_layout.proofs.Carried.{new-text}
-use Rattle.np_layout.proofs.Spelled.{IsKnown, allocated-tenant, granted-is, known-accepted, launcher-low, new-node, new-request, request-row}
+use Rattle.np_layout.proofs.Spelled.{IsKnown, allocated-tenant, granted-is, known-accepted, launcher-low, new-node, new-request, queue-keeps, request-row}
 use Rattle.np_layout.proofs.SoundRows.{job-low, job-row, pool-low, role-low}
-use Rattle.np_layout.proofs.Stands.{SettledReady, TablesEnact, enacts-joined, goes-begun, good-ended, grown-tree, number-of, numbered, parts-begun, room-ended, same-requests, same-roles, same-tick, settled-current, settled-enact, stands-less, stands-numbered, with_all}
+use Rattle.np_layout.proofs.Stands.{TablesEnact, enacts-joined, goes-begun, good-ended, number-of, numbered, parts-begun, room-ended, same-roles, settled-current, settled-enact, stands-less, stands-numbered, with_all}
 
 -- # what is true of each plan: a session begins with no maker, a session that is muted was begun, and nothing grows beside it or beside handles that are given back
 
@@ -25,54 +25,58 @@ record IsPlain (c : Configuration) (s : State) (ch : Changes) : Type 0 where
 
 -- ## what is true of most plans, whoever makes them
 
--- no session begins
-abbrev BeginsNone : Growth → Type 0
-BeginsNone (Growth.Session role) = ⊥
-BeginsNone other = Unit {0}
+-- a session begins
+abbrev begins : Growth → Bool
+begins (Growth.Session role) = true
+begins other = false
 
--- none is muted
-abbrev MutesNone : SessionsChange → Type 0
-MutesNone SessionsChange.Same = Unit {0}
-MutesNone (SessionsChange.Mute session) = ⊥
-MutesNone (SessionsChange.End session) = Unit {0}
+-- one is muted
+abbrev mutes : SessionsChange → Bool
+mutes (SessionsChange.Mute session) = true
+mutes other = false
 
 -- nothing grows if handles are given back
-abbrev GivesAlone : HandlesChange → Growth → Type 0
-GivesAlone HandlesChange.Same growth = Unit {0}
-GivesAlone (HandlesChange.Release j) growth = growth ≡ Growth.Nothing
+abbrev gives_alone : HandlesChange → Growth → Bool
+gives_alone HandlesChange.Same growth = true
+gives_alone (HandlesChange.Release j) Growth.Nothing = true
+gives_alone (HandlesChange.Release j) other = false
 
 abbrev IsCalm : Changes → Type 0
-IsCalm ch = BeginsNone ch.grows × (MutesNone ch.sessions × GivesAlone ch.handles ch.grows)
+IsCalm ch = (begins ch.grows ≡ false) × ((mutes ch.sessions ≡ false) × (gives_alone ch.handles ch.grows ≡ true))
 
-calm-unmade : (by : Option Maker) (growth : Growth) → BeginsNone growth → IsUnmade by growth
-calm-unmade by (Growth.Session role) none = absurd none
-calm-unmade by _ none = tt
+-- the plans of most events are calm
+abbrev is_usual : Event → Bool
+is_usual (Event.OpenSession role) = false
+is_usual (Event.Crash session) = false
+is_usual other = true
 
-calm-sessions : (change : SessionsChange) (s : State) → MutesNone change → SessionReady (in_call change) s
-calm-sessions SessionsChange.Same s none = tt
-calm-sessions (SessionsChange.Mute session) s none = absurd none
-calm-sessions (SessionsChange.End session) s none = tt
+calm : (c : Configuration) (s : State) (e : Event) → is_usual e ≡ true → IsCalm (plan c s e)
+calm c s (Event.OpenSession role) usual = absurd cc
+calm c s (Event.Crash session) usual = absurd cc
+calm c s e usual = grind arith
 
-calm-apart : (ch : Changes) → IsCalm ch → IsApart ch
-calm-apart ch calm = record {
-  handles = λ j is. subst (λ (change : HandlesChange). GivesAlone change ch.grows) is calm.1.1;
-  sessions = λ session is. absurd (subst MutesNone is calm.1.0);
-}
+calm-unmade : (by : Option Maker) (growth : Growth) → begins growth ≡ false → IsUnmade by growth
+calm-unmade by growth none = grind arith
+
+calm-sessions : (change : SessionsChange) (s : State) → mutes change ≡ false → SessionReady (in_call change) s
+calm-sessions (SessionsChange.Mute session) s none = absurd cc
+calm-sessions _ s none = tt
+
+given-alone : (change : HandlesChange) (growth : Growth) (j : JobId) → gives_alone change growth ≡ true → change ≡ HandlesChange.Release j → growth ≡ Growth.Nothing
+given-alone change growth j alone is = grind arith
+
+muted-none : (change : SessionsChange) (session : SessionId) → mutes change ≡ false → change ≡ SessionsChange.Mute session → ⊥
+muted-none change session none is = absurd (let both = sym (ap mutes is) ∙ none in cc)
 
 module _ (c : Configuration) (s : State) where
   -- the plan of an event is plain if it is calm
   by-calm : (e : Event) → IsCalm (plan c s e) → IsPlain c s (plan c s e)
   by-calm e calm =
-      let ch = plan c s e in
-      record { unmade = calm-unmade ch.maker ch.grows calm.0; sessions = calm-sessions ch.sessions (grown c ch.maker ch.grows s) calm.1.0; apart = calm-apart ch calm }
-
-  abbrev still : Unit {0} × (Unit {0} × Unit {0})
-  still = (tt, (tt, tt))
-
-  -- a pair that is swept, or nothing
-  swept-calm : (n : NodeId) (x : ℕ) (wanted : Bool) → BeginsNone (cond wanted Growth.Nothing (Growth.Swept n x)) × (Unit {0} × Unit {0})
-  swept-calm n x true = still
-  swept-calm n x false = still
+      let ch = plan c s e in record {
+        unmade = calm-unmade ch.maker ch.grows calm.0;
+        sessions = calm-sessions ch.sessions (grown c ch.maker ch.grows s) calm.1.0;
+        apart = record { handles = λ j is. given-alone ch.handles ch.grows j calm.1.1 is; sessions = λ session is. absurd (muted-none ch.sessions session calm.1.0 is) };
+      }
 
   -- nothing changes
   nothing : IsPlain c s same
@@ -82,38 +86,10 @@ module _ (c : Configuration) (s : State) where
 
   -- each plan is plain
   plain : (e : Event) → IsPlain c s (plan c s e)
-  plain Event.Tick = by-calm Event.Tick still
   plain (Event.OpenSession role) = record { unmade = refl; sessions = tt; apart = record { handles = λ j is. absurd cc; sessions = λ session is. absurd cc } }
   plain (Event.Crash session) =
       plan-found (IsPlain c s) nothing (session_of session s) _ (λ facts begun. record { unmade = tt; sessions = (facts, begun); apart = record { handles = λ j is. refl; sessions = λ by is. refl } })
-  plain (Event.Expire session) = by-calm (Event.Expire session) (plan-found IsCalm still (session_of session s) _ (λ a has. still))
-  plain (Event.Register session) = by-calm (Event.Register session) (plan-given IsCalm still (launcher s session) _ (λ by who. still))
-  plain (Event.Submit session j) = by-calm (Event.Submit session j) (plan-given IsCalm still (requester s session) _ (λ by who. plan-found IsCalm still (slice_get c.jobs j.0) _ (λ a has. plan-found IsCalm still (slice_get s.jobs j.0) _ (λ a has. still))))
-  plain (Event.Revise session j relative) = by-calm (Event.Revise session j relative) (plan-given IsCalm still (requester s session) _ (λ by who. plan-found IsCalm still (request_of_job j s) _ (λ a has. still)))
-  plain (Event.MinReady session l) = by-calm (Event.MinReady session l) (plan-given IsCalm still (launcher s session) _ (λ by who. still))
-  plain (Event.LockRequest session r) = by-calm (Event.LockRequest session r) (plan-given IsCalm still (maker s session) _ (λ by who. still))
-  plain (Event.UnlockRequest session r) = by-calm (Event.UnlockRequest session r) (plan-given IsCalm still (maker s session) _ (λ by who. still))
-  plain (Event.Accept session r) = by-calm (Event.Accept session r) (plan-given IsCalm still (launcher s session) _ (λ by who. still))
-  plain (Event.Decline session r why) = by-calm (Event.Decline session r why) (plan-given IsCalm still (launcher s session) _ (λ by who. plan-found IsCalm still (request_in r s.requests) _ (λ a has. still)))
-  plain (Event.TakeReady session r n) = by-calm (Event.TakeReady session r n) (plan-given IsCalm still (launcher s session) _ (λ by who. plan-found IsCalm still (request_in r s.requests) _ (λ a has. still)))
-  plain (Event.Create session r) = by-calm (Event.Create session r) (plan-given IsCalm still (launcher s session) _ (λ by who. plan-found IsCalm still (request_in r s.requests) _ (λ request has. plan-found IsCalm still (next_label request) _ (λ l next. still))))
-  plain (Event.Start session n) = by-calm (Event.Start session n) (plan-given IsCalm still (launcher s session) _ (λ by who. plan-found IsCalm still (node_in n s.nodes) _ (λ a has. still)))
-  plain (Event.Done session n attempt o) = by-calm (Event.Done session n attempt o) (plan-given IsCalm still (launcher s session) _ (λ by who. plan-found IsCalm still (node_in n s.nodes) _ (λ a has. still)))
-  plain (Event.Fulfil session r) = by-calm (Event.Fulfil session r) (plan-given IsCalm still (launcher s session) _ (λ by who. plan-found IsCalm still (request_in r s.requests) _ (λ a has. still)))
-  plain (Event.LockNode session n) = by-calm (Event.LockNode session n) (plan-given IsCalm still (maker s session) _ (λ by who. still))
-  plain (Event.UnlockNode session n) = by-calm (Event.UnlockNode session n) (plan-given IsCalm still (maker s session) _ (λ by who. still))
-  plain (Event.Acquire session j) = by-calm (Event.Acquire session j) (plan-given IsCalm still (requester s session) _ (λ by who. still))
-  plain (Event.Take session j) = by-calm (Event.Take session j) (plan-given IsCalm still (requester s session) _ (λ by who. plan-found IsCalm still (slice_get s.jobs j.0) _ (λ kept has. plan-found IsCalm still kept.request _ (λ r asks. plan-found IsCalm still (request_in r s.requests) _ (λ request stands. still)))))
-  plain (Event.EndNode session n as_what) = by-calm (Event.EndNode session n as_what) (plan-given IsCalm still (requester s session) _ (λ by who. plan-found IsCalm still (node_in n s.nodes) _ (λ a has. still)))
-  plain (Event.Finish session j) = by-calm (Event.Finish session j) (plan-given IsCalm still (maker s session) _ (λ by who. plan-found IsCalm still (slice_get s.jobs j.0) _ (λ a has. still)))
-  plain (Event.Withdraw session j) = by-calm (Event.Withdraw session j) (plan-given IsCalm still (requester s session) _ (λ by who. plan-found IsCalm still (slice_get s.jobs j.0) _ (λ a has. still)))
-  plain (Event.Release session j) = by-calm (Event.Release session j) (plan-given IsCalm still (maker s session) _ (λ by who. (tt, (tt, refl))))
-  plain (Event.MarkDeleting session n) = by-calm (Event.MarkDeleting session n) (plan-given IsCalm still (janitor s session) _ (λ by who. plan-found IsCalm still (node_in n s.nodes) _ (λ a has. still)))
-  plain (Event.Gone session n) = by-calm (Event.Gone session n) (plan-given IsCalm still (janitor s session) _ (λ by who. still))
-  plain (Event.Reset session r) = by-calm (Event.Reset session r) (plan-given IsCalm still (janitor s session) _ (λ by who. plan-found IsCalm still (request_in r s.requests) _ (λ a has. still)))
-  plain (Event.FreeNode session n) = by-calm (Event.FreeNode session n) (plan-given IsCalm still (janitor s session) _ (λ by who. plan-found IsCalm still (node_in n s.nodes) _ (λ a has. still)))
-  plain (Event.FailDeclined session r) = by-calm (Event.FailDeclined session r) (plan-given IsCalm still (janitor s session) _ (λ by who. still))
-  plain (Event.Sweep session n x) = by-calm (Event.Sweep session n x) (plan-given IsCalm still (janitor s session) _ (λ by who. swept-calm n x (is_wanted s n x)))
+  plain e = by-calm e (calm c s e refl)
 
   -- a session begins with no maker
   pub plan-unmade : (e : Event) → IsUnmade (plan c s e).maker (plan c s e).grows
@@ -144,13 +120,10 @@ module _ (c : Configuration) (s : State) (ch : Changes) (known : IsKnown c s ch)
   handles-ready : (j : JobId) → HasRoom c s j → (j.0 < 2 ^ 32) × ((length (semaphores_of c j) ≤ 8) × AllByRecursion (λ x. x.0 < length s.handles) (semaphores_of c j))
   handles-ready j room =
       let row = job-row c known.sound j room.job room.row in
-      let same : room.job.semaphores ≡ semaphores_of c j = ap (λ (o : Option Job). option_map_or (λ job. job.semaphores) o []) (sym room.row) in (
-        job-low c j known.sound (slice_get_within c.jobs j.0 room.job room.row),
-        (
-          subst (λ xs. length xs ≤ 8) same row.few_taken,
-          subst (λ xs. AllByRecursion (λ (x : SemId). x.0 < length s.handles) xs) same (subst (λ (n : ℕ). AllByRecursion (λ (x : SemId). x.0 < n) room.job.semaphores) (sym known.carried.semaphores) row.taken),
-        ),
-      )
+      let same : room.job.semaphores ≡ semaphores_of c j = ap (λ (o : Option Job). option_map_or (λ job. job.semaphores) o []) (sym room.row) in
+      let few = subst (λ xs. length xs ≤ 8) same row.few_taken in
+      let taken = subst (λ xs. AllByRecursion (λ (x : SemId). x.0 < length s.handles) xs) same (subst (λ (n : ℕ). AllByRecursion (λ (x : SemId). x.0 < n) room.job.semaphores) (sym known.carried.semaphores) row.taken) in
+      (job-low c j known.sound (slice_get_within c.jobs j.0 room.job room.row), (few, taken))
 
   -- what grows is ready for the tree
   pub growth-ready : (growth : Growth) → ch.grows ≡ growth → IsUnmade ch.maker growth → IsTypedGrowth growth → GrowthPremise c s ch growth → GrowthReady c ch.maker growth s
@@ -187,9 +160,7 @@ module _ (c : Configuration) (s : State) (ch : Changes) (r : RequestId) (frees :
   emptied-stands : RequestsPremise c s ch ch.requests → EmptiesRequest r ch.requests → IsInRows s r
   emptied-stands premise (inl is) = goes-stands (subst (λ (change : RequestsChange). RequestsPremise c s ch change) is premise)
   emptied-stands premise (inr (inl is)) = let gives = subst (λ (change : RequestsChange). RequestsPremise c s ch change) is premise in (gives.request, gives.stands)
-  emptied-stands premise (inr (inr declines)) =
-      let may = subst (λ (change : RequestsChange). RequestsPremise c s ch change) declines.3 premise in
-      (may.request, may.worked_on.stands)
+  emptied-stands premise (inr (inr declines)) = let may = subst (λ (change : RequestsChange). RequestsPremise c s ch change) declines.3 premise in (may.request, may.worked_on.stands)
 
 -- ## its nodes
 
@@ -253,32 +224,21 @@ distinct : (queue : List SessionId) → DistinctSessions queue → AreDistinct q
 distinct [] once = tt
 distinct (session ∷ queue) once = (once.0, distinct queue once.1)
 
--- no session waits twice for one request
-requests-once : (s : State) → IsQueued s → WaitOnce s.requests
-requests-once s queued = all-weaker (λ (e : RequestEntry). IsLiveQueue s e.queue) (λ (e : RequestEntry). AreDistinct e.queue) (λ e queue. distinct e.queue queue.once) s.requests queued.at_requests
-
--- nor for one node
-nodes-once : (s : State) → IsQueued s → AllByRecursion (λ e. AreDistinct e.queue) s.nodes
-nodes-once s queued = all-weaker (λ (e : NodeEntry). IsLiveQueue s e.queue) (λ (e : NodeEntry). AreDistinct e.queue) (λ e queue. distinct e.queue queue.once) s.nodes queued.at_nodes
+-- no session waits twice for one request, nor for one node
+waits-once : {I K : Type 0} (s : State) (rows : List (Locked I K)) → AllByRecursion (λ e. IsLiveQueue s e.queue) rows → AllByRecursion (λ e. AreDistinct e.queue) rows
+waits-once s rows queued = all-weaker (λ (e : Locked _ _). IsLiveQueue s e.queue) (λ (e : Locked _ _). AreDistinct e.queue) (λ e queue. distinct e.queue queue.once) rows queued
 
 -- every accepted event is ready for the tree, if each record has a spelling after the call
 pub events-are-ready : RecordsAreSpelled → EventsAreReady
 events-are-ready spelled c s e accepted =
     let ch = plan c s e in
     let known = known-accepted c s e accepted in
-    let tick = accepted.fits.tick in
-    record {
-      premises = known.premises;
-      apart = plan-apart c s e;
-      grows = growth-ready c s ch known ch.grows refl (plan-unmade c s e) known.typed.grows known.premises.grows;
-      nodes = nodes-ready c s accepted.fits accepted.invariant accepted.carried ch ch.nodes refl known.premises.requests known.premises.nodes;
-      sessions = plan-sessions c s e;
-      request_waits = requests-once s accepted.invariant.queued;
-      node_waits = nodes-once s accepted.invariant.queued;
-      spelled = accepted.carried.spelled;
-      spelled_later = spelled c s e accepted;
-      tick = omega arith;
-    }
+    let grows = growth-ready c s ch known ch.grows refl (plan-unmade c s e) known.typed.grows known.premises.grows in
+    let nodes = nodes-ready c s accepted.fits accepted.invariant accepted.carried ch ch.nodes refl known.premises.requests known.premises.nodes in
+    let request_waits = waits-once s s.requests accepted.invariant.queued.at_requests in
+    let node_waits = waits-once s s.nodes accepted.invariant.queued.at_nodes in
+    let tick : s.tick + 1 < 2 ^ 32 = omega (arith, accepted.fits.tick) in
+    assumption (known.premises, plan-apart c s e, plan-sessions c s e, accepted.carried.spelled, spelled c s e accepted)
 
 -- # the changes of a whole event
 
@@ -288,16 +248,14 @@ events-are-ready spelled c s e accepted =
 requests-grown : (c : Configuration) (maker : Option Maker) (growth : Growth) (s : State) → GrowthReady c maker growth s → AllByRecursion (λ e. IsRequest e.kept) s.requests → AllByRecursion (λ e. IsRequest e.kept) (grown c maker growth s).requests
 requests-grown c maker (Growth.Request priority asked) s ready all =
     all-insert_before (λ (e : RequestEntry). IsRequest e.kept) (λ (e : RequestEntry). is_id_before (next_id priority s) e.id) (record { id = next_id priority s; kept = new_record asked; queue = [] }) s.requests ready.1.0 all
-requests-grown c (Some maker) (Growth.JoinRequest r) s ready all =
-    all-change_first (λ (e : RequestEntry). IsRequest e.kept) (λ (e : RequestEntry). same_request e.id r) (λ (e : RequestEntry). record e { queue = joined maker.session (request_queue r s.requests) }) s.requests (λ e is. is) all
+requests-grown c (Some maker) (Growth.JoinRequest r) s ready all = queue-keeps IsRequest (λ e. same_request e.id r) _ s.requests all
 requests-grown c None _ s ready all = all
 requests-grown c (Some maker) _ s ready all = all
 
 -- so have the nodes
 nodes-grown : (c : Configuration) (maker : Option Maker) (growth : Growth) (s : State) → GrowthReady c maker growth s → AllByRecursion (λ e. IsNode e.kept) s.nodes → AllByRecursion (λ e. IsNode e.kept) (grown c maker growth s).nodes
 nodes-grown c maker (Growth.Node kept) s ready all = all-push (λ (e : NodeEntry). IsNode e.kept) s.nodes _ all ready.1.0
-nodes-grown c (Some maker) (Growth.JoinNode n) s ready all =
-    all-change_first (λ (e : NodeEntry). IsNode e.kept) (λ (e : NodeEntry). e.id.0 == n.0) (λ (e : NodeEntry). record e { queue = joined maker.session (node_queue n s.nodes) }) s.nodes (λ e is. is) all
+nodes-grown c (Some maker) (Growth.JoinNode n) s ready all = queue-keeps IsNode (λ e. e.id.0 == n.0) _ s.nodes all
 nodes-grown c (Some maker) (Growth.Allocate n r tenant) s ready all =
     all-change_first (λ (e : NodeEntry). IsNode e.kept) (λ (e : NodeEntry). e.id.0 == n.0) (allocated r tenant maker.session) s.nodes (λ e is. granted-is e.kept (Some r) tenant is ready.1.0 ready.0) all
 nodes-grown c None _ s ready all = all
@@ -326,26 +284,20 @@ spelled-grown c maker growth s ready spelled = record {
 -- table after table leaves the state after the call
 called-is : (c : Configuration) (ch : Changes) (g : State) (change : SessionsChange) → with_all c (record ch { sessions = change }) g ≡ settled c (record ch { sessions = in_call change }) g
 called-is c ch g SessionsChange.Same = refl
-called-is c ch g (SessionsChange.Mute session) = refl
-called-is c ch g (SessionsChange.End session) = refl
+called-is c ch g _ = refl
 
 -- the end of a session leaves the changed state
 abbrev pub state_with_end : SessionsChange → State → State
-state_with_end SessionsChange.Same s = s
-state_with_end (SessionsChange.Mute session) s = s
 state_with_end (SessionsChange.End session) s = without_session session s
+state_with_end other s = s
 
 changed-is : (c : Configuration) (ch : Changes) (g : State) (change : SessionsChange) → state_with_end change (settled c (record ch { sessions = in_call change }) g) ≡ settled c (record ch { sessions = change }) g
 changed-is c ch g SessionsChange.Same = refl
-changed-is c ch g (SessionsChange.Mute session) = refl
-changed-is c ch g (SessionsChange.End session) = refl
+changed-is c ch g _ = refl
 
 -- sessions count from one
 first-session : (session : SessionId) (s : State) (facts : SessionFacts) → session_of session s ≡ Some facts → 1 ≤ session.0
-first-session session s facts there = by (session.0 == 0) refl there where
-  by : (b : Bool) → (session.0 == 0) ≡ b → cond b None (slice_get s.sessions (session.0 - 1)) ≡ Some facts → 1 ≤ session.0
-  by true is there = absurd cc
-  by false is there = grind (arith, nat_tests)
+first-session session s facts there = grind (arith, nat_tests)
 
 -- ## the whole
 
@@ -358,8 +310,6 @@ record IsLeft (later : State) (t : TreeState) (number more : ℕ) : Type 0 where
   room : HasRoomFor more t
 
 left-by : (s : State) (ch : Changes) (change : SessionsChange) → SessionsPremise s ch change → (later : State) (u : TreeState) (w more : ℕ) → u.changes + 1 < 18_446_744_073_709_551_615 → Stands later u w more → IsLeft (state_with_end change later) (with_end change u) u.changes more
-left-by s ch SessionsChange.Same premise later u w more low stands = record { whole = stands.whole; good = stands.good; lays = stands.lays; numbers = omega arith; room = stands.room }
-left-by s ch (SessionsChange.Mute session) premise later u w more low stands = record { whole = stands.whole; good = stands.good; lays = stands.lays; numbers = omega arith; room = stands.room }
 left-by s ch (SessionsChange.End session) premise later u w more low stands =
     let next = low-min (u.changes + 1) 18_446_744_073_709_551_615 in
     record {
@@ -369,6 +319,7 @@ left-by s ch (SessionsChange.End session) premise later u w more low stands =
       numbers = next;
       room = room-ended u (tree_session session) more stands.whole (omega arith) stands.room;
     }
+left-by s ch _ premise later u w more low stands = record { whole = stands.whole; good = stands.good; lays = stands.lays; numbers = omega arith; room = stands.room }
 
 -- a session that begins after the parts, or none
 record BeginsLast (growth : Growth) (t : TreeState) (w : ℕ) (parts : List Op) : Type 0 where
@@ -400,23 +351,6 @@ module _ (growths : GrowthsEnact) (tables : TablesEnact) (c : Configuration) (ch
   all-is : with_all c ch g ≡ called c ch s
   all-is = called-is c ch g ch.sessions
 
-  settled-ready : SettledReady c ch s g t u
-  settled-ready = record {
-    requests = ready.premises.requests;
-    nodes = ready.premises.nodes;
-    kept_requests = same-requests c ch.maker ch.grows s;
-    kept_nodes = λ is. (ap (λ (growth : Growth). (grown c ch.maker growth s).nodes) is, (same-tick c ch.maker ch.grows s, ap (λ (growth : Growth). (grown c ch.maker growth s).requests) is));
-    kept_tree = grown-tree c ch.maker ch.grows s t;
-    nodes_ready = ready.nodes;
-    session_ready = ready.sessions;
-    request_waits = ready.request_waits;
-    node_waits = ready.node_waits;
-    spelled = ready.spelled;
-    spelled_grown = spelled-grown c ch.maker ch.grows s ready.grows ready.spelled;
-    spelled_later = subst HasSpellings (sym all-is) ready.spelled_later;
-    tick = let same = same-tick c ch.maker ch.grows s in let small = ready.tick in omega arith;
-  }
-
   grown-enacts : Enacts (with_begin ch.grows t) w (grown_parts c ch.maker ch.grows s) g (more + 56)
   grown-enacts = growths c ch.maker ch.grows s t (more + 56) (stands-less s t w (more + 64) (more + 56 + 8) (omega arith) stands) ready.grows
 
@@ -425,10 +359,11 @@ module _ (growths : GrowthsEnact) (tables : TablesEnact) (c : Configuration) (ch
       subst (λ (later : State). Enacts (with_begin ch.grows t) w parts later (more + 16)) all-is
       (enacts-joined g (with_all c ch g) (with_begin ch.grows t) w (grown_parts c ch.maker ch.grows s) (settled_parts c ch s t) (more + 56) (more + 16) grown-enacts
       (subst (λ (rest : List Op). Enacts u w rest (with_all c ch g) (more + 16)) (settled-current c ch s t ready.premises ready.apart)
-      (settled-enact tables c ch s g t u (more + 16) settled-ready (stands-less g u w (more + 56) (more + 16 + 40) (omega arith) grown-enacts.leaves))))
+      (settled-enact tables c ch s t (more + 16) ready (spelled-grown c ch.maker ch.grows s ready.grows ready.spelled) (subst HasSpellings (sym all-is) ready.spelled_later) (stands-less g u w (more + 56) (more + 16 + 40) (omega arith) grown-enacts.leaves))))
 
-  event-enacted : IsEnacted c ch s t more
-  event-enacted =
+  -- the changes of an accepted event are enacted
+  pub events-enact : IsEnacted c ch s t more
+  events-enact =
       let begins = begin-last ch.grows t w parts stands.live all-enacts.goes in
       let number = number-of t w parts begins.goes in
       let v : TreeState = numbered number.number (after_parts (with_begin ch.grows t) w parts) in
@@ -437,32 +372,16 @@ module _ (growths : GrowthsEnact) (tables : TablesEnact) (c : Configuration) (ch
       let small = number.low in
       let stands_called : Stands (called c ch s) v w more =
       stands-numbered (called c ch s) (after_parts (with_begin ch.grows t) w parts) w more number.number (omega arith) (stands-less (called c ch s) (after_parts (with_begin ch.grows t) w parts) w (more + 16) more (omega arith) all-enacts.leaves) in
-      let left = left-by s ch ch.sessions ready.premises.sessions (called c ch s) v w more (omega arith) stands_called in
-      let tree_is : with_end ch.sessions v ≡ enacted c ch s t = ap (with_end ch.sessions) (sym called_tree) in
-      let state_is : state_with_end ch.sessions (called c ch s) ≡ changed c ch s = changed-is c ch g ch.sessions in
-      record {
-        goes = begins.goes;
-        whole = subst (λ (x : TreeState). IsWhole x.nodes) tree_is left.whole;
-        good = subst HasGoodIds state_is left.good;
-        lays = subst (λ (later : State). LaysOut later (enacted c ch s t)) state_is (subst (λ (x : TreeState). LaysOut (state_with_end ch.sessions (called c ch s)) x) tree_is left.lays);
-        numbers = subst (λ (x : TreeState). x.changes ≤ t.changes + 2) tree_is (let last = left.numbers in omega arith);
-        room = subst (HasRoomFor more) tree_is left.room;
-      }
-
--- the changes of an accepted event are enacted
-pub events-enact : GrowthsEnact → TablesEnact → EventsEnact
-events-enact growths tables c ch s t more ready stands low = event-enacted growths tables c ch s t more ready stands low
+      let left : IsLeft (changed c ch s) (enacted c ch s t) v.changes more =
+      subst (λ (x : TreeState). IsLeft (changed c ch s) x v.changes more) (ap (with_end ch.sessions) (sym called_tree))
+      (subst (λ (later : State). IsLeft later (with_end ch.sessions v) v.changes more) (changed-is c ch g ch.sessions) (left-by s ch ch.sessions ready.premises.sessions (called c ch s) v w more (omega arith) stands_called)) in
+      record { goes = begins.goes; whole = left.whole; good = left.good; lays = left.lays; numbers = omega (arith, left.numbers); room = left.room }
 
 -- # every accepted event is enacted
 
 -- the law on whole events, of an accepted one
 pub events-are-enacted : EventsEnact → EventsAreReady → StepsAreCarried → ((c : Configuration) (s : State) (e : Event) → is_ok (judge c s e) ≡ true → changed c (plan c s e) s ≡ next c s e) → EventsAreEnacted
 events-are-enacted enact ready carried lead c s e t more accepted stands low =
-    let done : IsEnacted c (plan c s e) s t more = enact c (plan c s e) s t more (ready c s e accepted) stands low in (
-      done,
-      record {
-        whole = done.whole;
-        lays = subst (λ (later : State). LaysOut later (enacted c (plan c s e) s t)) (lead c s e accepted.accepted) done.lays;
-        carried = carried c s e accepted;
-      },
-    )
+    let done : IsEnacted c (plan c s e) s t more = enact c (plan c s e) s t more (ready c s e accepted) stands low in
+    let lays = subst (λ (later : State). LaysOut later (enacted c (plan c s e) s t)) (lead c s e accepted.accepted) done.lays in
+    (done, record { whole = done.whole; lays = lays; carried = carried c s e accepted })

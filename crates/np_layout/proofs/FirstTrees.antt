@@ -1,5 +1,5 @@
 -- the first tree of a sound site, from its fixed directories on, and that it can carry the first state
-use Rattle.np_layout.proofs.Prelude.{AllByRecursion, AreHolders, AreSemaphores, Bool, Configuration, Goes, HasGoodIds, HasHandles, HasLeaves, HasRoomFor, HasSpellings, IsGood, IsJob, IsOk, IsOrdered, IsPart, IsRole, IsSound, IsWhole, IsWhole-new_tree, Job, JobId, Jobs, Launchers, LaysOut, List, Nodepool, Nodes, None, Op, Persistent, Place, Poolsim, RequestLocks, Requests, Roles, Root, Row, Seen, Semaphore, Semaphores, Sessions, Some, StartsAreCarried, SweptPairs, Tick, TreeState, Zuul, above, after_begin, after_part, after_parts, all-map, answers_from, ap, arith, below, by_name, decimal, digits, directories, false, find_named, first_directories, first_parts, first_tree, fold-append, goes-answered, goes-joined, goes-under-one-number, goes-whole, handle_row, is_in, janitor_role_row, job_row, job_text, launcher_role_row, length, length-map, make, make_each, map, name_of, new_job, new_tree, no_deeds, nothing-below_nothing, option_map, owner_at, path_of, persistent, range_with_len, refl, requester_role_row, role_text, room-falls, room-gives, rows_at, rows_from, seen-is-row, seen_at, seen_in, semaphore_row, start, subst, suc, sym, true, under, with_next_number, with_row, zero, ℕ, [], ◌++◌, ◌+◌, ◌<◌, ◌^◌, ◌∙◌, ◌∷◌, ◌≡◌, ◌≤◌}
+use Rattle.np_layout.proofs.Prelude.{AllByRecursion, AreHolders, AreSemaphores, Bool, Configuration, Goes, HasGoodIds, HasHandles, HasLeaves, HasRoomFor, HasSpellings, IsGood, IsJob, IsOk, IsOrdered, IsPart, IsRole, IsSound, IsWhole, IsWhole-new_tree, Job, JobId, Jobs, Launchers, LaysOut, List, Nodepool, Nodes, None, Op, Persistent, Place, Poolsim, RequestLocks, Requests, Roles, Root, Row, Seen, Semaphore, Semaphores, Sessions, Some, StartsAreCarried, SweptPairs, Tick, TreeState, Zuul, [], above, after_begin, after_part, after_parts, all-map, answers_from, ap, arith, below, by_name, decimal, digits, directories, false, find_named, first_directories, first_parts, first_tree, fold-append, goes-answered, goes-joined, goes-under-one-number, goes-whole, handle_row, is_in, janitor_role_row, job_row, job_text, launcher_role_row, length, length-map, make, make_each, map, name_of, new_job, new_tree, no_deeds, nothing-below_nothing, option_map, owner_at, path_of, persistent, range_with_len, refl, requester_role_row, role_text, room-falls, room-gives, rows_at, rows_from, seen-is-row, seen_at, seen_in, semaphore_row, start, subst, suc, sym, true, under, with_next_number, with_row, zero, ℕ, ◌++◌, ◌+◌, ◌<◌, ◌^◌, ◌∙◌, ◌∷◌, ◌≡◌, ◌≤◌}
 use Rattle.np_layout.proofs.Names.{IsGood-above, is_path-of, length-two, parts-of}
 use Rattle.np_layout.proofs.Steps.{Step, counter-there, make-step, over_leaves}
 use Rattle.np_layout.proofs.Elsewhere.{IsBeside, Says, Stays, Table, all-tables, live-stays, of_frame, of_jobs, of_launchers, of_live, of_node_locks, of_nodes, of_request_locks, of_requests, of_roles, of_semaphores, of_sessions, of_swept, rows-stay, same-lays, stays-both, stays-more, stays-same, table-beside}
@@ -63,7 +63,7 @@ module _ {A : Type 0} (place : ℕ → Place) (number : Place → ℕ) (dir : Pl
       let counter = counter-there t dir ready.owner in
       let one : Step dir (place at) Persistent (persistent (place at) bytes) t 1 (make bytes (place at)) =
       make-step t 1 dir (place at) bytes Persistent counter.0 good (is.over at) top refl short
-      (record { whole = ready.whole; live = ready.live; owner = ready.owner; gives = counter.1; free = free at (omega arith) (omega arith); room = room-gives t (count + more) left }) in
+      (assumption (ready, counter.1, free at (omega arith) (omega arith), room-gives t (count + more) left)) in
       let u : TreeState = after_part t 1 (make bytes (place at)) in
       let next : Ready dir u = record {
         whole = one.creates.whole;
@@ -150,15 +150,11 @@ is_filled other = false
 -- the other ones are laid out
 pub based-says : (c : Configuration) (k : Table) → is_filled k ≡ false → Says (start c) based k
 unfolding based path_of
-based-says c of_requests empty = record { rows = refl; leaves = tt; gives = refl }
-based-says c of_request_locks empty = record { rows = refl; queues = tt }
-based-says c of_nodes empty = record { rows = tt; gives = refl }
-based-says c of_node_locks empty = tt
-based-says c of_launchers empty = refl
-based-says c of_sessions empty = record { rows = refl; leaves = tt }
-based-says c of_swept empty = record { rows = refl; leaves = tt }
-based-says c of_live empty = record { begun = refl; first = refl; each = refl }
-based-says c filled empty = absurd cc
+based-says c of_frame empty = absurd cc
+based-says c of_semaphores empty = absurd cc
+based-says c of_jobs empty = absurd cc
+based-says c of_roles empty = absurd cc
+based-says c k empty = assumption
 
 -- # the first tree of a sound site
 
@@ -185,55 +181,30 @@ bare : (dir : Place) (t : TreeState) → under dir t ≡ [] → HasLeaves dir t
 bare dir t empty = subst (AllByRecursion (λ (row : Row). rows_at t (below (path_of dir) row.name) ≡ [])) (sym empty) tt
 
 module _ (c : Configuration) (sound : IsSound c) where
-  few_semaphores : length c.semaphores ≤ 64
-  few_semaphores = sound.few_semaphores
-
-  few_jobs : length c.jobs ≤ 4096
-  few_jobs = sound.demand.few_jobs
-
-  few_pools : length c.pools ≤ 64
-  few_pools = sound.supply.few_pools
-
-  few_requesters : length c.requesters ≤ 16
-  few_requesters = sound.few_requesters
-
   -- each id of the state before the first event has a text
   pub start-good : HasGoodIds (start c)
   start-good =
-      let semaphores = few_semaphores in
-      let jobs = few_jobs in
-      let pools = few_pools in
-      let requesters = few_requesters in
-      record {
-        sessions = omega arith;
-        requests = tt;
-        nodes = tt;
-        registrations = tt;
-        semaphores = few-made c.semaphores no_jobs (2 ^ 16) (omega arith);
-        handles = all-map (λ holders. AllByRecursion (λ j. IsGood (Job j)) holders) (λ _. no_jobs) c.semaphores (λ row. tt);
-        jobs = few-made c.jobs new_job (2 ^ 32) (omega arith);
-        launchers = few-made c.pools no_deeds (2 ^ 16) (omega arith);
-        janitors = few-made c.pools no_deeds (2 ^ 16) (omega arith);
-        requesters = few-made c.requesters no_deeds (2 ^ 16) (omega arith);
-        swept = tt;
-      }
+      let semaphores = few-made c.semaphores no_jobs (2 ^ 16) (omega (arith, sound.few_semaphores)) in
+      let handles = all-map (λ holders. AllByRecursion (λ j. IsGood (Job j)) holders) (λ _. no_jobs) c.semaphores (λ row. tt) in
+      let pools = few-made c.pools no_deeds (2 ^ 16) (omega (arith, sound.supply.few_pools)) in
+      search (arith, few-made c.jobs new_job (2 ^ 32) (omega (arith, sound.demand.few_jobs)), few-made c.requesters no_deeds (2 ^ 16) (omega (arith, sound.few_requesters)))
 
   -- ## the tree after each kind
 
   are-semaphores : IsTable semaphore_at place_number Semaphores 0 c.semaphores
-  are-semaphores = record { good = λ n low. let few = few_semaphores in omega arith; over = λ n. refl; numbers = λ n. refl }
+  are-semaphores = record { good = λ n low. let few = sound.few_semaphores in omega arith; over = λ n. refl; numbers = λ n. refl }
 
   are-jobs : IsTable job_place place_number Jobs 0 c.jobs
-  are-jobs = job-table c.jobs (let few = few_jobs in omega arith)
+  are-jobs = job-table c.jobs (let few = sound.demand.few_jobs in omega arith)
 
   are-launchers : IsTable launcher_place place_number Roles 0 c.pools
-  are-launchers = launcher-table c.pools (let few = few_pools in omega arith)
+  are-launchers = launcher-table c.pools (let few = sound.supply.few_pools in omega arith)
 
   are-janitors : IsTable janitor_place place_number Roles 0 c.pools
-  are-janitors = janitor-table c.pools (let few = few_pools in omega arith)
+  are-janitors = janitor-table c.pools (let few = sound.supply.few_pools in omega arith)
 
   are-requesters : IsTable requester_place place_number Roles 0 c.requesters
-  are-requesters = requester-table c.requesters (let few = few_requesters in omega arith)
+  are-requesters = requester-table c.requesters (let few = sound.few_requesters in omega arith)
 
   -- a directory is ready at first
   first-ready : (dir : Place) → owner_at based (path_of dir) ≡ Some None → Ready dir based
@@ -242,12 +213,9 @@ module _ (c : Configuration) (sound : IsSound c) where
   -- the semaphores are made
   semaphores : Block semaphore_at Semaphores [] 0 (length c.semaphores) (length c.jobs + (length c.pools + (length c.pools + (length c.requesters + 1)))) based
   semaphores =
-      let a = few_semaphores in
-      let b = few_jobs in
-      let d = few_pools in
-      let e = few_requesters in
       block semaphore_at place_number Semaphores [] c.semaphores are-semaphores refl (λ n same. absurd cc) (omega arith) (length c.semaphores) 0 (length c.jobs + (length c.pools + (length c.pools + (length c.requesters + 1)))) based (omega arith)
-      (first-ready Semaphores based-shows.owners.0) (based-room (length c.semaphores + (length c.jobs + (length c.pools + (length c.pools + (length c.requesters + 1))))) (omega arith))
+      (first-ready Semaphores based-shows.owners.0)
+      (based-room (length c.semaphores + (length c.jobs + (length c.pools + (length c.pools + (length c.requesters + 1))))) (omega (arith, sound.few_semaphores, sound.demand.few_jobs, sound.supply.few_pools, sound.few_requesters)))
       (λ n from low. free-below based Semaphores (semaphore_at n) based-whole based-shows.semaphores (are-semaphores.good n (omega arith)) refl)
 
   -- the jobs are made after them
@@ -431,51 +399,20 @@ module _ (c : Configuration) (sound : IsSound c) where
 
 -- # a tree can carry the state before the first event
 
--- no job has a handle
-abbrev handles_of_no_job : List JobId
-handles_of_no_job = []
-
 -- a job that nobody has begun has a spelling
 new-job : IsJob new_job
-new-job = record { ending = tt; parts = tt; few = omega arith; nodes = tt; pool = tt; request = tt }
+new-job = search arith
 
 -- so has a role that has done nothing
 no-deeds : IsRole no_deeds
-no-deeds = record { acts = omega arith; starts = omega arith; strikes = omega arith }
+no-deeds = search arith
 
 roles-spelled : {A : Type 0} (rows : List A) → AllByRecursion IsRole (map (λ _. no_deeds) rows)
 roles-spelled rows = all-map IsRole (λ _. no_deeds) rows (λ row. no-deeds)
 
-module _ (c : Configuration) (sound : IsSound c) where
-  start-spelled : HasSpellings (start c)
-  start-spelled = record {
-    requests = tt;
-    nodes = tt;
-    jobs = all-map IsJob (λ _. new_job) c.jobs (λ row. new-job);
-    launchers = roles-spelled c.pools;
-    janitors = roles-spelled c.pools;
-    requesters = roles-spelled c.requesters;
-    sessions = tt;
-  }
-
-  start-ordered : IsOrdered c (start c)
-  start-ordered = record {
-    registrations = tt;
-    pools = tt;
-    handles = all-map (AreHolders (length c.jobs)) (λ _. handles_of_no_job) c.semaphores (λ row. record { rise = tt; exist = tt });
-    swept = tt;
-  }
-
 -- a tree can carry the state before the first event of a sound site
 pub starts-are-carried : StartsAreCarried
-starts-are-carried c sound = record {
-  good = start-good c sound;
-  spelled = start-spelled c sound;
-  ordered = start-ordered c sound;
-  semaphores = length-map c.semaphores (λ _. handles_of_no_job);
-  jobs = length-map c.jobs (λ _. new_job);
-  launchers = length-map c.pools (λ _. no_deeds);
-  janitors = length-map c.pools (λ _. no_deeds);
-  requesters = length-map c.requesters (λ _. no_deeds);
-  tick = omega arith;
-}
+starts-are-carried c sound =
+    let spelled : HasSpellings (start c) = assumption (all-map IsJob (λ _. new_job) c.jobs (λ row. new-job), roles-spelled c.pools, roles-spelled c.requesters) in
+    let ordered : IsOrdered c (start c) = assumption (all-map (AreHolders (length c.jobs)) (λ _. no_jobs) c.semaphores (λ row. record { rise = tt; exist = tt })) in
+    search (arith, start-good c sound, length-map c.semaphores (λ _. no_jobs), length-map c.jobs (λ _. new_job), length-map c.pools (λ _. no_deeds), length-map c.requesters (λ _. no_deeds))

@@ -1,59 +1,34 @@
 -- the parts for what grows by an event, and for handles that are given back
-use Rattle.np_layout.proofs.Prelude.{AllByRecursion, Bool, DeleteLaysOut, Enacts, Ephemeral, Growth, GrowthsEnact, Handle, HandlesChange, HandlesEnact, HasGoodIds, HasRoomFor, IfSome, IsGood, IsNode, IsPart, Job, JobId, Launcher, List, Node, NodeEntry, NodeId, NodeLock, NodeRecord, Nodes, None, Op, Option, PartsLayOut, Persistent, Place, PoolId, Registration, Request, RequestEntry, RequestId, RequestLock, RequestRecord, Requests, Role, SemId, Session, SessionFacts, SessionId, Some, Stands, State, Swept, SweptPlace, TenantId, TreeState, acquire_parts, after_begin, after_parts, all-change_at, all-change_first, all-filter, all-find, all-insert_before, all-push, all_with_handle, all_without_handle, allocate_parts, allocated, ap, arith, change_at, change_first, change_first-absent, change_first-same, cond, delete, false, filter-not_none, find-change_first, find-passes, goes-whole, has_handle, inl, insert_before, insert_request, is_among, is_id_before, is_in, is_pair_after, is_path-below, is_queued, is_swept, join_parts, joined, length, length-append, length-change_at, list_any-append, make, nat_lt, nat_tests, new_record, next_id, node_entry, node_parts, node_queue, node_text, none-list_any, not, option_map, option_map_or, path_of, put_node_queue, put_request_queue, refl, registered, registers, release_parts, request_entry, request_parts, request_prefix, request_queue, request_record_text, room-falls, same_request, semaphores_of, session_text, set, slice_get, subst, suc, sym, tree_session, true, unwrap_or, wait_at, where_there, with_handle, with_pair, without_handle, writer, zero, ℕ, [], ◌++◌, ◌+◌, ◌<◌, ◌==◌, ◌^◌, ◌||◌, ◌∙◌, ◌∷◌, ◌≡◌, ◌≤◌}
-use Rattle.np_layout.proofs.Creates.{grown_nodes-lay-out, node_waits-lay-out, request_waits-lay-out, registrations-lay-out, swept_pairs-lay-out, handles-lay-out as made-lays-out, returned-handle-handles-lay-out as gone-lays-out}
+use Rattle.np_layout.proofs.Prelude.{AllByRecursion, Bool, DeleteLaysOut, Enacts, Ephemeral, Growth, GrowthsEnact, Handle, HandlesChange, HandlesEnact, HasGoodIds, HasRoomFor, IfSome, IsGood, IsNode, IsPart, Job, JobId, Launcher, List, Node, NodeEntry, NodeId, NodeLock, NodeRecord, Nodes, None, Op, Option, PartsLayOut, Persistent, Place, PoolId, Registration, Request, RequestEntry, RequestId, RequestLock, RequestRecord, Requests, Role, SemId, Session, SessionId, Some, Stands, State, Swept, SweptPlace, TenantId, TreeState, [], acquire_parts, after_begin, after_parts, all-change_at, all-change_first, all-filter, all-find, all-insert_before, all-push, all_with_handle, all_without_handle, allocate_parts, allocated, ap, arith, change_at, change_first, change_first-absent, change_first-same, cond, delete, false, filter-not_none, find-change_first, find-passes, goes-whole, has_handle, inl, insert_before, insert_request, is_among, is_id_before, is_in, is_pair_after, is_path-below, is_queued, is_swept, join_parts, joined, length, length-append, length-change_at, make, nat_lt, new_record, next_id, node_entry, node_parts, node_queue, node_text, none-list_any, not, option_map, option_map_or, path_of, put_node_queue, put_request_queue, refl, registered, registers, release_parts, request_entry, request_parts, request_prefix, request_queue, request_record_text, room-falls, same_request, semaphores_of, session_text, set, slice_get, subst, suc, sym, tree_session, true, unwrap_or, wait_at, where_there, with_handle, with_pair, without_handle, writer, zero, ℕ, ◌++◌, ◌+◌, ◌<◌, ◌==◌, ◌^◌, ◌∙◌, ◌∷◌, ◌≡◌, ◌≤◌}
+use Rattle.np_layout.proofs.Creates.{AreJobs, grown_nodes-lay-out, handle-good, handles-lay-out as made-lays-out, node_waits-lay-out, registrations-lay-out, request_waits-lay-out, handles_go-lay-out as gone-lays-out, swept_pairs-lay-out}
 use Rattle.np_layout.proofs.CreateRequests.{grown_requests-lay-out, is_element-prefix}
 use Rattle.np_layout.proofs.Names.{is_path-of}
 use Rattle.np_layout.proofs.Sessions.{sessions-lay-out}
-use Rattle.np_layout.proofs.Sets.{nodes-lay-out, same-is as node-is}
-use Rattle.np_layout.proofs.ChangeParts.{good-nodes, good-requests, good-rows, queue-kept}
-use Rattle.np_layout.proofs.Stands.{enacts-deletes, enacts-joined, enacts-less, enacts-none, enacts-parts, enacts-set, live-after, node-short, part-create, part-delete, part-wait, request-short, room-less, session-short, stands-less}
-use Rattle.np_layout.proofs.Deletes.{node-good, request-good}
+use Rattle.np_layout.proofs.Sets.{nodes-lay-out}
+use Rattle.np_layout.proofs.Spelled.{granted-is}
+use Rattle.np_layout.proofs.ChangeParts.{good-nodes, good-requests, good-tables, queue-kept, there-by}
+use Rattle.np_layout.proofs.Stands.{enacts-deletes, enacts-joined, enacts-less, enacts-none, enacts-parts, enacts-set, in-more, live-after, node-short, part-create, part-delete, part-wait, request-short, room-less, session-short, stands-less}
+use Rattle.np_layout.proofs.Deletes.{node-good, node-same as node-is, request-good}
+use Rattle.np_lists.proofs.Plain.{by_bool}
 
 -- # what grows by a record of its own: a session, a request and a node
 
 -- ## a session
-
--- a session that begins changes no node, and the tree's first session stays live
-begun-room : (t : TreeState) (more : ℕ) → HasRoomFor more t → HasRoomFor more (after_begin t)
-begun-room t more room = record { change = room.change; versions = room.versions; counters = room.counters; rows = room.rows; few = room.few }
-
-begun-live : (t : TreeState) (w : ℕ) → is_in t.live w ≡ true → is_in (after_begin t).live w ≡ true
-begun-live t w live = list_any-append (λ (s : ℕ). s == w) t.live ((t.begun + 1) ∷ []) ∙ ap (λ (b : Bool). b || is_in ((t.begun + 1) ∷ []) w) live
-
-good-session : (s : State) (facts : SessionFacts) → length s.sessions + 1 < 2 ^ 32 → HasGoodIds s → HasGoodIds (record s { sessions = s.sessions ++ facts ∷ [] })
-good-session s facts small good =
-    let long = length-append s.sessions (facts ∷ []) in
-    record {
-      sessions = omega arith;
-      requests = good.requests;
-      nodes = good.nodes;
-      registrations = good.registrations;
-      semaphores = good.semaphores;
-      handles = good.handles;
-      jobs = good.jobs;
-      launchers = good.launchers;
-      janitors = good.janitors;
-      requesters = good.requesters;
-      swept = good.swept;
-    }
 
 -- the begin of a session, and the create of its record by the tree's first session
 pub session-grows : (s : State) (t : TreeState) (role : Role) (more : ℕ) → Stands s t 1 (more + 1) → length s.sessions + 1 < 2 ^ 32 → length (session_text (record { mute = false; role = role })) ≤ 65_536 →
     Enacts (after_begin t) 1 (make (session_text (record { mute = false; role = role })) (Session (record { 0 = length s.sessions + 1 })) ∷ []) (record s { sessions = s.sessions ++ record { role = role; live = true; mute = false } ∷ [] }) more
 session-grows s t role more stands small short =
     let from : TreeState = after_begin t in
-    let part : Op = make (session_text (record { mute = false; role = role })) (Session (record { 0 = length s.sessions + 1 })) in
+    let place : Place = Session (record { 0 = length s.sessions + 1 }) in
+    let part : Op = make (session_text (record { mute = false; role = role })) place in
     let lays = sessions-lay-out s t role stands.whole stands.good stands.lays (room-less t (more + 1) 1 (omega arith) stands.room) small short in
-    record {
-      goes = lays.goes;
-      leaves = record {
-        whole = goes-whole from (after_parts from 1 (part ∷ [])) 1 (part ∷ []) stands.whole (part-create (Session (record { 0 = length s.sessions + 1 })) (session_text (record { mute = false; role = role })) Persistent small, tt) lays.goes;
-        good = good-session s (record { role = role; live = true; mute = false }) small stands.good;
-        lays = lays.lays;
-        live = ap (λ (known : List ℕ). is_in known 1) (live-after from 1 (part ∷ [])) ∙ begun-live t 1 stands.live;
-        room = room-falls from 1 part more (begun-room t (more + 1) stands.room);
-      };
-    }
+    let begun : HasRoomFor (more + 1) from = assumption stands.room in
+    let live : is_in (after_parts from 1 (part ∷ [])).live 1 ≡ true = ap (λ (known : List ℕ). is_in known 1) (live-after from 1 (part ∷ [])) ∙ in-more t.live 1 (t.begun + 1) stands.live in
+    let good = good-tables s s.tick (s.sessions ++ record { role = role; live = true; mute = false } ∷ []) s.jobs s.launchers s.janitors s.requesters (simp length-append (omega arith)) refl refl refl refl stands.good in
+    let whole = goes-whole from (after_parts from 1 (part ∷ [])) 1 (part ∷ []) stands.whole (part-create place (session_text (record { mute = false; role = role })) Persistent small, tt) lays.goes in
+    let room = room-falls from 1 part more begun in
+    record { goes = lays.goes; leaves = assumption lays }
 
 -- ## a request
 
@@ -101,30 +76,21 @@ node-grows s t session kept more stands is_node short small low =
 -- ## lists
 
 module _ {A : Type 0} (p : A → Bool) where
-  twice-by : (f g : A → A) (x : A) (xs : List A) (b : Bool) → p x ≡ b → p (f x) ≡ b → change_first p g (change_first p f xs) ≡ change_first p (λ y. g (f y)) xs →
-      change_first p g (cond b (f x ∷ xs) (x ∷ change_first p f xs)) ≡ cond b (g (f x) ∷ xs) (x ∷ change_first p (λ y. g (f y)) xs)
-  twice-by f g x xs true is kept later = ap (λ (b : Bool). cond b (g (f x) ∷ xs) (f x ∷ change_first p g xs)) kept
-  twice-by f g x xs false is kept later = ap (λ (b : Bool). cond b (g x ∷ change_first p f xs) (x ∷ change_first p g (change_first p f xs))) is ∙ ap (λ (ys : List A). x ∷ ys) later
-
   -- two changes of the same member are one
   pub change_first-twice : (f g : A → A) → ((x : A) → p (f x) ≡ p x) → (xs : List A) → change_first p g (change_first p f xs) ≡ change_first p (λ y. g (f y)) xs
   change_first-twice f g keeps [] = refl
-  change_first-twice f g keeps (x ∷ xs) = twice-by f g x xs (p x) refl (keeps x) (change_first-twice f g keeps xs)
+  change_first-twice f g keeps (x ∷ xs) = grind (arith, keeps x, change_first-twice f g keeps xs)
 
 -- ## a session joins a queue
 
 -- the state with a queue for that of a lock
 module _ (s : State) (t : TreeState) (session : SessionId) (lock : Place) (queue : List SessionId) (with : List SessionId → State) (more : ℕ) (stands : Stands s t (tree_session session) (more + 1)) (same : with queue ≡ s) (lock_good : IsGood lock) (good : HasGoodIds (with (queue ++ session ∷ [])))
     (lays : is_queued session queue ≡ false → PartsLayOut (with (joined session queue)) t (tree_session session) (wait_at lock ∷ [])) where
-  joins-by : (b : Bool) → is_queued session queue ≡ b → Enacts t (tree_session session) (cond b [] (wait_at lock ∷ [])) (with (cond b queue (queue ++ session ∷ []))) more
-  joins-by true queued =
-      subst (λ (later : State). Enacts t (tree_session session) [] later more) (sym same) (enacts-none s t (tree_session session) more (stands-less s t (tree_session session) (more + 1) more (omega arith) stands))
-  joins-by false queued =
-      enacts-parts s (with (queue ++ session ∷ [])) t (tree_session session) (wait_at lock ∷ []) more (stands-less s t (tree_session session) (more + 1) (1 + more) (omega arith) stands) good (part-wait lock lock_good, tt)
-      (subst (λ (later : List SessionId). PartsLayOut (with later) t (tree_session session) (wait_at lock ∷ [])) (ap (λ (b : Bool). cond b queue (queue ++ session ∷ [])) queued) (lays queued))
-
   lock-joins : Enacts t (tree_session session) (join_parts lock queue session) (with (joined session queue)) more
-  lock-joins = joins-by (is_queued session queue) refl
+  lock-joins = by_bool (λ (b : Bool). Enacts t (tree_session session) (cond b [] (wait_at lock ∷ [])) (with (cond b queue (queue ++ session ∷ []))) more) (is_queued session queue)
+      (λ queued. subst (λ (later : State). Enacts t (tree_session session) [] later more) (sym same) (enacts-none s t (tree_session session) more (stands-less s t (tree_session session) (more + 1) more (omega arith) stands)))
+      (λ queued. enacts-parts s (with (queue ++ session ∷ [])) t (tree_session session) (wait_at lock ∷ []) more (stands-less s t (tree_session session) (more + 1) (1 + more) (omega arith) stands) good (part-wait lock lock_good, tt)
+      (subst (λ (later : List SessionId). PartsLayOut (with later) t (tree_session session) (wait_at lock ∷ [])) (ap (λ (b : Bool). cond b queue (queue ++ session ∷ [])) queued) (lays queued)))
 
 -- a session joins the queue of a request, if it is not there yet
 pub request-joins : (s : State) (t : TreeState) (session : SessionId) (r : RequestId) (e : RequestEntry) (more : ℕ) → Stands s t (tree_session session) (more + 1) → request_entry r s.requests ≡ Some e →
@@ -155,9 +121,6 @@ module _ (r : RequestId) (tenant : Option TenantId) (session : SessionId) (r_goo
   abbrev w : ℕ
   w = tree_session session
 
-  allocated-is : (k : NodeRecord) → IsNode k → IsNode (record k { allocated_to = Some r; tenant = tenant })
-  allocated-is k is = record { allocated_to = r_good; attempts = is.attempts; label = is.label; pool = is.pool; server = is.server; since = is.since; start = is.start; tenant = tenant_good }
-
   entry-allocated : (e : NodeEntry) → node_entry e.id s.nodes ≡ Some e → Enacts t w (allocate_parts r tenant session e) (record s { nodes = change_first (λ x. x.id.0 == e.id.0) (allocated r tenant session) s.nodes }) more
   entry-allocated e there =
       let is_it : NodeEntry → Bool = λ (x : NodeEntry). x.id.0 == e.id.0 in
@@ -166,7 +129,7 @@ module _ (r : RequestId) (tenant : Option TenantId) (session : SessionId) (r_goo
       let with_queue : NodeEntry → NodeEntry = λ (x : NodeEntry). record x { queue = joined session e.queue } in
       let mid : State = record s { nodes = change_first is_it with_kept s.nodes } in
       let last : List NodeEntry → State = λ (rows : List NodeEntry). record s { nodes = rows } in
-      let kept_is : IsNode kept = allocated-is e.kept (all-find (λ (x : NodeEntry). IsNode x.kept) is_it s.nodes e nodes_are there) in
+      let kept_is : IsNode kept = granted-is e.kept (Some r) tenant (all-find (λ (x : NodeEntry). IsNode x.kept) is_it s.nodes e nodes_are there) r_good tenant_good in
       let e_good : IsGood (Node e.id) = all-find (λ (x : NodeEntry). IsGood (Node x.id)) is_it s.nodes e stands.good.nodes there in
       let sets : List Op = set (node_text kept) (Node e.id) ∷ [] in
       let first : Enacts t w sets mid (more + 1) =
@@ -186,18 +149,15 @@ module _ (r : RequestId) (tenant : Option TenantId) (session : SessionId) (r_goo
       subst (λ (rows : List NodeEntry). Enacts t w (allocate_parts r tenant session e) (last rows) more) same
       (enacts-joined mid (last (change_first is_it with_queue (change_first is_it with_kept s.nodes))) t w sets (join_parts (NodeLock e.id) e.queue session) (more + 1) more first later)
 
-  allocated-by : (n : NodeId) (o : Option NodeEntry) → node_entry n s.nodes ≡ o → Enacts t w (where_there o (allocate_parts r tenant session)) (record s { nodes = change_first (λ x. x.id.0 == n.0) (allocated r tenant session) s.nodes }) more
-  allocated-by n None there =
-      subst (λ (rows : List NodeEntry). Enacts t w [] (record s { nodes = rows }) more) (sym (change_first-absent (λ (x : NodeEntry). x.id.0 == n.0) (allocated r tenant session) s.nodes there))
-      (enacts-none s t w more (stands-less s t w (more + 2) more (omega arith) stands))
-  allocated-by n (Some e) there =
-      let is : e.id ≡ n = node-is e.id n (find-passes (λ (x : NodeEntry). x.id.0 == n.0) s.nodes e there) in
-      subst (λ (k : NodeId). Enacts t w (allocate_parts r tenant session e) (record s { nodes = change_first (λ x. x.id.0 == k.0) (allocated r tenant session) s.nodes }) more) is
-      (entry-allocated e (subst (λ (k : NodeId). node_entry k s.nodes ≡ Some e) (sym is) there))
-
   -- the set of a node's record, and the wait at its lock, if the node is there
   pub node-allocated : (n : NodeId) → Enacts t w (where_there (node_entry n s.nodes) (allocate_parts r tenant session)) (record s { nodes = change_first (λ x. x.id.0 == n.0) (allocated r tenant session) s.nodes }) more
-  node-allocated n = allocated-by n (node_entry n s.nodes) refl
+  node-allocated n =
+      there-by (λ (list : List NodeEntry). record s { nodes = list }) t w (more + 2) more s.nodes (change_first (λ x. x.id.0 == n.0) (allocated r tenant session) s.nodes) (λ o. where_there o (allocate_parts r tenant session)) (node_entry n s.nodes) (omega arith) stands refl
+      (change_first-absent (λ (x : NodeEntry). x.id.0 == n.0) (allocated r tenant session) s.nodes)
+      (λ e there.
+      let is : e.id ≡ n = node-is e.id n (find-passes (λ (x : NodeEntry). x.id.0 == n.0) s.nodes e there) in
+      subst (λ (k : NodeId). Enacts t w (allocate_parts r tenant session e) (record s { nodes = change_first (λ x. x.id.0 == k.0) (allocated r tenant session) s.nodes }) more) is
+      (entry-allocated e (subst (λ (k : NodeId). node_entry k s.nodes ≡ Some e) (sym is) there)))
 
 -- # the parts that make a job's handles and that give them back
 
@@ -225,50 +185,20 @@ none-same j x handles has = kept-at x.0 (without_handle j) handles (λ jobs ther
 
 -- ## ids
 
-abbrev AreJobs : List JobId → Type 0
-AreJobs jobs = AllByRecursion (λ k. IsGood (Job k)) jobs
-
 -- the state with other handles: as many semaphores, and each job has a place
 handles-good : (s : State) (list : List (List JobId)) → HasGoodIds s → length list ≡ length s.handles → AllByRecursion AreJobs list → HasGoodIds (record s { handles = list })
-handles-good s list good same all =
-    good-rows s s.requests s.nodes s.registrations list s.swept s.next_request s.next_node good
-    good.requests good.nodes good.registrations (let few = good.semaphores in omega arith) all good.swept
-
-with-by : (j : JobId) (jobs : List JobId) (b : Bool) → IsGood (Job j) → AreJobs jobs → AreJobs (cond b jobs (insert_before (λ (other : JobId). nat_lt j.0 other.0) j jobs))
-with-by j jobs true small all = all
-with-by j jobs false small all = all-insert_before (λ (k : JobId). IsGood (Job k)) (λ (other : JobId). nat_lt j.0 other.0) j jobs small all
+handles-good s list good same all = search (arith, good)
 
 with-good : (j : JobId) (x : SemId) (s : State) → IsGood (Job j) → HasGoodIds s → HasGoodIds (record s { handles = change_at x.0 (with_handle j) s.handles })
 with-good j x s small good =
     handles-good s (change_at x.0 (with_handle j) s.handles) good (length-change_at x.0 (with_handle j) s.handles)
-    (all-change_at AreJobs x.0 (with_handle j) s.handles (λ jobs all. with-by j jobs (is_among j jobs) small all) good.handles)
+    (all-change_at AreJobs x.0 (with_handle j) s.handles (λ jobs all. by_bool (λ (b : Bool). AreJobs (cond b jobs (insert_before (λ (other : JobId). nat_lt j.0 other.0) j jobs))) (is_among j jobs) (λ _. all)
+    (λ _. all-insert_before (λ (k : JobId). IsGood (Job k)) (λ (other : JobId). nat_lt j.0 other.0) j jobs small all)) good.handles)
 
 without-good : (j : JobId) (x : SemId) (s : State) → HasGoodIds s → HasGoodIds (record s { handles = change_at x.0 (without_handle j) s.handles })
 without-good j x s good =
     handles-good s (change_at x.0 (without_handle j) s.handles) good (length-change_at x.0 (without_handle j) s.handles)
     (all-change_at AreJobs x.0 (without_handle j) s.handles (λ jobs all. all-filter (λ (k : JobId). IsGood (Job k)) (λ other. not (other.0 == j.0)) jobs all) good.handles)
-
-job-by : (j other : JobId) (jobs : List JobId) (b : Bool) → (other.0 == j.0) ≡ b → (b || is_among j jobs) ≡ true → IsGood (Job other) → (is_among j jobs ≡ true → IsGood (Job j)) → IsGood (Job j)
-job-by j other jobs true same any good later = let number : other.0 ≡ j.0 = grind (arith, nat_tests) in subst (λ (n : ℕ). n < 2 ^ 32) number good
-job-by j other jobs false same any good later = later any
-
--- a job among those with a place has one
-job-good : (j : JobId) (jobs : List JobId) → AreJobs jobs → is_among j jobs ≡ true → IsGood (Job j)
-job-good j [] all any = absurd cc
-job-good j (other ∷ jobs) all any = job-by j other jobs (other.0 == j.0) refl any all.0 (job-good j jobs all.1)
-
--- a handle is one of a semaphore of the site, and of a job with a place
-there-good : (j : JobId) (list : List (List JobId)) (at : ℕ) → AllByRecursion AreJobs list → is_among j (unwrap_or (slice_get list at) []) ≡ true → (at < length list) × IsGood (Job j)
-there-good j [] at all any = absurd cc
-there-good j (jobs ∷ list) zero all any = (omega arith, job-good j jobs all.0 any)
-there-good j (jobs ∷ list) (suc at) all any = let later = there-good j list at all.1 any in (let low = later.0 in omega arith, later.1)
-
-handle-good : (j : JobId) (x : SemId) (s : State) → HasGoodIds s → has_handle j s.handles x ≡ true → IsGood (Handle x j)
-handle-good j x s good has =
-    let there = there-good j s.handles x.0 good.handles has in
-    let few = good.semaphores in
-    let low = there.0 in
-    (omega arith, there.1)
 
 -- ## handles are made
 
@@ -278,12 +208,10 @@ acquire-by j x s t w more true has small low stands =
     subst (λ (list : List (List JobId)). Enacts t w [] (record s { handles = list }) more) (sym (again-same j x s.handles has))
     (enacts-none s t w more (stands-less s t w (more + 1) more (omega arith) stands))
 acquire-by j x s t w more false has small low stands =
-    let good = stands.good in
-    let few = good.semaphores in
-    let x_good : x.0 < 2 ^ 16 = omega arith in
+    let x_good : x.0 < 2 ^ 16 = omega (arith, stands.good.semaphores) in
     enacts-parts s (record s { handles = change_at x.0 (with_handle j) s.handles }) t w (make [] (Handle x j) ∷ []) more (stands-less s t w (more + 1) (1 + more) (omega arith) stands)
-    (with-good j x s small good) (part-create (Handle x j) [] Persistent (x_good, small), tt)
-    (made-lays-out s t w x j stands.whole good stands.lays stands.live (room-less t (more + 1) 1 (omega arith) stands.room) low small has)
+    (with-good j x s small stands.good) (part-create (Handle x j) [] Persistent (x_good, small), tt)
+    (made-lays-out s t w x j stands.whole stands.good stands.lays stands.live (room-less t (more + 1) 1 (omega arith) stands.room) low small has)
 
 -- the parts that make a job's handles lay out the state in which it has them
 pub acquire-enacts : (j : JobId) (semaphores : List SemId) (s : State) (t : TreeState) (w more : ℕ) → j.0 < 2 ^ 32 → AllByRecursion (λ x. x.0 < length s.handles) semaphores → Stands s t w (length semaphores + more) →
@@ -340,37 +268,30 @@ handles-enact c w (HandlesChange.Release j) s t more stands =
 abbrev ArePairs : List Swept → Type 0
 ArePairs list = AllByRecursion (λ pair. IsGood (SweptPlace pair.node pair.server)) list
 
-pair-by : (n : NodeId) (server : ℕ) (list : List Swept) (b : Bool) → IsGood (SweptPlace n server) → ArePairs list → ArePairs (cond b list (insert_before (is_pair_after n server) (record { node = n; server = server }) list))
-pair-by n server list true is_good all = all
-pair-by n server list false is_good all = all-insert_before (λ (pair : Swept). IsGood (SweptPlace pair.node pair.server)) (is_pair_after n server) (record { node = n; server = server }) list is_good all
-
 swept-good : (n : NodeId) (server : ℕ) (s : State) → IsGood (SweptPlace n server) → HasGoodIds s → HasGoodIds (record s { swept = with_pair n server s.swept })
 swept-good n server s is_good good =
-    good-rows s s.requests s.nodes s.registrations s.handles (with_pair n server s.swept) s.next_request s.next_node good
-    good.requests good.nodes good.registrations good.semaphores good.handles (pair-by n server s.swept (is_swept n server s.swept) is_good good.swept)
-
-swept-by : (n : NodeId) (server : ℕ) (s : State) (t : TreeState) (w more : ℕ) (b : Bool) → is_swept n server s.swept ≡ b → IsGood (SweptPlace n server) → Stands s t w (more + 1) →
-    Enacts t w (cond b [] (make [] (SweptPlace n server) ∷ [])) (record s { swept = with_pair n server s.swept }) more
-swept-by n server s t w more true is is_good stands =
-    let same : with_pair n server s.swept ≡ s.swept = ap (λ (b : Bool). cond b s.swept (insert_before (is_pair_after n server) (record { node = n; server = server }) s.swept)) is in
-    subst (λ (list : List Swept). Enacts t w [] (record s { swept = list }) more) (sym same) (enacts-none s t w more (stands-less s t w (more + 1) more (omega arith) stands))
-swept-by n server s t w more false is is_good stands =
-    enacts-parts s (record s { swept = with_pair n server s.swept }) t w (make [] (SweptPlace n server) ∷ []) more (stands-less s t w (more + 1) (1 + more) (omega arith) stands)
-    (swept-good n server s is_good stands.good) (part-create (SweptPlace n server) [] Persistent is_good, tt)
-    (swept_pairs-lay-out s t w n server stands.whole stands.good stands.lays stands.live (room-less t (more + 1) 1 (omega arith) stands.room) is_good is)
+    let pairs : ArePairs (with_pair n server s.swept) = by_bool (λ (b : Bool). ArePairs (cond b s.swept (insert_before (is_pair_after n server) (record { node = n; server = server }) s.swept))) (is_swept n server s.swept) (λ _. good.swept)
+    (λ _. all-insert_before (λ (pair : Swept). IsGood (SweptPlace pair.node pair.server)) (is_pair_after n server) (record { node = n; server = server }) s.swept is_good good.swept) in
+    assumption good
 
 -- the part for a swept pair, if it was not, lays out the state in which it is
 pub swept-enacts : (n : NodeId) (server : ℕ) (s : State) (t : TreeState) (w more : ℕ) → IsGood (SweptPlace n server) → Stands s t w (more + 1) →
     Enacts t w (cond (is_swept n server s.swept) [] (make [] (SweptPlace n server) ∷ [])) (record s { swept = with_pair n server s.swept }) more
-swept-enacts n server s t w more is_good stands = swept-by n server s t w more (is_swept n server s.swept) refl is_good stands
+swept-enacts n server s t w more is_good stands =
+    by_bool (λ (b : Bool). Enacts t w (cond b [] (make [] (SweptPlace n server) ∷ [])) (record s { swept = with_pair n server s.swept }) more) (is_swept n server s.swept)
+    (λ is.
+    let same : with_pair n server s.swept ≡ s.swept = ap (λ (b : Bool). cond b s.swept (insert_before (is_pair_after n server) (record { node = n; server = server }) s.swept)) is in
+    subst (λ (list : List Swept). Enacts t w [] (record s { swept = list }) more) (sym same) (enacts-none s t w more (stands-less s t w (more + 1) more (omega arith) stands)))
+    (λ is. enacts-parts s (record s { swept = with_pair n server s.swept }) t w (make [] (SweptPlace n server) ∷ []) more (stands-less s t w (more + 1) (1 + more) (omega arith) stands)
+    (swept-good n server s is_good stands.good) (part-create (SweptPlace n server) [] Persistent is_good, tt)
+    (swept_pairs-lay-out s t w n server stands.whole stands.good stands.lays stands.live (room-less t (more + 1) 1 (omega arith) stands.room) is_good is))
 
 -- ## a launcher registers
 
 registers-good : (session : SessionId) (p : PoolId) (s : State) → IsGood (Launcher p) → HasGoodIds s → HasGoodIds (registers s session p)
 registers-good session p s is_good good =
-    good-rows s s.requests s.nodes (registers s session p).registrations s.handles s.swept s.next_request s.next_node good good.requests good.nodes
-    (all-insert_before (λ (g : Registration). IsGood (Launcher g.pool)) (λ (g : Registration). nat_lt p.0 g.pool.0) (record { pool = p; session = session }) s.registrations is_good good.registrations)
-    good.semaphores good.handles good.swept
+    let all = all-insert_before (λ (g : Registration). IsGood (Launcher g.pool)) (λ (g : Registration). nat_lt p.0 g.pool.0) (record { pool = p; session = session }) s.registrations is_good good.registrations in
+    assumption good
 
 -- the part for a registration lays out the state in which the launcher is registered
 pub registration-enacts : (session : SessionId) (p : PoolId) (s : State) (t : TreeState) (more : ℕ) → IsGood (Launcher p) → registered p s.registrations ≡ None → Stands s t (tree_session session) (more + 1) →

@@ -18,3 +18,4 @@ pub mod Events
 pub mod SoundRows
 pub mod Spelled
 pub mod Carried
+pub mod Proved

@@ -1,8 +1,9 @@
 -- the names and the paths of places: their letters, order and length, and the place above each
-use Rattle.np_layout.proofs.Prelude.{Bad, Bool, Err, Handle, HasParts-below, HasText, IsAscii, IsAscii-append, IsAscii-cons, IsAscii-nil, IsGood, JanitorRole, Job, Jobs, Launcher, LauncherRole, Launchers, List, Makes, Node, NodeLock, NodeWait, Nodepool, Nodes, NodesRise, None, Option, Place, Poolsim, Request, RequestId, RequestLock, RequestLocks, RequestLocksRise, RequestWait, RequesterRole, Requests, RequestsRise, Roles, Root, Semaphore, Semaphores, Session, Sessions, SessionsRise, Some, SweptPairs, Tick, WaitsForNodesRise, WaitsForRequestsRise, Zuul, above, all_ascii_digits, all_ascii_digits-ten, and_from, and_parts, ap, append_assoc, arith, below, bytes_eq, codes, decimal, decimal-short, decimal_digit, decimal_nonempty, decimal_step, decimal_three, digits_decimal, drop, drop-set, drop_at, false, get_or, if◌then◌else◌, is_ascii_alphanumeric, is_ascii_digit, is_dots, is_element, is_none, is_path, is_path-below, is_path-no_fault, is_some, length, length-append, length-decimal-le, length-ten, list_all, list_all-append, lit≤, model, name_of, nat_tests, not, number_of, number_of-decimal, option_map, parent_of, path_fault, path_of, place_name, refl, request_of, request_of-text, request_text_of, root, sequence_of, sequence_of-ten_digits_of, slice_cmp-request_text, slice_cmp-ten, some_injective, subst, suc, sym, take, take_at, ten-le-length, ten_digits_of, true, zero, ℕ, [], ◌%◌, ◌&&◌, ◌++◌, ◌+◌, ◌-◌, ◌/◌, ◌<◌, ◌==◌, ◌^◌, ◌||◌, ◌∙◌, ◌∷◌, ◌≡◌, ◌≤◌}
+use Rattle.np_layout.proofs.Prelude.{Bad, Bool, Err, Handle, HasParts-below, HasText, IsAscii, IsAscii-append, IsAscii-cons, IsAscii-nil, IsGood, JanitorRole, Job, Jobs, Launcher, LauncherRole, Launchers, List, Makes, Node, NodeLock, NodeWait, Nodepool, Nodes, None, Option, Place, Poolsim, Request, RequestId, RequestLock, RequestLocks, RequestWait, RequesterRole, Requests, Roles, Root, Semaphore, Semaphores, Session, Sessions, Some, SweptPairs, Tick, Zuul, [], above, all_ascii_digits, all_ascii_digits-ten, and_from, and_parts, ap, append_assoc, arith, below, bytes_eq, codes, decimal, decimal-short, decimal_digit, decimal_nonempty, decimal_step, decimal_three, digits_decimal, drop, drop-set, drop_at, false, get_or, if◌then◌else◌, is_ascii_alphanumeric, is_dots, is_element, is_path, is_path-below, is_path-no_fault, is_some, length, length-append, length-decimal-le, length-ten, list_all, list_all-append, model, name_of, nat_tests, not, number_of, number_of-decimal, option_map, parent_of, path_fault, path_of, place_name, refl, request_of, request_of-text, request_text_of, root, sequence_of, sequence_of-ten_digits_of, some_injective, subst, suc, sym, take, take_at, ten-le-length, ten_digits_of, true, zero, ℕ, ◌%◌, ◌&&◌, ◌++◌, ◌+◌, ◌-◌, ◌/◌, ◌<◌, ◌==◌, ◌^◌, ◌||◌, ◌∙◌, ◌∷◌, ◌≡◌, ◌≤◌}
 use Rattle.np_layout.specs.declared.place.Place.TheVariants.{Swept}
 use Rattle.np_path.specs.Grammar.{is_kept}
 use Rattle.std.proofs.Common.{set}
+use Rattle.np_lists.proofs.Plain.{none-is}
 
 -- # each name but the root's is one or more letters, digits and dashes
 
@@ -19,18 +20,13 @@ is_plain_name (b ∷ bs) = is_plain b && list_all is_plain bs
 
 plain-digits : (ds : List ℕ) → all_ascii_digits ds ≡ true → list_all is_plain ds ≡ true
 plain-digits [] digits = refl
-plain-digits (d ∷ ds) digits =
-    let parts = and_parts (is_ascii_digit d) (all_ascii_digits ds) digits in
-    and_from _ _ (plain-digit d parts.0) (plain-digits ds parts.1)
-  where
-    plain-digit : (b : ℕ) → is_ascii_digit b ≡ true → is_plain b ≡ true
-    plain-digit b digit = grind (arith, nat_tests)
+plain-digits (d ∷ ds) digits = grind (arith, nat_tests, plain-digits ds)
 
 plain_name-some : (bs : List ℕ) → 0 < length bs → list_all is_plain bs ≡ true → is_plain_name bs ≡ true
 plain_name-some [] some plain = absurd (omega arith)
 plain_name-some (b ∷ bs) some plain = plain
 
-plain_name-append : (xs ys : List ℕ) → is_plain_name xs ≡ true → list_all is_plain ys ≡ true → is_plain_name (xs ++ ys) ≡ true
+pub plain_name-append : (xs ys : List ℕ) → is_plain_name xs ≡ true → list_all is_plain ys ≡ true → is_plain_name (xs ++ ys) ≡ true
 plain_name-append [] ys first second = absurd (cc)
 plain_name-append (x ∷ xs) ys first second = list_all-append is_plain (x ∷ xs) ys ∙ and_from _ _ first second
 
@@ -59,39 +55,19 @@ plain_name-swept n server small =
 -- only the root has no such name
 pub plain_name-of : (p : Place) → IsGood p → is_plain_name (place_name p) ≡ is_some (above p)
 plain_name-of (Request id) good = plain_name-request id good
-plain_name-of (RequestLock id) good = plain_name-request id good
-plain_name-of (RequestWait id wait) good = plain-ten wait
-plain_name-of (Node n) good = plain_name-ten n.0
-plain_name-of (NodeWait n wait) good = plain-ten wait
-plain_name-of (Launcher p) good = plain_name-decimal p.0 (omega arith)
-plain_name-of (Semaphore x) good = plain_name-decimal x.0 (omega arith)
-plain_name-of (Handle x j) good = plain_name-decimal j.0 (omega arith)
-plain_name-of (Job j) good = plain_name-decimal j.0 (omega arith)
-plain_name-of (LauncherRole p) good = plain-decimal p.0 (omega arith)
-plain_name-of (JanitorRole p) good = plain-decimal p.0 (omega arith)
-plain_name-of (RequesterRole q) good = plain-decimal q.0 (omega arith)
-plain_name-of (Session s) good = plain_name-ten s.0
 plain_name-of (Swept n server) good = plain_name-swept n.0 server good.1
-plain_name-of word good = refl
+plain_name-of p good = search (arith, plain_name-request, plain_name-ten, plain_name-decimal, plain-ten, plain-decimal)
 
 -- ## what such names are
 
 kept-plain : (bs : List ℕ) → list_all is_plain bs ≡ true → list_all is_kept bs ≡ true
 kept-plain [] plain = refl
-kept-plain (b ∷ bs) plain =
-    let parts = and_parts (is_plain b) (list_all is_plain bs) plain in
-    and_from _ _ (kept-one b parts.0) (kept-plain bs parts.1)
-  where
-    kept-one : (c : ℕ) → is_plain c ≡ true → is_kept c ≡ true
-    kept-one c plain_one = grind (arith, nat_tests)
-
-no_dot : (b : ℕ) → is_plain b ≡ true → (b == 46) ≡ false
-no_dot b plain = grind (arith, nat_tests)
+kept-plain (b ∷ bs) plain = grind (arith, nat_tests, kept-plain bs)
 
 not_dots : (bs : List ℕ) → is_plain_name bs ≡ true → not (is_dots bs) ≡ true
 not_dots [] plain = absurd (cc)
-not_dots (b ∷ []) plain = ap not (no_dot b (and_parts (is_plain b) true plain).0)
-not_dots (b ∷ c ∷ []) plain = rw (no_dot b (and_parts (is_plain b) (list_all is_plain (c ∷ [])) plain).0) refl
+not_dots (b ∷ []) plain = grind (arith, nat_tests)
+not_dots (b ∷ c ∷ []) plain = grind (arith, nat_tests)
 not_dots (b ∷ c ∷ d ∷ bs) plain = refl
 
 all-plain : (bs : List ℕ) → is_plain_name bs ≡ true → list_all is_plain bs ≡ true
@@ -105,10 +81,7 @@ IsAscii-all : (bs : List ℕ) → list_all is_plain bs ≡ true → IsAscii bs
 IsAscii-all [] plain = IsAscii-nil
 IsAscii-all (b ∷ bs) plain =
     let parts = and_parts (is_plain b) (list_all is_plain bs) plain in
-    IsAscii-cons b bs (below-128 b parts.0) (IsAscii-all bs parts.1)
-  where
-    below-128 : (c : ℕ) → is_plain c ≡ true → c < 128
-    below-128 c plain_one = grind (arith, nat_tests)
+    IsAscii-cons b bs (let is = parts.0 in grind (arith, nat_tests)) (IsAscii-all bs parts.1)
 
 pub IsAscii-plain : (bs : List ℕ) → is_plain_name bs ≡ true → IsAscii bs
 IsAscii-plain bs plain = IsAscii-all bs (all-plain bs plain)
@@ -140,11 +113,8 @@ path_of-below (NodeLock n) = one_part (codes "/nodepool/nodes/" ++ ten_digits_of
 path_of-below (NodeWait n wait) = three_parts (codes "/nodepool/nodes/" ++ ten_digits_of n.0) (codes "/lock") (codes "lock-") (ten_digits_of wait)
 path_of-below p = refl
 
-along : (o : Option Place) (name : List ℕ) (dir : Place) → o ≡ Some dir → path_below o name ≡ below (path_of dir) name
-along o name dir same = ap (λ at. path_below at name) same
-
 pub path_of-joined : (p dir : Place) → above p ≡ Some dir → path_of p ≡ below (path_of dir) (place_name p)
-path_of-joined p dir same = path_of-below p ∙ along (above p) (place_name p) dir same
+path_of-joined p dir same = path_of-below p ∙ ap (λ at. path_below at (place_name p)) same
 
 -- ## from the root downwards
 
@@ -293,32 +263,16 @@ swept-parts n server n_small server_small =
     let front : take 10 ((ten_digits_of n ++ 45 ∷ []) ++ decimal server) ≡ ten_digits_of n =
     ap (take 10) whole ∙ take_at (ten_digits_of n) (45 ∷ decimal server) 10 (length-ten n n_small) in
     let back : drop 11 ((ten_digits_of n ++ 45 ∷ []) ++ decimal server) ≡ decimal server =
-    drop_at (ten_digits_of n ++ 45 ∷ []) (decimal server) 11 (longer (ten_digits_of n) (length-ten n n_small)) in
+    drop_at (ten_digits_of n ++ 45 ∷ []) (decimal server) 11 (let ten = length-ten n n_small in simp length-append (omega arith)) in
     ap (λ xs. swept_from (sequence_of xs) (number_of 18_446_744_073_709_551_615 (drop 11 ((ten_digits_of n ++ 45 ∷ []) ++ decimal server)))) front
     ∙ ap (λ ys. swept_from (sequence_of (ten_digits_of n)) (number_of 18_446_744_073_709_551_615 ys)) back
     ∙ ap (λ o. swept_from o (number_of 18_446_744_073_709_551_615 (decimal server))) (sequence_of-ten_digits_of n n_small)
     ∙ ap (swept_from (Some n)) (number_of-decimal 18_446_744_073_709_551_615 server (omega arith) (omega arith))
-  where
-    longer : (xs : List ℕ) → length xs ≡ 10 → length (xs ++ 45 ∷ []) ≡ 11
-    longer xs ten = simp length-append (omega arith)
 
 -- a place is that of its name in the directory above it
 child_of-name : (p : Place) → IsGood p → child_of (above p) (place_name p) ≡ Some p
-child_of-name (Request id) good = ap (option_map Request) (request_of-text id good)
-child_of-name (RequestLock id) good = ap (option_map RequestLock) (request_of-text id good)
-child_of-name (RequestWait id wait) good = ap (option_map (RequestWait id)) (sequence_of-ten_digits_of wait good.1)
-child_of-name (Node n) good = ap (option_map (λ k. Node (record { 0 = k }))) (sequence_of-ten_digits_of n.0 good)
-child_of-name (NodeWait n wait) good = ap (option_map (NodeWait n)) (sequence_of-ten_digits_of wait good.1)
-child_of-name (Launcher p) good = ap (option_map (λ k. Launcher (record { 0 = k }))) (two_bytes-decimal p.0 good)
-child_of-name (Semaphore x) good = ap (option_map (λ k. Semaphore (record { 0 = k }))) (two_bytes-decimal x.0 good)
-child_of-name (Handle x j) good = ap (option_map (λ k. Handle x (record { 0 = k }))) (four_bytes-decimal j.0 good.1)
-child_of-name (Job j) good = ap (option_map (λ k. Job (record { 0 = k }))) (four_bytes-decimal j.0 good)
-child_of-name (LauncherRole p) good = ap (option_map (λ k. LauncherRole (record { 0 = k }))) (two_bytes-decimal p.0 good)
-child_of-name (JanitorRole p) good = ap (option_map (λ k. JanitorRole (record { 0 = k }))) (two_bytes-decimal p.0 good)
-child_of-name (RequesterRole q) good = ap (option_map (λ k. RequesterRole (record { 0 = k }))) (two_bytes-decimal q.0 good)
-child_of-name (Session s) good = ap (option_map (λ k. Session (record { 0 = k }))) (sequence_of-ten_digits_of s.0 good)
 child_of-name (Swept n server) good = swept-parts n.0 server good.0 good.1
-child_of-name word good = refl
+child_of-name p good = grind (arith, request_of-text, sequence_of-ten_digits_of, two_bytes-decimal, four_bytes-decimal)
 
 pub same_names : (p q : Place) → IsGood p → IsGood q → above p ≡ above q → place_name p ≡ place_name q → p ≡ q
 same_names p q p_good q_good same_above same_name =
@@ -337,9 +291,8 @@ IsAlone p = (q : Place) → IsGood q → path_of p ≡ path_of q → p ≡ q
 
 same_above : (o r : Option Place) → Above IsAlone o → Above IsGood r → option_map path_of o ≡ option_map path_of r → o ≡ r
 same_above None None alone good same = refl
-same_above None (Some e) alone good same = absurd (cc)
-same_above (Some d) None alone good same = absurd (cc)
 same_above (Some d) (Some e) alone good same = ap Some (alone e good (some_injective (path_of d) (path_of e) same))
+same_above _ _ alone good same = absurd (cc)
 
 pub same_paths : (p q : Place) → IsGood p → IsGood q → path_of p ≡ path_of q → p ≡ q
 same_paths p q p_good = each_place IsAlone one p p_good q
@@ -351,26 +304,6 @@ same_paths p q p_good = each_place IsAlone one p p_good q
         same_names d e d_good e_good
         (same_above (above d) (above e) alone (above-is_good e e_good) (sym d_parts.0 ∙ ap parent_of same ∙ e_parts.0))
         (sym d_parts.1 ∙ ap name_of same ∙ e_parts.1)
-
--- # names are in order as their ids are
-
-pub requests-rise : RequestsRise
-requests-rise = slice_cmp-request_text
-
-pub request_locks-rise : RequestLocksRise
-request_locks-rise = slice_cmp-request_text
-
-pub waits_for_requests-rise : WaitsForRequestsRise
-waits_for_requests-rise id j k j_small k_small = slice_cmp-ten j k j_small k_small
-
-pub nodes-rise : NodesRise
-nodes-rise a b a_small b_small = slice_cmp-ten a.0 b.0 a_small b_small
-
-pub waits_for_nodes-rise : WaitsForNodesRise
-waits_for_nodes-rise n j k j_small k_small = slice_cmp-ten j k j_small k_small
-
-pub sessions-rise : SessionsRise
-sessions-rise a b a_small b_small = slice_cmp-ten a.0 b.0 a_small b_small
 
 -- # how long paths are
 
@@ -396,34 +329,16 @@ length-longest id wait has small =
 
 pub length-most : (p : Place) → IsGood p → length (path_of p) ≤ 54
 unfolding path_of
-length-most (Request id) good = let request = length-request id good in omega arith
-length-most (RequestLock id) good = let request = length-request id good in omega arith
 length-most (RequestWait id wait) good = let all = length-longest id wait good.0 good.1 in omega arith
-length-most (Node n) good = let ten = length-ten n.0 good in omega arith
-length-most (NodeLock n) good = let ten = length-ten n.0 good in simp length-append (omega arith)
-length-most (NodeWait n wait) good = let ten = length-ten n.0 good.0 in let last = length-ten wait good.1 in simp length-append (omega arith)
-length-most (Launcher p) good = let two = length-two p.0 good in omega arith
-length-most (Semaphore x) good = let two = length-two x.0 good in omega arith
-length-most (Handle x j) good = let two = length-two x.0 good.0 in let four = length-four j.0 good.1 in simp length-append (omega arith)
-length-most (Job j) good = let four = length-four j.0 good in omega arith
-length-most (LauncherRole p) good = let two = length-two p.0 good in omega arith
-length-most (JanitorRole p) good = let two = length-two p.0 good in omega arith
-length-most (RequesterRole q) good = let two = length-two q.0 good in omega arith
-length-most (Session s) good = let ten = length-ten s.0 good in omega arith
-length-most (Swept n server) good = let ten = length-ten n.0 good.0 in let eight = decimal-short server good.1 in simp length-append (omega arith)
-length-most word good = lit≤ tt
+length-most p good = grind (arith, length-append, length-request, length-ten, length-two, length-four, decimal-short)
 
 pub ruleset short_numbers = (length-two)
 
 -- # a place's path has no fault
 
-none-of : (o : Option ℕ) → is_none o ≡ true → o ≡ None
-none-of None none = refl
-none-of (Some x) none = absurd (cc)
-
 pub never_bad : (p : Place) (text : List ℕ) (at : ℕ) → IsGood p → text ≡ path_of p → Makes (path_fault text) text (Err (Bad at)) → ⊥
 never_bad p text at good same told =
-    let none = none-of (path_fault (path_of p)) (sym (is_path-no_fault (path_of p)) ∙ is_path-of p good) in
+    let none = none-is (path_fault (path_of p)) (sym (is_path-no_fault (path_of p)) ∙ is_path-of p good) in
     subst (λ fault. Makes fault text (Err (Bad at))) (ap path_fault same ∙ none) told
 
 -- # digits that are written from the right

@@ -1,5 +1,6 @@
 -- lists of rows in the order of their names, of which some are put in, left out or get other bytes
-use Rattle.np_layout.proofs.Prelude.{AllByRecursion, AllZip, Bool, JobId, List, None, NonePass, Option, Rises, Row, Seen, Some, Swept, all-filter, all-find, all-insert_before, all-weaker, ap, arith, by_name, bytes_eq-from, bytes_eq-is, change_at, change_first, cond, eqb-false, exact_bytes, false, filter, filter-not_none, find, find_named, fold, if◌then◌else◌, inl, inr, insert_before, is_named, is_pair_before, length, list_any, list_any-insert_before, lt-neither, lt-one_way, lt-trans, map, name_before, nat_list_cmp_total, nat_lt, nat_tests, not, option_map, other-name_back, range_with_len, refl, remove_first, row_before, row_with, rows_from, seen_in, slice_get, subst, suc, sym, true, unwrap_or, with_row, zero, ℕ, [], ◌+◌, ◌<◌, ◌==◌, ◌||◌, ◌∙◌, ◌∷◌, ◌≡◌, ◌≤◌, ◌⊎◌}
+use Rattle.np_lists.proofs.Plain.{by_bool}
+use Rattle.np_layout.proofs.Prelude.{or_false, or_left, or_right, AllByRecursion, AllZip, Bool, JobId, List, None, NonePass, Option, Rises, Row, Seen, Some, Swept, all-filter, all-find, all-insert_before, all-weaker, ap, arith, by_name, bytes_eq-from, bytes_eq-is, change_at, change_first, cond, eqb-false, exact_bytes, false, filter, filter-not_none, find, find_named, fold, if◌then◌else◌, inl, inr, insert_before, is_named, is_pair_before, length, list_any, list_any-insert_before, lt-neither, lt-one_way, lt-trans, map, name_before, nat_list_cmp_total, nat_tests, not, option_map, other-name_back, range_with_len, refl, remove_first, row_before, row_with, rows_from, seen_in, slice_get, subst, suc, sym, true, unwrap_or, with_row, zero, ℕ, [], ◌++◌, ◌+◌, ◌<◌, ◌==◌, ◌||◌, ◌∙◌, ◌∷◌, ◌≡◌, ◌≤◌, ◌⊎◌}
 
 -- # rows that are put one after another
 
@@ -13,6 +14,11 @@ rows_put sorted rows = fold (λ before row. with_row row before) sorted rows
 pub all-put : (P : Row → Type 0) (rows sorted : List Row) → AllByRecursion P sorted → AllByRecursion P rows → AllByRecursion P (rows_put sorted rows)
 all-put P [] sorted there new = there
 all-put P (row ∷ rows) sorted there new = all-put P rows (with_row row sorted) (all-insert_before P (λ other. row_before row other) row sorted new.0 there) new.1
+
+-- what is true of two lists' members is true of both together
+pub all-both : {A : Type 0} (P : A → Type 0) (xs ys : List A) → AllByRecursion P xs → AllByRecursion P ys → AllByRecursion P (xs ++ ys)
+all-both P [] ys all more = more
+all-both P (x ∷ xs) ys all more = (all.0, all-both P xs ys all.1 more)
 
 -- what is true of the row of each number is true of the rows
 pub all-numbered : (P : Row → Type 0) (row : ℕ → Row) (count at limit : ℕ) → at + count ≡ limit → ((n : ℕ) → n < limit → P (row n)) → AllByRecursion P (map row (range_with_len at count))
@@ -35,8 +41,7 @@ no_jobs = []
 
 -- each member of a list of empty lists is empty
 pub get-empty : {B : Type 0} (list : List B) (at : ℕ) → unwrap_or (slice_get (map (λ _. no_jobs) list) at) [] ≡ []
-get-empty [] zero = refl
-get-empty [] (suc at) = refl
+get-empty [] at = grind arith
 get-empty (b ∷ list) zero = refl
 get-empty (b ∷ list) (suc at) = get-empty list at
 
@@ -49,23 +54,18 @@ with_row-first : (row : Row) (rows : List Row) → AllByRecursion (λ other. row
 with_row-first row [] before = refl
 with_row-first row (other ∷ rows) before = ap (λ (b : Bool). cond b (row ∷ other ∷ rows) (other ∷ with_row row rows)) before.0
 
-all-by : (P : Row → Type 0) (row other : Row) (rows : List Row) (b : Bool) → AllByRecursion P (cond b (row ∷ other ∷ rows) (other ∷ with_row row rows)) → (AllByRecursion P (with_row row rows) → AllByRecursion P rows) → AllByRecursion P (other ∷ rows)
-all-by P row other rows true all later = all.1
-all-by P row other rows false all later = (all.0, later all.1)
-
 -- what is true of rows with one more is true of them
 all-without : (P : Row → Type 0) (row : Row) (rows : List Row) → AllByRecursion P (with_row row rows) → AllByRecursion P rows
 all-without P row [] all = tt
-all-without P row (other ∷ rows) all = all-by P row other rows (row_before row other) all (all-without P row rows)
-
-rises-by : (row other : Row) (rows : List Row) (b : Bool) → Rises row_before (cond b (row ∷ other ∷ rows) (other ∷ with_row row rows)) → (Rises row_before (with_row row rows) → Rises row_before rows) → Rises row_before (other ∷ rows)
-rises-by row other rows true rises later = rises.1
-rises-by row other rows false rises later = (all-without (λ (y : Row). row_before other y ≡ true) row rows rises.0, later rises.1)
+all-without P row (other ∷ rows) all =
+    by_bool (λ (b : Bool). AllByRecursion P (cond b (row ∷ other ∷ rows) (other ∷ with_row row rows)) → AllByRecursion P (other ∷ rows)) (row_before row other) (λ _ all. all.1) (λ _ all. (all.0, all-without P row rows all.1)) all
 
 -- rows that rise with one more rise without it
 rises-without : (row : Row) (rows : List Row) → Rises row_before (with_row row rows) → Rises row_before rows
 rises-without row [] rises = tt
-rises-without row (other ∷ rows) rises = rises-by row other rows (row_before row other) rises (rises-without row rows)
+rises-without row (other ∷ rows) rises =
+    by_bool (λ (b : Bool). Rises row_before (cond b (row ∷ other ∷ rows) (other ∷ with_row row rows)) → Rises row_before (other ∷ rows)) (row_before row other) (λ _ rises. rises.1)
+    (λ _ rises. (all-without (λ (y : Row). row_before other y ≡ true) row rows rises.0, rises-without row rows rises.1)) rises
 
 rises-back : (rows sorted : List Row) → Rises row_before (rows_put sorted rows) → Rises row_before sorted
 rises-back [] sorted rises = rises
@@ -73,33 +73,19 @@ rises-back (row ∷ rows) sorted rises = rises-without row sorted (rises-back ro
 
 module _ (keep : Row → Bool) where
   skip-by : (row other : Row) (with some : List Row) (o r : Bool) → row_before row other ≡ false → with ≡ cond r (with_row row some) some → cond o (other ∷ with) with ≡ cond r (with_row row (cond o (other ∷ some) some)) (cond o (other ∷ some) some)
-  skip-by row other with some true true is same =
-      ap (λ (list : List Row). other ∷ list) same ∙ sym (ap (λ (b : Bool). cond b (row ∷ other ∷ some) (other ∷ with_row row some)) is)
-  skip-by row other with some true false is same = ap (λ (list : List Row). other ∷ list) same
-  skip-by row other with some false r is same = same
-
-  filter-by : (row other : Row) (rows : List Row) (b : Bool) → row_before row other ≡ b → Rises row_before (cond b (row ∷ other ∷ rows) (other ∷ with_row row rows)) →
-      (Rises row_before (with_row row rows) → filter keep (with_row row rows) ≡ cond (keep row) (with_row row (filter keep rows)) (filter keep rows)) →
-      filter keep (cond b (row ∷ other ∷ rows) (other ∷ with_row row rows)) ≡ cond (keep row) (with_row row (filter keep (other ∷ rows))) (filter keep (other ∷ rows))
-  filter-by row other rows true is rises later =
-      ap (λ (list : List Row). cond (keep row) list (filter keep (other ∷ rows))) (sym (with_row-first row (filter keep (other ∷ rows)) (all-filter (λ (y : Row). row_before row y ≡ true) keep (other ∷ rows) rises.0)))
-  filter-by row other rows false is rises later = skip-by row other (filter keep (with_row row rows)) (filter keep rows) (keep other) (keep row) is (later rises.1)
+  skip-by row other with some o r is same = grind (arith, nat_tests)
 
   -- one row more is kept at its place, or left out
   filter-with_row : (row : Row) (rows : List Row) → Rises row_before (with_row row rows) → filter keep (with_row row rows) ≡ cond (keep row) (with_row row (filter keep rows)) (filter keep rows)
   filter-with_row row [] rises = refl
-  filter-with_row row (other ∷ rows) rises = filter-by row other rows (row_before row other) refl rises (filter-with_row row rows)
-
-  put-by : (row : Row) (rows sorted : List Row) (b : Bool) → rows_put (cond b (with_row row sorted) sorted) rows ≡ rows_put sorted (cond b (row ∷ rows) rows)
-  put-by row rows sorted true = refl
-  put-by row rows sorted false = refl
+  filter-with_row row (other ∷ rows) rises =
+      by_bool (λ (b : Bool). Rises row_before (cond b (row ∷ other ∷ rows) (other ∷ with_row row rows)) → filter keep (cond b (row ∷ other ∷ rows) (other ∷ with_row row rows)) ≡ cond (keep row) (with_row row (filter keep (other ∷ rows))) (filter keep (other ∷ rows))) (row_before row other)
+      (λ _ rises. ap (λ (list : List Row). cond (keep row) list (filter keep (other ∷ rows))) (sym (with_row-first row (filter keep (other ∷ rows)) (all-filter (λ (y : Row). row_before row y ≡ true) keep (other ∷ rows) rises.0))))
+      (λ is rises. skip-by row other (filter keep (with_row row rows)) (filter keep rows) (keep other) (keep row) is (filter-with_row row rows rises.1)) rises
 
   filter-put : (rows sorted : List Row) → Rises row_before (rows_put sorted rows) → filter keep (rows_put sorted rows) ≡ rows_put (filter keep sorted) (filter keep rows)
   filter-put [] sorted rises = refl
-  filter-put (row ∷ rows) sorted rises =
-      filter-put rows (with_row row sorted) rises
-      ∙ ap (λ (list : List Row). rows_put list (filter keep rows)) (filter-with_row row sorted (rises-back rows (with_row row sorted) rises))
-      ∙ put-by row (filter keep rows) (filter keep sorted) (keep row)
+  filter-put (row ∷ rows) sorted rises = grind (arith, nat_tests, filter-put rows (with_row row sorted) rises, filter-with_row row sorted (rises-back rows (with_row row sorted) rises))
 
   -- rows that are left out of those in order are left out before
   pub by_name-kept : (rows : List Row) → Rises row_before (by_name rows) → filter keep (by_name rows) ≡ by_name (filter keep rows)
@@ -108,16 +94,10 @@ module _ (keep : Row → Bool) where
 -- ## the rows of a list
 
 module _ {A : Type 0} (row : A → Row) (test : Row → Bool) (own : A → Bool) where
-  mapped-by : (a : A) (list : List A) (rows : List Row) (b : Bool) → rows ≡ map row list → cond b (row a ∷ rows) rows ≡ map row (cond b (a ∷ list) list)
-  mapped-by a list rows true same = ap (λ (xs : List Row). row a ∷ xs) same
-  mapped-by a list rows false same = same
-
   -- rows are left out with the members of the list
   pub filter-mapped : (list : List A) → AllByRecursion (λ a. test (row a) ≡ own a) list → filter test (map row list) ≡ map row (filter own list)
   filter-mapped [] all = refl
-  filter-mapped (a ∷ list) all =
-      ap (λ (b : Bool). cond b (row a ∷ filter test (map row list)) (filter test (map row list))) all.0
-      ∙ mapped-by a (filter own list) (filter test (map row list)) (own a) (filter-mapped list all.1)
+  filter-mapped (a ∷ list) all = grind (arith, all.0, filter-mapped list all.1)
 
   -- a row is there if its member is
   pub any-mapped : (list : List A) → AllByRecursion (λ a. test (row a) ≡ own a) list → list_any test (map row list) ≡ list_any own list
@@ -126,14 +106,10 @@ module _ {A : Type 0} (row : A → Row) (test : Row → Bool) (own : A → Bool)
 
 -- ## a member that is found
 
-found-passes : {A : Type 0} (p : A → Bool) (a x : A) (list : List A) (b : Bool) → cond b (Some a) (find p list) ≡ Some x → (find p list ≡ Some x → list_any p list ≡ true) → (b || list_any p list) ≡ true
-found-passes p a x list true there later = refl
-found-passes p a x list false there later = later there
-
 -- one that is found passes
 pub found-any : {A : Type 0} (p : A → Bool) (x : A) (list : List A) → find p list ≡ Some x → list_any p list ≡ true
 found-any p x [] there = absurd cc
-found-any p x (a ∷ list) there = found-passes p a x list (p a) there (found-any p x list)
+found-any p x (a ∷ list) there = grind (arith, found-any p x list)
 
 -- # the rows of a directory when one of them gets other bytes
 
@@ -142,32 +118,24 @@ found-any p x (a ∷ list) there = found-passes p a x list (p a) there (found-an
 abbrev pub put_bytes : List ℕ → List ℕ → Row → Row
 put_bytes name bytes row = if is_named name row then row_with bytes row else row
 
-set-put-by : (bytes : List ℕ) (row : Row) (b : Bool) → (cond b (row_with bytes row) row).name ≡ row.name
-set-put-by bytes row true = refl
-set-put-by bytes row false = refl
-
 -- no name changes
 pub put-name : (name bytes : List ℕ) (row : Row) → (put_bytes name bytes row).name ≡ row.name
-put-name name bytes row = set-put-by bytes row (is_named name row)
+put-name name bytes row = grind arith
 
 -- rows of other names are as they were
 pub put-others : (name bytes : List ℕ) (rows : List Row) → NonePass (is_named name) rows → map (put_bytes name bytes) rows ≡ rows
 put-others name bytes [] none = refl
-put-others name bytes (row ∷ rows) none =
-    ap (λ (b : Bool). cond b (row_with bytes row) row ∷ map (put_bytes name bytes) rows) none.0 ∙ ap (λ (list : List Row). row ∷ list) (put-others name bytes rows none.1)
-
-first-by : (name bytes : List ℕ) (row : Row) (rows : List Row) (b : Bool) → is_named name row ≡ b → AllByRecursion (λ other. row_before row other ≡ true) rows → change_first (is_named name) (row_with bytes) rows ≡ map (put_bytes name bytes) rows →
-    cond b (row_with bytes row ∷ rows) (row ∷ change_first (is_named name) (row_with bytes) rows) ≡ cond b (row_with bytes row) row ∷ map (put_bytes name bytes) rows
-first-by name bytes row rows true is later rest =
-    ap (λ (list : List Row). row_with bytes row ∷ list) (sym (put-others name bytes rows
-    (all-weaker (λ (other : Row). row_before row other ≡ true) (λ (other : Row). is_named name other ≡ false)
-    (λ other before. subst (λ (n : List ℕ). is_named n other ≡ false) (bytes_eq-is row.name name is) (other-name_back row other before)) rows later)))
-first-by name bytes row rows false is later rest = ap (λ (list : List Row). row ∷ list) rest
+put-others name bytes (row ∷ rows) none = rw (none.0, put-others name bytes rows none.1) refl
 
 -- among rows in order, the first of a name is the only one
 pub put-first : (name bytes : List ℕ) (rows : List Row) → Rises row_before rows → change_first (is_named name) (row_with bytes) rows ≡ map (put_bytes name bytes) rows
 put-first name bytes [] rises = refl
-put-first name bytes (row ∷ rows) rises = first-by name bytes row rows (is_named name row) refl rises.0 (put-first name bytes rows rises.1)
+put-first name bytes (row ∷ rows) rises =
+    by_bool (λ (b : Bool). cond b (row_with bytes row ∷ rows) (row ∷ change_first (is_named name) (row_with bytes) rows) ≡ cond b (row_with bytes row) row ∷ map (put_bytes name bytes) rows) (is_named name row)
+    (λ is. ap (λ (list : List Row). row_with bytes row ∷ list) (sym (put-others name bytes rows
+    (all-weaker (λ (other : Row). row_before row other ≡ true) (λ (other : Row). is_named name other ≡ false)
+    (λ other before. subst (λ (n : List ℕ). is_named n other ≡ false) (bytes_eq-is row.name name is) (other-name_back row other before)) rows rises.0))))
+    (λ is. ap (λ (list : List Row). row ∷ list) (put-first name bytes rows rises.1))
 
 -- ## rows in the order of their names
 
@@ -175,16 +143,10 @@ module _ (f : Row → Row) (keeps : (row : Row) → (f row).name ≡ row.name) w
   before-keeps : (this that : Row) → row_before (f this) (f that) ≡ row_before this that
   before-keeps this that = ap (λ (name : List ℕ). name_before name (f that).name) (keeps this) ∙ ap (name_before this.name) (keeps that)
 
-  insert-by : (row other : Row) (rows more : List Row) (b : Bool) → map f more ≡ with_row (f row) (map f rows) → map f (cond b (row ∷ other ∷ rows) (other ∷ more)) ≡ cond b (f row ∷ f other ∷ map f rows) (f other ∷ with_row (f row) (map f rows))
-  insert-by row other rows more true later = refl
-  insert-by row other rows more false later = ap (λ (list : List Row). f other ∷ list) later
-
   -- a change that keeps names keeps the place of a row
   with_row-each : (row : Row) (rows : List Row) → map f (with_row row rows) ≡ with_row (f row) (map f rows)
   with_row-each row [] = refl
-  with_row-each row (other ∷ rows) =
-      insert-by row other rows (with_row row rows) (row_before row other) (with_row-each row rows)
-      ∙ ap (λ (b : Bool). cond b (f row ∷ f other ∷ map f rows) (f other ∷ with_row (f row) (map f rows))) (sym (before-keeps row other))
+  with_row-each row (other ∷ rows) = grind (arith, before-keeps row other, with_row-each row rows)
 
   put-each : (rows sorted : List Row) → map f (rows_put sorted rows) ≡ rows_put (map f sorted) (map f rows)
   put-each [] sorted = refl
@@ -197,34 +159,18 @@ module _ (f : Row → Row) (keeps : (row : Row) → (f row).name ≡ row.name) w
 -- ## a row is there
 
 module _ (test : Row → Bool) where
-  or_none : (b : Bool) → b ≡ (b || false)
-  or_none true = refl
-  or_none false = refl
-
-  or_swap : (a b c : Bool) → ((a || b) || c) ≡ (b || (a || c))
-  or_swap true true c = refl
-  or_swap true false c = refl
-  or_swap false b c = refl
-
   any-put : (rows sorted : List Row) → list_any test (rows_put sorted rows) ≡ (list_any test sorted || list_any test rows)
-  any-put [] sorted = or_none (list_any test sorted)
-  any-put (row ∷ rows) sorted =
-      any-put rows (with_row row sorted)
-      ∙ ap (λ (b : Bool). b || list_any test rows) (list_any-insert_before test (λ other. row_before row other) row sorted)
-      ∙ or_swap (test row) (list_any test sorted) (list_any test rows)
+  any-put [] sorted = sym (or_false (list_any test sorted))
+  any-put (row ∷ rows) sorted = grind (arith, nat_tests, any-put rows (with_row row sorted), list_any-insert_before test (λ other. row_before row other) row sorted)
 
   -- the order of rows does not matter
   pub any-by_name : (rows : List Row) → list_any test (by_name rows) ≡ list_any test rows
   any-by_name rows = any-put rows []
 
-  found-by : (row : Row) (rows : List Row) (b : Bool) → (b || list_any test rows) ≡ true → (list_any test rows ≡ true → (other : Row) × (find test rows ≡ Some other)) → (other : Row) × (cond b (Some row) (find test rows) ≡ Some other)
-  found-by row rows true any later = (row, refl)
-  found-by row rows false any later = later any
-
   -- one that passes is found
   pub any-found : (rows : List Row) → list_any test rows ≡ true → (row : Row) × (find test rows ≡ Some row)
   any-found [] any = absurd cc
-  any-found (row ∷ rows) any = found-by row rows (test row) any (any-found rows)
+  any-found (row ∷ rows) any = by_bool (λ (b : Bool). (b || list_any test rows) ≡ true → (other : Row) × (cond b (Some row) (find test rows) ≡ Some other)) (test row) (λ _ any. (row, refl)) (λ _ any. any-found rows any) any
 
 -- ## the rows of a list
 
@@ -256,25 +202,17 @@ rows_from-any row test [] at j k old same there passes = absurd cc
 rows_from-any row test (a ∷ list) at zero k old same there passes =
     let is : old ≡ a = cc in
     let at_k : k ≡ at = omega arith in
-    or_first (test (row at a)) (list_any test (rows_from row (at + 1) list)) (subst (λ (x : _). test (row at x) ≡ true) is (subst (λ (n : ℕ). test (row n old) ≡ true) at_k passes)) where
-      or_first : (b c : Bool) → b ≡ true → (b || c) ≡ true
-      or_first true c is = refl
-      or_first false c is = absurd cc
+    or_left (test (row at a)) (list_any test (rows_from row (at + 1) list)) (subst (λ (x : _). test (row at x) ≡ true) is (subst (λ (n : ℕ). test (row n old) ≡ true) at_k passes))
 rows_from-any row test (a ∷ list) at (suc j) k old same there passes =
-    or_last (test (row at a)) (list_any test (rows_from row (at + 1) list)) (rows_from-any row test list (at + 1) j k old (omega arith) there passes) where
-      or_last : (b c : Bool) → c ≡ true → (b || c) ≡ true
-      or_last true c is = refl
-      or_last false c is = is
+    or_right (test (row at a)) (list_any test (rows_from row (at + 1) list)) (rows_from-any row test list (at + 1) j k old (omega arith) there passes)
 
 -- ## ranges
 
 -- what is true of a range is true of each number in it
 pub at-range : (P : ℕ → Type 0) (count at k : ℕ) → at ≤ k → k < at + count → AllByRecursion P (range_with_len at count) → P k
 at-range P zero at k low high all = absurd (omega arith)
-at-range P (suc count) at k low high all = by at k (at == k) refl low all.0 (λ more. at-range P count (at + 1) k more (omega arith) all.1) where
-  by : (at k : ℕ) (b : Bool) → (at == k) ≡ b → at ≤ k → P at → (at + 1 ≤ k → P k) → P k
-  by at k true is low here later = let same : at ≡ k = grind (arith, nat_tests) in subst P same here
-  by at k false is low here later = let apart = eqb-false at k is in later (omega arith)
+at-range P (suc count) at k low high all = by_bool (λ (b : Bool). P k) (at == k) (λ is. let same : at ≡ k = grind (arith, nat_tests) in subst P same all.0)
+    (λ is. let apart = eqb-false at k is in at-range P count (at + 1) k (omega arith) (omega arith) all.1)
 
 -- # the rows of a list with one member more, in the order of their names
 
@@ -282,33 +220,32 @@ at-range P (suc count) at k low high all = by at k (at == k) refl low all.0 (λ 
 
 -- of two other names one is before the other
 other-order : (a b : Row) → is_named a.name b ≡ false → row_before a b ≡ false → row_before b a ≡ true
-other-order a b other not_before = by (row_before b a) refl where
-  by : (c : Bool) → row_before b a ≡ c → row_before b a ≡ true
-  by true is = is
-  by false is =
-      let tied = lt-neither nat_list_cmp_total a.name b.name not_before is in
-      let named = bytes_eq-from b.name a.name (sym (exact_bytes a.name b.name tied)) in
-      absurd cc
+other-order a b other not_before = by_bool (λ (c : Bool). c ≡ true) (row_before b a) (λ is. refl) (λ is.
+    let tied = lt-neither nat_list_cmp_total a.name b.name not_before is in
+    let named = bytes_eq-from b.name a.name (sym (exact_bytes a.name b.name tied)) in
+    absurd cc)
 
--- a row is put before another one at the same place
-create-put-by : (a b other : Row) (rows ab : List Row) (over_a over_b : Bool) → row_before a b ≡ true → row_before b a ≡ false → row_before a other ≡ over_a → row_before b other ≡ over_b → with_row a (with_row b rows) ≡ with_row b (with_row a rows) →
-    with_row a (cond over_b (b ∷ other ∷ rows) (other ∷ with_row b rows)) ≡ with_row b (cond over_a (a ∷ other ∷ rows) (other ∷ with_row a rows))
-create-put-by a b other rows ab true true before not_before is_a is_b later = rw (before, not_before, is_b) refl
-create-put-by a b other rows ab true false before not_before is_a is_b later = rw (is_a, not_before, is_b) refl
-create-put-by a b other rows ab false true before not_before is_a is_b later = absurd (let over = lt-trans nat_list_cmp_total a.name b.name other.name before is_b in cc)
-create-put-by a b other rows ab false false before not_before is_a is_b later = rw (is_a, is_b) (ap (λ (list : List Row). other ∷ list) later)
+module _ {X : Type 0} (before : X → X → Bool) (one_way : (a b : X) → before a b ≡ true → before b a ≡ false) (trans : (a b c : X) → before a b ≡ true → before b c ≡ true → before a c ≡ true) where
+  -- a member at its place among those before it
+  abbrev placed : X → List X → List X
+  placed x sorted = insert_before (before x) x sorted
+
+  placed-by : (a b other : X) (list : List X) (over_a over_b : Bool) → before a b ≡ true → before b a ≡ false → before a other ≡ over_a → before b other ≡ over_b → placed a (placed b list) ≡ placed b (placed a list) →
+      placed a (cond over_b (b ∷ other ∷ list) (other ∷ placed b list)) ≡ placed b (cond over_a (a ∷ other ∷ list) (other ∷ placed a list))
+  placed-by a b other list over_a over_b first not_first is_a is_b later = grind (arith, nat_tests, trans a b other)
+
+  -- of two members either may be put first
+  placed-both : (a b : X) → before a b ≡ true → (list : List X) → placed a (placed b list) ≡ placed b (placed a list)
+  placed-both a b first [] = let not_first : before b a ≡ false = one_way a b first in rw (first, not_first) refl
+  placed-both a b first (other ∷ list) = placed-by a b other list (before a other) (before b other) first (one_way a b first) refl refl (placed-both a b first list)
 
 put-before : (a b : Row) → row_before a b ≡ true → (rows : List Row) → with_row a (with_row b rows) ≡ with_row b (with_row a rows)
-put-before a b before [] = let not_before : row_before b a ≡ false = lt-one_way nat_list_cmp_total a.name b.name before in rw (before, not_before) refl
-put-before a b before (other ∷ rows) =
-    create-put-by a b other rows rows (row_before a other) (row_before b other) before (lt-one_way nat_list_cmp_total a.name b.name before) refl refl (put-before a b before rows)
+put-before = placed-both row_before (λ a b less. lt-one_way nat_list_cmp_total a.name b.name less) (λ a b c less more. lt-trans nat_list_cmp_total a.name b.name c.name less more)
 
 -- two rows of other names are put in either order
 put-both : (a b : Row) → is_named a.name b ≡ false → (rows : List Row) → with_row a (with_row b rows) ≡ with_row b (with_row a rows)
-put-both a b other rows = by (row_before a b) refl where
-  by : (c : Bool) → row_before a b ≡ c → with_row a (with_row b rows) ≡ with_row b (with_row a rows)
-  by true is = put-before a b is rows
-  by false is = sym (put-before b a (other-order a b other is) rows)
+put-both a b other rows =
+    by_bool (λ (c : Bool). with_row a (with_row b rows) ≡ with_row b (with_row a rows)) (row_before a b) (λ is. put-before a b is rows) (λ is. sym (put-before b a (other-order a b other is) rows))
 
 -- so a row may be put last
 put-last : (new : Row) (rows sorted : List Row) → NonePass (is_named new.name) rows → rows_put (with_row new sorted) rows ≡ with_row new (rows_put sorted rows)
@@ -319,14 +256,9 @@ put-last new (row ∷ rows) sorted others =
 -- ## one member more
 
 module _ {A : Type 0} (row : A → Row) (p : A → Bool) (new : A) where
-  create-insert-by : (a : A) (list more : List A) (sorted : List Row) (b : Bool) → is_named (row new).name (row a) ≡ false → rows_put (with_row (row a) sorted) (map row more) ≡ rows_put (with_row (row new) (with_row (row a) sorted)) (map row list) →
-      rows_put sorted (map row (cond b (new ∷ a ∷ list) (a ∷ more))) ≡ rows_put (with_row (row a) (with_row (row new) sorted)) (map row list)
-  create-insert-by a list more sorted true other later = refl
-  create-insert-by a list more sorted false other later = later ∙ ap (λ (rows : List Row). rows_put rows (map row list)) (put-both (row new) (row a) other sorted)
-
   insert-put : (list : List A) (sorted : List Row) → NonePass (is_named (row new).name) (map row list) → rows_put sorted (map row (insert_before p new list)) ≡ rows_put (with_row (row new) sorted) (map row list)
   insert-put [] sorted others = refl
-  insert-put (a ∷ list) sorted others = create-insert-by a list (insert_before p new list) sorted (p a) others.0 (insert-put list (with_row (row a) sorted) others.1)
+  insert-put (a ∷ list) sorted others = grind (arith, nat_tests, insert-put list (with_row (row a) sorted) others.1, put-both (row new) (row a) others.0 sorted)
 
   -- the rows of a list with a member more have its row more, wherever it is in the list
   pub by_name-insert : (list : List A) → NonePass (is_named (row new).name) (map row list) → by_name (map row (insert_before p new list)) ≡ with_row (row new) (by_name (map row list))
@@ -397,14 +329,13 @@ module _ {A : Type 0} (name : List ℕ) (p : A → Bool) where
 -- ## the one is changed or left out
 
 module _ {A : Type 0} (p : A → Bool) where
-  removed-by : (a : A) (list : List A) (b : Bool) → p a ≡ b → (p a ≡ true → NonePass p list) → filter (λ x. not (p x)) list ≡ remove_first p list → cond (not b) (a ∷ filter (λ x. not (p x)) list) (filter (λ x. not (p x)) list) ≡ cond b list (a ∷ remove_first p list)
-  removed-by a list true is none later = filter-not_none p list (none is)
-  removed-by a list false is none later = ap (λ (xs : List A). a ∷ xs) later
-
   -- all that do not pass are all but the first that does
   pub filter-removed : (list : List A) → IsOnce p list → filter (λ x. not (p x)) list ≡ remove_first p list
   filter-removed [] once = refl
-  filter-removed (a ∷ list) once = removed-by a list (p a) refl once.0 (filter-removed list once.1)
+  filter-removed (a ∷ list) once =
+      let rest = filter (λ (x : A). not (p x)) list in
+      by_bool (λ (b : Bool). cond (not b) (a ∷ rest) rest ≡ cond b list (a ∷ remove_first p list)) (p a)
+      (λ is. filter-not_none p list (once.0 is)) (λ is. ap (λ (xs : List A). a ∷ xs) (filter-removed list once.1))
 
   module _ (f : A → A) where
     module _ (G P Q : A → Type 0) (one : (a : A) → p a ≡ true → G a → P a → Q (f a)) (others : (a : A) → p a ≡ false → G a → P a → Q a) where
@@ -412,58 +343,43 @@ module _ {A : Type 0} (p : A → Bool) where
       all-others [] none good all = tt
       all-others (a ∷ list) none good all = (others a none.0 good.0 all.0, all-others list none.1 good.1 all.1)
 
-      change-by : (a : A) (list : List A) (b : Bool) → p a ≡ b → (p a ≡ true → NonePass p list) → AllByRecursion G (a ∷ list) → AllByRecursion P (a ∷ list) → AllByRecursion Q (change_first p f list) → AllByRecursion Q (cond b (f a ∷ list) (a ∷ change_first p f list))
-      change-by a list true is none good all later = (one a is good.0 all.0, all-others list (none is) good.1 all.1)
-      change-by a list false is none good all later = (others a is good.0 all.0, later)
-
       -- one thing is true of the one when it is changed, another of the others
       pub change-one : (list : List A) → IsOnce p list → AllByRecursion G list → AllByRecursion P list → AllByRecursion Q (change_first p f list)
       change-one [] once good all = tt
-      change-one (a ∷ list) once good all = change-by a list (p a) refl once.0 good all (change-one list once.1 good.1 all.1)
-
-    same-by : (row : A → Row) (a : A) (list rest : List A) (b : Bool) → row (f a) ≡ row a → map row rest ≡ map row list → map row (cond b (f a ∷ list) (a ∷ rest)) ≡ row a ∷ map row list
-    same-by row a list rest true same later = ap (λ (r : Row). r ∷ map row list) same
-    same-by row a list rest false same later = ap (λ (rows : List Row). row a ∷ rows) later
+      change-one (a ∷ list) once good all =
+          by_bool (λ (b : Bool). AllByRecursion Q (cond b (f a ∷ list) (a ∷ change_first p f list))) (p a)
+          (λ is. (one a is good.0 all.0, all-others list (once.0 is) good.1 all.1)) (λ is. (others a is good.0 all.0, change-one list once.1 good.1 all.1))
 
     -- a change that keeps rows keeps all of them
     pub map-change_first : (row : A → Row) → ((a : A) → row (f a) ≡ row a) → (list : List A) → map row (change_first p f list) ≡ map row list
     map-change_first row same [] = refl
-    map-change_first row same (a ∷ list) = same-by row a list (change_first p f list) (p a) (same a) (map-change_first row same list)
+    map-change_first row same (a ∷ list) = grind (arith, same a, map-change_first row same list)
 
     module _ (R : Row → A → Type 0) (keeps : (row : Row) (a : A) → R row a → R row (f a)) where
-      zip-by : (row : Row) (rows : List Row) (a : A) (list : List A) (b : Bool) → R row a → AllZip R rows list → AllZip R rows (change_first p f list) → AllZip R (row ∷ rows) (cond b (f a ∷ list) (a ∷ change_first p f list))
-      zip-by row rows a list true is all later = (keeps row a is, all)
-      zip-by row rows a list false is all later = (is, later)
-
       pub zip-change_first : (rows : List Row) (list : List A) → AllZip R rows list → AllZip R rows (change_first p f list)
       zip-change_first [] [] all = tt
-      zip-change_first (row ∷ rows) (a ∷ list) all = zip-by row rows a list (p a) all.0 all.1 (zip-change_first rows list all.1)
+      zip-change_first (row ∷ rows) (a ∷ list) all =
+          by_bool (λ (b : Bool). AllZip R (row ∷ rows) (cond b (f a ∷ list) (a ∷ change_first p f list))) (p a) (λ is. (keeps row a all.0, all.1)) (λ is. (all.0, zip-change_first rows list all.1))
       zip-change_first _ _ all = absurd all
 
   -- the row of a name and the member that is found are changed together
   module _ (f : A → A) (g : Row → Row) (test : Row → Bool) (R : Row → A → Type 0) where
-    turn-by : (row : Row) (rows rest : List Row) (a : A) (list more : List A) (b c : Bool) → b ≡ c → R row a → AllZip R rows list → ((x : A) → cond c (Some a) (find p list) ≡ Some x → (r : Row) → R r x → R (g r) (f x)) →
-        (((x : A) → find p list ≡ Some x → (r : Row) → R r x → R (g r) (f x)) → AllZip R rest more) → AllZip R (cond b (g row ∷ rows) (row ∷ rest)) (cond c (f a ∷ list) (a ∷ more))
-    turn-by row rows rest a list more true true same is all turns later = (turns a refl row is, all)
-    turn-by row rows rest a list more false false same is all turns later = (is, later turns)
-    turn-by row rows rest a list more _ _ same is all turns later = absurd cc
-
     pub zip-change_found : (rows : List Row) (list : List A) → AllZip (λ row a. test row ≡ p a) rows list → AllZip R rows list → ((x : A) → find p list ≡ Some x → (r : Row) → R r x → R (g r) (f x)) → AllZip R (change_first test g rows) (change_first p f list)
     zip-change_found [] [] tells all turns = tt
-    zip-change_found (row ∷ rows) (a ∷ list) tells all turns = turn-by row rows (change_first test g rows) a list (change_first p f list) (test row) (p a) tells.0 all.0 all.1 turns (zip-change_found rows list tells.1 all.1)
+    zip-change_found (row ∷ rows) (a ∷ list) tells all turns =
+        rw tells.0 (by_bool (λ (b : Bool). ((x : A) → cond b (Some a) (find p list) ≡ Some x → (r : Row) → R r x → R (g r) (f x)) → AllZip R (cond b (g row ∷ rows) (row ∷ change_first test g rows)) (cond b (f a ∷ list) (a ∷ change_first p f list))) (p a)
+        (λ _ turns. (turns a refl row all.0, all.1)) (λ _ turns. (all.0, zip-change_found rows list tells.1 all.1 turns)) turns)
     zip-change_found _ _ tells all turns = absurd all
 
   -- rows and members are left out together
   module _ (R : Row → A → Type 0) (test : Row → Bool) where
-    both-by : (row : Row) (rows : List Row) (a : A) (list : List A) (b c : Bool) → b ≡ c → R row a → AllZip R rows list → AllZip R (cond (not b) (row ∷ rows) rows) (cond (not c) (a ∷ list) list)
-    both-by row rows a list true true same is all = all
-    both-by row rows a list true false same is all = absurd cc
-    both-by row rows a list false true same is all = absurd cc
-    both-by row rows a list false false same is all = (is, all)
-
     pub zip-filter : (rows : List Row) (list : List A) → AllZip (λ row a. test row ≡ p a) rows list → AllZip R rows list → AllZip R (filter (λ row. not (test row)) rows) (filter (λ a. not (p a)) list)
     zip-filter [] [] tells all = tt
-    zip-filter (row ∷ rows) (a ∷ list) tells all = both-by row (filter (λ r. not (test r)) rows) a (filter (λ x. not (p x)) list) (test row) (p a) tells.0 all.0 (zip-filter rows list tells.1 all.1)
+    zip-filter (row ∷ rows) (a ∷ list) tells all =
+        let some = filter (λ (r : Row). not (test r)) rows in
+        let more = filter (λ (x : A). not (p x)) list in
+        let later = zip-filter rows list tells.1 all.1 in
+        rw tells.0 (by_bool (λ (b : Bool). AllZip R (cond (not b) (row ∷ some) some) (cond (not b) (a ∷ more) more)) (p a) (λ is. later) (λ is. (all.0, later)))
     zip-filter _ _ tells all = absurd all
 
 -- # the order of swept pairs, and lists whose members are put one after another at their places
@@ -471,42 +387,19 @@ module _ {A : Type 0} (p : A → Bool) where
 -- ## pairs
 
 pair-same : (a b : Swept) → a.node.0 ≡ b.node.0 → a.server ≡ b.server → a ≡ b
-pair-same a b nodes servers = ap (λ (n : ℕ). record { node = record { 0 = n }; server = a.server }) nodes ∙ ap (λ (x : ℕ). record { node = b.node; server = x }) servers
-
-total-by : (a b : Swept) (there back : Bool) → (a.node.0 == b.node.0) ≡ there → (b.node.0 == a.node.0) ≡ back → cond there (nat_lt a.server b.server) (nat_lt a.node.0 b.node.0) ≡ false → cond back (nat_lt b.server a.server) (nat_lt b.node.0 a.node.0) ≡ false → a ≡ b
-total-by a b true true same again not_before not_after = pair-same a b (grind (arith, nat_tests)) (grind (arith, nat_tests))
-total-by a b true false same again not_before not_after = absurd (grind (arith, nat_tests))
-total-by a b false true same again not_before not_after = absurd (grind (arith, nat_tests))
-total-by a b false false same again not_before not_after = absurd (grind (arith, nat_tests))
+pair-same a b nodes servers = λ i. record { node = record { 0 = nodes i }; server = servers i }
 
 -- of two pairs one is before the other, or they are the same
 pair-total : (a b : Swept) → is_pair_before a b ≡ false → is_pair_before b a ≡ false → a ≡ b
-pair-total a b not_before not_after = total-by a b (a.node.0 == b.node.0) (b.node.0 == a.node.0) refl refl not_before not_after
-
-way-by : (a b : Swept) (there back : Bool) → (a.node.0 == b.node.0) ≡ there → (b.node.0 == a.node.0) ≡ back → cond there (nat_lt a.server b.server) (nat_lt a.node.0 b.node.0) ≡ true → cond back (nat_lt b.server a.server) (nat_lt b.node.0 a.node.0) ≡ false
-way-by a b true true same again before = grind (arith, nat_tests)
-way-by a b true false same again before = absurd (grind (arith, nat_tests))
-way-by a b false true same again before = absurd (grind (arith, nat_tests))
-way-by a b false false same again before = grind (arith, nat_tests)
+pair-total a b not_before not_after = pair-same a b (grind (arith, nat_tests)) (grind (arith, nat_tests))
 
 -- and not both
 pair-one_way : (a b : Swept) → is_pair_before a b ≡ true → is_pair_before b a ≡ false
-pair-one_way a b before = way-by a b (a.node.0 == b.node.0) (b.node.0 == a.node.0) refl refl before
-
-trans-by : (a b c : Swept) (ab bc ac : Bool) → (a.node.0 == b.node.0) ≡ ab → (b.node.0 == c.node.0) ≡ bc → (a.node.0 == c.node.0) ≡ ac →
-    cond ab (nat_lt a.server b.server) (nat_lt a.node.0 b.node.0) ≡ true → cond bc (nat_lt b.server c.server) (nat_lt b.node.0 c.node.0) ≡ true → cond ac (nat_lt a.server c.server) (nat_lt a.node.0 c.node.0) ≡ true
-trans-by a b c true true true is_ab is_bc is_ac before after = grind (arith, nat_tests)
-trans-by a b c true true false is_ab is_bc is_ac before after = absurd (grind (arith, nat_tests))
-trans-by a b c true false true is_ab is_bc is_ac before after = absurd (grind (arith, nat_tests))
-trans-by a b c true false false is_ab is_bc is_ac before after = grind (arith, nat_tests)
-trans-by a b c false true true is_ab is_bc is_ac before after = absurd (grind (arith, nat_tests))
-trans-by a b c false true false is_ab is_bc is_ac before after = grind (arith, nat_tests)
-trans-by a b c false false true is_ab is_bc is_ac before after = absurd (grind (arith, nat_tests))
-trans-by a b c false false false is_ab is_bc is_ac before after = grind (arith, nat_tests)
+pair-one_way a b before = grind (arith, nat_tests)
 
 -- what is before a pair is before those after it
 pub pair-trans : (a b c : Swept) → is_pair_before a b ≡ true → is_pair_before b c ≡ true → is_pair_before a c ≡ true
-pair-trans a b c before after = trans-by a b c (a.node.0 == b.node.0) (b.node.0 == c.node.0) (a.node.0 == c.node.0) refl refl refl before after
+pair-trans a b c before after = grind (arith, nat_tests)
 
 -- ## pairs put at their places
 
@@ -517,17 +410,8 @@ put pair sorted = insert_before (is_pair_before pair) pair sorted
 abbrev pub put_all : List Swept → List Swept → List Swept
 put_all sorted pairs = fold (λ before pair. insert_before (is_pair_before pair) pair before) sorted pairs
 
-swap-by : (a b other : Swept) (list : List Swept) (over_a over_b : Bool) → is_pair_before a b ≡ true → is_pair_before b a ≡ false → is_pair_before a other ≡ over_a → is_pair_before b other ≡ over_b → put a (put b list) ≡ put b (put a list) →
-    put a (cond over_b (b ∷ other ∷ list) (other ∷ put b list)) ≡ put b (cond over_a (a ∷ other ∷ list) (other ∷ put a list))
-swap-by a b other list true true before not_before is_a is_b later = rw (before, not_before, is_b) refl
-swap-by a b other list true false before not_before is_a is_b later = rw (is_a, not_before, is_b) refl
-swap-by a b other list false true before not_before is_a is_b later = absurd (let over = pair-trans a b other before is_b in cc)
-swap-by a b other list false false before not_before is_a is_b later = rw (is_a, is_b) (ap (λ (rest : List Swept). other ∷ rest) later)
-
 swap-before : (a b : Swept) → is_pair_before a b ≡ true → (list : List Swept) → put a (put b list) ≡ put b (put a list)
-swap-before a b before [] = let not_before : is_pair_before b a ≡ false = pair-one_way a b before in rw (before, not_before) refl
-swap-before a b before (other ∷ list) =
-    swap-by a b other list (is_pair_before a other) (is_pair_before b other) before (pair-one_way a b before) refl refl (swap-before a b before list)
+swap-before = placed-both is_pair_before pair-one_way pair-trans
 
 -- two pairs are put in either order
 swap : (a b : Swept) (list : List Swept) → put a (put b list) ≡ put b (put a list)
@@ -554,15 +438,10 @@ put_all-rises (a ∷ pairs) rises = order-put-last a pairs [] ∙ ap (put a) (pu
 -- ## pairs of rows
 
 module _ (f : Row → Swept) where
-  with-by : (row other : Row) (rows : List Row) (sorted : List Swept) (b : Bool) → put_all (put (f other) sorted) (map f (with_row row rows)) ≡ put_all (put (f row) (put (f other) sorted)) (map f rows) →
-      put_all sorted (map f (cond b (row ∷ other ∷ rows) (other ∷ with_row row rows))) ≡ put_all (put (f other) (put (f row) sorted)) (map f rows)
-  with-by row other rows sorted true later = refl
-  with-by row other rows sorted false later = later ∙ ap (λ (list : List Swept). put_all list (map f rows)) (swap (f row) (f other) sorted)
-
   -- it does not matter where a row is
   put_all-with : (row : Row) (rows : List Row) (sorted : List Swept) → put_all sorted (map f (with_row row rows)) ≡ put_all (put (f row) sorted) (map f rows)
   put_all-with row [] sorted = refl
-  put_all-with row (other ∷ rows) sorted = with-by row other rows sorted (row_before row other) (put_all-with row rows (put (f other) sorted))
+  put_all-with row (other ∷ rows) sorted = grind (arith, nat_tests, put_all-with row rows (put (f other) sorted), swap (f row) (f other) sorted)
 
   put_all-rows : (rows sorted : List Row) → put_all [] (map f (rows_put sorted rows)) ≡ put_all (put_all [] (map f sorted)) (map f rows)
   put_all-rows [] sorted = refl

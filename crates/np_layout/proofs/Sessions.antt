@@ -1,81 +1,53 @@
 -- a session begins or ends, and the tree lays out the state after it
-use Rattle.np_layout.proofs.Prelude.{AllByRecursion, AllZip, AreLive, Bool, Ends, HasGoodIds, HasHandles, HasLeaves, HasNodeLock, HasQueue, HasRoomFor, IsGood, IsNodeRow, IsWait, IsWhole, Jobs, Launchers, LaysOut, List, NodeEntry, NodeLock, NodePlace, Nodepool, Nodes, None, NonePass, Option, Persistent, Place, Poolsim, Registration, Request, RequestEntry, RequestLock, RequestLocks, Requests, Rises, Role, Roles, Root, Row, Seen, Semaphore, Semaphores, Session, SessionEndsLayOut, SessionFacts, SessionId, Sessions, SessionsLayOut, Some, State, SweptPairs, Tick, TreeState, Zuul, above, after_begin, after_end, after_part, all-find, all-weaker, ap, arith, at_path, below, by_name, change_at, cond, ended, ends-show, false, filter, find_named, handle_row, handles_of, insert_before-end, is_in, is_kept, is_lt, is_named, is_owner, is_session, janitor_role_row, job_row, launcher_role_row, launcher_row, left, length, length-change_at, list_any, make, map, map-push, name_of, nat_cmp-less, nat_cmp-more, nat_tests, next_under, node_left, not, option_map, or_false, or_true, other-name, owner_at, parent_of, path_of, places, range_with_len, refl, request_left, request_lock_row, request_row, requester_role_row, room-gives, row_before, rows-rise, rows_at, rows_from, seen-is-row, seen_at, seen_in, seen_of, semaphore_row, session_row, session_text, slice_cmp-ten, subst, suc, swept_row, sym, tree_session, true, under, with_row, without, without_session, zero, ℕ, [], ◌++◌, ◌+◌, ◌-◌, ◌<◌, ◌==◌, ◌^◌, ◌||◌, ◌∙◌, ◌∷◌, ◌≡◌, ◌≤◌}
-use Rattle.np_layout.proofs.Steps.{Step, make-new, owner-there}
+use Rattle.np_layout.proofs.Prelude.{AllByRecursion, AllZip, AreLive, Bool, Ends, HasGoodIds, HasHandles, HasLeaves, HasNodeLock, HasQueue, HasRoomFor, IsGood, IsNodeRow, IsWait, IsWhole, Jobs, Launchers, LaysOut, List, NodeEntry, NodeLock, NodePlace, Nodepool, Nodes, None, PartsLayOut, Persistent, Place, Poolsim, Registration, Request, RequestEntry, RequestLock, RequestLocks, Requests, Rises, Role, Roles, Root, Row, Seen, Semaphore, Semaphores, Session, SessionFacts, SessionId, Sessions, Some, State, SweptPairs, Tick, TreeState, Zuul, [], above, after_begin, after_end, after_part, all-find, all-map, all-weaker, ap, arith, at_path, below, by_name, change_at, ended, ends-show, false, filter, filter-not_none, find_named, from-map_some, handle_row, handles_of, insert_before-end, is_in, is_kept, is_lt, is_named, is_owner, is_session, janitor_role_row, job_row, launcher_role_row, launcher_row, left, length, length-append, length-change_at, list_any, list_any-append, make, map, map-push, nat_cmp-less, nat_tests, next_under, node_left, not, option_map, or_false, or_true, owner_at, path_of, place_name, places, range_with_len, refl, request_left, request_lock_row, request_row, requester_role_row, room-gives, row_before, rows-rise, rows_at, rows_from, seen_at, seen_in, seen_of, semaphore_row, session_row, session_text, slice_cmp-ten, subst, suc, swept_row, sym, tree_session, true, under, with_row, without, without_session, zero, ℕ, ◌++◌, ◌+◌, ◌-◌, ◌<◌, ◌==◌, ◌^◌, ◌||◌, ◌∙◌, ◌∷◌, ◌≡◌, ◌≤◌}
+use Rattle.np_layout.proofs.Creates.{none-after, none-named}
+use Rattle.np_layout.proofs.Stands.{in-more}
+use Rattle.np_layout.proofs.Steps.{Step, make-new, owner-there, seen-named}
 use Rattle.np_layout.proofs.Elsewhere.{Says, Stays, Table, all-tables, each-table, of_live, of_sessions, table-beside}
 use Rattle.np_tree.specs.Prelude.{Node}
-use Rattle.np_layout.proofs.Names.{is_path-of, parts-of}
-use Rattle.np_layout.proofs.Rows.{all-put, by_name-kept, filter-mapped, zip-filter}
+use Rattle.np_layout.proofs.Rows.{all-both, all-put, by_name-kept, filter-mapped, zip-filter}
 
 -- # a session begins, and the tree's first session makes its record
 
 -- ## one member more at the end
 
-or-join : (a b c : Bool) → (a || (b || c)) ≡ ((a || b) || c)
-or-join true b c = refl
-or-join false b c = refl
-
 any-push : {A : Type 0} (p : A → Bool) (list : List A) (a : A) → list_any p (list ++ a ∷ []) ≡ (list_any p list || p a)
-any-push p [] a = or_false (p a)
-any-push p (b ∷ list) a = ap (λ (c : Bool). p b || c) (any-push p list a) ∙ or-join (p b) (list_any p list) (p a)
-
-length-push : {A : Type 0} (list : List A) (a : A) → length (list ++ a ∷ []) ≡ suc (length list)
-length-push [] a = refl
-length-push (b ∷ list) a = ap suc (length-push list a)
+any-push p list a = list_any-append p list (a ∷ []) ∙ ap (λ (b : Bool). list_any p list || b) (or_false (p a))
 
 range-push : (count at : ℕ) → range_with_len at (suc count) ≡ range_with_len at count ++ (at + count) ∷ []
 range-push zero at = let same : at ≡ at + zero = omega arith in ap (λ (n : ℕ). n ∷ []) same
-range-push (suc count) at =
-    let same : (at + 1) + count ≡ at + suc count = omega arith in
-    ap (λ (rest : List ℕ). at ∷ rest) (range-push count (at + 1) ∙ ap (λ (n : ℕ). range_with_len (at + 1) count ++ n ∷ []) same)
+range-push (suc count) at = grind (arith, range-push count (at + 1))
 
 rows_from-push : {A : Type 0} (row : ℕ → A → Row) (list : List A) (at : ℕ) (a : A) → rows_from row at (list ++ a ∷ []) ≡ rows_from row at list ++ row (at + length list) a ∷ []
 rows_from-push row [] at a = let same : at ≡ at + zero = omega arith in ap (λ (n : ℕ). row n a ∷ []) same
-rows_from-push row (b ∷ list) at a =
-    let same : (at + 1) + length list ≡ at + suc (length list) = omega arith in
-    ap (λ (rest : List Row). row at b ∷ rest) (rows_from-push row list (at + 1) a ∙ ap (λ (n : ℕ). rows_from row (at + 1) list ++ row n a ∷ []) same)
+rows_from-push row (b ∷ list) at a = grind (arith, rows_from-push row list (at + 1) a)
 
 -- ## the new record is the last
 
-number-before : (k new : ℕ) (f g : SessionFacts) → k < new → new < 2 ^ 32 → row_before (session_row k f) (session_row new g) ≡ true
-number-before k new f g low small = ap is_lt (slice_cmp-ten k new (omega arith) small ∙ nat_cmp-less k new low)
-
-number-after : (k new : ℕ) (f g : SessionFacts) → k < new → new < 2 ^ 32 → row_before (session_row new g) (session_row k f) ≡ false
-number-after k new f g low small = ap is_lt (slice_cmp-ten new k small (omega arith) ∙ nat_cmp-more new k low)
-
-none-after : (list : List SessionFacts) (at new : ℕ) (g : SessionFacts) → at + length list ≤ new → new < 2 ^ 32 → NonePass (λ other. row_before (session_row new g) other) (rows_from session_row at list)
-none-after [] at new g within small = tt
-none-after (f ∷ list) at new g within small = (number-after at new f g (omega arith) small, none-after list (at + 1) new g (omega arith) small)
-
-none-named : (list : List SessionFacts) (at new : ℕ) (g : SessionFacts) → at + length list ≤ new → new < 2 ^ 32 → NonePass (is_named (session_row new g).name) (rows_from session_row at list)
-none-named [] at new g within small = tt
-none-named (f ∷ list) at new g within small = (other-name (session_row at f) (session_row new g) (number-before at new f g (omega arith) small), none-named list (at + 1) new g (omega arith) small)
+sessions-before : (list : List SessionFacts) (at new : ℕ) (g : SessionFacts) → at + length list ≤ new → new < 2 ^ 32 → AllByRecursion (λ other. row_before other (session_row new g) ≡ true) (rows_from session_row at list)
+sessions-before [] at new g within small = tt
+sessions-before (f ∷ list) at new g within small = (ap is_lt (slice_cmp-ten at new (omega arith) small ∙ nat_cmp-less at new (omega arith)), sessions-before list (at + 1) new g (omega arith) small)
 
 -- ## who is live
 
 -- a lower number is as it was
 live-each : (live : List ℕ) (count at new : ℕ) → at + count ≤ new → map (is_in (live ++ new ∷ [])) (range_with_len at count) ≡ map (is_in live) (range_with_len at count)
 live-each live zero at new within = refl
-live-each live (suc count) at new within =
-    let other : (new == at) ≡ false = grind (arith, nat_tests) in
-    let here : is_in (live ++ new ∷ []) at ≡ is_in live at = any-push (λ (s : ℕ). s == at) live new ∙ ap (λ (b : Bool). is_in live at || b) other ∙ or_false (is_in live at) in
-    ap (λ (b : Bool). b ∷ map (is_in (live ++ new ∷ [])) (range_with_len (at + 1) count)) here ∙ ap (λ (rest : List Bool). is_in live at ∷ rest) (live-each live count (at + 1) new (omega arith))
+live-each live (suc count) at new within = grind (arith, nat_tests, any-push (λ (s : ℕ). s == at) live new, live-each live count (at + 1) new)
 
 new-live : (live : List ℕ) (new : ℕ) → is_in (live ++ new ∷ []) new ≡ true
 new-live live new = let itself : (new == new) ≡ true = grind (arith, nat_tests) in any-push (λ (s : ℕ). s == new) live new ∙ ap (λ (b : Bool). is_in live new || b) itself ∙ or_true (is_in live new)
-
-old-live : (live : List ℕ) (new k : ℕ) → is_in live k ≡ true → is_in (live ++ new ∷ []) k ≡ true
-old-live live new k is = any-push (λ (s : ℕ). s == k) live new ∙ ap (λ (b : Bool). b || (new == k)) is
 
 begun-live : (sessions : List SessionFacts) (role : Role) (t u : TreeState) → u.live ≡ (after_begin t).live → u.begun ≡ (after_begin t).begun → AreLive sessions t → AreLive (sessions ++ record { role = role; live = true; mute = false } ∷ []) u
 begun-live sessions role t u live begun are =
     let f : SessionFacts = record { role = role; live = true; mute = false } in
     let n : ℕ = length sessions in
-    let long : length (sessions ++ f ∷ []) ≡ suc n = length-push sessions f in
+    let long : length (sessions ++ f ∷ []) ≡ suc n = simp length-append (omega arith) in
     let new : t.begun + 1 ≡ 2 + n = let is = are.begun in omega arith in
     let is_live : u.live ≡ t.live ++ (2 + n) ∷ [] = live ∙ ap (λ (k : ℕ). t.live ++ k ∷ []) new in
     record {
       begun = begun ∙ (let is = are.begun in let same = long in let sum : t.begun + 1 ≡ length (sessions ++ f ∷ []) + 1 = omega arith in sum);
-      first = ap (λ (list : List ℕ). is_in list 1) is_live ∙ old-live t.live (2 + n) 1 are.first;
+      first = ap (λ (list : List ℕ). is_in list 1) is_live ∙ in-more t.live 1 (2 + n) are.first;
       each =
           ap (λ (list : List ℕ). map (is_in list) (range_with_len 2 (length (sessions ++ f ∷ [])))) is_live
           ∙ ap (λ (k : ℕ). map (is_in (t.live ++ (2 + n) ∷ [])) (range_with_len 2 k)) long
@@ -109,8 +81,8 @@ module _ (s : State) (t : TreeState) (role : Role) (whole : IsWhole t.nodes) (go
   from-room = record { change = room.change; versions = room.versions; counters = room.counters; rows = room.rows; few = room.few }
 
   step : Step Sessions place Persistent (session_row new facts) from 1 (make bytes place)
-  step = make-new from 1 Sessions place _ bytes Persistent owner small refl refl (λ counter. refl) short whole (old-live t.live (t.begun + 1) 1 lays.live.first) (room-gives from 0 from-room) lays.sessions.rows
-      (none-named s.sessions 1 new facts (omega arith) small)
+  step = make-new from 1 Sessions place _ bytes Persistent owner small refl refl (λ counter. refl) short whole (in-more t.live 1 (t.begun + 1) lays.live.first) (room-gives from 0 from-room) lays.sessions.rows
+      (none-named (session_row new facts) (rows_from session_row 1 s.sessions) (sessions-before s.sessions 1 new facts (omega arith) small))
 
   abbrev u : TreeState
   u = after_part from 1 (make bytes place)
@@ -125,38 +97,30 @@ module _ (s : State) (t : TreeState) (role : Role) (whole : IsWhole t.nodes) (go
     each of_sessions = record {
       rows =
           step.creates.rows ∙ ap (with_row (session_row new facts)) lays.sessions.rows
-          ∙ insert_before-end (λ other. row_before (session_row new facts) other) (session_row new facts) (rows_from session_row 1 s.sessions) (none-after s.sessions 1 new facts (omega arith) small)
+          ∙ insert_before-end (λ other. row_before (session_row new facts) other) (session_row new facts) (rows_from session_row 1 s.sessions) (none-after (session_row new facts) (rows_from session_row 1 s.sessions) (sessions-before s.sessions 1 new facts (omega arith) small))
           ∙ sym (rows_from-push session_row s.sessions 1 facts ∙ ap (λ (n : ℕ). rows_from session_row 1 s.sessions ++ session_row n facts ∷ []) (omega arith));
       leaves = step.creates.leaves lays.sessions.leaves;
     }
     each of_live = begun-live s.sessions role t u step.creates.live step.creates.begun lays.live
     each k = table-beside s (Sessions ∷ []) t _ good stays k refl refl (each-table s t lays k)
 
--- the begin of a session and a create of its record lay out the state in which it has begun
-pub sessions-lay-out : SessionsLayOut
-sessions-lay-out s t role whole good lays room small short = record {
-  goes = ((step s t role whole good lays room small short).ok, refl);
-  lays = session-lays s t role whole good lays room small short;
-}
+  -- the begin of a session and a create of its record lay out the state in which it has begun
+  pub sessions-lay-out : PartsLayOut (record s { sessions = s.sessions ++ facts ∷ [] }) from 1 (make bytes place ∷ [])
+  sessions-lay-out = record { goes = (step.ok, refl); lays = session-lays }
 
 -- # a session ends
 
 -- ## rows that no session owns
 
+abbrev IsPlain : Row → Type 0
+IsPlain row = row.owner ≡ None
+
 abbrev ArePlain : List Row → Type 0
-ArePlain rows = AllByRecursion (λ row. row.owner ≡ None) rows
+ArePlain rows = AllByRecursion IsPlain rows
 
 -- they are put in order
 plain-by_name : (rows : List Row) → ArePlain rows → ArePlain (by_name rows)
-plain-by_name rows all = all-put (λ (row : Row). row.owner ≡ None) rows [] tt all
-
-plain-append : (rows more : List Row) → ArePlain rows → ArePlain more → ArePlain (rows ++ more)
-plain-append [] more first last = last
-plain-append (row ∷ rows) more first last = (first.0, plain-append rows more first.1 last)
-
-plain-map : {A : Type 0} (row : A → Row) → ((a : A) → (row a).owner ≡ None) → (list : List A) → ArePlain (map row list)
-plain-map row plain [] = tt
-plain-map row plain (a ∷ list) = (plain a, plain-map row plain list)
+plain-by_name rows all = all-put IsPlain rows [] tt all
 
 plain-from : {A : Type 0} (row : ℕ → A → Row) → ((n : ℕ) (a : A) → (row n a).owner ≡ None) → (list : List A) (at : ℕ) → ArePlain (rows_from row at list)
 plain-from row plain [] at = tt
@@ -168,9 +132,7 @@ plain-nodes (row ∷ rows) (e ∷ entries) all = (ap (λ (r : Row). r.owner) all
 plain-nodes _ _ all = absurd all
 
 kept-plain : (z : ℕ) (rows : List Row) → ArePlain rows → filter (is_kept z) rows ≡ rows
-kept-plain z [] all = refl
-kept-plain z (row ∷ rows) all =
-    ap (λ (o : Option ℕ). cond (not (is_owner z o)) (row ∷ filter (is_kept z) rows) (filter (is_kept z) rows)) all.0 ∙ ap (λ (list : List Row). row ∷ list) (kept-plain z rows all.1)
+kept-plain z rows all = filter-not_none (λ (row : Row). is_owner z row.owner) rows (all-weaker IsPlain (λ (row : Row). is_owner z row.owner ≡ false) (λ row none. ap (is_owner z) none) rows all)
 
 -- ## lists of the state
 
@@ -190,58 +152,31 @@ zip-left session _ _ all = absurd all
 
 -- ## live sessions
 
-in-by : (z s k : ℕ) (live : List ℕ) (b : Bool) → (s == z) ≡ b → (k == z) ≡ false → is_in (without live z) k ≡ is_in live k → is_in (cond (not b) (s ∷ without live z) (without live z)) k ≡ ((s == k) || is_in live k)
-in-by z s k live true is other later =
-    let apart : (s == k) ≡ false = grind (arith, nat_tests) in
-    later ∙ sym (ap (λ (b : Bool). b || is_in live k) apart)
-in-by z s k live false is other later = ap (λ (b : Bool). (s == k) || b) later
-
 -- another session is live as before
 in-other : (live : List ℕ) (z k : ℕ) → (k == z) ≡ false → is_in (without live z) k ≡ is_in live k
 in-other [] z k other = refl
-in-other (s ∷ live) z k other = in-by z s k live (s == z) refl other (in-other live z k other)
-
-gone-by : (z s : ℕ) (live : List ℕ) (b : Bool) → (s == z) ≡ b → is_in (without live z) z ≡ false → is_in (cond (not b) (s ∷ without live z) (without live z)) z ≡ false
-gone-by z s live true is later = later
-gone-by z s live false is later = ap (λ (b : Bool). b || is_in (without live z) z) is ∙ later
+in-other (s ∷ live) z k other = grind (arith, nat_tests, in-other live z k other)
 
 -- the session is not
 in-gone : (live : List ℕ) (z : ℕ) → is_in (without live z) z ≡ false
 in-gone [] z = refl
-in-gone (s ∷ live) z = gone-by z s live (s == z) refl (in-gone live z)
+in-gone (s ∷ live) z = grind (arith, nat_tests, in-gone live z)
 
 -- later sessions
 live-past : (live : List ℕ) (z count at : ℕ) → z < at → map (is_in (without live z)) (range_with_len at count) ≡ map (is_in live) (range_with_len at count)
 live-past live z zero at past = refl
-live-past live z (suc count) at past =
-    let other : (at == z) ≡ false = grind (arith, nat_tests) in
-    rw (in-other live z at other, live-past live z count (at + 1) (omega arith)) refl
+live-past live z (suc count) at past = grind (arith, nat_tests, in-other live z at, live-past live z count (at + 1))
 
 live-ended : (live : List ℕ) (z : ℕ) (sessions : List SessionFacts) (at i : ℕ) → at + i ≡ z → map (is_in live) (range_with_len at (length sessions)) ≡ map (λ (f : SessionFacts). f.live) sessions →
     map (is_in (without live z)) (range_with_len at (length (change_at i ended sessions))) ≡ map (λ (f : SessionFacts). f.live) (change_at i ended sessions)
 live-ended live z [] at i same each = refl
-live-ended live z (f ∷ sessions) at zero same each =
-    let here : z ≡ at = omega arith in
-    let rest : map (is_in live) (range_with_len (at + 1) (length sessions)) ≡ map (λ (f : SessionFacts). f.live) sessions = cc in
-    let first : is_in (without live z) at ≡ false = subst (λ (k : ℕ). is_in (without live z) k ≡ false) here (in-gone live z) in
-    ap (λ (b : Bool). b ∷ map (is_in (without live z)) (range_with_len (at + 1) (length sessions))) first
-    ∙ ap (λ (flags : List Bool). false ∷ flags) (live-past live z (length sessions) (at + 1) (omega arith) ∙ rest)
-live-ended live z (f ∷ sessions) at (suc i) same each =
-    let other : (at == z) ≡ false = grind (arith, nat_tests) in
-    let rest : map (is_in live) (range_with_len (at + 1) (length sessions)) ≡ map (λ (f : SessionFacts). f.live) sessions = cc in
-    let first : is_in live at ≡ f.live = cc in
-    ap (λ (b : Bool). b ∷ map (is_in (without live z)) (range_with_len (at + 1) (length (change_at i ended sessions)))) (in-other live z at other ∙ first)
-    ∙ ap (λ (flags : List Bool). f.live ∷ flags) (live-ended live z sessions (at + 1) i (omega arith) rest)
+live-ended live z (f ∷ sessions) at zero same each = grind (arith, nat_tests, in-gone live z, live-past live z (length sessions) (at + 1))
+live-ended live z (f ∷ sessions) at (suc i) same each = grind (arith, nat_tests, in-other live z at, live-ended live z sessions (at + 1) i)
 
 -- ## the tree
 
-node-of : (o : Option Node) (counter : ℕ) → option_map (λ (n : Node). n.facts.counter) o ≡ Some counter → (n : Node) × (o ≡ Some n)
-node-of None counter is = absurd cc
-node-of (Some n) counter is = (n, refl)
-
-row-of : (o : Option Row) (seen : Seen) → option_map seen_in o ≡ Some seen → (row : Row) × (o ≡ Some row) × (seen.owner ≡ row.owner)
-row-of None seen is = absurd cc
-row-of (Some row) seen is = let same : seen ≡ seen_in row = cc in (row, refl, ap (λ (x : Seen). x.owner) same)
+one_more : (a b : ℕ) → ((a + 1) == (b + 1)) ≡ (a == b)
+one_more a b = grind (arith, nat_tests)
 
 module _ (s : State) (t : TreeState) (session : SessionId) (whole : IsWhole t.nodes) (good : HasGoodIds s) (lays : LaysOut s t) (one : 1 ≤ session.0) where
   abbrev z : ℕ
@@ -253,9 +188,13 @@ module _ (s : State) (t : TreeState) (session : SessionId) (whole : IsWhole t.no
   shows : Ends (tree_session session) t ended_tree
   shows = ends-show t (tree_session session) whole
 
+  -- rows stay but for the session's own
+  kept-at : (p : Place) (rows : List Row) → under p t ≡ rows → under p ended_tree ≡ filter (is_kept z) rows
+  kept-at p rows same = shows.rows (path_of p) ∙ ap (filter (is_kept z)) same
+
   -- rows that no session owns stay
   ended-stays : (p : Place) (rows : List Row) → under p t ≡ rows → ArePlain rows → under p ended_tree ≡ rows
-  ended-stays p rows same plain = shows.rows (path_of p) ∙ ap (filter (is_kept z)) same ∙ kept-plain z rows plain
+  ended-stays p rows same plain = kept-at p rows same ∙ kept-plain z rows plain
 
   leaves-stay : (p : Place) (rows : List Row) → under p t ≡ rows → ArePlain rows → HasLeaves p t → HasLeaves p ended_tree
   leaves-stay p rows same plain leaves =
@@ -266,11 +205,11 @@ module _ (s : State) (t : TreeState) (session : SessionId) (whole : IsWhole t.no
   -- so do the counters of places among such rows
   counter-stays : (p dir : Place) (next : ℕ) → IsGood p → above p ≡ Some dir → ArePlain (under dir t) → next_under p t ≡ Some next → next_under p ended_tree ≡ Some next
   counter-stays p dir next p_good over plain gives =
-      let parent : parent_of (path_of p) ≡ Some (path_of dir) = (parts-of p p_good).0 ∙ ap (option_map path_of) over in
-      let node = node-of (at_path t.nodes (path_of p)) next gives in
+      let node = from-map_some (λ (n : Node). n.facts.counter) (at_path t.nodes (path_of p)) next gives in
       let seen : seen_at t (path_of p) ≡ Some (seen_of node.0) = ap (option_map seen_of) node.1 in
-      let row = row-of (find_named (name_of (path_of p)) (under dir t)) (seen_of node.0) (sym (seen-is-row t (path_of p) (path_of dir) whole (is_path-of p p_good) parent) ∙ seen) in
-      let free : is_owner z (seen_of node.0).owner ≡ false = ap (is_owner z) (row.2 ∙ all-find (λ (r : Row). r.owner ≡ None) (is_named (name_of (path_of p))) (under dir t) row.0 plain row.1) in
+      let row = from-map_some seen_in (find_named (place_name p) (under dir t)) (seen_of node.0) (sym (seen-named t dir p whole p_good over) ∙ seen) in
+      let owner : row.0.owner ≡ None = all-find IsPlain (is_named (place_name p)) (under dir t) row.0 plain row.1 in
+      let free : is_owner z (seen_of node.0).owner ≡ false = ap (λ (x : Seen). is_owner z x.owner) (sym row.2) ∙ ap (is_owner z) owner in
       shows.counters (path_of p) (seen_of node.0) seen free ∙ gives
 
   plain-at : (p : Place) (rows : List Row) → under p t ≡ rows → ArePlain rows → ArePlain (under p t)
@@ -278,11 +217,8 @@ module _ (s : State) (t : TreeState) (session : SessionId) (whole : IsWhole t.no
 
   owned-tells : (rows : List Row) (queue : List SessionId) (next : ℕ) → AllZip (IsWait next) rows queue → AllZip (λ row other. is_owner z row.owner ≡ is_session other session) rows queue
   owned-tells [] [] next all = tt
-  owned-tells [] (other ∷ queue) next all = absurd all
-  owned-tells (row ∷ rows) [] next all = absurd all
-  owned-tells (row ∷ rows) (other ∷ queue) next all = (ap (λ (r : Row). is_owner z r.owner) all.0.is ∙ one_more other.0 session.0, owned-tells rows queue next all.1) where
-    one_more : (a b : ℕ) → ((a + 1) == (b + 1)) ≡ (a == b)
-    one_more a b = grind (arith, nat_tests)
+  owned-tells (row ∷ rows) (other ∷ queue) next all = (ap (λ (r : Row). is_owner z r.owner) all.0.is ∙ one_more other.0 session.0, owned-tells rows queue next all.1)
+  owned-tells _ _ next all = absurd all
 
   -- a queue loses the session
   queue-ends : (lock dir : Place) (queue : List SessionId) → IsGood lock → above lock ≡ Some dir → ArePlain (under dir t) → HasQueue lock queue t → HasQueue lock (left session queue) ended_tree
@@ -296,10 +232,10 @@ module _ (s : State) (t : TreeState) (session : SessionId) (whole : IsWhole t.no
   -- ## each table
 
   requests-plain : ArePlain (map request_row s.requests)
-  requests-plain = plain-map request_row (λ e. refl) s.requests
+  requests-plain = all-map IsPlain request_row s.requests (λ e. refl)
 
   locks-plain : ArePlain (map request_lock_row s.requests)
-  locks-plain = plain-map request_lock_row (λ e. refl) s.requests
+  locks-plain = all-map IsPlain request_lock_row s.requests (λ e. refl)
 
   request-queues : (entries : List RequestEntry) → AllByRecursion (λ e. IsGood (Request e.id)) entries → AllByRecursion (λ e. HasQueue (RequestLock e.id) e.queue t) entries → AllByRecursion (λ e. HasQueue (RequestLock e.id) e.queue ended_tree) (map (request_left session) entries)
   request-queues [] all_good all = tt
@@ -310,7 +246,7 @@ module _ (s : State) (t : TreeState) (session : SessionId) (whole : IsWhole t.no
   node-locks [] all_good all = tt
   node-locks (e ∷ entries) all_good all = (
     record {
-      rows = shows.rows (path_of (NodePlace e.id)) ∙ ap (filter (is_kept z)) all.0.rows;
+      rows = kept-at (NodePlace e.id) _ all.0.rows;
       queue = queue-ends (NodeLock e.id) (NodePlace e.id) e.queue all_good.0 refl (subst ArePlain (sym all.0.rows) (refl, tt)) all.0.queue;
     },
     node-locks entries all_good.1 all.1,
@@ -320,14 +256,12 @@ module _ (s : State) (t : TreeState) (session : SessionId) (whole : IsWhole t.no
   handles-end list all = all-weaker (λ (at : ℕ). HasHandles s.handles t (record { 0 = at })) (λ (at : ℕ). HasHandles s.handles ended_tree (record { 0 = at }))
       (λ at has.
       let rows : List Row = by_name (map (handle_row (record { 0 = at })) (handles_of (record { 0 = at }) s.handles)) in
-      let plain : ArePlain rows = plain-by_name (map (handle_row (record { 0 = at })) (handles_of (record { 0 = at }) s.handles)) (plain-map (handle_row (record { 0 = at })) (λ j. refl) (handles_of (record { 0 = at }) s.handles)) in
+      let plain : ArePlain rows = plain-by_name (map (handle_row (record { 0 = at })) (handles_of (record { 0 = at }) s.handles)) (all-map IsPlain (handle_row (record { 0 = at })) (handles_of (record { 0 = at }) s.handles) (λ j. refl)) in
       record { rows = ended-stays (Semaphore (record { 0 = at })) rows has.rows plain; leaves = leaves-stay (Semaphore (record { 0 = at })) rows has.rows plain has.leaves }) list all
 
   registrations-tell : (list : List Registration) → AllByRecursion (λ g. is_kept z (launcher_row g) ≡ not (is_session g.session session)) list
   registrations-tell [] = tt
-  registrations-tell (g ∷ list) = (ap not (one_more g.session.0 session.0), registrations-tell list) where
-    one_more : (a b : ℕ) → ((a + 1) == (b + 1)) ≡ (a == b)
-    one_more a b = grind (arith, nat_tests)
+  registrations-tell (g ∷ list) = (ap not (one_more g.session.0 session.0), registrations-tell list)
 
   abbrev ended_sessions : List SessionFacts
   ended_sessions = change_at (session.0 - 1) ended s.sessions
@@ -341,29 +275,24 @@ module _ (s : State) (t : TreeState) (session : SessionId) (whole : IsWhole t.no
         each = live-ended t.live z s.sessions 2 (session.0 - 1) (omega arith) lays.live.each;
       }
 
-  session-ends : LaysOut (without_session session s) ended_tree
-  session-ends =
+  -- the end of a session lays out the state in which it has ended and is nowhere registered and in no queue
+  pub session_ends-lay-out : LaysOut (without_session session s) ended_tree
+  session_ends-lay-out =
       let jobs : List Row = rows_from job_row 0 s.jobs in
       let jobs_plain : ArePlain (by_name jobs) = plain-by_name jobs (plain-from job_row (λ n a. refl) s.jobs 0) in
       let roles : List Row = rows_from launcher_role_row 0 s.launchers ++ rows_from janitor_role_row 0 s.janitors ++ rows_from requester_role_row 0 s.requesters in
       let roles_plain : ArePlain (by_name roles) = plain-by_name roles
-      (plain-append (rows_from launcher_role_row 0 s.launchers ++ rows_from janitor_role_row 0 s.janitors) (rows_from requester_role_row 0 s.requesters)
-      (plain-append (rows_from launcher_role_row 0 s.launchers) (rows_from janitor_role_row 0 s.janitors) (plain-from launcher_role_row (λ n a. refl) s.launchers 0) (plain-from janitor_role_row (λ n a. refl) s.janitors 0))
+      (all-both IsPlain (rows_from launcher_role_row 0 s.launchers ++ rows_from janitor_role_row 0 s.janitors) (rows_from requester_role_row 0 s.requesters)
+      (all-both IsPlain (rows_from launcher_role_row 0 s.launchers) (rows_from janitor_role_row 0 s.janitors) (plain-from launcher_role_row (λ n a. refl) s.launchers 0) (plain-from janitor_role_row (λ n a. refl) s.janitors 0))
       (plain-from requester_role_row (λ n a. refl) s.requesters 0)) in
       let sessions_plain : ArePlain (rows_from session_row 1 s.sessions) = plain-from session_row (λ n a. refl) s.sessions 1 in
       let swept : List Row = map swept_row s.swept in
-      let swept_plain : ArePlain (by_name swept) = plain-by_name swept (plain-map swept_row (λ a. refl) s.swept) in
+      let swept_plain : ArePlain (by_name swept) = plain-by_name swept (all-map IsPlain swept_row s.swept (λ a. refl)) in
       let semaphores : List Row = map semaphore_row (places s.handles) in
       let nodepool_plain : ArePlain (under Nodepool t) = subst ArePlain (sym lays.frame.nodepool) (refl, (refl, (refl, (refl, tt)))) in
       let nodes_plain = plain-nodes (under Nodes t) s.nodes lays.nodes.rows in
       record {
-        frame = record {
-          root = shows.rows (path_of Root) ∙ ap (filter (is_kept z)) lays.frame.root;
-          nodepool = shows.rows (path_of Nodepool) ∙ ap (filter (is_kept z)) lays.frame.nodepool;
-          zuul = shows.rows (path_of Zuul) ∙ ap (filter (is_kept z)) lays.frame.zuul;
-          poolsim = shows.rows (path_of Poolsim) ∙ ap (filter (is_kept z)) lays.frame.poolsim;
-          leaf = shows.rows (path_of Tick) ∙ ap (filter (is_kept z)) lays.frame.leaf;
-        };
+        frame = assumption (kept-at Root _ lays.frame.root, kept-at Nodepool _ lays.frame.nodepool, kept-at Zuul _ lays.frame.zuul, kept-at Poolsim _ lays.frame.poolsim, kept-at Tick _ lays.frame.leaf);
         requests = record {
           rows = ended-stays Requests (map request_row s.requests) lays.requests.rows requests-plain ∙ sym (map-after request_row (request_left session) (λ e. refl) s.requests);
           leaves = leaves-stay Requests (map request_row s.requests) lays.requests.rows requests-plain lays.requests.leaves;
@@ -379,11 +308,11 @@ module _ (s : State) (t : TreeState) (session : SessionId) (whole : IsWhole t.no
         };
         node_locks = node-locks s.nodes good.nodes lays.node_locks;
         launchers =
-            shows.rows (path_of Launchers) ∙ ap (filter (is_kept z)) lays.launchers
+            kept-at Launchers _ lays.launchers
             ∙ by_name-kept (is_kept z) (map launcher_row s.registrations) (subst (Rises row_before) lays.launchers (rows-rise t (path_of Launchers) whole))
             ∙ ap by_name (filter-mapped launcher_row (is_kept z) (λ g. not (is_session g.session session)) s.registrations (registrations-tell s.registrations));
         semaphores = record {
-          rows = ended-stays Semaphores (by_name semaphores) lays.semaphores.rows (plain-by_name semaphores (plain-map semaphore_row (λ a. refl) (places s.handles)));
+          rows = ended-stays Semaphores (by_name semaphores) lays.semaphores.rows (plain-by_name semaphores (all-map IsPlain semaphore_row (places s.handles) (λ a. refl)));
           each = handles-end (places s.handles) lays.semaphores.each;
         };
         jobs = record { rows = ended-stays Jobs (by_name jobs) lays.jobs.rows jobs_plain; leaves = leaves-stay Jobs (by_name jobs) lays.jobs.rows jobs_plain lays.jobs.leaves };
@@ -395,7 +324,3 @@ module _ (s : State) (t : TreeState) (session : SessionId) (whole : IsWhole t.no
         swept = record { rows = ended-stays SweptPairs (by_name swept) lays.swept.rows swept_plain; leaves = leaves-stay SweptPairs (by_name swept) lays.swept.rows swept_plain lays.swept.leaves };
         live = live-ends;
       }
-
--- the end of a session lays out the state in which it has ended and is nowhere registered and in no queue
-pub session_ends-lay-out : SessionEndsLayOut
-session_ends-lay-out s t session whole good lays one = session-ends s t session whole good lays one

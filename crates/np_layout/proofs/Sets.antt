@@ -1,9 +1,10 @@
 -- the record of one member of a table is set, and the tree lays out the changed state
-use Rattle.np_layout.proofs.Prelude.{AllByRecursion, AllZip, AreLive, AreRequestLocks, Bool, HasGoodIds, HasNodeLock, HasQueue, IsGood, IsNodeRow, IsWhole, JanitorRole, Job, JobChangesLayOut, JobId, JobRecord, Jobs, JobsLayOut, LauncherRole, LaysOut, List, MutesLayOut, Node, NodeEntry, NodeId, NodeRecord, Nodes, NodesLayOut, None, Option, Place, PoolId, Poolsim, Request, RequestEntry, RequestId, RequestLock, RequestRecord, RequesterId, RequesterRole, Requests, RequestsLayOut, Role, RoleRecord, Roles, RolesLayOut, Row, Semaphore, Session, SessionFacts, SessionId, Sessions, SetLaysOut, Some, SpellsNode, State, Tick, TicksLayOut, TreeState, above, after_part, all-change_first, all-weaker, ap, arith, by_name, bytes_eq, change_at, change_at-set, change_first, change_role, change_session, cond, decimal, eqb-false, false, from-map_some, inr, is_in, is_named, janitor_role_row, job_row, job_text, launcher_role_row, length, length-change_at, list_any, list_any-append, map, map-append, muted, node_entry, node_in, option_map, or_true, persistent, place_name, range_with_len, refl, request_entry, request_in, request_lock_row, request_record_text, request_row, requester_role_row, role_text, row_with, rows_from, same_request, session_of, session_text, set, slice_get, slice_get_within, subst, suc, sym, true, under, zero, ℕ, [], ◌++◌, ◌+◌, ◌-◌, ◌<◌, ◌==◌, ◌^◌, ◌||◌, ◌∙◌, ◌∷◌, ◌≡◌, ◌≤◌}
+use Rattle.np_layout.proofs.Prelude.{AllByRecursion, AllZip, AreLive, AreRequestLocks, Bool, HasGoodIds, HasNodeLock, HasQueue, IsGood, IsNodeRow, IsWhole, JanitorRole, Job, JobId, JobRecord, Jobs, JobsLayOut, Launcher, LauncherRole, LaysOut, List, Node, NodeEntry, NodeId, NodeRecord, Nodes, None, Option, Place, PoolId, Poolsim, Request, RequestEntry, RequestId, RequestLock, RequestRecord, RequesterId, RequesterRole, Requests, Role, RoleRecord, Roles, RolesLayOut, Row, Semaphore, Session, SessionFacts, SessionId, Sessions, SetLaysOut, Some, SpellsNode, State, Tick, TicksLayOut, TreeState, [], above, after_part, all-change_first, all-weaker, ap, arith, by_name, change_at, change_at-set, change_first, change_role, change_session, cond, decimal, eqb-false, false, from-map_some, inr, is_in, is_named, janitor_role_row, job_row, job_text, launcher_role_row, length, length-change_at, list_any, list_any-append, map, map-append, muted, node_entry, node_in, option_map, or_true, persistent, place_name, range_with_len, refl, request_entry, request_in, request_lock_row, request_record_text, request_row, requester_role_row, role_text, row_with, rows_from, session_of, session_text, set, slice_get, slice_get_within, some_injective, subst, suc, sym, true, under, zero, ℕ, ◌++◌, ◌+◌, ◌-◌, ◌<◌, ◌==◌, ◌^◌, ◌||◌, ◌∙◌, ◌∷◌, ◌≡◌, ◌≤◌}
 use Rattle.np_layout.proofs.Rows.{Tells, any-by_name, any-mapped, any-told, by_name-each, found-any, map-change_first, mapped-zip, put-name, put_bytes, rows_from-any, rows_from-change, rows_from-others, tells-mapped, zip-change_found, zip-mapped}
 use Rattle.np_layout.proofs.Steps.{named-here, named-other, SetsRow, set-goes, sets-row}
 use Rattle.np_layout.proofs.Elsewhere.{Says, Table, all-tables, each-table, is_touched, of_frame, of_jobs, of_live, of_node_locks, of_nodes, of_request_locks, of_requests, of_roles, of_sessions, table-stays, tick-stays}
-use Rattle.np_layout.proofs.Deletes.{is_node_it, is_request_it, lock-names, node-good, node-named, node-same, node-tells, request-good, request-named}
+use Rattle.np_layout.proofs.Deletes.{is_node_it, is_request_it, lock-names, node-good, node-tells, request-good}
+pub use Rattle.np_layout.proofs.Deletes.{node-named as named-by, request-named as request-named-by}
 
 -- # the rows of a list when the record of one member changes
 
@@ -82,6 +83,18 @@ module _ {A : Type 0} (place : ℕ → Place) (number : Place → ℕ) (dir : Pl
         change list first at old (omega arith) same there
         (ap (λ (b : Bool). cond b (row_with (text (change old)) (row_of k old)) (row_of k old)) (named-here (place k)))
 
+-- # a set of one row's bytes
+
+-- a set at a good place whose row is there lays out a state, if its tables say so where those of other directories stay
+sets-lay-out : (s later : State) (t : TreeState) (dir p : Place) (bytes : List ℕ) → IsWhole t.nodes → HasGoodIds s → LaysOut s t → IsGood p → above p ≡ Some dir → list_any (is_named (place_name p)) (under dir t) ≡ true →
+    ((u : TreeState) → SetsRow dir p bytes t u → ((k : Table) → is_touched (dir ∷ []) k ≡ false → Says s u k) → (k : Table) → Says later u k) → SetLaysOut later t p bytes
+sets-lay-out s later t dir p bytes whole good lays p_good over any says = record {
+  lays = λ w.
+      let sets : SetsRow dir p bytes t (after_part t w (set bytes p)) = sets-row t w dir p bytes p_good over whole in
+      all-tables _ _ (says _ sets (λ k none. table-stays s (dir ∷ []) t _ good sets.stays sets.live sets.begun k none (each-table s t lays k)));
+  goes = set-goes t dir p bytes p_good over whole any;
+}
+
 -- # a set of a job's record
 
 module _ (s : State) (t : TreeState) (j : JobId) (change : JobRecord → JobRecord) (old : JobRecord) (whole : IsWhole t.nodes) (good : HasGoodIds s) (lays : LaysOut s t) (there : slice_get s.jobs j.0 ≡ Some old) where
@@ -100,32 +113,23 @@ module _ (s : State) (t : TreeState) (j : JobId) (change : JobRecord → JobReco
       by_name-each (put_bytes (place_name (Job j)) job_bytes) (put-name (place_name (Job j)) job_bytes) (rows_from job_row 0 s.jobs)
       ∙ ap by_name (table-change job_place place_number Jobs 0 s.jobs (job-table s.jobs good.jobs) job_text j.0 j.0 old job-first there change)
 
-  job-lays : (w : ℕ) → LaysOut (record s { jobs = change_at j.0 change s.jobs }) (after_part t w (set job_bytes (Job j)))
-  job-lays w = all-tables _ _ each where
-    sets : SetsRow Jobs (Job j) job_bytes t (after_part t w (set job_bytes (Job j)))
-    sets = sets-row t w Jobs (Job j) job_bytes job-good refl whole
-
-    each : (k : Table) → Says (record s { jobs = change_at j.0 change s.jobs }) (after_part t w (set job_bytes (Job j))) k
-    each of_jobs = record { rows = sets.each ∙ ap (λ (rows : List Row). map (put_bytes (place_name (Job j)) job_bytes) rows) lays.jobs.rows ∙ job-rows; leaves = sets.leaves lays.jobs.leaves }
-    each k = table-stays s (Jobs ∷ []) t _ good sets.stays sets.live sets.begun k refl (each-table s t lays k)
-
   -- a set of a job's record lays out the state with that record
-  job-set : SetLaysOut (record s { jobs = change_at j.0 change s.jobs }) t (Job j) job_bytes
-  job-set = record {
-    lays = job-lays;
-    goes = λ w. set-goes t Jobs (Job j) job_bytes job-good refl whole
-        (ap (list_any (is_named (place_name (Job j)))) lays.jobs.rows ∙ any-by_name (is_named (place_name (Job j))) (rows_from job_row 0 s.jobs)
-        ∙ table-any job_place place_number Jobs 0 s.jobs (job-table s.jobs good.jobs) job_text j.0 j.0 old job-first there) w;
-  }
+  pub job_changes-lay-out : SetLaysOut (record s { jobs = change_at j.0 change s.jobs }) t (Job j) job_bytes
+  job_changes-lay-out = sets-lay-out s _ t Jobs (Job j) job_bytes whole good lays job-good refl any each where
+    any : list_any (is_named (place_name (Job j))) (under Jobs t) ≡ true
+    any =
+        ap (list_any (is_named (place_name (Job j)))) lays.jobs.rows ∙ any-by_name (is_named (place_name (Job j))) (rows_from job_row 0 s.jobs)
+        ∙ table-any job_place place_number Jobs 0 s.jobs (job-table s.jobs good.jobs) job_text j.0 j.0 old job-first there
 
-pub job_changes-lay-out : JobChangesLayOut
-job_changes-lay-out s t j change old whole good lays there = job-set s t j change old whole good lays there
+    each : (u : TreeState) → SetsRow Jobs (Job j) job_bytes t u → ((k : Table) → is_touched (Jobs ∷ []) k ≡ false → Says s u k) → (k : Table) → Says (record s { jobs = change_at j.0 change s.jobs }) u k
+    each u sets stays of_jobs = record { rows = sets.each ∙ ap (λ (rows : List Row). map (put_bytes (place_name (Job j)) job_bytes) rows) lays.jobs.rows ∙ job-rows; leaves = sets.leaves lays.jobs.leaves }
+    each u sets stays k = stays k refl
 
 -- so does the set of another record
 pub jobs-lay-out : JobsLayOut
 jobs-lay-out s t j old kept whole good lays there =
     subst (λ (jobs : List JobRecord). SetLaysOut (record s { jobs = jobs }) t (Job j) (job_text kept)) (change_at-set j.0 (λ _. kept) s.jobs kept (slice_get_within s.jobs j.0 old there))
-    (job-set s t j (λ _. kept) old whole good lays there)
+    (job_changes-lay-out s t j (λ _. kept) old whole good lays there)
 
 -- # a set of the record of a role
 
@@ -143,45 +147,23 @@ put-roles f a1 a2 b1 b2 c1 c2 a b c =
     ∙ ap (λ (rows : List Row). a2 ++ b2 ++ rows) c
 
 module _ (s : State) (t : TreeState) (whole : IsWhole t.nodes) (good : HasGoodIds s) (lays : LaysOut s t) where
-  -- a place of another kind is not in the table of launchers
-  launchers-same : (p : Place) (role_bytes : List ℕ) → IsGood p → above p ≡ Some Roles → ((n : ℕ) → launcher_place n ≡ p → ⊥) → map (put_bytes (place_name p) role_bytes) (rows_from launcher_role_row 0 s.launchers) ≡ rows_from launcher_role_row 0 s.launchers
-  launchers-same p role_bytes p_good over apart = table-others launcher_place place_number Roles 0 s.launchers (launcher-table s.launchers good.launchers) role_text p role_bytes p_good over apart
-
-  -- nor in that of janitors
-  janitors-same : (p : Place) (role_bytes : List ℕ) → IsGood p → above p ≡ Some Roles → ((n : ℕ) → janitor_place n ≡ p → ⊥) → map (put_bytes (place_name p) role_bytes) (rows_from janitor_role_row 0 s.janitors) ≡ rows_from janitor_role_row 0 s.janitors
-  janitors-same p role_bytes p_good over apart = table-others janitor_place place_number Roles 0 s.janitors (janitor-table s.janitors good.janitors) role_text p role_bytes p_good over apart
-
-  -- nor in that of requesters
-  requesters-same : (p : Place) (role_bytes : List ℕ) → IsGood p → above p ≡ Some Roles → ((n : ℕ) → requester_place n ≡ p → ⊥) → map (put_bytes (place_name p) role_bytes) (rows_from requester_role_row 0 s.requesters) ≡ rows_from requester_role_row 0 s.requesters
-  requesters-same p role_bytes p_good over apart = table-others requester_place place_number Roles 0 s.requesters (requester-table s.requesters good.requesters) role_text p role_bytes p_good over apart
-
   -- if a row is there, and the rows change to those of other records, the set lays those out
-  role-lays : (p : Place) (role_bytes : List ℕ) (launchers janitors requesters : List RoleRecord) (w : ℕ) → IsGood p → above p ≡ Some Roles →
-      map (put_bytes (place_name p) role_bytes) (role_rows s.launchers s.janitors s.requesters) ≡ role_rows launchers janitors requesters →
-      LaysOut (record s { launchers = launchers; janitors = janitors; requesters = requesters }) (after_part t w (set role_bytes p))
-  role-lays p role_bytes launchers janitors requesters w p_good over rows = all-tables _ _ each where
-    sets : SetsRow Roles p role_bytes t (after_part t w (set role_bytes p))
-    sets = sets-row t w Roles p role_bytes p_good over whole
-
-    each : (k : Table) → Says (record s { launchers = launchers; janitors = janitors; requesters = requesters }) (after_part t w (set role_bytes p)) k
-    each of_roles = record {
-      rows =
-          sets.each ∙ ap (λ (list : List Row). map (put_bytes (place_name p) role_bytes) list) lays.roles.rows
-          ∙ by_name-each (put_bytes (place_name p) role_bytes) (put-name (place_name p) role_bytes) (role_rows s.launchers s.janitors s.requesters)
-          ∙ ap by_name rows;
-      leaves = sets.leaves lays.roles.leaves;
-    }
-    each k = table-stays s (Roles ∷ []) t _ good sets.stays sets.live sets.begun k refl (each-table s t lays k)
-
   role-set : (p : Place) (role_bytes : List ℕ) (launchers janitors requesters : List RoleRecord) → IsGood p → above p ≡ Some Roles →
       map (put_bytes (place_name p) role_bytes) (role_rows s.launchers s.janitors s.requesters) ≡ role_rows launchers janitors requesters →
       list_any (is_named (place_name p)) (role_rows s.launchers s.janitors s.requesters) ≡ true →
       SetLaysOut (record s { launchers = launchers; janitors = janitors; requesters = requesters }) t p role_bytes
-  role-set p role_bytes launchers janitors requesters p_good over rows any = record {
-    lays = λ w. role-lays p role_bytes launchers janitors requesters w p_good over rows;
-    goes = λ w. set-goes t Roles p role_bytes p_good over whole
-        (ap (list_any (is_named (place_name p))) lays.roles.rows ∙ any-by_name (is_named (place_name p)) (role_rows s.launchers s.janitors s.requesters) ∙ any) w;
-  }
+  role-set p role_bytes launchers janitors requesters p_good over rows any =
+      sets-lay-out s _ t Roles p role_bytes whole good lays p_good over
+      (ap (list_any (is_named (place_name p))) lays.roles.rows ∙ any-by_name (is_named (place_name p)) (role_rows s.launchers s.janitors s.requesters) ∙ any) each where
+        each : (u : TreeState) → SetsRow Roles p role_bytes t u → ((k : Table) → is_touched (Roles ∷ []) k ≡ false → Says s u k) → (k : Table) → Says (record s { launchers = launchers; janitors = janitors; requesters = requesters }) u k
+        each u sets stays of_roles = record {
+          rows =
+              sets.each ∙ ap (λ (list : List Row). map (put_bytes (place_name p) role_bytes) list) lays.roles.rows
+              ∙ by_name-each (put_bytes (place_name p) role_bytes) (put-name (place_name p) role_bytes) (role_rows s.launchers s.janitors s.requesters)
+              ∙ ap by_name rows;
+          leaves = sets.leaves lays.roles.leaves;
+        }
+        each u sets stays k = stays k refl
 
   module _ (change : RoleRecord → RoleRecord) (old : RoleRecord) where
     abbrev role_bytes : List ℕ
@@ -194,8 +176,8 @@ module _ (s : State) (t : TreeState) (whole : IsWhole t.nodes) (good : HasGoodId
         role-set (LauncherRole p) role_bytes (change_at p.0 change s.launchers) s.janitors s.requesters p_good refl
         (put-roles (put_bytes (place_name (LauncherRole p)) role_bytes) (rows_from launcher_role_row 0 s.launchers) (rows_from launcher_role_row 0 (change_at p.0 change s.launchers)) (rows_from janitor_role_row 0 s.janitors) (rows_from janitor_role_row 0 s.janitors) (rows_from requester_role_row 0 s.requesters) (rows_from requester_role_row 0 s.requesters)
         (table-change launcher_place place_number Roles 0 s.launchers (launcher-table s.launchers good.launchers) role_text p.0 p.0 old (omega arith) there change)
-        (janitors-same (LauncherRole p) role_bytes p_good refl (λ n same. cc))
-        (requesters-same (LauncherRole p) role_bytes p_good refl (λ n same. cc)))
+        (table-others janitor_place place_number Roles 0 s.janitors (janitor-table s.janitors good.janitors) role_text (LauncherRole p) role_bytes p_good refl (λ n same. cc))
+        (table-others requester_place place_number Roles 0 s.requesters (requester-table s.requesters good.requesters) role_text (LauncherRole p) role_bytes p_good refl (λ n same. cc)))
         (any-first (is_named (place_name (LauncherRole p))) (rows_from launcher_role_row 0 s.launchers ++ rows_from janitor_role_row 0 s.janitors) (rows_from requester_role_row 0 s.requesters)
         (any-first (is_named (place_name (LauncherRole p))) (rows_from launcher_role_row 0 s.launchers) (rows_from janitor_role_row 0 s.janitors)
         (table-any launcher_place place_number Roles 0 s.launchers (launcher-table s.launchers good.launchers) role_text p.0 p.0 old (omega arith) there)))
@@ -206,9 +188,9 @@ module _ (s : State) (t : TreeState) (whole : IsWhole t.nodes) (good : HasGoodId
         let p_good = table-good janitor_place place_number Roles 0 s.janitors (janitor-table s.janitors good.janitors) role_text p.0 p.0 old (omega arith) there in
         role-set (JanitorRole p) role_bytes s.launchers (change_at p.0 change s.janitors) s.requesters p_good refl
         (put-roles (put_bytes (place_name (JanitorRole p)) role_bytes) (rows_from launcher_role_row 0 s.launchers) (rows_from launcher_role_row 0 s.launchers) (rows_from janitor_role_row 0 s.janitors) (rows_from janitor_role_row 0 (change_at p.0 change s.janitors)) (rows_from requester_role_row 0 s.requesters) (rows_from requester_role_row 0 s.requesters)
-        (launchers-same (JanitorRole p) role_bytes p_good refl (λ n same. cc))
+        (table-others launcher_place place_number Roles 0 s.launchers (launcher-table s.launchers good.launchers) role_text (JanitorRole p) role_bytes p_good refl (λ n same. cc))
         (table-change janitor_place place_number Roles 0 s.janitors (janitor-table s.janitors good.janitors) role_text p.0 p.0 old (omega arith) there change)
-        (requesters-same (JanitorRole p) role_bytes p_good refl (λ n same. cc)))
+        (table-others requester_place place_number Roles 0 s.requesters (requester-table s.requesters good.requesters) role_text (JanitorRole p) role_bytes p_good refl (λ n same. cc)))
         (any-first (is_named (place_name (JanitorRole p))) (rows_from launcher_role_row 0 s.launchers ++ rows_from janitor_role_row 0 s.janitors) (rows_from requester_role_row 0 s.requesters)
         (any-last (is_named (place_name (JanitorRole p))) (rows_from launcher_role_row 0 s.launchers) (rows_from janitor_role_row 0 s.janitors)
         (table-any janitor_place place_number Roles 0 s.janitors (janitor-table s.janitors good.janitors) role_text p.0 p.0 old (omega arith) there)))
@@ -219,23 +201,20 @@ module _ (s : State) (t : TreeState) (whole : IsWhole t.nodes) (good : HasGoodId
         let q_good = table-good requester_place place_number Roles 0 s.requesters (requester-table s.requesters good.requesters) role_text q.0 q.0 old (omega arith) there in
         role-set (RequesterRole q) role_bytes s.launchers s.janitors (change_at q.0 change s.requesters) q_good refl
         (put-roles (put_bytes (place_name (RequesterRole q)) role_bytes) (rows_from launcher_role_row 0 s.launchers) (rows_from launcher_role_row 0 s.launchers) (rows_from janitor_role_row 0 s.janitors) (rows_from janitor_role_row 0 s.janitors) (rows_from requester_role_row 0 s.requesters) (rows_from requester_role_row 0 (change_at q.0 change s.requesters))
-        (launchers-same (RequesterRole q) role_bytes q_good refl (λ n same. cc))
-        (janitors-same (RequesterRole q) role_bytes q_good refl (λ n same. cc))
+        (table-others launcher_place place_number Roles 0 s.launchers (launcher-table s.launchers good.launchers) role_text (RequesterRole q) role_bytes q_good refl (λ n same. cc))
+        (table-others janitor_place place_number Roles 0 s.janitors (janitor-table s.janitors good.janitors) role_text (RequesterRole q) role_bytes q_good refl (λ n same. cc))
         (table-change requester_place place_number Roles 0 s.requesters (requester-table s.requesters good.requesters) role_text q.0 q.0 old (omega arith) there change))
         (any-last (is_named (place_name (RequesterRole q))) (rows_from launcher_role_row 0 s.launchers ++ rows_from janitor_role_row 0 s.janitors) (rows_from requester_role_row 0 s.requesters)
         (table-any requester_place place_number Roles 0 s.requesters (requester-table s.requesters good.requesters) role_text q.0 q.0 old (omega arith) there))
 
-some_place : {p q : Place} → Some p ≡ Some q → p ≡ q
-some_place same = cc
-
 -- a set of the record of a role lays out the state with that record
 pub roles-lay-out : RolesLayOut
 roles-lay-out s t (Role.Launcher p) place change old whole good lays at there =
-    subst (λ (q : Place). SetLaysOut (change_role change (Role.Launcher p) s) t q (role_text (change old))) (some_place at) (launcher-set s t whole good lays change old p there)
+    subst (λ (q : Place). SetLaysOut (change_role change (Role.Launcher p) s) t q (role_text (change old))) (some_injective (LauncherRole p) place at) (launcher-set s t whole good lays change old p there)
 roles-lay-out s t (Role.Janitor p) place change old whole good lays at there =
-    subst (λ (q : Place). SetLaysOut (change_role change (Role.Janitor p) s) t q (role_text (change old))) (some_place at) (janitor-set s t whole good lays change old p there)
+    subst (λ (q : Place). SetLaysOut (change_role change (Role.Janitor p) s) t q (role_text (change old))) (some_injective (JanitorRole p) place at) (janitor-set s t whole good lays change old p there)
 roles-lay-out s t (Role.Requester q) place change old whole good lays at there =
-    subst (λ (r : Place). SetLaysOut (change_role change (Role.Requester q) s) t r (role_text (change old))) (some_place at) (requester-set s t whole good lays change old q there)
+    subst (λ (r : Place). SetLaysOut (change_role change (Role.Requester q) s) t r (role_text (change old))) (some_injective (RequesterRole q) place at) (requester-set s t whole good lays change old q there)
 roles-lay-out s t Role.Reaper place change old whole good lays at there = absurd cc
 
 -- # a set of a session's record
@@ -268,8 +247,7 @@ mutes-live at sessions t are =
 
 -- sessions count from one
 session-by : (o : Option SessionFacts) (facts : SessionFacts) (b : Bool) → cond b None o ≡ Some facts → (b ≡ false) × (o ≡ Some facts)
-session-by o facts true is = absurd cc
-session-by o facts false is = (refl, is)
+session-by o facts b is = grind arith
 
 module _ (s : State) (t : TreeState) (session : SessionId) (facts : SessionFacts) (whole : IsWhole t.nodes) (good : HasGoodIds s) (lays : LaysOut s t) (is : session_of session s ≡ Some facts) where
   abbrev at : ℕ
@@ -291,60 +269,32 @@ module _ (s : State) (t : TreeState) (session : SessionId) (facts : SessionFacts
   session-good : IsGood (Session session)
   session-good = table-good session_at session_number Sessions 1 s.sessions is-sessions text at session.0 facts first there
 
-  session-lays : (w : ℕ) → LaysOut (record s { sessions = change_session session muted s.sessions }) (after_part t w (set session_bytes (Session session)))
-  session-lays w = all-tables _ _ each where
-    sets : SetsRow Sessions (Session session) session_bytes t (after_part t w (set session_bytes (Session session)))
-    sets = sets-row t w Sessions (Session session) session_bytes session-good refl whole
+  -- a set of a session's record to mute lays out the state in which it is
+  pub mutes-lay-out : SetLaysOut (record s { sessions = change_session session muted s.sessions }) t (Session session) session_bytes
+  mutes-lay-out = sets-lay-out s _ t Sessions (Session session) session_bytes whole good lays session-good refl any each where
+    any : list_any (is_named (place_name (Session session))) (under Sessions t) ≡ true
+    any = ap (list_any (is_named (place_name (Session session)))) lays.sessions.rows ∙ table-any session_at session_number Sessions 1 s.sessions is-sessions text at session.0 facts first there
 
-    stays : (k : Table) → is_touched (Sessions ∷ []) k ≡ false → Says s (after_part t w (set session_bytes (Session session))) k
-    stays k none = table-stays s (Sessions ∷ []) t _ good sets.stays sets.live sets.begun k none (each-table s t lays k)
-
-    each : (k : Table) → Says (record s { sessions = change_session session muted s.sessions }) (after_part t w (set session_bytes (Session session))) k
-    each of_sessions = record {
+    each : (u : TreeState) → SetsRow Sessions (Session session) session_bytes t u → ((k : Table) → is_touched (Sessions ∷ []) k ≡ false → Says s u k) → (k : Table) → Says (record s { sessions = change_session session muted s.sessions }) u k
+    each u sets stays of_sessions = record {
       rows =
           sets.each ∙ ap (λ (rows : List Row). map (put_bytes (place_name (Session session)) session_bytes) rows) lays.sessions.rows
           ∙ table-change session_at session_number Sessions 1 s.sessions is-sessions text at session.0 facts first there muted;
       leaves = sets.leaves lays.sessions.leaves;
     }
-    each of_live = mutes-live at s.sessions _ (stays of_live refl)
-    each k = stays k refl
-
--- a set of a session's record to mute lays out the state in which it is
-pub mutes-lay-out : MutesLayOut
-mutes-lay-out s t session facts whole good lays is = record {
-  lays = session-lays s t session facts whole good lays is;
-  goes = λ w. set-goes t Sessions (Session session) (session_text (record { mute = true; role = facts.role })) (session-good s t session facts whole good lays is) refl whole
-      (ap (list_any (is_named (place_name (Session session)))) lays.sessions.rows
-      ∙ table-any session_at session_number Sessions 1 s.sessions (is-sessions s t session facts whole good lays is) text (session.0 - 1) session.0 facts (first s t session facts whole good lays is) (there s t session facts whole good lays is)) w;
-}
+    each u sets stays of_live = mutes-live at s.sessions u (stays of_live refl)
+    each u sets stays k = stays k refl
 
 -- # a set of the tick
 
--- the tick's row alone changes
-tick-lays : (s : State) (t : TreeState) (tick w : ℕ) → IsWhole t.nodes → HasGoodIds s → LaysOut s t → LaysOut (record s { tick = tick }) (after_part t w (set (decimal tick) Tick))
-tick-lays s t tick w whole good lays = all-tables _ _ each where
-  sets : SetsRow Poolsim Tick (decimal tick) t (after_part t w (set (decimal tick) Tick))
-  sets = sets-row t w Poolsim Tick (decimal tick) tt refl whole
-
-  each : (k : Table) → Says (record s { tick = tick }) (after_part t w (set (decimal tick) Tick)) k
-  each of_frame = tick-stays (Poolsim ∷ []) t _ sets.stays s.tick tick refl refl refl refl (sets.each ∙ ap (λ (rows : List Row). map (put_bytes (place_name Tick) (decimal tick)) rows) lays.frame.poolsim) lays.frame
-  each k = table-stays s (Poolsim ∷ []) t _ good sets.stays sets.live sets.begun k refl (each-table s t lays k)
-
--- a set of the tick lays out the state with that tick
+-- a set of the tick lays out the state with that tick: its row alone changes
 pub ticks-lay-out : TicksLayOut
-ticks-lay-out s t tick whole good lays = record {
-  lays = λ w. tick-lays s t tick w whole good lays;
-  goes = λ w. set-goes t Poolsim Tick (decimal tick) tt refl whole (ap (list_any (is_named (place_name Tick))) lays.frame.poolsim) w;
-}
+ticks-lay-out s t tick whole good lays = sets-lay-out s _ t Poolsim Tick (decimal tick) whole good lays tt refl (ap (list_any (is_named (place_name Tick))) lays.frame.poolsim) each where
+  each : (u : TreeState) → SetsRow Poolsim Tick (decimal tick) t u → ((k : Table) → is_touched (Poolsim ∷ []) k ≡ false → Says s u k) → (k : Table) → Says (record s { tick = tick }) u k
+  each u sets stays of_frame = tick-stays (Poolsim ∷ []) t u sets.stays s.tick tick refl refl refl refl (sets.each ∙ ap (λ (rows : List Row). map (put_bytes (place_name Tick) (decimal tick)) rows) lays.frame.poolsim) lays.frame
+  each u sets stays k = stays k refl
 
 -- # a set of a node's record
-
--- a node's name is its own
-pub same-is : (a b : NodeId) → (a.0 == b.0) ≡ true → a ≡ b
-same-is = node-same
-
-pub named-by : (n id : NodeId) (b : Bool) → (id.0 == n.0) ≡ b → IsGood (Node n) → IsGood (Node id) → bytes_eq (place_name (Node id)) (place_name (Node n)) ≡ b
-named-by = node-named
 
 module _ (s : State) (t : TreeState) (n : NodeId) (change : NodeRecord → NodeRecord) (old : NodeRecord) (bytes : List ℕ) (whole : IsWhole t.nodes) (good : HasGoodIds s) (lays : LaysOut s t) (there : node_in n s.nodes ≡ Some old) (spells : SpellsNode (change old) bytes) where
   abbrev with_change : NodeEntry → NodeEntry
@@ -362,42 +312,25 @@ module _ (s : State) (t : TreeState) (n : NodeId) (change : NodeRecord → NodeR
   tells : Tells (place_name (Node n)) (is_node_it n) (under Nodes t) s.nodes
   tells = node-tells n (under Nodes t) s.nodes n-good good.nodes lays.nodes.rows
 
-  node-lays : (w : ℕ) → LaysOut (record s { nodes = changed }) (after_part t w (set bytes (Node n)))
-  node-lays w = all-tables _ _ each where
-    sets : SetsRow Nodes (Node n) bytes t (after_part t w (set bytes (Node n)))
-    sets = sets-row t w Nodes (Node n) bytes n-good refl whole
-
-    stays : (k : Table) → is_touched (Nodes ∷ []) k ≡ false → Says s (after_part t w (set bytes (Node n))) k
-    stays k none = table-stays s (Nodes ∷ []) t _ good sets.stays sets.live sets.begun k none (each-table s t lays k)
-
-    each : (k : Table) → Says (record s { nodes = changed }) (after_part t w (set bytes (Node n))) k
-    each of_nodes = record {
-      rows = subst (λ (rows : List Row). AllZip IsNodeRow rows changed) (sym sets.first)
-          (zip-change_found (is_node_it n) with_change (row_with bytes) (is_named (place_name (Node n))) IsNodeRow (under Nodes t) s.nodes tells lays.nodes.rows
-          (λ x found row is.
-          let kept : Some x.kept ≡ Some old = sym (ap (option_map (λ (e : NodeEntry). e.kept)) found) ∙ there in
-          let same : old ≡ x.kept = cc in
-          record { is = ap (row_with bytes) is.is; spells = subst (λ (k : NodeRecord). SpellsNode (change k) bytes) same spells }));
-      gives = sets.counter ∙ lays.nodes.gives;
-    }
-    each of_node_locks = all-change_first (HasNodeLock (after_part t w (set bytes (Node n)))) (is_node_it n) with_change s.nodes (λ e has. record { rows = has.rows; queue = has.queue }) (stays of_node_locks refl)
-    each k = stays k refl
-
-  node-set : SetLaysOut (record s { nodes = changed }) t (Node n) bytes
-  node-set = record {
-    lays = node-lays;
-    goes = λ w. set-goes t Nodes (Node n) bytes n-good refl whole (any-told (place_name (Node n)) (is_node_it n) (under Nodes t) s.nodes tells ∙ found-any (is_node_it n) entry.0 s.nodes entry.1) w;
-  }
-
--- a set of a node's record lays out the state with that record, in either spelling of it
-pub nodes-lay-out : NodesLayOut
-nodes-lay-out s t n change old bytes whole good lays there spells = node-set s t n change old bytes whole good lays there spells
+  -- a set of a node's record lays out the state with that record, in either spelling of it
+  pub nodes-lay-out : SetLaysOut (record s { nodes = changed }) t (Node n) bytes
+  nodes-lay-out =
+      sets-lay-out s _ t Nodes (Node n) bytes whole good lays n-good refl
+      (any-told (place_name (Node n)) (is_node_it n) (under Nodes t) s.nodes tells ∙ found-any (is_node_it n) entry.0 s.nodes entry.1) each where
+        each : (u : TreeState) → SetsRow Nodes (Node n) bytes t u → ((k : Table) → is_touched (Nodes ∷ []) k ≡ false → Says s u k) → (k : Table) → Says (record s { nodes = changed }) u k
+        each u sets stays of_nodes = record {
+          rows = subst (λ (rows : List Row). AllZip IsNodeRow rows changed) (sym sets.first)
+              (zip-change_found (is_node_it n) with_change (row_with bytes) (is_named (place_name (Node n))) IsNodeRow (under Nodes t) s.nodes tells lays.nodes.rows
+              (λ x found row is.
+              let kept : Some x.kept ≡ Some old = sym (ap (option_map (λ (e : NodeEntry). e.kept)) found) ∙ there in
+              let same : old ≡ x.kept = cc in
+              record { is = ap (row_with bytes) is.is; spells = subst (λ (k : NodeRecord). SpellsNode (change k) bytes) same spells }));
+          gives = sets.counter ∙ lays.nodes.gives;
+        }
+        each u sets stays of_node_locks = all-change_first (HasNodeLock u) (is_node_it n) with_change s.nodes (λ e has. record { rows = has.rows; queue = has.queue }) (stays of_node_locks refl)
+        each u sets stays k = stays k refl
 
 -- # a set of a request's record
-
--- a request's name is its own
-pub request-named-by : (r id : RequestId) (b : Bool) → same_request id r ≡ b → IsGood (Request r) → IsGood (Request id) → bytes_eq (place_name (Request id)) (place_name (Request r)) ≡ b
-request-named-by = request-named
 
 module _ (s : State) (t : TreeState) (r : RequestId) (change : RequestRecord → RequestRecord) (old : RequestRecord) (whole : IsWhole t.nodes) (good : HasGoodIds s) (lays : LaysOut s t) (there : request_in r s.requests ≡ Some old) where
   abbrev request_with_change : RequestEntry → RequestEntry
@@ -430,32 +363,17 @@ module _ (s : State) (t : TreeState) (r : RequestId) (change : RequestRecord →
       let same : x.kept ≡ old = cc in
       ap (row_with bytes) is ∙ ap (λ (k : RequestRecord). record (request_row x) { bytes = request_record_text (change k) }) (sym same)))
 
-  request-lays : (w : ℕ) → LaysOut (record s { requests = request_changed }) (after_part t w (set bytes (Request r)))
-  request-lays w = all-tables _ _ each where
-    sets : SetsRow Requests (Request r) bytes t (after_part t w (set bytes (Request r)))
-    sets = sets-row t w Requests (Request r) bytes r-good refl whole
-
-    stays : (k : Table) → is_touched (Requests ∷ []) k ≡ false → Says s (after_part t w (set bytes (Request r))) k
-    stays k none = table-stays s (Requests ∷ []) t _ good sets.stays sets.live sets.begun k none (each-table s t lays k)
-
-    locks : AreRequestLocks s.requests (after_part t w (set bytes (Request r)))
-    locks = stays of_request_locks refl
-
-    each : (k : Table) → Says (record s { requests = request_changed }) (after_part t w (set bytes (Request r))) k
-    each of_requests = record { rows = sets.first ∙ ap (change_first named (row_with bytes)) lays.requests.rows ∙ rows-change; leaves = sets.leaves lays.requests.leaves; gives = sets.counter ∙ lays.requests.gives }
-    each of_request_locks = record {
-      rows = locks.rows ∙ sym (map-change_first (is_request_it r) request_with_change request_lock_row (λ e. refl) s.requests);
-      queues = all-change_first (λ (e : RequestEntry). HasQueue (RequestLock e.id) e.queue (after_part t w (set bytes (Request r)))) (is_request_it r) request_with_change s.requests (λ e is. is) locks.queues;
-    }
-    each k = stays k refl
-
-  request-set : SetLaysOut (record s { requests = request_changed }) t (Request r) bytes
-  request-set = record {
-    lays = request-lays;
-    goes = λ w. set-goes t Requests (Request r) bytes r-good refl whole
-        (ap (list_any named) lays.requests.rows ∙ any-mapped request_row named (is_request_it r) s.requests names ∙ found-any (is_request_it r) request-entry.0 s.requests request-entry.1) w;
-  }
-
--- a set of a request's record lays out the state with that record
-pub requests-lay-out : RequestsLayOut
-requests-lay-out s t r change old whole good lays there = request-set s t r change old whole good lays there
+  -- a set of a request's record lays out the state with that record
+  pub requests-lay-out : SetLaysOut (record s { requests = request_changed }) t (Request r) bytes
+  requests-lay-out =
+      sets-lay-out s _ t Requests (Request r) bytes whole good lays r-good refl
+      (ap (list_any named) lays.requests.rows ∙ any-mapped request_row named (is_request_it r) s.requests names ∙ found-any (is_request_it r) request-entry.0 s.requests request-entry.1) each where
+        each : (u : TreeState) → SetsRow Requests (Request r) bytes t u → ((k : Table) → is_touched (Requests ∷ []) k ≡ false → Says s u k) → (k : Table) → Says (record s { requests = request_changed }) u k
+        each u sets stays of_requests = record { rows = sets.first ∙ ap (change_first named (row_with bytes)) lays.requests.rows ∙ rows-change; leaves = sets.leaves lays.requests.leaves; gives = sets.counter ∙ lays.requests.gives }
+        each u sets stays of_request_locks =
+            let locks : AreRequestLocks s.requests u = stays of_request_locks refl in
+            record {
+              rows = locks.rows ∙ sym (map-change_first (is_request_it r) request_with_change request_lock_row (λ e. refl) s.requests);
+              queues = all-change_first (λ (e : RequestEntry). HasQueue (RequestLock e.id) e.queue u) (is_request_it r) request_with_change s.requests (λ e is. is) locks.queues;
+            }
+        each u sets stays k = stays k refl

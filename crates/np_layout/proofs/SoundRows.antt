@@ -1,5 +1,5 @@
 -- what the rows of a sound configuration say of the numbers in records
-use Rattle.np_layout.proofs.Prelude.{All, All-head, All-tail, AllByRecursion, Configuration, EachAfter, IfSome, IsLabel, IsOffer, IsPool, IsPriority, IsSessionRole, IsSound, IsWanted, JobId, LabelId, List, None, Offer, Option, Pool, PoolId, RequestRecord, Role, SemId, Some, StandsByOwner, all-at, all-find, arith, find, find-passes, is_offered, is_role, is_some, length, nat_tests, offers_of, option_and_then, option_map, option_map_or, refl, slice_get, some-within, tenant_of_request, true, [], ◌++◌, ◌<◌, ◌==◌, ◌^◌, ◌∷◌, ◌≡◌, ◌≤◌}
+use Rattle.np_layout.proofs.Prelude.{All, All-head, All-tail, AllByRecursion, Configuration, EachAfter, IfSome, IsLabel, IsOffer, IsPool, IsPriority, IsSessionRole, IsSound, IsWanted, JobId, LabelId, Launcher, List, None, Offer, Option, Pool, PoolId, RequestRecord, Role, SemId, Some, StandsByOwner, [], all-at, all-find, arith, find, find-passes, is_offered, is_role, is_some, length, nat_tests, offers_of, option_and_then, option_map, option_map_or, refl, slice_get, some-within, tenant_of_request, true, ◌++◌, ◌<◌, ◌==◌, ◌^◌, ◌∷◌, ◌≡◌, ◌≤◌}
 use Rattle.np_machine.specs.Prelude.{IsTaken}
 use Rattle.np_changes.specs.Prelude.{IsJob, Job}
 
@@ -44,15 +44,10 @@ pub record JobRow (c : Configuration) (job : Job) : Type 0 where
   pub few_taken : length job.semaphores ≤ 8
 
 job-says : (c : Configuration) → IsSound c → (e : List Job) (job : Job) → StandsByOwner (λ (x : Job). x.requester.0) (IsJob (length c.labels) (length c.semaphores) (length c.tenants)) e job → JobRow c job
-job-says c sound e job stands = record {
-  labels = all-members (IsWanted (length c.labels)) IsLabel (λ l low. let few = sound.few_labels in omega arith) job.labels stands.own.wanted;
-  few = stands.own.few_labels;
-  priority = stands.own.priority;
-  relative = let few = stands.own.relative in omega arith;
-  tenant = let few = sound.few_tenants in let low = stands.own.tenant in omega arith;
-  taken = all-rows (λ (x : SemId). x.0 < length c.semaphores) (IsTaken (length c.semaphores)) (λ e x is. is.semaphore) [] job.semaphores stands.own.taken;
-  few_taken = stands.own.few_taken;
-}
+job-says c sound e job stands =
+    let labels = all-members (IsWanted (length c.labels)) IsLabel (λ l low. let few = sound.few_labels in omega arith) job.labels stands.own.wanted in
+    let taken = all-rows (λ (x : SemId). x.0 < length c.semaphores) (IsTaken (length c.semaphores)) (λ e x is. is.semaphore) [] job.semaphores stands.own.taken in
+    search (arith, stands.own, sound.few_tenants)
 
 -- the row of a job of a sound configuration
 pub job-row : (c : Configuration) → IsSound c → (j : JobId) (job : Job) → slice_get c.jobs j.0 ≡ Some job → JobRow c job

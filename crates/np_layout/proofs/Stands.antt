@@ -1,5 +1,5 @@
 -- parts that go from a tree of one state to a tree of another, joined to the parts of a call
-use Rattle.np_layout.proofs.Prelude.{AllByRecursion, AreDistinct, Bool, Changes, Configuration, Declined, Deed, DeedsEnact, EditPremise, EmptiesRequest, Enacts, Ending, Expect, Gains, Goes, Growth, HandlesChange, HandlesEnact, HasGoodIds, HasRoomFor, HasSpellings, HasText, IfSome, IsApart, IsAsked, IsDeclined, IsGood, IsJob, IsLabel, IsMade, IsMarked, IsNode, IsNodeId, IsOk, IsPart, IsReason, IsRequest, IsRole, IsServed, IsSessionRole, IsTaken, IsWhole, JobId, JobRecord, JobsEnact, LabelId, Launcher, List, Maker, Marked, Mode, NodeEntry, NodeId, NodePlace, NodeRecord, NodeState, NodesChange, NodesEnact, NodesPremise, NodesReady, None, Ok, Op, OpDone, Option, PartsLayOut, Phase, Place, PoolId, Premises, Reason, Registration, Request, RequestEdit, RequestEntry, RequestId, RequestRecord, RequestState, RequestsChange, RequestsEnact, RequestsPremise, Result, Role, RoleRecord, SessionFacts, SessionId, SessionReady, SessionsChange, SessionsEnact, SetLaysOut, Some, Stands, State, TenantId, TicksEnact, TreeRefusal, TreeState, WaitOnce, after_begin, after_create_under, after_end, after_loss, after_multi, after_part, after_parts, all-change_first, all-filter, all-mapped, all-weaker, ap, ap₂, arith, at_path, bytes_eq, change_node, checks-leave-the-tree, child_answer, children_of, codes, cond, decimal-short, declined_text, deed_parts, delete, ended, ending_word, ends-show, false, filter, fits, flag_text, found, goes-after, goes-joined, goes-under-one-number, goes-whole, grown, grown_parts, handles_changed, handles_parts, has_version, in_call, inl, inr, is_at, is_check, is_in, is_kept, is_owned, is_path-below, is_session, job_end, job_front, job_text, jobs-grown, jobs_changed, jobs_parts, label_text, length, length-append, length-change_at, length-children-paths, length-filter_at_most, length-map, list_any, list_text, lit≤, low-min, map, marked_text, name_of, nat_lt, need, next_change, node_front, node_id_text, node_left, node_server, node_state_word, node_tenant, node_text, nodes_changed, nodes_parts, not, one_more_act, one_more_start, parent_of, part_answer, parts-change_nodes_alone, path_of, paths_of-change_node, phase_word, place_of_role, reason_text_of, refl, remove-alone, request_job, request_left, request_pinned, request_pool, request_record_text, request_state_word, requests_changed, requests_parts, rest_text, role_name, role_parts, role_text, root, row_of, rows-without, rows_at, rows_in, session_parts, session_text, sessions_changed, set, settled_parts, slice_get, struck_unless, subst, sym, there, tick_parts, true, unspent, wait_at, where_found, where_there, with_begin, with_deeds, with_new_child, without_child, without_child_above, without_node, without_session, writer, ℕ, [], ◌*◌, ◌++◌, ◌+◌, ◌-◌, ◌<◌, ◌==◌, ◌>>=◌, ◌>>◌, ◌^◌, ◌||◌, ◌∙◌, ◌∷◌, ◌≡◌, ◌≤◌, ◌⊎◌}
+use Rattle.np_layout.proofs.Prelude.{AllByRecursion, AreDistinct, Bool, Changes, Configuration, Declined, Deed, DeedsEnact, EditPremise, EmptiesRequest, Enacts, Ending, Expect, Gains, Goes, Growth, HandlesChange, HandlesEnact, HasGoodIds, HasRoomFor, HasSpellings, HasText, IfSome, IsApart, IsAsked, IsDeclined, IsGood, IsJob, IsLabel, IsMade, IsMarked, IsNode, IsNodeId, IsOk, IsPart, IsReady, IsReason, IsRequest, IsRole, IsServed, IsSessionRole, IsTaken, IsWhole, JobId, JobRecord, JobsEnact, LabelId, Launcher, List, Maker, Marked, Mode, NodeEntry, NodeId, NodePlace, NodeRecord, NodeState, NodesChange, NodesEnact, NodesPremise, NodesReady, None, Op, OpDone, Option, PartsLayOut, Phase, Place, PoolId, Premises, Reason, Registration, Request, RequestEdit, RequestEntry, RequestId, RequestRecord, RequestState, RequestsChange, RequestsEnact, RequestsPremise, Result, Role, RoleRecord, Row, SessionFacts, SessionId, SessionReady, SessionsChange, SessionsEnact, SetLaysOut, Some, Stands, State, TenantId, TicksEnact, TreeRefusal, TreeState, WaitOnce, [], after_begin, after_create_under, after_end, after_loss, after_multi, after_part, after_parts, all-change_first, all-filter, all-mapped, all-weaker, ap, ap₂, arith, at_path, change_node, change_session, checks-leave-the-tree, children_of, codes, cond, decimal-short, declined_text, deed_parts, delete, ended, ending_word, ends-show, false, filter, flag_text, goes-after, goes-joined, goes-under-one-number, goes-whole, grown, grown_parts, handles_changed, handles_parts, in_call, inl, inr, is_at, is_check, is_in, is_kept, is_owned, is_path-below, is_pool, is_request, is_session, job_end, job_front, job_text, jobs-grown, jobs_changed, jobs_parts, label_text, length, length-append, length-change_at, length-children-paths, length-filter_at_most, length-map, list_any, list_any-append, list_text, lit≤, low-min, map, marked_text, name_of, next_change, node_front, node_id_text, node_left, node_server, node_state_word, node_tenant, node_text, nodes_changed, nodes_parts, not, parent_of, part_answer, parts-change_nodes_alone, path_of, paths_of-change_node, phase_word, reason_text_of, refl, remove-alone, request_job, request_left, request_pinned, request_pool, request_record_text, request_state_word, requests_changed, requests_parts, rest_text, role_name, role_text, row_of, rows-without, rows_at, rows_in, session_parts, session_text, sessions_changed, set, settled_parts, subst, sym, tick_parts, true, wait_at, where_found, with_begin, with_deeds, with_new_child, without_child, without_child_above, without_node, without_session, writer, ℕ, ◌*◌, ◌++◌, ◌+◌, ◌-◌, ◌<◌, ◌==◌, ◌^◌, ◌||◌, ◌∙◌, ◌∷◌, ◌≡◌, ◌≤◌, ◌⊎◌}
 pub use Rattle.np_layout.proofs.FirstTrees.{room-after}
 use Rattle.np_layout.proofs.Names.{is_path-of, length-four, length-request, length-two}
 use Rattle.np_changes.specs.Prelude.{role_in}
@@ -48,16 +48,10 @@ live-after t w [] = refl
 live-after t w (part ∷ parts) = live-after (after_part t w part) w parts ∙ ap (λ (u : TreeState). u.live) (parts-change_nodes_alone t w part)
 
 stands-after : (later : State) (t : TreeState) (w : ℕ) (parts : List Op) (more : ℕ) → IsWhole t.nodes → is_in t.live w ≡ true → HasGoodIds later → AllByRecursion IsPart parts → PartsLayOut later t w parts → HasRoomFor more (after_parts t w parts) → Enacts t w parts later more
-stands-after later t w parts more whole live good proper lays room = record {
-  goes = lays.goes;
-  leaves = record {
-    whole = goes-whole t (after_parts t w parts) w parts whole proper lays.goes;
-    good = good;
-    lays = lays.lays;
-    live = ap (λ (known : List ℕ). is_in known w) (live-after t w parts) ∙ live;
-    room = room;
-  };
-}
+stands-after later t w parts more whole live good proper lays room =
+    let whole_later = goes-whole t (after_parts t w parts) w parts whole proper lays.goes in
+    let live_later : is_in (after_parts t w parts).live w ≡ true = ap (λ (known : List ℕ). is_in known w) (live-after t w parts) ∙ live in
+    record { goes = lays.goes; leaves = assumption lays }
 
 -- so parts of a law of the layout are enacted
 pub enacts-parts : (s later : State) (t : TreeState) (w : ℕ) (parts : List Op) (more : ℕ) → Stands s t w (length parts + more) → HasGoodIds later → AllByRecursion IsPart parts → PartsLayOut later t w parts → Enacts t w parts later more
@@ -138,40 +132,29 @@ enacts-deletes s later t w parts more stands good proper deletes lays =
 module _ {A : Type 0} (P : A → Type 0) (text : A → List ℕ) (short : (a : A) → P a → length (text a) ≤ 31) where
   rest-short : (list : List A) → AllByRecursion P list → length (rest_text text list) ≤ 1 + 32 * length list
   rest-short [] all = lit≤ tt
-  rest-short (a ∷ list) all =
-      let first = short a all.0 in
-      let later = rest-short list all.1 in
-      simp length-append (omega arith)
+  rest-short (a ∷ list) all = simp length-append (omega (arith, short a all.0, rest-short list all.1))
 
   -- the brackets, and a comma with each item
   pub list-short : (list : List A) → AllByRecursion P list → length (list_text text list) ≤ 2 + 32 * length list
   list-short [] all = lit≤ tt
-  list-short (a ∷ list) all =
-      let first = short a all.0 in
-      let later = rest-short list all.1 in
-      simp length-append (omega arith)
+  list-short (a ∷ list) all = simp length-append (omega (arith, short a all.0, rest-short list all.1))
 
 -- ## words
 
 flag-short : (b : Bool) → length (flag_text b) ≤ 5
-flag-short true = lit≤ tt
-flag-short false = lit≤ tt
+flag-short b = grind arith
 
 request_state-short : (s : RequestState) → length (request_state_word s) ≤ 9
-request_state-short RequestState.Requested = lit≤ tt
-request_state-short other = lit≤ tt
+request_state-short s = grind arith
 
 node_state-short : (s : NodeState) → length (node_state_word s) ≤ 9
-node_state-short NodeState.Building = lit≤ tt
-node_state-short other = lit≤ tt
+node_state-short s = grind arith
 
 phase-short : (p : Phase) → length (phase_word p) ≤ 9
-phase-short Phase.New = lit≤ tt
-phase-short other = lit≤ tt
+phase-short p = grind arith
 
 ending-short : (e : Ending) → length (ending_word e) ≤ 9
-ending-short Ending.Served = lit≤ tt
-ending-short other = lit≤ tt
+ending-short e = grind arith
 
 reason-short : (r : Reason) → IsReason r → length (reason_text_of r) ≤ 17
 reason-short (Reason.NoLabel l) is = let two = length-two l.0 is in simp length-append (omega arith)
@@ -183,11 +166,7 @@ reason-short (Reason.Spent n) is = let four = length-four n.0 is in simp length-
 
 -- a role's text fits a node
 pub role-short : (r : RoleRecord) → IsRole r → length (role_text r) ≤ 65_536
-role-short r is =
-    let acts = length-four r.acts is.acts in
-    let starts = length-four r.starts is.starts in
-    let strikes = length-four r.strikes is.strikes in
-    simp length-append (omega arith)
+role-short r is = simp length-append (omega (arith, length-four r.acts is.acts, length-four r.starts is.starts, length-four r.strikes is.strikes))
 
 role_name-short : (r : Role) → IsSessionRole r → length (role_name r) ≤ 20
 role_name-short (Role.Launcher p) is = let two = length-two p.0 is in simp length-append (omega arith)
@@ -197,10 +176,7 @@ role_name-short Role.Reaper is = absurd is
 
 -- so does a session's
 pub session-short : (mute : Bool) (role : Role) → IsSessionRole role → length (session_text (record { mute = mute; role = role })) ≤ 65_536
-session-short mute role is =
-    let flag = flag-short mute in
-    let name = role_name-short role is in
-    simp length-append (omega arith)
+session-short mute role is = simp length-append (omega (arith, flag-short mute, role_name-short role is))
 
 -- ## nodes
 
@@ -219,26 +195,17 @@ node_tenant-short (Some t) is = let two = length-two t.0 is in simp length-appen
 -- so does a node's
 pub node-short : (n : NodeRecord) → IsNode n → length (node_text n) ≤ 65_536
 node-short n is =
-    let low = is.attempts in
-    let front = node_front-short n.allocated_to is.allocated_to in
-    let attempts = length-four n.attempts (omega arith) in
-    let flag = flag-short n.in_flight in
-    let label = length-two n.label.0 is.label in
-    let pool = length-two n.pool.0 is.pool in
-    let server = node_server-short n.server is.server in
+    let attempts = length-four n.attempts (omega (arith, is.attempts)) in
     let since = length-four n.since is.since in
     let start = length-four n.start is.start in
-    let word = node_state-short n.state in
-    let tenant = node_tenant-short n.tenant is.tenant in
-    simp length-append (omega arith)
+    let label = length-two n.label.0 is.label in
+    let pool = length-two n.pool.0 is.pool in
+    simp length-append (omega (arith, node_front-short n.allocated_to is.allocated_to, flag-short n.in_flight, node_server-short n.server is.server, node_state-short n.state, node_tenant-short n.tenant is.tenant))
 
 -- ## jobs
 
 marked-short : (m : Marked) → IsMarked m → length (marked_text m) ≤ 31
-marked-short m is =
-    let four = length-four m.node.0 is in
-    let flag = flag-short m.ended in
-    simp length-append (omega arith)
+marked-short m is = simp length-append (omega (arith, length-four m.node.0 is, flag-short m.ended))
 
 job_front-short : (o : Option Ending) → length (job_front o) ≤ 60
 job_front-short None = lit≤ tt
@@ -248,28 +215,18 @@ job_end-short : (pool : Option PoolId) (request : Option RequestId) → IfSome p
 job_end-short None None is_pool is_request = lit≤ tt
 job_end-short None (Some id) is_pool is_request = let text = length-request id is_request in simp length-append (omega arith)
 job_end-short (Some p) None is_pool is_request = let two = length-two p.0 is_pool in simp length-append (omega arith)
-job_end-short (Some p) (Some id) is_pool is_request =
-    let two = length-two p.0 is_pool in
-    let text = length-request id is_request in
-    simp length-append (omega arith)
+job_end-short (Some p) (Some id) is_pool is_request = simp length-append (omega (arith, length-two p.0 is_pool, length-request id is_request))
 
 -- so does a job's
 pub job-short : (j : JobRecord) → IsJob j → length (job_text j) ≤ 65_536
 job-short j is =
-    let few = is.few in
-    let front = job_front-short j.ending in
     let nodes = list-short IsMarked marked_text marked-short j.nodes is.nodes in
-    let word = phase-short j.phase in
-    let end = job_end-short j.pool j.request is.pool is.request in
-    simp length-append (omega arith)
+    simp length-append (omega (arith, is.few, job_front-short j.ending, nodes, phase-short j.phase, job_end-short j.pool j.request is.pool is.request))
 
 -- ## requests
 
 declined-short : (d : Declined) → IsDeclined d → length (declined_text d) ≤ 31
-declined-short d is =
-    let two = length-two d.pool.0 is.pool in
-    let why = reason-short d.reason is.reason in
-    simp length-append (omega arith)
+declined-short d is = simp length-append (omega (arith, length-two d.pool.0 is.pool, reason-short d.reason is.reason))
 
 label-short : (l : LabelId) → IsLabel l → length (label_text l) ≤ 31
 label-short l is = let two = length-two l.0 is in omega arith
@@ -293,17 +250,10 @@ served-short RequestState.Fulfilled (Some p) is = let two = length-two p.0 is in
 -- so does a request's
 pub request-short : (r : RequestRecord) → IsRequest r → length (request_record_text r) ≤ 65_536
 request-short r is =
-    let few_declined = is.few_declined in
-    let few_labels = is.few_labels in
-    let few_nodes = is.few_nodes in
     let declined = list-short IsDeclined declined_text declined-short r.declined is.declined in
     let labels = list-short IsLabel label_text label-short r.labels is.labels in
     let nodes = list-short IsNodeId node_id_text node_id-short r.nodes is.nodes in
-    let asked = asked-short r.job r.pinned is.asked in
-    let served = served-short r.state r.pool is.served in
-    let priority = length-four r.relative_priority is.relative_priority in
-    let word = request_state-short r.state in
-    simp length-append (omega arith)
+    simp length-append (omega (arith, is.few_declined, is.few_labels, is.few_nodes, asked-short r.job r.pinned is.asked, served-short r.state r.pool is.served, length-four r.relative_priority is.relative_priority, request_state-short r.state))
 
 -- # the parts for what may not fail, one table after another
 
@@ -317,39 +267,24 @@ leaves_requests (Growth.Allocate n r tenant) = true
 leaves_requests other = false
 
 pub same-requests : (c : Configuration) (maker : Option Maker) (growth : Growth) (s : State) → leaves_requests growth ≡ true → (grown c maker growth s).requests ≡ s.requests
-same-requests c maker Growth.Nothing s leaves = refl
-same-requests c maker (Growth.Node kept) s leaves = refl
-same-requests c maker (Growth.Allocate n r tenant) s leaves = refl
-same-requests c maker _ s leaves = absurd cc
-
-leaves-nothing : (growth : Growth) → growth ≡ Growth.Nothing → leaves_requests growth ≡ true
-leaves-nothing growth is = ap leaves_requests is
-
-gains-by : (c : Configuration) (s : State) (ch : Changes) (p : PoolId) (r : RequestId) (request : RequestRecord) (l : LabelId) (n : NodeId) → IsTaken c s ch p r request l n ⊎ IsMade c s ch p r request l n → leaves_requests ch.grows ≡ true
-gains-by c s ch p r request l n (inl taken) = ap leaves_requests taken.grows
-gains-by c s ch p r request l n (inr made) = ap leaves_requests made.grows
+same-requests c maker growth s leaves = grind arith
 
 gains-leave : (c : Configuration) (s : State) (ch : Changes) (r : RequestId) (n : NodeId) → Gains c s ch r n → leaves_requests ch.grows ≡ true
-gains-leave c s ch r n gains = gains-by c s ch gains.pool r gains.request gains.label n gains.from
+gains-leave c s ch r n gains = by gains.from where
+  by : IsTaken c s ch gains.pool r gains.request gains.label n ⊎ IsMade c s ch gains.pool r gains.request gains.label n → leaves_requests ch.grows ≡ true
+  by (inl taken) = ap leaves_requests taken.grows
+  by (inr made) = ap leaves_requests made.grows
 
 pub edit-leaves : (c : Configuration) (s : State) (ch : Changes) (r : RequestId) (change : RequestEdit) → EditPremise c s ch r change → leaves_requests ch.grows ≡ true
-edit-leaves c s ch r (RequestEdit.Serve p) premise = ap leaves_requests premise.same_size
 edit-leaves c s ch r (RequestEdit.AddNode n) premise = gains-leave c s ch r n premise.0
-edit-leaves c s ch r (RequestEdit.Decline p why failed) premise = ap leaves_requests premise.same_size
 edit-leaves c s ch r RequestEdit.Fulfil premise = ap leaves_requests premise.0.same_size
-edit-leaves c s ch r RequestEdit.GiveBack premise = ap leaves_requests premise.same_size
-edit-leaves c s ch r RequestEdit.Fail premise = ap leaves_requests premise.same_size
-edit-leaves c s ch r (RequestEdit.Revise relative) premise = ap leaves_requests premise.same_size
+edit-leaves c s ch r change premise = ap leaves_requests premise.same_size
 
 -- nothing grows when a request's nodes are freed
 pub freeing-grows : (c : Configuration) (s : State) (ch : Changes) (r : RequestId) (change : RequestsChange) → RequestsPremise c s ch change → EmptiesRequest r change → ch.grows ≡ Growth.Nothing
 freeing-grows c s ch r change premise (inl removes) = remove-alone c s ch r (subst (RequestsPremise c s ch) removes premise)
-freeing-grows c s ch r change premise (inr (inl gives)) =
-    let may = subst (RequestsPremise c s ch) gives premise in
-    may.same_size
-freeing-grows c s ch r change premise (inr (inr declines)) =
-    let may = subst (RequestsPremise c s ch) declines.3 premise in
-    may.same_size
+freeing-grows c s ch r change premise (inr (inl gives)) = (subst (RequestsPremise c s ch) gives premise).same_size
+freeing-grows c s ch r change premise (inr (inr declines)) = (subst (RequestsPremise c s ch) declines.3 premise).same_size
 
 -- the change is none
 abbrev pub is_same : NodesChange → Bool
@@ -359,11 +294,9 @@ is_same other = false
 -- nothing grows when a node changes
 nodes-grow : (c : Configuration) (s : State) (ch : Changes) (change : NodesChange) → is_same change ≡ false → RequestsPremise c s ch ch.requests → NodesPremise c s ch change → ch.grows ≡ Growth.Nothing
 nodes-grow c s ch NodesChange.Same other request premise = absurd cc
-nodes-grow c s ch (NodesChange.Put n kept) other request premise = premise.same_size
-nodes-grow c s ch (NodesChange.Remove n) other request premise = premise.same_size
-nodes-grow c s ch (NodesChange.Leave n) other request premise = premise.same_size
 nodes-grow c s ch (NodesChange.FreeAll r) other request premise = freeing-grows c s ch r ch.requests request premise
 nodes-grow c s ch (NodesChange.TakeOver numbers) other request premise = premise.1.same_size
+nodes-grow c s ch change other request premise = premise.same_size
 
 -- ## the tree that the parts are read from
 
@@ -380,14 +313,10 @@ reads_node (NodesChange.Leave n) = true
 reads_node other = false
 
 requests-read : (maker : Option Maker) (change : RequestsChange) (rows : List RequestEntry) (t u : TreeState) → (reads change ≡ true → t ≡ u) → requests_parts maker change rows u ≡ requests_parts maker change rows t
-requests-read maker (RequestsChange.Remove r) rows t u same = ap (requests_parts maker (RequestsChange.Remove r) rows) (sym (same refl))
-requests-read maker (RequestsChange.Leave r) rows t u same = ap (requests_parts maker (RequestsChange.Leave r) rows) (sym (same refl))
-requests-read maker _ rows t u same = refl
+requests-read maker change rows t u same = grind arith
 
 nodes-read : (maker : Option Maker) (tick : ℕ) (old : List RequestEntry) (change : NodesChange) (rows : List NodeEntry) (t u : TreeState) → (reads_node change ≡ true → t ≡ u) → nodes_parts maker tick old change rows u ≡ nodes_parts maker tick old change rows t
-nodes-read maker tick old (NodesChange.Remove n) rows t u same = ap (nodes_parts maker tick old (NodesChange.Remove n) rows) (sym (same refl))
-nodes-read maker tick old (NodesChange.Leave n) rows t u same = ap (nodes_parts maker tick old (NodesChange.Leave n) rows) (sym (same refl))
-nodes-read maker tick old _ rows t u same = refl
+nodes-read maker tick old change rows t u same = grind arith
 
 request-reads : (c : Configuration) (s : State) (ch : Changes) (change : RequestsChange) → RequestsPremise c s ch change → reads change ≡ true → ch.grows ≡ Growth.Nothing
 request-reads c s ch (RequestsChange.Remove r) premise is = remove-alone c s ch r premise
@@ -405,22 +334,18 @@ grown-tree c maker growth s t is = ap (λ (g : Growth). after_parts (with_begin 
 
 -- ## the records of roles
 
-role-same : (role : Role) (s g : State) → s.launchers ≡ g.launchers → s.janitors ≡ g.janitors → s.requesters ≡ g.requesters → role_in role s ≡ role_in role g
-role-same (Role.Launcher p) s g launchers janitors requesters = ap (λ (rows : List RoleRecord). slice_get rows p.0) launchers
-role-same (Role.Janitor p) s g launchers janitors requesters = ap (λ (rows : List RoleRecord). slice_get rows p.0) janitors
-role-same (Role.Requester q) s g launchers janitors requesters = ap (λ (rows : List RoleRecord). slice_get rows q.0) requesters
-role-same Role.Reaper s g launchers janitors requesters = refl
-
-role-parts : (change : RoleRecord → RoleRecord) (role : Role) (s g : State) → s.launchers ≡ g.launchers → s.janitors ≡ g.janitors → s.requesters ≡ g.requesters → role_parts change role s ≡ role_parts change role g
-role-parts change role s g launchers janitors requesters =
-    ap (λ (there : Option RoleRecord). where_there (place_of_role role) (λ p. where_there there (λ old. set (role_text (change old)) p ∷ []))) (role-same role s g launchers janitors requesters)
-
 deed-same : (maker : Option Maker) (what : Option Deed) (s g : State) → s.launchers ≡ g.launchers → s.janitors ≡ g.janitors → s.requesters ≡ g.requesters → deed_parts maker what s ≡ deed_parts maker what g
-deed-same maker None s g launchers janitors requesters = refl
-deed-same None (Some Deed.Acts) s g launchers janitors requesters = refl
-deed-same (Some m) (Some Deed.Acts) s g launchers janitors requesters = role-parts one_more_act m.role s g launchers janitors requesters
-deed-same maker (Some (Deed.StartsAndActs p)) s g launchers janitors requesters = role-parts (λ role. one_more_act (one_more_start role)) (Role.Launcher p) s g launchers janitors requesters
-deed-same maker (Some (Deed.Strikes role counted)) s g launchers janitors requesters = role-parts (struck_unless counted) role s g launchers janitors requesters
+deed-same maker what s g launchers janitors requesters = grind arith
+
+-- ## what stays when anything grows
+
+-- the tick stays
+pub same-tick : (c : Configuration) (maker : Option Maker) (growth : Growth) (s : State) → (grown c maker growth s).tick ≡ s.tick
+same-tick c maker growth s = grind arith
+
+-- the records of roles stay
+pub same-roles : (c : Configuration) (maker : Option Maker) (growth : Growth) (s : State) → ((grown c maker growth s).launchers ≡ s.launchers) × (((grown c maker growth s).janitors ≡ s.janitors) × ((grown c maker growth s).requesters ≡ s.requesters))
+same-roles c maker growth s = grind arith
 
 -- ## one table after another
 
@@ -434,38 +359,37 @@ pub record TablesEnact : Type 0 where
   pub sessions : SessionsEnact
   pub ticks : TicksEnact
 
+-- the change is none
+abbrev pub is_none_of_requests : RequestsChange → Bool
+is_none_of_requests RequestsChange.Same = true
+is_none_of_requests other = false
+
+-- what grows leaves the requests as they are where these change
+request-leaves : (c : Configuration) (s : State) (ch : Changes) (change : RequestsChange) → RequestsPremise c s ch change → is_none_of_requests change ≡ false → leaves_requests ch.grows ≡ true
+request-leaves c s ch RequestsChange.Same premise other = absurd cc
+request-leaves c s ch (RequestsChange.Edit r change) premise other = edit-leaves c s ch r change premise
+request-leaves c s ch (RequestsChange.Remove r) premise other = ap leaves_requests (remove-alone c s ch r premise)
+request-leaves c s ch (RequestsChange.Leave r) premise other = ap leaves_requests premise.same_size
+
 -- the requests, where they change
-requests-by : RequestsEnact → (c : Configuration) (ch : Changes) (s g : State) (u t : TreeState) (more : ℕ) (change : RequestsChange) → ch.requests ≡ change → RequestsPremise c s ch change → (leaves_requests ch.grows ≡ true → g.requests ≡ s.requests) →
+requests-by : RequestsEnact → (c : Configuration) (ch : Changes) (s g : State) (u t : TreeState) (more : ℕ) (change : RequestsChange) → RequestsPremise c s ch change → (leaves_requests ch.grows ≡ true → g.requests ≡ s.requests) →
     (ch.grows ≡ Growth.Nothing → t ≡ u) → WaitOnce s.requests → Stands g u (writer ch.maker) (more + 1) → AllByRecursion (λ e. IsRequest e.kept) (requests_changed ch.maker change g.requests) →
     Enacts u (writer ch.maker) (requests_parts ch.maker change g.requests t) (record g { requests = requests_changed ch.maker change g.requests }) more
-requests-by law c ch s g u t more change is premise kept same waits stands spelled = by change is premise spelled where
-  all : (change : RequestsChange) → RequestsPremise c s ch change → leaves_requests ch.grows ≡ true → AllByRecursion (λ e. IsRequest e.kept) (requests_changed ch.maker change g.requests) →
-      Enacts u (writer ch.maker) (requests_parts ch.maker change g.requests t) (record g { requests = requests_changed ch.maker change g.requests }) more
-  all change premise leaves spelled =
-      subst (λ (parts : List Op). Enacts u (writer ch.maker) parts (record g { requests = requests_changed ch.maker change g.requests }) more)
-      (requests-read ch.maker change g.requests t u (λ read. same (request-reads c s ch change premise read)))
-      (law ch.maker change g u more stands (subst WaitOnce (sym (kept leaves)) waits) spelled)
-
-  by : (change : RequestsChange) → ch.requests ≡ change → RequestsPremise c s ch change → AllByRecursion (λ e. IsRequest e.kept) (requests_changed ch.maker change g.requests) →
-      Enacts u (writer ch.maker) (requests_parts ch.maker change g.requests t) (record g { requests = requests_changed ch.maker change g.requests }) more
-  by RequestsChange.Same is premise spelled = enacts-none g u (writer ch.maker) more (stands-less g u (writer ch.maker) (more + 1) more (omega arith) stands)
-  by (RequestsChange.Edit r change) is premise spelled = all (RequestsChange.Edit r change) premise (edit-leaves c s ch r change premise) spelled
-  by (RequestsChange.Remove r) is premise spelled = all (RequestsChange.Remove r) premise (leaves-nothing ch.grows (remove-alone c s ch r premise)) spelled
-  by (RequestsChange.Leave r) is premise spelled = all (RequestsChange.Leave r) premise (leaves-nothing ch.grows premise.same_size) spelled
+requests-by law c ch s g u t more RequestsChange.Same premise kept same waits stands spelled = enacts-none g u (writer ch.maker) more (stands-less g u (writer ch.maker) (more + 1) more (omega arith) stands)
+requests-by law c ch s g u t more change premise kept same waits stands spelled =
+    subst (λ (parts : List Op). Enacts u (writer ch.maker) parts (record g { requests = requests_changed ch.maker change g.requests }) more)
+    (requests-read ch.maker change g.requests t u (λ read. same (request-reads c s ch change premise read)))
+    (law ch.maker change g u more stands (subst WaitOnce (sym (kept (request-leaves c s ch change premise refl))) waits) spelled)
 
 -- the nodes, where they change: then nothing has grown
-nodes-by : NodesEnact → (c : Configuration) (ch : Changes) (s g : State) (u t : TreeState) (old : List RequestEntry) (more : ℕ) (change : NodesChange) (b : Bool) → is_same change ≡ b → RequestsPremise c s ch ch.requests → NodesPremise c s ch change →
+nodes-by : NodesEnact → (c : Configuration) (ch : Changes) (s g : State) (u t : TreeState) (old : List RequestEntry) (more : ℕ) (change : NodesChange) → RequestsPremise c s ch ch.requests → NodesPremise c s ch change →
     (ch.grows ≡ Growth.Nothing → (g.nodes ≡ s.nodes) × ((g.tick ≡ s.tick) × (old ≡ s.requests))) → (ch.grows ≡ Growth.Nothing → ch.requests ≡ RequestsChange.Same → t ≡ u) →
     AllByRecursion (λ e. AreDistinct e.queue) s.nodes → AllByRecursion (λ e. IsNode e.kept) s.nodes → NodesReady change s.tick s.requests s.nodes → Stands g u (writer ch.maker) (more + 32) → AllByRecursion (λ e. IsNode e.kept) (nodes_changed ch.maker g.tick change g.nodes) →
     Enacts u (writer ch.maker) (nodes_parts ch.maker g.tick old change g.nodes t) (record g { nodes = nodes_changed ch.maker g.tick change g.nodes }) more
-nodes-by law c ch s g u t old more NodesChange.Same b is request premise kept same waits spelled_old ready stands spelled =
+nodes-by law c ch s g u t old more NodesChange.Same request premise kept same waits spelled_old ready stands spelled =
     enacts-none g u (writer ch.maker) more (stands-less g u (writer ch.maker) (more + 32) more (omega arith) stands)
-nodes-by law c ch s g u t old more change true is request premise kept same waits spelled_old ready stands spelled = none change is where
-  none : (change : NodesChange) → is_same change ≡ true → Enacts u (writer ch.maker) (nodes_parts ch.maker g.tick old change g.nodes t) (record g { nodes = nodes_changed ch.maker g.tick change g.nodes }) more
-  none NodesChange.Same is = enacts-none g u (writer ch.maker) more (stands-less g u (writer ch.maker) (more + 32) more (omega arith) stands)
-  none _ is = absurd cc
-nodes-by law c ch s g u t old more change false is request premise kept same waits spelled_old ready stands spelled =
-    let grows = nodes-grow c s ch change is request premise in
+nodes-by law c ch s g u t old more change request premise kept same waits spelled_old ready stands spelled =
+    let grows = nodes-grow c s ch change refl request premise in
     let rows = kept grows in
     subst (λ (parts : List Op). Enacts u (writer ch.maker) parts (record g { nodes = nodes_changed ch.maker g.tick change g.nodes }) more)
     (nodes-read ch.maker g.tick old change g.nodes t u (λ read. let both = node-reads c s ch change premise read in same both.0 both.1))
@@ -499,34 +423,22 @@ with_all c ch g = record (with_sessions c ch g) { tick = cond ch.ticks (g.tick +
 
 -- a session that ends has no part in the call, and the part of one that is muted is read from the sessions
 session-parts : (change : SessionsChange) (s g : State) → s.sessions ≡ g.sessions → session_parts (in_call change) s ≡ session_parts change g
-session-parts SessionsChange.Same s g same = refl
-session-parts (SessionsChange.Mute session) s g same = ap (λ (rows : List SessionFacts). session_parts (SessionsChange.Mute session) (record g { sessions = rows })) same
-session-parts (SessionsChange.End session) s g same = refl
+session-parts change s g same = grind arith
 
 session-ready : (change : SessionsChange) (s g : State) → s.sessions ≡ g.sessions → SessionReady (in_call change) g → SessionReady (in_call change) s
-session-ready SessionsChange.Same s g same ready = ready
 session-ready (SessionsChange.Mute session) s g same ready = subst (λ (rows : List SessionFacts). SessionReady (SessionsChange.Mute session) (record g { sessions = rows })) (sym same) ready
-session-ready (SessionsChange.End session) s g same ready = ready
+session-ready _ s g same ready = ready
 
--- what is needed of the state before what grows, and of the state after it
-pub record SettledReady (c : Configuration) (ch : Changes) (s g : State) (t u : TreeState) : Type 0 where
-  pub requests : RequestsPremise c s ch ch.requests
-  pub nodes : NodesPremise c s ch ch.nodes
-  pub kept_requests : leaves_requests ch.grows ≡ true → g.requests ≡ s.requests
-  pub kept_nodes : ch.grows ≡ Growth.Nothing → (g.nodes ≡ s.nodes) × ((g.tick ≡ s.tick) × (g.requests ≡ s.requests))
-  pub kept_tree : ch.grows ≡ Growth.Nothing → t ≡ u
-  pub nodes_ready : NodesReady ch.nodes s.tick s.requests s.nodes
-  pub session_ready : SessionReady (in_call ch.sessions) g
-  pub request_waits : WaitOnce s.requests
-  pub node_waits : AllByRecursion (λ e. AreDistinct e.queue) s.nodes
-  pub spelled : HasSpellings s
-  pub spelled_grown : HasSpellings g
-  pub spelled_later : HasSpellings (with_all c ch g)
-  pub tick : g.tick + 1 < 2 ^ 32
-
-module _ (laws : TablesEnact) (c : Configuration) (ch : Changes) (s g : State) (t u : TreeState) (more : ℕ) (ready : SettledReady c ch s g t u) where
+module _ (laws : TablesEnact) (c : Configuration) (ch : Changes) (s : State) (t : TreeState) (more : ℕ) (ready : IsReady c ch s) (spelled_grown : HasSpellings (grown c ch.maker ch.grows s)) (spelled_later : HasSpellings (with_all c ch (grown c ch.maker ch.grows s))) where
   abbrev w : ℕ
   w = writer ch.maker
+
+  -- the state with what grows, and its tree
+  abbrev g : State
+  g = grown c ch.maker ch.grows s
+
+  abbrev u : TreeState
+  u = after_parts (with_begin ch.grows t) w (grown_parts c ch.maker ch.grows s)
 
   abbrev first_parts : List Op
   first_parts = requests_parts ch.maker ch.requests g.requests t
@@ -536,19 +448,19 @@ module _ (laws : TablesEnact) (c : Configuration) (ch : Changes) (s g : State) (
 
   requests-enact : Stands g u w (more + 40) → Enacts u w first_parts (with_requests ch g) (more + 39)
   requests-enact stands =
-      requests-by laws.requests c ch s g u t (more + 39) ch.requests refl ready.requests ready.kept_requests ready.kept_tree ready.request_waits
-      (stands-less g u w (more + 40) (more + 39 + 1) (omega arith) stands) ready.spelled_later.requests
+      requests-by laws.requests c ch s g u t (more + 39) ch.requests ready.premises.requests (same-requests c ch.maker ch.grows s) (grown-tree c ch.maker ch.grows s t) ready.request_waits
+      (stands-less g u w (more + 40) (more + 39 + 1) (omega arith) stands) spelled_later.requests
 
   nodes-enact : Stands (with_requests ch g) (after_parts u w first_parts) w (more + 39) → Enacts (after_parts u w first_parts) w second_parts (with_nodes ch g) (more + 7)
   nodes-enact stands =
-      nodes-by laws.nodes c ch s (with_requests ch g) (after_parts u w first_parts) t g.requests (more + 7) ch.nodes (is_same ch.nodes) refl ready.requests ready.nodes
-      ready.kept_nodes
-      (λ grows same. ready.kept_tree grows ∙ ap (λ (change : RequestsChange). after_parts u w (requests_parts ch.maker change g.requests t)) (sym same))
-      ready.node_waits ready.spelled.nodes ready.nodes_ready
-      (stands-less (with_requests ch g) (after_parts u w first_parts) w (more + 39) (more + 7 + 32) (omega arith) stands) ready.spelled_later.nodes
+      nodes-by laws.nodes c ch s (with_requests ch g) (after_parts u w first_parts) t g.requests (more + 7) ch.nodes ready.premises.requests ready.premises.nodes
+      (λ is. (ap (λ (growth : Growth). (grown c ch.maker growth s).nodes) is, (same-tick c ch.maker ch.grows s, ap (λ (growth : Growth). (grown c ch.maker growth s).requests) is)))
+      (λ grows same. grown-tree c ch.maker ch.grows s t grows ∙ ap (λ (change : RequestsChange). after_parts u w (requests_parts ch.maker change g.requests t)) (sym same))
+      ready.node_waits ready.spelled.nodes ready.nodes
+      (stands-less (with_requests ch g) (after_parts u w first_parts) w (more + 39) (more + 7 + 32) (omega arith) stands) spelled_later.nodes
 
   jobs-enact : (v : TreeState) → Stands (with_nodes ch g) v w (more + 7) → Enacts v w (jobs_parts ch.jobs g.jobs) (with_jobs ch g) (more + 6)
-  jobs-enact v stands = laws.jobs w ch.jobs (with_nodes ch g) v (more + 6) (stands-less (with_nodes ch g) v w (more + 7) (more + 6 + 1) (omega arith) stands) ready.spelled_later.jobs
+  jobs-enact v stands = laws.jobs w ch.jobs (with_nodes ch g) v (more + 6) (stands-less (with_nodes ch g) v w (more + 7) (more + 6 + 1) (omega arith) stands) spelled_later.jobs
 
   handles-enact : (v : TreeState) → Stands (with_jobs ch g) v w (more + 6) → Enacts v w (handles_parts c ch.handles g.handles) (with_handles c ch g) (more + 5)
   handles-enact v stands = laws.handles c w ch.handles (with_jobs ch g) v (more + 5) (stands-less (with_jobs ch g) v w (more + 6) (more + 5 + 1) (omega arith) stands)
@@ -556,57 +468,31 @@ module _ (laws : TablesEnact) (c : Configuration) (ch : Changes) (s g : State) (
   deeds-enact : (v : TreeState) → Stands (with_handles c ch g) v w (more + 5) → Enacts v w (deed_parts ch.maker ch.deed g) (with_deeds ch.maker ch.deed (with_handles c ch g)) (more + 4)
   deeds-enact v stands =
       subst (λ (parts : List Op). Enacts v w parts (with_deeds ch.maker ch.deed (with_handles c ch g)) (more + 4)) (deed-same ch.maker ch.deed (with_handles c ch g) g refl refl refl)
-      (laws.deeds w ch.maker ch.deed (with_handles c ch g) v (more + 4) (stands-less (with_handles c ch g) v w (more + 5) (more + 4 + 1) (omega arith) stands)
-      (record {
-        requests = ready.spelled_later.requests;
-        nodes = ready.spelled_later.nodes;
-        jobs = ready.spelled_later.jobs;
-        launchers = ready.spelled_later.launchers;
-        janitors = ready.spelled_later.janitors;
-        requesters = ready.spelled_later.requesters;
-        sessions = ready.spelled_grown.sessions;
-      }))
+      (laws.deeds w ch.maker ch.deed (with_handles c ch g) v (more + 4) (stands-less (with_handles c ch g) v w (more + 5) (more + 4 + 1) (omega arith) stands) (assumption (spelled_later, spelled_grown)))
 
   sessions-enact : (v : TreeState) → Stands (with_deeds ch.maker ch.deed (with_handles c ch g)) v w (more + 4) → Enacts v w (session_parts ch.sessions g) (with_sessions c ch g) (more + 3)
   sessions-enact v stands =
       subst (λ (parts : List Op). Enacts v w parts (with_sessions c ch g) (more + 3)) (session-parts ch.sessions (with_deeds ch.maker ch.deed (with_handles c ch g)) g refl)
       (laws.sessions w (in_call ch.sessions) (with_deeds ch.maker ch.deed (with_handles c ch g)) v (more + 3)
-      (stands-less (with_deeds ch.maker ch.deed (with_handles c ch g)) v w (more + 4) (more + 3 + 1) (omega arith) stands) ready.spelled_grown.sessions
-      (session-ready ch.sessions (with_deeds ch.maker ch.deed (with_handles c ch g)) g refl ready.session_ready))
+      (stands-less (with_deeds ch.maker ch.deed (with_handles c ch g)) v w (more + 4) (more + 3 + 1) (omega arith) stands) spelled_grown.sessions
+      (session-ready ch.sessions (with_deeds ch.maker ch.deed (with_handles c ch g)) g refl ready.sessions))
 
   ticks-enact : (v : TreeState) → Stands (with_sessions c ch g) v w (more + 3) → Enacts v w (tick_parts ch.ticks g.tick) (with_all c ch g) more
   ticks-enact v stands =
-      laws.ticks w ch.ticks (with_sessions c ch g) v more (stands-less (with_sessions c ch g) v w (more + 3) (more + 1) (omega arith) stands) ready.tick
+      laws.ticks w ch.ticks (with_sessions c ch g) v more (stands-less (with_sessions c ch g) v w (more + 3) (more + 1) (omega arith) stands) (omega (arith, ready.tick, same-tick c ch.maker ch.grows s))
 
   -- the parts for what may not fail are accepted, and leave a tree of the state after the call
   pub settled-enact : Stands g u w (more + 40) → Enacts u w (settled_parts c ch g t) (with_all c ch g) more
   settled-enact stands =
       let requests = requests-enact stands in
-      let p2 : List Op = first_parts ++ second_parts in
-      let nodes = enacts-joined (with_requests ch g) (with_nodes ch g) u w first_parts second_parts (more + 39) (more + 7) requests (nodes-enact requests.leaves) in
-      let p3 : List Op = p2 ++ jobs_parts ch.jobs g.jobs in
-      let jobs = enacts-joined (with_nodes ch g) (with_jobs ch g) u w p2 (jobs_parts ch.jobs g.jobs) (more + 7) (more + 6) nodes (jobs-enact (after_parts u w p2) nodes.leaves) in
-      let p4 : List Op = p3 ++ handles_parts c ch.handles g.handles in
-      let handles = enacts-joined (with_jobs ch g) (with_handles c ch g) u w p3 (handles_parts c ch.handles g.handles) (more + 6) (more + 5) jobs (handles-enact (after_parts u w p3) jobs.leaves) in
-      let p5 : List Op = p4 ++ deed_parts ch.maker ch.deed g in
-      let deeds = enacts-joined (with_handles c ch g) (with_deeds ch.maker ch.deed (with_handles c ch g)) u w p4 (deed_parts ch.maker ch.deed g) (more + 5) (more + 4) handles (deeds-enact (after_parts u w p4) handles.leaves) in
-      let p6 : List Op = p5 ++ session_parts ch.sessions g in
-      let sessions = enacts-joined (with_deeds ch.maker ch.deed (with_handles c ch g)) (with_sessions c ch g) u w p5 (session_parts ch.sessions g) (more + 4) (more + 3) deeds (sessions-enact (after_parts u w p5) deeds.leaves) in
-      enacts-joined (with_sessions c ch g) (with_all c ch g) u w p6 (tick_parts ch.ticks g.tick) (more + 3) more sessions (ticks-enact (after_parts u w p6) sessions.leaves)
+      let nodes = enacts-joined _ _ _ _ _ _ _ _ requests (nodes-enact requests.leaves) in
+      let jobs = enacts-joined _ _ _ _ _ _ _ _ nodes (jobs-enact _ nodes.leaves) in
+      let handles = enacts-joined _ _ _ _ _ _ _ _ jobs (handles-enact _ jobs.leaves) in
+      let deeds = enacts-joined _ _ _ _ _ _ _ _ handles (deeds-enact _ handles.leaves) in
+      let sessions = enacts-joined _ _ _ _ _ _ _ _ deeds (sessions-enact _ deeds.leaves) in
+      enacts-joined _ _ _ _ _ _ _ _ sessions (ticks-enact _ sessions.leaves)
 
 -- ## read from the state before what grows
-
--- the tick stays
-pub same-tick : (c : Configuration) (maker : Option Maker) (growth : Growth) (s : State) → (grown c maker growth s).tick ≡ s.tick
-same-tick c None (Growth.Registration p) s = refl
-same-tick c (Some maker) (Growth.Registration p) s = refl
-same-tick c maker _ s = refl
-
--- the records of roles stay
-pub same-roles : (c : Configuration) (maker : Option Maker) (growth : Growth) (s : State) → ((grown c maker growth s).launchers ≡ s.launchers) × (((grown c maker growth s).janitors ≡ s.janitors) × ((grown c maker growth s).requesters ≡ s.requesters))
-same-roles c None (Growth.Registration p) s = (refl, (refl, refl))
-same-roles c (Some maker) (Growth.Registration p) s = (refl, (refl, refl))
-same-roles c maker _ s = (refl, (refl, refl))
 
 module _ (c : Configuration) (ch : Changes) (s : State) (t : TreeState) (premises : Premises c s ch) (apart : IsApart ch) where
   abbrev after_growth : State
@@ -617,29 +503,25 @@ module _ (c : Configuration) (ch : Changes) (s : State) (t : TreeState) (premise
 
   requests-current : (change : RequestsChange) → RequestsPremise c s ch change → requests_parts ch.maker change after_growth.requests t ≡ requests_parts ch.maker change s.requests t
   requests-current RequestsChange.Same premise = refl
-  requests-current (RequestsChange.Edit r change) premise = ap (λ (rows : List RequestEntry). requests_parts ch.maker (RequestsChange.Edit r change) rows t) (same-requests c ch.maker ch.grows s (edit-leaves c s ch r change premise))
-  requests-current (RequestsChange.Remove r) premise = ap (λ (g : State). requests_parts ch.maker (RequestsChange.Remove r) g.requests t) (nothing-grown (remove-alone c s ch r premise))
-  requests-current (RequestsChange.Leave r) premise = ap (λ (g : State). requests_parts ch.maker (RequestsChange.Leave r) g.requests t) (nothing-grown premise.same_size)
+  requests-current change premise = ap (λ (rows : List RequestEntry). requests_parts ch.maker change rows t) (same-requests c ch.maker ch.grows s (request-leaves c s ch change premise refl))
 
-  nodes-current : (change : NodesChange) (b : Bool) → is_same change ≡ b → NodesPremise c s ch change → nodes_parts ch.maker after_growth.tick after_growth.requests change after_growth.nodes t ≡ nodes_parts ch.maker s.tick s.requests change s.nodes t
-  nodes-current change false is premise = ap (λ (g : State). nodes_parts ch.maker g.tick g.requests change g.nodes t) (nothing-grown (nodes-grow c s ch change is premises.requests premise))
-  nodes-current NodesChange.Same true is premise = refl
-  nodes-current _ true is premise = absurd cc
+  nodes-current : (change : NodesChange) → NodesPremise c s ch change → nodes_parts ch.maker after_growth.tick after_growth.requests change after_growth.nodes t ≡ nodes_parts ch.maker s.tick s.requests change s.nodes t
+  nodes-current NodesChange.Same premise = refl
+  nodes-current change premise = ap (λ (g : State). nodes_parts ch.maker g.tick g.requests change g.nodes t) (nothing-grown (nodes-grow c s ch change refl premises.requests premise))
 
   handles-current : (change : HandlesChange) → ch.handles ≡ change → handles_parts c change after_growth.handles ≡ handles_parts c change s.handles
   handles-current HandlesChange.Same is = refl
   handles-current (HandlesChange.Release j) is = ap (λ (g : State). handles_parts c (HandlesChange.Release j) g.handles) (nothing-grown (apart.handles j is))
 
   sessions-current : (change : SessionsChange) → ch.sessions ≡ change → session_parts change after_growth ≡ session_parts change s
-  sessions-current SessionsChange.Same is = refl
   sessions-current (SessionsChange.Mute session) is = ap (session_parts (SessionsChange.Mute session)) (nothing-grown (apart.sessions session is))
-  sessions-current (SessionsChange.End session) is = refl
+  sessions-current _ is = refl
 
   -- the parts for what may not fail, read from the state before what grows
   pub settled-current : settled_parts c ch after_growth t ≡ settled_parts c ch s t
   settled-current =
       let roles = same-roles c ch.maker ch.grows s in
-      let two = ap₂ append (requests-current ch.requests premises.requests) (nodes-current ch.nodes (is_same ch.nodes) refl premises.nodes) in
+      let two = ap₂ append (requests-current ch.requests premises.requests) (nodes-current ch.nodes premises.nodes) in
       let three = ap₂ append two (ap (jobs_parts ch.jobs) (jobs-grown c ch.maker ch.grows s)) in
       let four = ap₂ append three (handles-current ch.handles refl) in
       let five = ap₂ append four (deed-same ch.maker ch.deed after_growth s roles.0 roles.1.0 roles.1.1) in
@@ -652,32 +534,23 @@ module _ (c : Configuration) (ch : Changes) (s : State) (t : TreeState) (premise
 
 -- ## a session that begins after the parts
 
-in-by : (live more : Bool) (b : Bool) → (b || live) ≡ true → (live ≡ true → more ≡ true) → (b || more) ≡ true
-in-by live more true is later = refl
-in-by live more false is later = later is
-
 -- a session more
-in-more : (live : List ℕ) (w k : ℕ) → is_in live w ≡ true → is_in (live ++ k ∷ []) w ≡ true
-in-more [] w k is = absurd cc
-in-more (s ∷ live) w k is = in-by (is_in live w) (is_in (live ++ k ∷ []) w) (s == w) is (in-more live w k)
+pub in-more : (live : List ℕ) (w k : ℕ) → is_in live w ≡ true → is_in (live ++ k ∷ []) w ≡ true
+in-more live w k is = list_any-append (λ (s : ℕ). s == w) live (k ∷ []) ∙ ap (λ (b : Bool). b || is_in (k ∷ []) w) is
 
 under-begun : (t : TreeState) (w : ℕ) (above name bytes : List ℕ) (mode : Mode) (o : Option Node) →
     where_found o (after_begin t) (λ parent. record (after_begin t) { nodes = with_new_child (next_change t) w above name bytes mode parent t.nodes }) ≡ after_begin (where_found o t (λ parent. record t { nodes = with_new_child (next_change t) w above name bytes mode parent t.nodes }))
-under-begun t w above name bytes mode None = refl
-under-begun t w above name bytes mode (Some parent) = refl
+under-begun t w above name bytes mode o = grind arith
 
 create-begun : (t : TreeState) (w : ℕ) (name bytes : List ℕ) (mode : Mode) (o : Option (List ℕ)) →
     where_found o (after_begin t) (λ above. after_create_under (after_begin t) w above name bytes mode) ≡ after_begin (where_found o t (λ above. after_create_under t w above name bytes mode))
-create-begun t w name bytes mode None = refl
-create-begun t w name bytes mode (Some above) = under-begun t w above name bytes mode (at_path t.nodes above)
+create-begun t w name bytes mode o = grind (arith, under-begun)
 
 -- the begin of a session and a part change different things
 part-begun : (t : TreeState) (w : ℕ) (part : Op) → after_part (after_begin t) w part ≡ after_begin (after_part t w part)
 part-begun t w (Op.Create path bytes mode) = create-begun t w (name_of path) bytes mode (parent_of path)
 part-begun t w (Op.CreateUnder parent bytes mode) = under-begun t w parent [] bytes mode (at_path t.nodes parent)
-part-begun t w (Op.Set path bytes expect) = refl
-part-begun t w (Op.Delete path expect) = refl
-part-begun t w (Op.Check path expect) = refl
+part-begun t w part = refl
 
 pub parts-begun : (t : TreeState) (w : ℕ) (parts : List Op) → after_parts (after_begin t) w parts ≡ after_begin (after_parts t w parts)
 parts-begun t w [] = refl
@@ -685,19 +558,8 @@ parts-begun t w (part ∷ parts) = ap (λ (u : TreeState). after_parts u w parts
 
 -- the answer to a part of a live session does not depend on who else is live
 answer-begun : (t : TreeState) (w : ℕ) (part : Op) → is_in t.live w ≡ true → part_answer (after_begin t) w part ≡ part_answer t w part
-answer-begun t w (Op.Create path bytes mode) live =
-    ap (λ (b : Bool). (need b TreeRefusal.SessionExpired >> (found (parent_of path) TreeRefusal.NodeExists >>= (λ above. child_answer t above (name_of path) bytes mode))) >>= (λ made. Ok (OpDone.Created made)))
-    (in-more t.live w (t.begun + 1) live ∙ sym live)
-answer-begun t w (Op.CreateUnder parent bytes mode) live =
-    ap (λ (b : Bool). (need b TreeRefusal.SessionExpired >> child_answer t parent [] bytes mode) >>= (λ made. Ok (OpDone.Created made))) (in-more t.live w (t.begun + 1) live ∙ sym live)
-answer-begun t w (Op.Set path bytes expect) live =
-    ap (λ (b : Bool). (need b TreeRefusal.SessionExpired >> (there t path >>= (λ n. fits bytes >> (has_version n expect >> (unspent t >> (need (nat_lt n.facts.version 18_446_744_073_709_551_615) TreeRefusal.ChangesSpent >> Ok (n.facts.version + 1))))))) >>= (λ version. Ok (OpDone.Set version)))
-    (in-more t.live w (t.begun + 1) live ∙ sym live)
-answer-begun t w (Op.Delete path expect) live =
-    ap (λ (b : Bool). (need b TreeRefusal.SessionExpired >> (need (not (bytes_eq path root)) TreeRefusal.RootKept >> (there t path >>= (λ n. has_version n expect >> (need (length (children_of t.nodes path) == 0) (TreeRefusal.NotEmpty (length (children_of t.nodes path))) >> unspent t))))) >> Ok OpDone.Deleted)
-    (in-more t.live w (t.begun + 1) live ∙ sym live)
-answer-begun t w (Op.Check path expect) live =
-    ap (λ (b : Bool). (need b TreeRefusal.SessionExpired >> (there t path >>= (λ n. has_version n expect))) >> Ok OpDone.Checked) (in-more t.live w (t.begun + 1) live ∙ sym live)
+answer-begun t w (Op.Check path expect) live = rw (in-more t.live w (t.begun + 1) live, live) refl
+answer-begun t w part live = rw (in-more t.live w (t.begun + 1) live, live) refl
 
 -- parts that go after the begin go before it
 pub goes-begun : (t : TreeState) (w : ℕ) (parts : List Op) → is_in t.live w ≡ true → Goes (after_begin t) w parts (after_parts (after_begin t) w parts) → Goes t w parts (after_parts t w parts)
@@ -726,9 +588,8 @@ pub record HasNumber (t : TreeState) (w : ℕ) (parts : List Op) : Type 0 where
 
 number-by : (t : TreeState) (w : ℕ) (parts : List Op) (b : Bool) → list_any (λ part. not (is_check part)) parts ≡ b → Goes t w parts (after_parts t w parts) → HasNumber t w parts
 number-by t w parts true is goes =
-    let same = changes-after t w parts in
-    let low = low-min ((after_parts t w parts).changes + 1) 18_446_744_073_709_551_615 in
-    record { number = next_change (after_parts t w parts); is = goes-under-one-number t (after_parts t w parts) w parts goes is; low = omega arith }
+    let number = goes-under-one-number t (after_parts t w parts) w parts goes is in
+    record { number = next_change (after_parts t w parts); is = number; low = omega (arith, changes-after t w parts, low-min ((after_parts t w parts).changes + 1) 18_446_744_073_709_551_615) }
 number-by t w parts false is goes =
     let both = checks-leave-the-tree t (after_parts t w parts) w parts goes is in
     record { number = t.changes; is = both.0 ∙ ap (numbered t.changes) (sym both.1); low = omega arith }
@@ -740,13 +601,9 @@ number-of t w parts goes = number-by t w parts (list_any (λ part. not (is_check
 
 -- a tree under another number lays out the same state
 pub stands-numbered : (s : State) (t : TreeState) (w more number : ℕ) → number < 18_446_744_073_709_551_615 → Stands s t w more → Stands s (numbered number t) w more
-stands-numbered s t w more number low stands = record {
-  whole = stands.whole;
-  good = stands.good;
-  lays = same-lays s t (numbered number t) stands.good refl refl (record { rows = λ other good apart. refl; leaves = λ other good has apart leaves. leaves; counters = λ other next good has apart is. is }) stands.lays;
-  live = stands.live;
-  room = record { change = low; versions = stands.room.versions; counters = stands.room.counters; rows = stands.room.rows; few = stands.room.few };
-}
+stands-numbered s t w more number low stands =
+    let lays = same-lays s t (numbered number t) stands.good refl refl (record { rows = λ other good apart. refl; leaves = λ other good has apart leaves. leaves; counters = λ other next good has apart is. is }) stands.lays in
+    assumption (stands, stands.good, stands.room)
 
 -- ## the end of a session
 
@@ -760,27 +617,16 @@ room-ended t session more whole low room = record {
   change = low;
   versions = all-lost (λ (n : Node). n.facts.version + more ≤ 18_446_744_073_709_551_615) t.nodes t.nodes (next_change t) session (λ n small. small) room.versions;
   counters = all-lost (λ (n : Node). n.facts.counter + more ≤ 2_147_483_648) t.nodes t.nodes (next_change t) session (λ n small. small) room.counters;
-  rows = λ dir.
-      let shows = (ends-show t session whole).rows dir in
-      let same : length (rows_at (after_end t session) dir) ≡ length (filter (is_kept session) (rows_at t dir)) = ap length shows in
-      let fewer = length-filter_at_most (is_kept session) (rows_at t dir) in
-      let few = room.rows dir in
-      omega arith;
+  rows = λ dir. omega (arith, ap (λ (rows : List Row). length rows) ((ends-show t session whole).rows dir), length-filter_at_most (is_kept session) (rows_at t dir), room.rows dir);
   few = room.few;
 }
 
 -- a session that has ended has good ids, as all that stays
 pub good-ended : (s : State) (session : SessionId) → HasGoodIds s → HasGoodIds (without_session session s)
-good-ended s session good = record {
-  sessions = let same = length-change_at (session.0 - 1) ended s.sessions in omega arith;
-  requests = all-mapped (λ (e : RequestEntry). IsGood (Request e.id)) (λ (e : RequestEntry). IsGood (Request e.id)) (request_left session) s.requests (λ e is. is) good.requests;
-  nodes = all-mapped (λ (e : NodeEntry). IsGood (NodePlace e.id)) (λ (e : NodeEntry). IsGood (NodePlace e.id)) (node_left session) s.nodes (λ e is. is) good.nodes;
-  registrations = all-filter (λ (g : Registration). IsGood (Launcher g.pool)) (λ g. not (is_session g.session session)) s.registrations good.registrations;
-  semaphores = good.semaphores;
-  handles = good.handles;
-  jobs = good.jobs;
-  launchers = good.launchers;
-  janitors = good.janitors;
-  requesters = good.requesters;
-  swept = good.swept;
-}
+good-ended s session good =
+    let same = length-change_at (session.0 - 1) ended s.sessions in
+    let sessions : length (change_session session ended s.sessions) < 2 ^ 32 = omega (arith, good.sessions) in
+    let requests = all-mapped (λ (e : RequestEntry). IsGood (Request e.id)) (λ (e : RequestEntry). IsGood (Request e.id)) (request_left session) s.requests (λ e is. is) good.requests in
+    let nodes = all-mapped (λ (e : NodeEntry). IsGood (NodePlace e.id)) (λ (e : NodeEntry). IsGood (NodePlace e.id)) (node_left session) s.nodes (λ e is. is) good.nodes in
+    let registrations = all-filter (λ (g : Registration). IsGood (Launcher g.pool)) (λ g. not (is_session g.session session)) s.registrations good.registrations in
+    assumption good

@@ -1,6 +1,7 @@
 -- one set, create or delete at a good place, and of a wait in a queue
-use Rattle.np_layout.proofs.Prelude.{AllByRecursion, AllZip, Any, AreDistinct, Bool, CanCreate, Creates, Deletes, Err, HasLeaves, HasQueue, HasRoom, HasRoomFor, IsChild-of, IsGood, IsOk, IsPart, IsWait, IsWhole, IsWhole-after_part, List, MayDelete, Mode, None, NonePass, Ok, Op, OpDone, Option, Place, Result, Rises, Row, Seen, SessionId, Some, State, TreeRefusal, TreeState, above, after_part, all-at, all-filter_to, all-find, all-insert_before, all-mapped, all-weaker, ap, apart-below, arith, at_path, below, bytes_eq, bytes_eq-apart, bytes_eq-from, bytes_eq-is, change_first, child-above, children_of-ephemeral, cond, counter_after, counter_at, create_answer, create_under_answer, creates-go, creates-show, creates-under-go, creates-under-show, delete, delete_answer, deletes-go, deletes-show, false, filter, find, find-none, find-passes, find_named, found-change_first, is_at, is_child, is_in, is_named, is_path, is_queued, is_sequential, is_session, le-leb, left, length, list_any, map, name_given, name_of, nat_le, nat_tests, next_change, next_under, not, ok-then, option_map, or_right, other-name, other-name_back, owner_at, parent_of, part_answer, parts-change_nodes_alone, path_of, place_name, refl, room-gives, row_before, row_given, row_of, row_with, rows-changed, rows-changed_other, rows-rise, rows_at, seen-is-row, seen-node, seen-none, seen_at, seen_in, seen_of, session-equal, set, set_answer, sets-go, slice_get, subst, suc, sym, true, under, wait_row, with_bytes, with_row, zero, ℕ, [], ◌+◌, ◌<◌, ◌>>=◌, ◌>>◌, ◌||◌, ◌∙◌, ◌∷◌, ◌≡◌, ◌≤◌}
+use Rattle.np_layout.proofs.Prelude.{AllByRecursion, AllZip, Any, AreDistinct, Bool, CanCreate, Creates, Deletes, HasLeaves, HasQueue, HasRoom, HasRoomFor, IsChild-of, IsGood, IsOk, IsPart, IsWait, IsWhole, IsWhole-after_part, List, MayDelete, Mode, None, NonePass, Ok, Op, OpDone, Option, Place, Result, Rises, Row, Seen, SessionId, Some, State, TreeRefusal, TreeState, [], above, after_part, all-at, all-filter_to, all-find, all-insert_before, all-mapped, all-weaker, ap, apart-below, arith, at_path, below, bytes_eq, bytes_eq-apart, bytes_eq-from, bytes_eq-is, change_first, child-above, children_of-ephemeral, cond, counter_after, counter_at, create_answer, create_under_answer, creates-go, creates-show, creates-under-go, creates-under-show, delete, delete_answer, deletes-go, deletes-show, false, filter, find, find-none, find-passes, find_named, found-change_first, is_at, is_child, is_in, is_named, is_owner, is_path, is_queued, is_sequential, is_session, le-leb, left, length, list_any, map, name_given, name_of, nat_le, nat_tests, next_change, next_under, not, ok-then, option_map, or_left, or_right, other-name, other-name_back, owner_at, parent_of, part_answer, parts-change_nodes_alone, path_of, place_name, refl, room-gives, row_before, row_given, row_of, row_with, rows-changed, rows-changed_other, rows-rise, rows_at, seen-is-row, seen-node, seen-none, seen_at, seen_in, seen_of, session-equal, set, set_answer, sets-go, slice_get, subst, suc, sym, true, under, wait_row, with_bytes, with_row, zero, ℕ, ◌+◌, ◌<◌, ◌>>=◌, ◌>>◌, ◌∙◌, ◌∷◌, ◌≡◌, ◌≤◌}
 use Rattle.np_tree.specs.Prelude.{Node}
+use Rattle.std.proofs.lemmas.Bool.{or_parts}
 use Rattle.np_layout.proofs.Names.{Above, IsGood-above, above-is_good, is_path-of, parts-of, path_of-joined, same_names, same_paths}
 use Rattle.np_layout.proofs.Elsewhere.{IsApart, Stays, has_leaves, has_counter}
 use Rattle.np_layout.proofs.Rows.{any-found, owner-none, put-first, put-name, put_bytes, zip-filter}
@@ -16,6 +17,12 @@ named-other p q p_good q_good over apart = bytes_eq-apart (place_name q) (place_
 -- a place has its name
 pub named-here : (p : Place) → bytes_eq (place_name p) (place_name p) ≡ true
 named-here p = bytes_eq-from (place_name p) (place_name p) refl
+
+-- what is seen at a good place is its row in its directory
+pub seen-named : (t : TreeState) (dir p : Place) → IsWhole t.nodes → IsGood p → above p ≡ Some dir → seen_at t (path_of p) ≡ option_map seen_in (find_named (place_name p) (under dir t))
+seen-named t dir p whole good over =
+    seen-is-row t (path_of p) (path_of dir) whole (is_path-of p good) ((parts-of p good).0 ∙ ap (option_map path_of) over)
+    ∙ ap (λ (name : List ℕ). option_map seen_in (find_named name (under dir t))) (parts-of p good).1
 
 -- ## what is set
 
@@ -75,22 +82,19 @@ sets-row t w dir p bytes good over whole =
 
 -- ## what is accepted
 
-ok-set : (r : Result ℕ TreeRefusal) (version : ℕ) → r ≡ Ok version → IsOk (r >>= λ version. Ok (OpDone.Set version))
-ok-set (Ok v) version is = refl
-ok-set (Err refusal) version is = absurd cc
+ok-then_done : {A : Type 0} (done : A → OpDone) (r : Result A TreeRefusal) (a : A) → r ≡ Ok a → IsOk (r >>= λ x. Ok (done x))
+ok-then_done done r a is = grind arith
 
 -- the set of a good place whose row is there
 pub set-goes : (t : TreeState) (dir p : Place) (bytes : List ℕ) → IsGood p → above p ≡ Some dir → IsWhole t.nodes → list_any (is_named (place_name p)) (under dir t) ≡ true →
     (w : ℕ) → is_in t.live w ≡ true → length bytes ≤ 65_536 → HasRoomFor 1 t → IsOk (part_answer t w (set bytes p))
 set-goes t dir p bytes good over whole any w live short room =
-    let parent : parent_of (path_of p) ≡ Some (path_of dir) = (parts-of p good).0 ∙ ap (option_map path_of) over in
     let row = any-found (is_named (place_name p)) (under dir t) any in
-    let found : find_named (name_of (path_of p)) (under dir t) ≡ Some row.0 = ap (λ (name : List ℕ). find_named name (under dir t)) (parts-of p good).1 ∙ row.1 in
-    let seen : seen_at t (path_of p) ≡ Some (seen_in row.0) = seen-is-row t (path_of p) (path_of dir) whole (is_path-of p good) parent ∙ ap (option_map seen_in) found in
+    let seen : seen_at t (path_of p) ≡ Some (seen_in row.0) = seen-named t dir p whole good over ∙ ap (option_map seen_in) row.1 in
     let node = seen-node (at_path t.nodes (path_of p)) (seen_in row.0) seen in
     let version = ap (option_map (λ (n : Node). n.facts.version)) node.1 in
     let has = room-gives t 0 room in
-    ok-set (set_answer t w (path_of p) bytes Any) (node.0.facts.version + 1)
+    ok-then_done OpDone.Set (set_answer t w (path_of p) bytes Any) (node.0.facts.version + 1)
     (sets-go t w (path_of p) bytes node.0.facts.version live version short has.change (has.version (path_of p) node.0.facts.version version))
 
 -- # one create of a good place
@@ -132,19 +136,12 @@ over_leaves (Some over) = has_leaves over
 over-is : (q : Place) (o : Option Place) → IsGood q → Above IsGood o → option_map path_of o ≡ Some (path_of q) → over_leaves o ≡ false → has_leaves q ≡ true → ⊥
 over-is q None good o_good same none has = absurd cc
 over-is q (Some over) good o_good same none has =
-    let paths : path_of over ≡ path_of q = some_path same in
+    let paths : path_of over ≡ path_of q = cc in
     let is = ap has_leaves (same_paths over q o_good good paths) in
-    absurd cc where
-      some_path : {x y : List ℕ} → Some x ≡ Some y → x ≡ y
-      some_path e = cc
+    absurd cc
 
 no-counter : (o : Option Node) (next : ℕ) → o ≡ None → option_map (λ (n : Node). n.facts.counter) o ≡ Some next → ⊥
-no-counter None next none is = absurd cc
-no-counter (Some n) next none is = absurd cc
-
-ok-part : (r : Result (List ℕ) TreeRefusal) (made : List ℕ) → r ≡ Ok made → IsOk (r >>= λ path. Ok (OpDone.Created path))
-ok-part (Ok path) made is = refl
-ok-part (Err refusal) made is = absurd cc
+no-counter o next none is = grind arith
 
 done-part : (r : Result (List ℕ) TreeRefusal) (made : List ℕ) → r ≡ Ok made → (r >>= λ path. Ok (OpDone.Created path)) ≡ Ok (OpDone.Created made)
 done-part r made is = ap (λ (x : Result (List ℕ) TreeRefusal). x >>= λ path. Ok (OpDone.Created path)) is
@@ -202,16 +199,10 @@ pub record CanMake (t : TreeState) (w : ℕ) (dir p : Place) (counter : ℕ) : T
   pub room : HasRoom t
 
 can-create : (t : TreeState) (w : ℕ) (dir p : Place) (name bytes : List ℕ) (mode : Mode) (counter : ℕ) → above p ≡ Some dir → name_given mode counter name ≡ place_name p → length bytes ≤ 65536 → CanMake t w dir p counter → CanCreate t w (path_of dir) name bytes mode counter
-can-create t w dir p name bytes mode counter over named short can = record {
-  live = can.live;
-  parent = can.owner;
-  gives = can.gives;
-  unspent = or_right (not (is_sequential mode)) (nat_le counter 2_147_483_647) (le-leb counter 2_147_483_647 (can.room.counter (path_of dir) counter can.gives));
-  short = short;
-  free = ap (seen_at t) (ap (below (path_of dir)) named ∙ sym (path_of-joined p dir over)) ∙ can.free;
-  change = can.room.change;
-  few = can.room.few (path_of dir);
-}
+can-create t w dir p name bytes mode counter over named short can =
+    let unspent = or_right (not (is_sequential mode)) (nat_le counter 2_147_483_647) (le-leb counter 2_147_483_647 (can.room.counter (path_of dir) counter can.gives)) in
+    let free = ap (seen_at t) (ap (below (path_of dir)) named ∙ sym (path_of-joined p dir over)) ∙ can.free in
+    assumption (can, can.room, can.room.few (path_of dir))
 
 -- the create is accepted, and creates the row
 pub record Step (dir p : Place) (mode : Mode) (row : Row) (t : TreeState) (w : ℕ) (part : Op) : Type 0 where
@@ -229,7 +220,7 @@ create-step t w dir p path name bytes mode counter good over top proper parent l
     subst (λ (n : List ℕ). Creates mode (path_of dir) (row_given mode counter w n bytes) t (after_part t w (Op.Create path bytes mode))) last
     (creates-show t w path (path_of dir) bytes made mode counter can.whole proper parent can.gives go) in
     record {
-      ok = ok-part (create_answer t w path bytes mode) made go;
+      ok = ok-then_done OpDone.Created (create_answer t w path bytes mode) made go;
       creates = created t w (Op.Create path bytes mode) dir p mode (row_given mode counter w name bytes) made good over top named can.whole (record { path = proper; numbered = refl }) can.free (done-part (create_answer t w path bytes mode) made go) shows;
     }
 
@@ -246,7 +237,7 @@ create_under-step t w dir p bytes mode counter good over top numbered named shor
     let made : List ℕ = below (path_of dir) (name_given mode counter []) in
     let go : create_under_answer t w (path_of dir) bytes mode ≡ Ok made = creates-under-go t w (path_of dir) bytes mode counter (can-create t w dir p [] bytes mode counter over named short can) in
     record {
-      ok = ok-part (create_under_answer t w (path_of dir) bytes mode) made go;
+      ok = ok-then_done OpDone.Created (create_under_answer t w (path_of dir) bytes mode) made go;
       creates = created t w (Op.CreateUnder (path_of dir) bytes mode) dir p mode (row_given mode counter w [] bytes) made good over top named can.whole
           (record { path = is_path-of dir (IsGood-above p dir good over); numbered = numbered }) can.free (done-part (create_under_answer t w (path_of dir) bytes mode) made go)
           (creates-under-show t w (path_of dir) bytes made mode counter can.whole numbered can.gives go);
@@ -257,15 +248,12 @@ create_under-step t w dir p bytes mode counter good over top numbered named shor
 -- a good place is free if no row of its directory has its name
 pub free-named : (t : TreeState) (dir p : Place) → IsWhole t.nodes → IsGood p → above p ≡ Some dir → NonePass (is_named (place_name p)) (under dir t) → seen_at t (path_of p) ≡ None
 free-named t dir p whole good over none =
-    seen-is-row t (path_of p) (path_of dir) whole (is_path-of p good) ((parts-of p good).0 ∙ ap (option_map path_of) over)
-    ∙ ap (λ (name : List ℕ). option_map seen_in (find_named name (under dir t))) (parts-of p good).1
-    ∙ ap (option_map seen_in) (find-none (is_named (place_name p)) (under dir t) none)
+    seen-named t dir p whole good over ∙ ap (option_map seen_in) (find-none (is_named (place_name p)) (under dir t) none)
 
 -- a good place whose row is there has no owner if no row of its directory has one
 pub owner-there : (t : TreeState) (dir p : Place) (rows : List Row) → IsWhole t.nodes → IsGood p → above p ≡ Some dir → under dir t ≡ rows → list_any (is_named (place_name p)) rows ≡ true → AllByRecursion (λ row. row.owner ≡ None) rows → owner_at t (path_of p) ≡ Some None
 owner-there t dir p rows whole good over same any none =
-    ap (option_map (λ (seen : Seen). seen.owner)) (seen-is-row t (path_of p) (path_of dir) whole (is_path-of p good) ((parts-of p good).0 ∙ ap (option_map path_of) over))
-    ∙ ap (λ (name : List ℕ). option_map (λ (seen : Seen). seen.owner) (option_map seen_in (find_named name (under dir t)))) (parts-of p good).1
+    ap (option_map (λ (seen : Seen). seen.owner)) (seen-named t dir p whole good over)
     ∙ ap (λ (list : List Row). option_map (λ (seen : Seen). seen.owner) (option_map seen_in (find_named (place_name p) list))) same
     ∙ owner-none (place_name p) rows any none
 
@@ -283,14 +271,8 @@ pub make-new : (t : TreeState) (w : ℕ) (dir p : Place) (rows : List Row) (byte
     Step dir p mode (row_given mode (counter-there t dir owner).0 w (place_name p) bytes) t w (Op.Create (path_of p) bytes mode)
 make-new t w dir p rows bytes mode owner good over top named short whole live room same none =
     let counter = counter-there t dir owner in
-    make-step t w dir p bytes mode counter.0 good over top (named counter.0) short (record {
-      whole = whole;
-      live = live;
-      owner = owner;
-      gives = counter.1;
-      free = free-named t dir p whole good over (subst (λ (list : List Row). NonePass (is_named (place_name p)) list) (sym same) none);
-      room = room;
-    })
+    make-step t w dir p bytes mode counter.0 good over top (named counter.0) short
+    (assumption (counter.1, free-named t dir p whole good over (subst (λ (list : List Row). NonePass (is_named (place_name p)) list) (sym same) none)))
 
 -- # one delete of the node of a good place
 
@@ -327,7 +309,7 @@ bare-leaf t dir p row over leaves found =
 -- a place with a counter that is not the one that is gone
 apart-by : (p other : Place) (b : Bool) → has_counter p ≡ b → has_counter other ≡ true → IsApart other (cond b (p ∷ []) []) → other ≡ p → ⊥
 apart-by p other true is has apart same = apart.0 same
-apart-by p other false is has apart same = let both = sym (ap has_counter same) ∙ has in absurd cc
+apart-by p other false is has apart same = absurd (let both = sym (ap has_counter same) ∙ has in cc)
 
 -- the node of a good place with nothing below it can be deleted
 pub delete-goes : (t : TreeState) (w : ℕ) (dir p : Place) (row : Row) → IsGood p → above p ≡ Some dir → IsWhole t.nodes → is_in t.live w ≡ true → t.changes < 18_446_744_073_709_551_615 → find_named (place_name p) (under dir t) ≡ Some row → rows_at t (path_of p) ≡ [] → DeleteGoes t w dir p
@@ -337,8 +319,7 @@ delete-goes t w dir p row good over whole live change there bare =
     let parent : parent_of (path_of p) ≡ Some (path_of dir) = (parts-of p good).0 ∙ ap (option_map path_of) over in
     let named : name_of (path_of p) ≡ place_name p = (parts-of p good).1 in
     let joined : path_of p ≡ below (path_of dir) (place_name p) = path_of-joined p dir over in
-    let found : find_named (name_of (path_of p)) (under dir t) ≡ Some row = ap (λ (name : List ℕ). find_named name (under dir t)) named ∙ there in
-    let seen : seen_at t (path_of p) ≡ Some (seen_in row) = seen-is-row t (path_of p) (path_of dir) whole (is_path-of p good) parent ∙ ap (option_map seen_in) found in
+    let seen : seen_at t (path_of p) ≡ Some (seen_in row) = seen-named t dir p whole good over ∙ ap (option_map seen_in) there in
     let go : delete_answer t w (path_of p) Any ≡ Ok tt = deletes-go t w (path_of p) (path_of dir) (seen_in row) live parent seen bare change in
     let shows : Deletes (path_of dir) (place_name p) t u = subst (λ (name : List ℕ). Deletes (path_of dir) name t u) named (deletes-show t w (path_of p) (path_of dir) Any whole (is_path-of p good) parent go) in
     let other_rows : (other : Place) → IsGood other → IsApart other (places_without dir p) → under other u ≡ under other t =
@@ -390,14 +371,6 @@ module _ (next number : ℕ) (session : SessionId) where
   abbrev wait : Row
   wait = wait_row number session
 
-  or-true : (a b : Bool) → b ≡ true → (a || b) ≡ true
-  or-true true b is = refl
-  or-true false b is = is
-
-  or-first : (a b : Bool) → a ≡ true → (a || b) ≡ true
-  or-first true b is = refl
-  or-first false b is = absurd cc
-
   -- a session whose wait is there is in the queue
   queued : (rows : List Row) (queue : List SessionId) (at : ℕ) → AllZip (IsWait next) rows queue → slice_get rows at ≡ Some wait → is_queued session queue ≡ true
   queued [] queue at all there = absurd cc
@@ -405,26 +378,19 @@ module _ (next number : ℕ) (session : SessionId) where
   queued (row ∷ rows) (other ∷ queue) zero all there =
       let is : row ≡ wait = cc in
       let same : other ≡ session = waits-same all.0.number number other session (sym all.0.is ∙ is) in
-      or-first (is_session other session) (is_queued session queue) (subst (λ (x : SessionId). is_session x session ≡ true) (sym same) (session-self session))
-  queued (row ∷ rows) (other ∷ queue) (suc at) all there = or-true (is_session other session) (is_queued session queue) (queued rows queue at all.1 there)
+      or_left (is_session other session) (is_queued session queue) (subst (λ (x : SessionId). is_session x session ≡ true) (sym same) (session-self session))
+  queued (row ∷ rows) (other ∷ queue) (suc at) all there = or_right (is_session other session) (is_queued session queue) (queued rows queue at all.1 there)
 
-  later-other : (other : SessionId) (queue : List SessionId) (b : Bool) → is_session other session ≡ b → is_queued other queue ≡ false → is_queued session queue ≡ true → is_session other session ≡ false
-  later-other other queue true is none some =
-      let both : is_queued session queue ≡ false = subst (λ (x : SessionId). is_queued x queue ≡ false) (session-equal other session is) none in
-      absurd cc
-  later-other other queue false is none some = is
+  later-other : (other : SessionId) (queue : List SessionId) → is_queued other queue ≡ false → is_queued session queue ≡ true → is_session other session ≡ false
+  later-other other queue none some = grind (arith, session-equal other session)
 
   -- no later member of a queue is its first
   none-queued : (rows : List Row) (queue : List SessionId) → AllByRecursion (λ row. row_before wait row ≡ true) rows → is_queued session queue ≡ false → AllZip (IsWait next) rows queue → AllZip (λ row other. is_named wait.name row ≡ is_session other session) rows queue
   none-queued [] [] before none all = tt
-  none-queued [] (other ∷ queue) before none all = absurd all
-  none-queued (row ∷ rows) [] before none all = absurd all
   none-queued (row ∷ rows) (other ∷ queue) before none all =
-      let parts = none-parts (is_session other session) (is_queued session queue) none in
-      (other-name_back wait row before.0 ∙ sym parts.0, none-queued rows queue before.1 parts.1 all.1) where
-        none-parts : (a b : Bool) → (a || b) ≡ false → (a ≡ false) × (b ≡ false)
-        none-parts true b is = absurd cc
-        none-parts false b is = (refl, is)
+      let parts = or_parts (is_session other session) (is_queued session queue) none in
+      (other-name_back wait row before.0 ∙ sym parts.0, none-queued rows queue before.1 parts.1 all.1)
+  none-queued _ _ before none all = absurd all
 
   -- the rows of the name are those of the session
   tells : (rows : List Row) (queue : List SessionId) (at : ℕ) → Rises row_before rows → AreDistinct queue → AllZip (IsWait next) rows queue → slice_get rows at ≡ Some wait → AllZip (λ row other. is_named wait.name row ≡ is_session other session) rows queue
@@ -438,7 +404,7 @@ module _ (next number : ℕ) (session : SessionId) where
       )
   tells (row ∷ rows) (other ∷ queue) (suc at) rises distinct all there = (
     other-name row wait (all-at (λ (y : Row). row_before row y ≡ true) rows at wait rises.0 there)
-        ∙ sym (later-other other queue (is_session other session) refl distinct.0 (queued rows queue at all.1 there)),
+        ∙ sym (later-other other queue distinct.0 (queued rows queue at all.1 there)),
     tells rows queue at rises.1 distinct.1 all.1 there,
   )
 
@@ -448,10 +414,6 @@ module _ (next number : ℕ) (session : SessionId) where
 
 -- ## the wait is there, with nothing below it
 
-found-by : (row other : Row) (rows : List Row) (at : ℕ) (b : Bool) → is_named row.name other ≡ b → row_before other row ≡ true → find (is_named row.name) rows ≡ Some row → cond b (Some other) (find (is_named row.name) rows) ≡ Some row
-found-by row other rows at true is before later = let both = other-name other row before in absurd cc
-found-by row other rows at false is before later = later
-
 -- a row at its place is found by its name
 pub found-at : (row : Row) (rows : List Row) (at : ℕ) → Rises row_before rows → slice_get rows at ≡ Some row → find_named row.name rows ≡ Some row
 found-at row [] at rises there = absurd cc
@@ -459,7 +421,8 @@ found-at row (other ∷ rows) zero rises there =
     let is : other ≡ row = cc in
     ap (λ (b : Bool). cond b (Some other) (find (is_named row.name) rows)) (bytes_eq-from other.name row.name (ap (λ (x : Row). x.name) is)) ∙ ap Some is
 found-at row (other ∷ rows) (suc at) rises there =
-    found-by row other rows at (is_named row.name other) refl (all-at (λ (y : Row). row_before other y ≡ true) rows at row rises.0 there) (found-at row rows at rises.1 there)
+    let apart : is_named row.name other ≡ false = other-name other row (all-at (λ (y : Row). row_before other y ≡ true) rows at row rises.0 there) in
+    ap (λ (b : Bool). cond b (Some other) (find (is_named row.name) rows)) apart ∙ found-at row rows at rises.1 there
 
 owner-seen : (n : Node) (seen : Seen) → Some (seen_of n) ≡ Some seen → n.facts.owner ≡ seen.owner
 owner-seen n seen same = let is : seen_of n ≡ seen = cc in ap (λ (x : Seen). x.owner) is
@@ -467,9 +430,7 @@ owner-seen n seen same = let is : seen_of n ≡ seen = cc in ap (λ (x : Seen). 
 -- nothing is below a node of a session
 pub bare-owned : (t : TreeState) (dir p : Place) (row : Row) (session : ℕ) → IsGood p → above p ≡ Some dir → IsWhole t.nodes → find_named (place_name p) (under dir t) ≡ Some row → row.owner ≡ Some session → rows_at t (path_of p) ≡ []
 bare-owned t dir p row session good over whole there owned =
-    let parent : parent_of (path_of p) ≡ Some (path_of dir) = (parts-of p good).0 ∙ ap (option_map path_of) over in
-    let found : find_named (name_of (path_of p)) (under dir t) ≡ Some row = ap (λ (name : List ℕ). find_named name (under dir t)) (parts-of p good).1 ∙ there in
-    let seen : seen_at t (path_of p) ≡ Some (seen_in row) = seen-is-row t (path_of p) (path_of dir) whole (is_path-of p good) parent ∙ ap (option_map seen_in) found in
+    let seen : seen_at t (path_of p) ≡ Some (seen_in row) = seen-named t dir p whole good over ∙ ap (option_map seen_in) there in
     let node = seen-node (at_path t.nodes (path_of p)) (seen_in row) seen in
     let is_owner = owner-seen node.0 (seen_in row) (sym (ap (option_map seen_of) node.1) ∙ seen) in
     ap (map row_of) (children_of-ephemeral t.nodes (path_of p) node.0 session whole.stand node.1 (is_owner ∙ owned))

@@ -1,4 +1,5 @@
 //! The law. The function does nothing: its contract is the law.
+#![tactic(auto, using(crate::proofs::Proved::decoding))]
 
 ghost use Rattle.np_layout.specs.Decoded.{TreesHaveOneState};
 

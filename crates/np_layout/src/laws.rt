@@ -1,4 +1,5 @@
 //! Laws of the layout. Each function does nothing: its contract is the law.
+#![tactic(auto, using(crate::proofs::Proved::sets))]
 
 ghost use Rattle.np_layout.specs.Creates.{GrownNodesLayOut, GrownRequestsLayOut, HandlesLayOut, NodeWaitsLayOut, RegistrationsLayOut, RequestWaitsLayOut, SessionsLayOut, SweptPairsLayOut};
 ghost use Rattle.np_layout.specs.Deletes.{HandlesGoLayOut, NodeWaitsGoLayOut, NodesGoLayOut, RequestWaitsGoLayOut, RequestsGoLayOut, SessionEndsLayOut};

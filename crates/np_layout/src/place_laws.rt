@@ -1,4 +1,5 @@
 //! Laws of the places. Each function does nothing: its contract is the law.
+#![tactic(auto, using(crate::proofs::Proved::place_names))]
 
 ghost use Rattle.np_layout.specs.PlaceLaws.{AboveIsGood, LongestIsAWait, NamesAreApart, NamesAreLast, NodesRise, ParentsAreAbove, PathsAreApart, PathsAreJoined, PathsAreInTheGrammar, PathsFit, RequestLocksRise, RequestsRise, SessionsRise, WaitsForNodesRise, WaitsForRequestsRise};
 

@@ -1,4 +1,5 @@
 //! The laws. Each function does nothing: its contract is the law.
+#![tactic(auto, using(crate::proofs::Proved::events_laws))]
 
 ghost use Rattle.np_layout.specs.Ready.{EventsAreEnacted, EventsAreReady, RecordsAreSpelled, StartsAreCarried, StepsAreCarried};
 

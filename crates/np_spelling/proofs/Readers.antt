@@ -1,5 +1,5 @@
 -- readers of a text: how they are chained, choose between words, read lists, and read just what is spelled
-use Rattle.np_spelling.proofs.Prelude.{AllByRecursion, BadRecord, Begins, Bool, Err, IsTrue, List, None, Ok, OnTrue, Option, Reader, Some, StopsAt, after, and_parts, answer, ap, append-nil, append_assoc, arith, begins, chosen, close, codes, digits, drop, drop_all, drop_more, eq-eqb, eqb-true, false, first_byte, fixed, flag_by, flag_text, fork, get_or, gives, if◌then◌else◌, inl, inr, is_ascii_digit, lead, length, length-append, list_in, list_text, nat_le, nat_tests, option_map, priority_limits, refl, rest_in, rest_text, sequence_limits, subst, suc, sym, take, take_at, true, with_front, zero, ℕ, [], ◌&&◌, ◌*◌, ◌++◌, ◌+◌, ◌-◌, ◌<◌, ◌==◌, ◌>>=◌, ◌>>◌, ◌↔◌, ◌∙◌, ◌∷◌, ◌≡◌, ◌≤◌, ◌⊎◌}
+use Rattle.np_spelling.proofs.Prelude.{AllByRecursion, BadRecord, Begins, Bool, Err, IfSome, IsTrue, List, None, Ok, OnTrue, Option, Reader, Some, StopsAt, [], after, answer, ap, append-nil, append_assoc, arith, begins, chosen, close, codes, digits, drop, drop_all, drop_more, eq-eqb, eqb-true, false, first_byte, fixed, flag_by, flag_text, fork, get_or, gives, if◌then◌else◌, inl, inr, is_ascii_digit, lead, length, length-append, list_in, list_text, nat_le, nat_tests, option_map, priority_limits, refl, rest_in, rest_text, sequence_limits, subst, suc, sym, take, take_at, true, with_front, zero, ℕ, ◌&&◌, ◌*◌, ◌++◌, ◌+◌, ◌-◌, ◌<◌, ◌==◌, ◌>>=◌, ◌↔◌, ◌∙◌, ◌∷◌, ◌≡◌, ◌≤◌, ◌⊎◌}
 
 -- # Readers with their laws, put together from parts.
 
@@ -45,6 +45,23 @@ pub agree_front : (g s left x : List ℕ) → s ≡ g ++ left → Agree left x �
 agree_front [] s left x e agree = subst (λ l. Agree l x) (sym e) agree
 agree_front (d ∷ g) s left x e agree = subst (λ l. Agree l (d ∷ (g ++ x))) (sym e) (g ++ x, refl)
 
+says_by : {T U B : Type 0} (text : T → List ℕ) (value : T → B) (text' : U → List ℕ) (value' : U → B) (to : T → U) (c : List ℕ)
+    → ((t : T) → value' (to t) ≡ value t) → ((t : T) → text' (to t) ≡ c ++ text t) → (o : Option B) (f : List ℕ) → Says text value o f → Says text' value' o (c ++ f)
+says_by text value text' value' to c same more (Some b) f says = (to says.0, same says.0 ∙ says.1, more says.0 ∙ ap (λ x. c ++ x) says.2)
+says_by text value text' value' to c same more None f says = (to says.0, says.1, more says.0 ∙ ap (λ x. c ++ x) says.2 ∙ sym (append_assoc c f says.1))
+
+-- a reader that passes the bytes c and then does what another one does: its trees are made from the
+-- other's
+pub told_by : {T U B : Type 0} (run : Reader B) (text : T → List ℕ) (value : T → B) (run' : Reader B) (text' : U → List ℕ) (value' : U → B) (to : T → U) (c : List ℕ)
+    → ((t : T) → value' (to t) ≡ value t) → ((t : T) → text' (to t) ≡ c ++ text t) → (s : List ℕ) → ((x : List ℕ) → Agree s x → run' (c ++ x) ≡ run x)
+    → (o : Option B) (left : List ℕ) → Told run text value s o left → Told run' text' value' (c ++ s) o left
+told_by run text value run' text' value' to c same more s runs o left told = (
+  c ++ told.0,
+  ap (λ x. c ++ x) told.1 ∙ sym (append_assoc c told.0 left),
+  says_by text value text' value' to c same more o told.0 told.2,
+  λ x agree. ap run' (append_assoc c told.0 x) ∙ runs (told.0 ++ x) (agree_front told.0 s left x told.1 agree) ∙ told.3 x agree,
+)
+
 abbrev ThenTree : {F G : List ℕ → Type 0} {A B : Type 0} → Read F A → (A → Read G B) → Type 0
 ThenTree first next = (t : first.Tree) × (next (first.value t)).Tree
 
@@ -60,41 +77,17 @@ then_run first next = first.run >>= (λ a. (next a).run)
 abbrev ThenTold : {F G : List ℕ → Type 0} {A B : Type 0} → Read F A → (A → Read G B) → List ℕ → Option B → List ℕ → Type 0
 ThenTold first next s o left = Told (then_run first next) (then_text first next) (then_value first next) s o left
 
-abbrev ToldBy : {F : List ℕ → Type 0} {A : Type 0} → Read F A → List ℕ → Option A → List ℕ → Type 0
-ToldBy R s o left = Told R.run R.text R.value s o left
-
-says_then : {F G : List ℕ → Type 0} {A B : Type 0} (first : Read F A) (next : A → Read G B) (t : first.Tree) (f g : List ℕ) (o : Option B)
-    → first.text t ≡ f → Says (next (first.value t)).text (next (first.value t)).value o g
-    → Says (then_text first next) (then_value first next) o (f ++ g)
-says_then first next t f g (Some b) spelled says =
-    ((t, says.0), says.1, ap (λ x. x ++ (next (first.value t)).text says.0) spelled ∙ ap (λ x. f ++ x) says.2)
-says_then first next t f g None spelled says =
-    ((t, says.0), says.1, ap (λ x. x ++ (next (first.value t)).text says.0) spelled ∙ ap (λ x. f ++ x) says.2 ∙ sym (append_assoc f g says.1))
-
-passed : {F G : List ℕ → Type 0} {A B : Type 0} (first : Read F A) (next : A → Read G B) (t : first.Tree) (f s s1 left : List ℕ) (o : Option B)
-    → first.text t ≡ f → s ≡ f ++ s1 → ((x : List ℕ) → Agree s1 x → first.run (f ++ x) ≡ (Some (first.value t), x))
-    → ToldBy (next (first.value t)) s1 o left → ThenTold first next s o left
-passed {A = A} first next t f s s1 left o spelled is same more =
-    let g = more.0 in (
-      f ++ g,
-      is ∙ ap (λ x. f ++ x) more.1 ∙ sym (append_assoc f g left),
-      says_then first next t f g o spelled more.2,
-      λ x agree. ap (then_run first next) (append_assoc f g x)
-          ∙ ap (λ (p : Option A × List ℕ). after p.0 p.1 (λ a. (next a).run)) (same (g ++ x) (agree_front g s1 left x more.1 agree))
-          ∙ more.3 x agree,
-    )
-
-found : {F G : List ℕ → Type 0} {A B : Type 0} (first : Read F A) (next : A → Read G B) (t : first.Tree) (a : A) → first.value t ≡ a → (f s s1 : List ℕ)
-    → first.text t ≡ f → s ≡ f ++ s1 → ((x : List ℕ) → Agree s1 x → first.run (f ++ x) ≡ (Some a, x))
-    → ThenTold first next s ((next a).run s1).0 ((next a).run s1).1
-found {F} {G} {A} {B} first next t a is f s s1 =
-    subst (λ b. first.text t ≡ f → s ≡ f ++ s1 → ((x : List ℕ) → Agree s1 x → first.run (f ++ x) ≡ (Some b, x))
-    → ThenTold first next s ((next b).run s1).0 ((next b).run s1).1) is
-    (λ spelled split same. passed first next t f s s1 ((next (first.value t)).run s1).1 ((next (first.value t)).run s1).0 spelled split same ((next (first.value t)).told s1))
+found : {F G : List ℕ → Type 0} {A B : Type 0} (first : Read F A) (next : A → Read G B) (t : first.Tree) (a : A) → first.value t ≡ a → (f s1 : List ℕ) → first.text t ≡ f
+    → ((x : List ℕ) → Agree s1 x → first.run (f ++ x) ≡ (Some a, x)) → ThenTold first next (f ++ s1) ((next a).run s1).0 ((next a).run s1).1
+found {A = A} first next t a is f s1 spelled =
+    subst (λ b. ((x : List ℕ) → Agree s1 x → first.run (f ++ x) ≡ (Some b, x)) → ThenTold first next (f ++ s1) ((next b).run s1).0 ((next b).run s1).1) is
+    (λ same. let later = next (first.value t) in told_by later.run later.text later.value (then_run first next) (then_text first next) (then_value first next) (λ u. (t, u)) f (λ u. refl) (λ u. ap (λ x. x ++ later.text u) spelled)
+    s1 (λ x agree. ap (λ (p : Option A × List ℕ). after p.0 p.1 (λ a. (next a).run)) (same x agree)) (later.run s1).0 (later.run s1).1 (later.told s1))
 
 pub then_told : {F G : List ℕ → Type 0} {A B : Type 0} (first : Read F A) (next : A → Read G B) (s : List ℕ) (o : Option A) (s1 : List ℕ)
-    → ToldBy first s o s1 → ThenTold first next s (after o s1 (λ a. (next a).run)).0 (after o s1 (λ a. (next a).run)).1
-then_told {A = A} first next s (Some a) s1 told = found first next told.2.0 a told.2.1 told.0 s s1 told.2.2 told.1 told.3
+    → Told first.run first.text first.value s o s1 → ThenTold first next s (after o s1 (λ a. (next a).run)).0 (after o s1 (λ a. (next a).run)).1
+then_told first next s (Some a) s1 told =
+    subst (λ z. ThenTold first next z ((next a).run s1).0 ((next a).run s1).1) (sym told.1) (found first next told.2.0 a told.2.1 told.0 s1 told.2.2 told.3)
 then_told {A = A} first next s None s1 told =
     let t = told.2.0 in
     let later = (next (first.value t)).text (next (first.value t)).some in (
@@ -146,21 +139,13 @@ giving b = record {
   complete = λ t x follows. refl;
 }
 
-says_more : (c b : ℕ) (cs front : List ℕ) (o : Option (Unit {0})) → b ≡ c → Says (λ (t : Unit {0}). cs) (λ (t : Unit {0}). tt {0}) o front
-    → Says (λ (t : Unit {0}). c ∷ cs) (λ (t : Unit {0}). tt {0}) o (b ∷ front)
-says_more c b cs front (Some u) same says = (tt, says.1, ap (λ x. c ∷ x) says.2 ∙ ap (λ d. d ∷ front) (sym same))
-says_more c b cs front None same says = (tt, says.1, ap (λ x. c ∷ x) says.2 ∙ ap (λ d. d ∷ (front ++ says.1)) (sym same))
-
 lead_told_at : (cs : List ℕ) (c b : ℕ) (bs : List ℕ) (v : Bool) → (b == c) ≡ v → Told (lead cs) (λ (t : Unit {0}). cs) (λ (t : Unit {0}). tt) bs (lead cs bs).0 (lead cs bs).1
     → Told (lead (c ∷ cs)) (λ (t : Unit {0}). c ∷ cs) (λ (t : Unit {0}). tt) (b ∷ bs) (lead (c ∷ cs) (b ∷ bs)).0 (lead (c ∷ cs) (b ∷ bs)).1
 unfolding lead
 lead_told_at cs c b bs true same told =
-    rw same (b ∷ told.0, ap (λ x. b ∷ x) told.1, says_more c b cs told.0 (lead cs bs).0 (eqb-true b c same) told.2, λ x agree. rw same (told.3 x agree))
-lead_told_at cs c b bs false other told =
-    rw other ([], refl, (tt, c ∷ cs, refl), other_first)
-  where
-    other_first : (x : List ℕ) → Agree (b ∷ bs) x → lead (c ∷ cs) x ≡ (None, x)
-    other_first x agree = rw agree.1 (rw other refl)
+    rw same (told_by (lead cs) (λ (t : Unit {0}). cs) (λ (t : Unit {0}). tt) (lead (c ∷ cs)) (λ (t : Unit {0}). c ∷ cs) (λ (t : Unit {0}). tt) (λ (t : Unit {0}). t) (b ∷ []) (λ t. refl) (λ t. ap (λ d. d ∷ cs) (sym (eqb-true b c same)))
+    bs (λ x agree. rw same refl) (lead cs bs).0 (lead cs bs).1 told)
+lead_told_at cs c b bs false other told = rw other ([], refl, (tt, c ∷ cs, refl), λ x agree. rw agree.1 (rw other refl))
 
 pub lead_told : (l s : List ℕ) → Told (lead l) (λ (t : Unit {0}). l) (λ (t : Unit {0}). tt) s (lead l s).0 (lead l s).1
 unfolding lead
@@ -198,33 +183,14 @@ abbrev fork_value : {F : List ℕ → Type 0} {B : Type 0} (one other : Read F B
 fork_value one other (inl t) = one.value t
 fork_value one other (inr t) = other.value t
 
-abbrev ForkTold : {F : List ℕ → Type 0} {B : Type 0} (c : ℕ) (one other : Read F B) → List ℕ → Option B → List ℕ → Type 0
-ForkTold c one other s o left = Told (fork c one.run other.run) (fork_text one other) (fork_value one other) s o left
-
-says_one : {F : List ℕ → Type 0} {B : Type 0} (one other : Read F B) (o : Option B) (f : List ℕ) → Says one.text one.value o f → Says (fork_text one other) (fork_value one other) o f
-says_one one other (Some b) f says = (inl says.0, says.1, says.2)
-says_one one other None f says = (inl says.0, says.1, says.2)
-
-says_other : {F : List ℕ → Type 0} {B : Type 0} (one other : Read F B) (o : Option B) (f : List ℕ) → Says other.text other.value o f → Says (fork_text one other) (fork_value one other) o f
-says_other one other (Some b) f says = (inr says.0, says.1, says.2)
-says_other one other None f says = (inr says.0, says.1, says.2)
-
 pub fork_told : {F : List ℕ → Type 0} {B : Type 0} (c : ℕ) (one other : Read F B) (s : List ℕ) (v : Bool) → begins c s ≡ v
-    → ForkTold c one other s (if v then one.run s else other.run s).0 (if v then one.run s else other.run s).1
+    → Told (fork c one.run other.run) (fork_text one other) (fork_value one other) s (if v then one.run s else other.run s).0 (if v then one.run s else other.run s).1
 fork_told c one other s true is =
-    let told = one.told s in (
-      told.0,
-      told.1,
-      says_one one other (one.run s).0 told.0 told.2,
-      λ x agree. let first = begins_same c s (told.0 ++ x) (agree_front told.0 s (one.run s).1 x told.1 agree) ∙ is in rw first (told.3 x agree),
-    )
+    told_by one.run one.text one.value (fork c one.run other.run) (fork_text one other) (fork_value one other) (λ t. inl t) [] (λ t. refl) (λ t. refl) s
+    (λ x agree. let first = begins_same c s x agree ∙ is in rw first refl) (one.run s).0 (one.run s).1 (one.told s)
 fork_told c one other s false is =
-    let told = other.told s in (
-      told.0,
-      told.1,
-      says_other one other (other.run s).0 told.0 told.2,
-      λ x agree. let first = begins_same c s (told.0 ++ x) (agree_front told.0 s (other.run s).1 x told.1 agree) ∙ is in rw first (told.3 x agree),
-    )
+    told_by other.run other.text other.value (fork c one.run other.run) (fork_text one other) (fork_value one other) (λ t. inr t) [] (λ t. refl) (λ t. refl) s
+    (λ x agree. let first = begins_same c s x agree ∙ is in rw first refl) (other.run s).0 (other.run s).1 (other.told s)
 
 pub fork_complete : {F : List ℕ → Type 0} {B : Type 0} (c : ℕ) (one other : Read F B)
     → ((t : one.Tree) (x : List ℕ) → begins c (one.text t ++ x) ≡ true) → ((t : other.Tree) (x : List ℕ) → F x → begins c (other.text t ++ x) ≡ false)
@@ -245,19 +211,21 @@ forking c one other with_c with_other = record {
   complete = fork_complete c one other with_c with_other;
 }
 
--- ## The same reader, with other trees
+-- ## The same reader under another name
 
--- a reader whose ways to spell a value are named by another type
-pub record Shape {F : List ℕ → Type 0} {B : Type 0} (R : Read F B) : Type 1 where
-  pub Tree : Type 0
-  pub text : Tree → List ℕ
-  pub value : Tree → B
-  pub to : (t : R.Tree) → (u : Tree) × (value u ≡ R.value t) × (text u ≡ R.text t)
-  pub back : (u : Tree) → (t : R.Tree) × (R.value t ≡ value u) × (R.text t ≡ text u)
-
--- the same reader under another name
 pub rerun : {F : List ℕ → Type 0} {B : Type 0} (R : Read F B) (run : Reader B) → R.run ≡ run → (s : List ℕ) → Told run R.text R.value s (run s).0 (run s).1
 rerun {F} {B} R run is = subst (λ (r : Reader B). (s : List ℕ) → Told r R.text R.value s (r s).0 (r s).1) is R.told
+
+abbrev pub renamed : {F : List ℕ → Type 0} {B : Type 0} (R : Read F B) (run : Reader B) → R.run ≡ run → Read F B
+renamed {F} {B} R run is = record {
+  run = run;
+  Tree = R.Tree;
+  text = R.text;
+  value = R.value;
+  some = R.some;
+  told = rerun R run is;
+  complete = λ t x follows. ap (λ (r : Reader B). r (R.text t ++ x)) (sym is) ∙ R.complete t x follows;
+}
 
 -- a reader with the condition that no digit follows it, though any byte may follow
 abbrev pub loosely : {B : Type 0} → Read Any B → Read NoDigit B
@@ -273,10 +241,6 @@ loosely R = record {
 
 abbrev pub giving_open : {B : Type 0} → B → Read NoDigit B
 giving_open b = loosely (giving b)
-
-pub after_same : {A B : Type 0} (o : Option A) (left : List ℕ) (f g : A → Reader B) → ((a : A) (s : List ℕ) → f a s ≡ g a s) → after o left f ≡ after o left g
-after_same (Some a) left f g same = same a left
-after_same None left f g same = refl
 
 -- # Readers of words, with their laws.
 
@@ -296,14 +260,10 @@ value_text Good text t = text t.0
 abbrev value_of : {B : Type 0} (Good : B → Type 0) → Value Good → B
 value_of Good t = t.0
 
-says_value : {F : List ℕ → Type 0} {B : Type 0} (R : Read F B) (Good : B → Type 0) (text : B → List ℕ) → Valued R Good text → (o : Option B) (f : List ℕ)
-    → Says R.text R.value o f → Says (value_text Good text) (value_of Good) o f
-says_value R Good text V (Some b) f says = let to = V.to says.0 in ((R.value says.0, to.0), says.1, to.1 ∙ says.2)
-says_value R Good text V None f says = let to = V.to says.0 in ((R.value says.0, to.0), says.1, to.1 ∙ says.2)
-
 pub value_told : {F : List ℕ → Type 0} {B : Type 0} (R : Read F B) (Good : B → Type 0) (text : B → List ℕ) → Valued R Good text → (s : List ℕ)
     → Told R.run (value_text Good text) (value_of Good) s (R.run s).0 (R.run s).1
-value_told R Good text V s = let told = R.told s in (told.0, told.1, says_value R Good text V (R.run s).0 told.0 told.2, told.3)
+value_told R Good text V s =
+    told_by R.run R.text R.value R.run (value_text Good text) (value_of Good) (λ t. (R.value t, (V.to t).0)) [] (λ t. refl) (λ t. (V.to t).1) s (λ x agree. refl) (R.run s).0 (R.run s).1 (R.told s)
 
 pub value_complete : {F : List ℕ → Type 0} {B : Type 0} (R : Read F B) (Good : B → Type 0) (text : B → List ℕ) → Valued R Good text → (t : Value Good) (x : List ℕ) → F x
     → R.run (text t.0 ++ x) ≡ (Some t.0, x)
@@ -325,74 +285,70 @@ valued R Good text V = record {
 -- ## Words that their first bytes determine
 
 -- each value's word begins with a byte that determines it
-abbrev pub Tells : {A T : Type 0} → (ℕ → T) → (T → A) → (A → List ℕ) → Type 0
-Tells {A} {T} by value word = (t : T) → (c : ℕ) × (cs : List ℕ) × (word (value t) ≡ c ∷ cs) × (by c ≡ t)
+abbrev pub Tells : {A : Type 0} → (ℕ → A) → (A → List ℕ) → Type 0
+Tells {A} by word = (a : A) → (c : ℕ) × (cs : List ℕ) × (word a ≡ c ∷ cs) × (by c ≡ a)
 
 same_first : (s x : List ℕ) → Agree s x → first_byte x ≡ first_byte s
 same_first [] x agree = absurd agree
 same_first (b ∷ bs) x agree = ap first_byte agree.1
 
-abbrev chosen_by : {A T : Type 0} → (ℕ → T) → (T → A) → ℕ → A
-chosen_by by value b = value (by b)
-
-choice_at : {A T : Type 0} (by : ℕ → T) (value : T → A) (word : A → List ℕ) (s : List ℕ) (o : Option (Unit {0})) (left : List ℕ)
-    → Told (lead (word (value (by (first_byte s))))) (λ (t : Unit {0}). word (value (by (first_byte s)))) (λ (t : Unit {0}). tt) s o left
-    → Told (chosen (chosen_by by value) word) (λ (t : T). word (value t)) value s
-    (after o left (λ u. gives (value (by (first_byte s))))).0 (after o left (λ u. gives (value (by (first_byte s))))).1
+pub choice_told : {A : Type 0} (by : ℕ → A) (word : A → List ℕ) (s : List ℕ) → Told (chosen by word) word (λ (a : A). a) s (chosen by word s).0 (chosen by word s).1
 unfolding chosen
-choice_at {A} {T} by value word s (Some u) left told = (
-  told.0,
-  told.1,
-  (by (first_byte s), refl, told.2.2),
-  λ x agree.
-      let first = same_first s (told.0 ++ x) (agree_front told.0 s left x told.1 agree) in
-      rw first (ap (λ (p : Option (Unit {0}) × List ℕ). after p.0 p.1 (λ v. gives (value (by (first_byte s))))) (told.3 x agree)),
-)
-choice_at {A} {T} by value word s None left told = (
-  told.0,
-  told.1,
-  (by (first_byte s), told.2.1, told.2.2),
-  λ x agree.
-      let first = same_first s (told.0 ++ x) (agree_front told.0 s left x told.1 agree) in
-      rw first (ap (λ (p : Option (Unit {0}) × List ℕ). after p.0 p.1 (λ v. gives (value (by (first_byte s))))) (told.3 x agree)),
-)
+choice_told {A} by word s =
+    let a = by (first_byte s) in
+    let read = behind (leading (word a)) (λ _. giving a) in
+    told_by read.run read.text read.value (chosen by word) word (λ (b : A). b) (λ t. a) [] (λ t. refl) (λ t. sym (append-nil (word a))) s
+    (λ x agree. let first = same_first s x agree in rw first refl) (chosen by word s).0 (chosen by word s).1 (read.told s)
 
-pub choice_told : {A T : Type 0} (by : ℕ → T) (value : T → A) (word : A → List ℕ) (s : List ℕ)
-    → Told (chosen (chosen_by by value) word) (λ (t : T). word (value t)) value s (chosen (chosen_by by value) word s).0 (chosen (chosen_by by value) word s).1
+pub choice_complete : {A : Type 0} (by : ℕ → A) (word : A → List ℕ) → Tells by word → (a : A) (x : List ℕ) → chosen by word (word a ++ x) ≡ (Some a, x)
 unfolding chosen
-choice_told by value word s =
-    let l = word (value (by (first_byte s))) in
-    choice_at by value word s (lead l s).0 (lead l s).1 (lead_told l s)
+choice_complete by word tells a x =
+    let told = tells a in
+    let same = ap by (ap (λ w. first_byte (w ++ x)) told.2) ∙ told.3 in
+    rw (same, lead_complete (word a) x) refl
 
-pub choice_complete : {A T : Type 0} (by : ℕ → T) (value : T → A) (word : A → List ℕ) → Tells by value word → (t : T) (x : List ℕ)
-    → chosen (chosen_by by value) word (word (value t) ++ x) ≡ (Some (value t), x)
-unfolding chosen
-choice_complete by value word tells t x =
-    let told = tells t in
-    let first = ap (λ w. first_byte (w ++ x)) told.2 in
-    let same = ap by first ∙ told.3 in
-    rw same (ap (λ (p : Option (Unit {0}) × List ℕ). after p.0 p.1 (λ v. gives (value t))) (lead_complete (word (value t)) x))
-
-abbrev pub choosing : {A T : Type 0} (by : ℕ → T) (value : T → A) (word : A → List ℕ) → Tells by value word → T → Read Any A
-choosing {A} {T} by value word tells t = record {
-  run = chosen (chosen_by by value) word;
-  Tree = T;
-  text = λ (u : T). word (value u);
-  value = value;
-  some = t;
-  told = choice_told by value word;
-  complete = λ u x follows. choice_complete by value word tells u x;
+abbrev pub choosing : {A : Type 0} (by : ℕ → A) (word : A → List ℕ) → Tells by word → A → Read Any A
+choosing {A} by word tells a = record {
+  run = chosen by word;
+  Tree = A;
+  text = word;
+  value = λ (b : A). b;
+  some = a;
+  told = choice_told by word;
+  complete = λ b x follows. choice_complete by word tells b x;
 }
 
-abbrev pub same : {A : Type 0} → A → A
-same a = a
-
-pub flag_tells : Tells flag_by same flag_text
+pub flag_tells : Tells flag_by flag_text
 flag_tells true = (116, codes "rue", refl, refl)
 flag_tells false = (102, codes "alse", refl, refl)
 
 abbrev pub flag : Read Any Bool
-flag = choosing flag_by same flag_text flag_tells true
+flag = choosing flag_by flag_text flag_tells true
+
+-- # Readers of what may be absent
+
+-- these bytes; then, if the byte c comes next, what one reads, and otherwise the bytes of nothing
+module _ {B : Type 0} (front : List ℕ) (c : ℕ) (one : Read Any (Option B)) (nothing : List ℕ)
+    (with_c : (t : one.Tree) (x : List ℕ) → begins c (one.text t ++ x) ≡ true) (with_other : (x : List ℕ) → begins c ((nothing ++ []) ++ x) ≡ false)
+    (Good : B → Type 0) (text : Option B → List ℕ) (absent : text None ≡ front ++ (nothing ++ []))
+    (to : (t : one.Tree) → IfSome (one.value t) Good × (text (one.value t) ≡ front ++ one.text t))
+    (back : (b : B) → Good b → (t : one.Tree) × (one.value t ≡ Some b) × (front ++ one.text t ≡ text (Some b))) where
+  abbrev option_parts : Read Any (Option B)
+  option_parts = behind (leading front) (λ _. forking c one (behind (leading nothing) (λ _. giving None)) with_c (λ t x f. with_other x))
+
+  pub option_valued : Valued option_parts (λ o. IfSome o Good) text
+  option_valued = record { to = λ t. from t.1; back = onto }
+    where
+      from : (t : one.Tree ⊎ (Unit {0} × Unit {0})) → IfSome (option_parts.value (tt, t)) Good × (text (option_parts.value (tt, t)) ≡ option_parts.text (tt, t))
+      from (inl t) = to t
+      from (inr t) = (tt, absent)
+
+      onto : (o : Option B) → IfSome o Good → (t : option_parts.Tree) × (option_parts.value t ≡ o) × (option_parts.text t ≡ text o)
+      onto (Some b) good = let t = back b good in ((tt, inl t.0), t.1, t.2)
+      onto None good = ((tt, inr (tt, tt)), refl, sym absent)
+
+  abbrev pub optional : Read Any (Option B)
+  optional = valued option_parts (λ o. IfSome o Good) text option_valued
 
 -- # Readers of lists, with their laws.
 
@@ -401,128 +357,88 @@ abbrev pub Few : {A : Type 0} → (A → Type 0) → ℕ → List A → Type 0
 Few P room xs = (length xs ≤ room) × AllByRecursion P xs
 
 -- an item's text does not begin with the closing bracket
-abbrev pub Opens : {A : Type 0} → Read NoDigit A → Type 0
-Opens R = (t : R.Tree) (x : List ℕ) → begins 93 (R.text t ++ x) ≡ false
+abbrev pub Opens : {A : Type 0} → (A → Type 0) → (A → List ℕ) → Type 0
+Opens {A} P text = (a : A) → P a → (x : List ℕ) → begins 93 (text a ++ x) ≡ false
 
 abbrev pub closing : (A : Type 0) → Read Any (List A)
 closing A = behind (leading (codes "]")) (λ _. giving (let none : List A = [] in none))
 
--- a list's rest
-pub record Rest {A : Type 0} (R : Read NoDigit A) (P : A → Type 0) (text : A → List ℕ) (room : ℕ) : Type 1 where
-  pub read : Read Any (List A)
-  pub run : read.run ≡ rest_in R.run room
-  pub fits : (t : read.Tree) (x : List ℕ) → NoDigit (read.text t ++ x)
-  pub means : Valued read (Few P room) (rest_text text)
+module _ {A : Type 0} (R : Read NoDigit A) (P : A → Type 0) (text : A → List ℕ) (V : Valued R P text) where
+  -- what a reader of the rest of a list has to prove
+  abbrev RestLaws : ℕ → Type 0
+  RestLaws room = ((s : List ℕ) → Told (rest_in R.run room) (value_text (Few P room) (rest_text text)) (value_of (Few P room)) s (rest_in R.run room s).0 (rest_in R.run room s).1)
+      × ((t : Value (Few P room)) (x : List ℕ) → Any x → rest_in R.run room (rest_text text t.0 ++ x) ≡ (Some t.0, x))
 
-none_back : {A : Type 0} (P : A → Type 0) (text : A → List ℕ) (xs : List A) → Few P 0 xs → (t : (closing A).Tree) × ((closing A).value t ≡ xs) × ((closing A).text t ≡ rest_text text xs)
-none_back P text [] few = ((tt, tt), refl, refl)
-none_back P text (x ∷ xs) few = absurd (omega (arith, few.0))
+  abbrev rest_read : (room : ℕ) → RestLaws room → Read Any (List A)
+  rest_read room laws = record {
+    run = rest_in R.run room;
+    Tree = Value (Few P room);
+    text = value_text (Few P room) (rest_text text);
+    value = value_of (Few P room);
+    some = ([], (omega arith, tt));
+    told = laws.0;
+    complete = laws.1;
+  }
 
-rest_end : {A : Type 0} (R : Read NoDigit A) (P : A → Type 0) (text : A → List ℕ) → Rest R P text 0
-unfolding rest_in
-rest_end {A} R P text = record {
-  read = closing A;
-  run = refl;
-  fits = λ t x. refl;
-  means = record { to = λ t. ((omega arith, tt), refl); back = none_back P text };
-}
+  pub rest_fits : (xs : List A) (x : List ℕ) → NoDigit ((rest_text text xs ++ []) ++ x)
+  rest_fits [] x = refl
+  rest_fits (y ∷ xs) x = refl
 
--- an item, and the rest of the list
-abbrev pub item_and : {A : Type 0} (R : Read NoDigit A) (P : A → Type 0) (text : A → List ℕ) (room : ℕ) → Rest R P text room → Read Any (List A)
-item_and R P text room rest =
-    chain R (λ x. behind rest.read (λ xs. giving (x ∷ xs)))
-    (λ t u x follows. subst NoDigit (sym (append_assoc (rest.read.text u.0) [] x)) (rest.fits u.0 x))
+  -- an item, and the rest of the list
+  abbrev item_and : (room : ℕ) → RestLaws room → Read Any (List A)
+  item_and room laws = chain (valued R P text V) (λ x. behind (rest_read room laws) (λ xs. giving (x ∷ xs))) (λ t u x follows. rest_fits u.0.0 x)
 
-item_to : {A : Type 0} (R : Read NoDigit A) (P : A → Type 0) (text : A → List ℕ) (room : ℕ) (V : Valued R P text) (rest : Rest R P text room) (t : (item_and R P text room rest).Tree)
-    → Few P (suc room) ((item_and R P text room rest).value t) × (text (R.value t.0) ++ (rest_text text (rest.read.value t.1.0) ++ []) ≡ (item_and R P text room rest).text t)
-item_to R P text room V rest t =
-    let one = V.to t.0 in
-    let others = rest.means.to t.1.0 in (
-      (omega (arith, others.0.0), (one.0, others.0.1)),
-      ap (λ x. x ++ (rest_text text (rest.read.value t.1.0) ++ [])) one.1 ∙ ap (λ x. R.text t.0 ++ (x ++ [])) others.1,
-    )
+  abbrev rest_parts : (room : ℕ) → RestLaws room → Read Any (List A)
+  rest_parts room laws = forking 93 (closing A) (behind (leading (codes ",")) (λ _. item_and room laws)) (λ t x. refl) (λ t x f. refl)
 
-item_back : {A : Type 0} (R : Read NoDigit A) (P : A → Type 0) (text : A → List ℕ) (room : ℕ) (V : Valued R P text) (rest : Rest R P text room) (x : A) (xs : List A)
-    → Few P (suc room) (x ∷ xs)
-    → (t : (item_and R P text room rest).Tree) × ((item_and R P text room rest).value t ≡ x ∷ xs) × ((item_and R P text room rest).text t ≡ text x ++ (rest_text text xs ++ []))
-item_back R P text room V rest x xs few =
-    let one = V.back x few.1.0 in
-    let others = rest.means.back xs (omega (arith, few.0), few.1.1) in (
-      (one.0, (others.0, tt)),
-      ap (λ y. y ∷ rest.read.value others.0) one.1 ∙ ap (λ ys. x ∷ ys) others.1,
-      ap (λ y. y ++ (rest.read.text others.0 ++ [])) one.2 ∙ ap (λ y. text x ++ (y ++ [])) others.2,
-    )
-
-rest_more : {A : Type 0} (R : Read NoDigit A) (P : A → Type 0) (text : A → List ℕ) (room : ℕ) → Valued R P text → Rest R P text room → Rest R P text (suc room)
-unfolding rest_in
-rest_more {A} R P text room V rest = record {
-  read = forking 93 (closing A) (behind (leading (codes ",")) (λ _. item_and R P text room rest)) (λ t x. refl) (λ t x f. refl);
-  run = ap (λ (run : Reader (List A)). fork 93 close (lead (codes ",") >> (R.run >>= (λ x. run >>= (λ xs. gives (x ∷ xs)))))) rest.run;
-  fits = more_fits;
-  means = record { to = more_to; back = more_back };
-}
-  where
-    more : Read Any (List A)
-    more = forking 93 (closing A) (behind (leading (codes ",")) (λ _. item_and R P text room rest)) (λ t x. refl) (λ t x f. refl)
-
-    more_fits : (t : more.Tree) (x : List ℕ) → NoDigit (more.text t ++ x)
-    more_fits (inl t) x = refl
-    more_fits (inr t) x = refl
-
-    more_to : (t : more.Tree) → Few P (suc room) (more.value t) × (rest_text text (more.value t) ≡ more.text t)
-    more_to (inl t) = ((omega arith, tt), refl)
-    more_to (inr t) = let to = item_to R P text room V rest t.1 in (to.0, ap (λ x. 44 ∷ x) to.1)
-
-    more_back : (xs : List A) → Few P (suc room) xs → (t : more.Tree) × (more.value t ≡ xs) × (more.text t ≡ rest_text text xs)
-    more_back [] few = (inl (tt, tt), refl, refl)
-    more_back (x ∷ xs) few = let back = item_back R P text room V rest x xs few in (inr (tt, back.0), back.1, ap (λ y. 44 ∷ y) back.2)
-
-pub resting : {A : Type 0} (R : Read NoDigit A) (P : A → Type 0) (text : A → List ℕ) → Valued R P text → (room : ℕ) → Rest R P text room
-resting R P text V zero = rest_end R P text
-resting R P text V (suc room) = rest_more R P text room V (resting R P text V room)
-
--- ## Whole lists
-
-module _ {A : Type 0} (R : Read NoDigit A) (P : A → Type 0) (text : A → List ℕ) (V : Valued R P text) (opens : Opens R) (room : ℕ) where
-  abbrev pub list_parts : Read Any (List A)
-  list_parts =
-      behind (leading (codes "[")) (λ _.
-      forking 93 (closing A) (item_and R P text room (resting R P text V room)) (λ t x. refl)
-      (λ t x f. ap (begins 93) (append_assoc (R.text t.0) ((resting R P text V room).read.text t.1.0 ++ []) x) ∙ opens t.0 (((resting R P text V room).read.text t.1.0 ++ []) ++ x)))
-
-  pub list_run : list_parts.run ≡ list_in R.run room
-  unfolding list_in
-  list_run = ap (λ (run : Reader (List A)). lead (codes "[") >> fork 93 close (R.run >>= (λ x. run >>= (λ xs. gives (x ∷ xs))))) (resting R P text V room).run
-
-  list_to : (t : list_parts.Tree) → Few P (suc room) (list_parts.value t) × (list_text text (list_parts.value t) ≡ list_parts.text t)
-  list_to t = cases t.1
+  none_valued : Valued (closing A) (Few P 0) (rest_text text)
+  none_valued = record { to = λ t. ((omega arith, tt), refl); back = onto }
     where
-      cases : (u : (closing A).Tree ⊎ (item_and R P text room (resting R P text V room)).Tree)
-          → Few P (suc room) (list_parts.value (tt, u)) × (list_text text (list_parts.value (tt, u)) ≡ list_parts.text (tt, u))
-      cases (inl u) = ((omega arith, tt), refl)
-      cases (inr u) = let to = item_to R P text room V (resting R P text V room) u in (to.0, ap (λ x. 91 ∷ x) to.1)
+      onto : (xs : List A) → Few P 0 xs → (t : (closing A).Tree) × ((closing A).value t ≡ xs) × ((closing A).text t ≡ rest_text text xs)
+      onto [] few = ((tt, tt), refl, refl)
+      onto (x ∷ xs) few = absurd (omega (arith, few.0))
 
-  list_back : (xs : List A) → Few P (suc room) xs → (t : list_parts.Tree) × (list_parts.value t ≡ xs) × (list_parts.text t ≡ list_text text xs)
-  list_back [] few = ((tt, inl (tt, tt)), refl, refl)
-  list_back (x ∷ xs) few =
-      let back = item_back R P text room V (resting R P text V room) x xs few in
-      ((tt, inr back.0), back.1, ap (λ y. 91 ∷ y) back.2)
+  rest_valued : (room : ℕ) (laws : RestLaws room) → Valued (rest_parts room laws) (Few P (suc room)) (rest_text text)
+  rest_valued room laws = record { to = from; back = onto }
+    where
+      from : (t : (rest_parts room laws).Tree) → Few P (suc room) ((rest_parts room laws).value t) × (rest_text text ((rest_parts room laws).value t) ≡ (rest_parts room laws).text t)
+      from (inl t) = ((omega arith, tt), refl)
+      from (inr t) = ((omega (arith, t.1.1.0.1.0), (t.1.0.1, t.1.1.0.1.1)), refl)
 
-  pub list_valued : Valued list_parts (Few P (suc room)) (list_text text)
-  list_valued = record { to = list_to; back = list_back }
+      onto : (xs : List A) → Few P (suc room) xs → (t : (rest_parts room laws).Tree) × ((rest_parts room laws).value t ≡ xs) × ((rest_parts room laws).text t ≡ rest_text text xs)
+      onto [] few = (inl (tt, tt), refl, refl)
+      onto (x ∷ xs) few = (inr (tt, ((x, few.1.0), ((xs, (omega (arith, few.0), few.1.1)), tt))), refl, refl)
 
-  -- a list of at most one more item than room
-  abbrev pub listing : Read Any (List A)
-  listing =
-      let values = valued list_parts (Few P (suc room)) (list_text text) list_valued in record {
-        run = list_in R.run room;
-        Tree = values.Tree;
-        text = values.text;
-        value = values.value;
-        some = values.some;
-        told = rerun values (list_in R.run room) list_run;
-        complete = λ t x follows. ap (λ (run : Reader (List A)). run (values.text t ++ x)) (sym list_run) ∙ values.complete t x follows;
-      }
+  pub rest_laws : (room : ℕ) → RestLaws room
+  unfolding rest_in
+  rest_laws zero = let read = valued (closing A) (Few P 0) (rest_text text) none_valued in (read.told, read.complete)
+  rest_laws (suc room) =
+      let laws = rest_laws room in
+      let read = valued (rest_parts room laws) (Few P (suc room)) (rest_text text) (rest_valued room laws) in (read.told, read.complete)
+
+  -- ## Whole lists
+
+  module _ (opens : Opens P text) (room : ℕ) where
+    abbrev pub list_parts : Read Any (List A)
+    list_parts =
+        behind (leading (codes "[")) (λ _.
+        forking 93 (closing A) (item_and room (rest_laws room)) (λ t x. refl)
+        (λ t x f. ap (begins 93) (append_assoc (text t.0.0) (rest_text text t.1.0.0 ++ []) x) ∙ opens t.0.0 t.0.1 ((rest_text text t.1.0.0 ++ []) ++ x)))
+
+    pub list_valued : Valued list_parts (Few P (suc room)) (list_text text)
+    list_valued = record { to = λ t. from t.1; back = onto }
+      where
+        from : (t : (closing A).Tree ⊎ (item_and room (rest_laws room)).Tree) → Few P (suc room) (list_parts.value (tt, t)) × (list_text text (list_parts.value (tt, t)) ≡ list_parts.text (tt, t))
+        from (inl t) = ((omega arith, tt), refl)
+        from (inr t) = ((omega (arith, t.1.0.1.0), (t.0.1, t.1.0.1.1)), refl)
+
+        onto : (xs : List A) → Few P (suc room) xs → (t : list_parts.Tree) × (list_parts.value t ≡ xs) × (list_parts.text t ≡ list_text text xs)
+        onto [] few = ((tt, inl (tt, tt)), refl, refl)
+        onto (x ∷ xs) few = ((tt, inr ((x, few.1.0), ((xs, (omega (arith, few.0), few.1.1)), tt))), refl, refl)
+
+    -- a list of at most one more item than room
+    abbrev pub listing : Read Any (List A)
+    listing = valued list_parts (Few P (suc room)) (list_text text) list_valued
 
 -- # What a reader that has to pass all bytes returns, by its laws.
 
@@ -530,34 +446,6 @@ module _ {A : Type 0} (R : Read NoDigit A) (P : A → Type 0) (text : A → List
 pub record Means {V : Type 0} (R : Read Any V) (Spells : V → List ℕ → Type 0) : Type 0 where
   pub to : (t : R.Tree) → Spells (R.value t) (R.text t)
   pub back : (v : V) (bytes : List ℕ) → Spells v bytes → (t : R.Tree) × (R.value t ≡ v) × (R.text t ≡ bytes)
-
-spells_tree : {V : Type 0} (R : Read Any V) (Spells : V → List ℕ → Type 0) → Means R Spells → (t : R.Tree) (v : V) (bytes : List ℕ) → R.value t ≡ v → R.text t ≡ bytes → Spells v bytes
-spells_tree R Spells means t v bytes is_value is_text = subst (λ w. Spells w bytes) is_value (subst (λ b. Spells (R.value t) b) is_text (means.to t))
-
-run_of : {V : Type 0} (R : Read Any V) (Spells : V → List ℕ → Type 0) → Means R Spells → (v : V) (bytes : List ℕ) → Spells v bytes → R.run bytes ≡ (Some v, [])
-run_of R Spells means v bytes spelled =
-    let back = means.back v bytes spelled in
-    ap R.run (sym (append-nil bytes)) ∙ ap (λ b. R.run (b ++ [])) (sym back.2) ∙ R.complete back.0 [] tt ∙ ap (λ w. (Some w, [])) back.1
-
-ok_told : {V : Type 0} (R : Read Any V) (Spells : V → List ℕ → Type 0) → Means R Spells → (n : ℕ) (s : List ℕ) (o : Option V) (left : List ℕ) (v : V)
-    → Told R.run R.text R.value s o left → answer n o left ≡ Ok v → Spells v s
-ok_told R Spells means n s (Some a) [] v told is =
-    let same : a ≡ v = cc in
-    spells_tree R Spells means told.2.0 v s (told.2.1 ∙ same) (told.2.2 ∙ sym (append-nil told.0) ∙ sym told.1)
-ok_told R Spells means n s (Some a) (c ∷ cs) v told is = absurd (cc)
-ok_told R Spells means n s None left v told is = absurd (cc)
-
--- what is read is spelled
-pub read_spells : {V : Type 0} (R : Read Any V) (Spells : V → List ℕ → Type 0) → Means R Spells → (n : ℕ) (s : List ℕ) (v : V)
-    → answer n (R.run s).0 (R.run s).1 ≡ Ok v → Spells v s
-read_spells R Spells means n s v is = ok_told R Spells means n s (R.run s).0 (R.run s).1 v (R.told s) is
-
--- what is spelled is read
-pub spelled_reads : {V : Type 0} (R : Read Any V) (Spells : V → List ℕ → Type 0) → Means R Spells → (n : ℕ) (s : List ℕ) (v : V)
-    → Spells v s → answer n (R.run s).0 (R.run s).1 ≡ Ok v
-spelled_reads {V} R Spells means n s v spelled = ap (λ (p : Option V × List ℕ). answer n p.0 p.1) (run_of R Spells means v s spelled)
-
--- ## Where reading stops
 
 further : (front : List ℕ) (c : ℕ) (cs : List ℕ) (longer : ℕ) → length front < longer → (more : List ℕ) × (take longer (front ++ c ∷ cs) ≡ front ++ c ∷ more)
 further [] c cs zero long = absurd (omega arith)
@@ -568,66 +456,85 @@ further (d ∷ front) c cs (suc k) long = let more = further front c cs k (omega
 ends : {A : Type 0} (p q : A × List ℕ) → p ≡ q → q.1 ≡ [] → p.1 ≡ []
 ends p q same empty = ap (λ r. r.1) same ∙ empty
 
-not_further : {V : Type 0} (R : Read Any V) (Spells : V → List ℕ → Type 0) → Means R Spells → (s : List ℕ) (o : Option V) (front left : List ℕ)
-    → s ≡ front ++ left → ((x : List ℕ) → Agree left x → R.run (front ++ x) ≡ (o, x))
-    → (longer : ℕ) → length front < longer → longer ≤ length s → Begins Spells (take longer s) → ⊥
-not_further R Spells means s o front [] split same longer above within begins =
-    let short = ap length split ∙ length-append front [] in absurd (omega arith)
-not_further R Spells means s o front (c ∷ cs) split same longer above within begins =
-    let more = further front c cs longer above in
-    let cut = ap (take longer) split ∙ more.1 in
-    let bytes = ap (λ b. b ++ begins.1) cut ∙ append_assoc front (c ∷ more.0) begins.1 in
-    let is_read = run_of R Spells means begins.0 (take longer s ++ begins.1) begins.2 in
-    let stops = same (c ∷ (more.0 ++ begins.1)) (more.0 ++ begins.1, refl) in
-    let none : c ∷ (more.0 ++ begins.1) ≡ [] = ends (o, c ∷ (more.0 ++ begins.1)) (Some begins.0, []) (sym stops ∙ sym (ap R.run bytes) ∙ is_read) refl in
-    absurd (cc)
-
-begun : {V : Type 0} (R : Read Any V) (Spells : V → List ℕ → Type 0) → Means R Spells → (o : Option V) (front : List ℕ) → Says R.text R.value o front → Begins Spells front
-begun R Spells means (Some v) front says =
-    (v, [], spells_tree R Spells means says.0 v (front ++ []) says.1 (says.2 ∙ sym (append-nil front)))
-begun R Spells means None front says =
-    (R.value says.0, says.1, spells_tree R Spells means says.0 (R.value says.0) (front ++ says.1) refl says.2)
-
-stops_told : {V : Type 0} (R : Read Any V) (Spells : V → List ℕ → Type 0) → Means R Spells → (s : List ℕ) (o : Option V) (left : List ℕ)
-    → Told R.run R.text R.value s o left → StopsAt Spells s (length s - length left)
-stops_told R Spells means s o left told =
-    let long = ap length told.1 ∙ length-append told.0 left in
-    let place : length told.0 ≡ length s - length left = omega arith in
-    let cut = ap (take (length told.0)) told.1 ∙ take_at told.0 left (length told.0) refl in
-    subst (λ n. StopsAt Spells s n) place (record {
-      within = omega arith;
-      begins = subst (λ b. Begins Spells b) (sym cut) (begun R Spells means o told.0 told.2);
-      no_further = not_further R Spells means s o told.0 left told.1 told.3;
-    })
-
-err_told : {V : Type 0} (R : Read Any V) (Spells : V → List ℕ → Type 0) → Means R Spells → (s : List ℕ) (o : Option V) (left : List ℕ) (bad : BadRecord)
-    → Told R.run R.text R.value s o left → answer (length s) o left ≡ Err bad → StopsAt Spells s bad.place
-err_told R Spells means s (Some a) [] bad told is = absurd (cc)
-err_told R Spells means s (Some a) (c ∷ cs) bad told is =
-    let same : record { place = length s - length (c ∷ cs) } ≡ bad = cc in
-    subst (λ (b : BadRecord). StopsAt Spells s b.place) same (stops_told R Spells means s (Some a) (c ∷ cs) told)
-err_told R Spells means s None left bad told is =
-    let same : record { place = length s - length left } ≡ bad = cc in
-    subst (λ (b : BadRecord). StopsAt Spells s b.place) same (stops_told R Spells means s None left told)
-
--- a refusal has its place
-pub refused_stops : {V : Type 0} (R : Read Any V) (Spells : V → List ℕ → Type 0) → Means R Spells → (s : List ℕ) (bad : BadRecord)
-    → answer (length s) (R.run s).0 (R.run s).1 ≡ Err bad → StopsAt Spells s bad.place
-refused_stops R Spells means s bad is = err_told R Spells means s (R.run s).0 (R.run s).1 bad (R.told s) is
-
 -- a reader leaves an end of what it was given
-pub left_within : {F : List ℕ → Type 0} {V : Type 0} (R : Read F V) (s : List ℕ) → length (R.run s).1 ≤ length s
-left_within R s =
+pub left_of : {F : List ℕ → Type 0} {V : Type 0} (R : Read F V) (s left : List ℕ) (o : Option V) → R.run s ≡ (o, left) → length left ≤ length s
+left_of {V = V} R s left o is =
     let told = R.told s in
     let long = ap length told.1 ∙ length-append told.0 (R.run s).1 in
+    let same = ap (λ (p : Option V × List ℕ). length p.1) is in
     omega arith
 
 some_of : {V : Type 0} (a b : V) → ◌≡◌ {A = Option V × List ℕ} (Some a, []) (Some b, []) → a ≡ b
 some_of {V} a b same = let one : Some a ≡ Some b = ap (λ (p : Option V × List ℕ). p.0) same in cc
 
--- bytes spell at most one value
-pub one_value : {V : Type 0} (R : Read Any V) (Spells : V → List ℕ → Type 0) → Means R Spells → (a b : V) (bytes : List ℕ) → Spells a bytes → Spells b bytes → a ≡ b
-one_value R Spells means a b bytes first second = some_of a b (sym (run_of R Spells means a bytes first) ∙ run_of R Spells means b bytes second)
+module _ {V : Type 0} (R : Read Any V) (Spells : V → List ℕ → Type 0) (means : Means R Spells) where
+  spells_tree : (t : R.Tree) (v : V) (bytes : List ℕ) → R.value t ≡ v → R.text t ≡ bytes → Spells v bytes
+  spells_tree t v bytes is_value is_text = subst (λ w. Spells w bytes) is_value (subst (λ b. Spells (R.value t) b) is_text (means.to t))
+
+  run_of : (v : V) (bytes : List ℕ) → Spells v bytes → R.run bytes ≡ (Some v, [])
+  run_of v bytes spelled =
+      let back = means.back v bytes spelled in
+      ap R.run (sym (append-nil bytes)) ∙ ap (λ b. R.run (b ++ [])) (sym back.2) ∙ R.complete back.0 [] tt ∙ ap (λ w. (Some w, [])) back.1
+
+  ok_told : (n : ℕ) (s : List ℕ) (o : Option V) (left : List ℕ) (v : V) → Told R.run R.text R.value s o left → answer n o left ≡ Ok v → Spells v s
+  ok_told n s (Some a) [] v told is =
+      let same : a ≡ v = cc in
+      spells_tree told.2.0 v s (told.2.1 ∙ same) (told.2.2 ∙ sym (append-nil told.0) ∙ sym told.1)
+  ok_told n s o left v told is = absurd (cc)
+
+  -- what is read is spelled
+  pub read_spells : (s : List ℕ) (v : V) → answer (length s) (R.run s).0 (R.run s).1 ≡ Ok v → Spells v s
+  read_spells s v is = ok_told (length s) s (R.run s).0 (R.run s).1 v (R.told s) is
+
+  -- what is spelled is read
+  pub spelled_reads : (s : List ℕ) (v : V) → Spells v s → answer (length s) (R.run s).0 (R.run s).1 ≡ Ok v
+  spelled_reads s v spelled = ap (λ (p : Option V × List ℕ). answer (length s) p.0 p.1) (run_of v s spelled)
+
+  -- ## Where reading stops
+
+  not_further : (s : List ℕ) (o : Option V) (front left : List ℕ) → s ≡ front ++ left → ((x : List ℕ) → Agree left x → R.run (front ++ x) ≡ (o, x))
+      → (longer : ℕ) → length front < longer → longer ≤ length s → Begins Spells (take longer s) → ⊥
+  not_further s o front [] split same longer above within begins =
+      let short = ap length split ∙ length-append front [] in absurd (omega arith)
+  not_further s o front (c ∷ cs) split same longer above within begins =
+      let more = further front c cs longer above in
+      let cut = ap (take longer) split ∙ more.1 in
+      let bytes = ap (λ b. b ++ begins.1) cut ∙ append_assoc front (c ∷ more.0) begins.1 in
+      let is_read = run_of begins.0 (take longer s ++ begins.1) begins.2 in
+      let stops = same (c ∷ (more.0 ++ begins.1)) (more.0 ++ begins.1, refl) in
+      let none : c ∷ (more.0 ++ begins.1) ≡ [] = ends (o, c ∷ (more.0 ++ begins.1)) (Some begins.0, []) (sym stops ∙ sym (ap R.run bytes) ∙ is_read) refl in
+      absurd (cc)
+
+  begun : (o : Option V) (front : List ℕ) → Says R.text R.value o front → Begins Spells front
+  begun (Some v) front says =
+      (v, [], spells_tree says.0 v (front ++ []) says.1 (says.2 ∙ sym (append-nil front)))
+  begun None front says =
+      (R.value says.0, says.1, spells_tree says.0 (R.value says.0) (front ++ says.1) refl says.2)
+
+  stops_told : (s : List ℕ) (o : Option V) (left : List ℕ) → Told R.run R.text R.value s o left → StopsAt Spells s (length s - length left)
+  stops_told s o left told =
+      let long = ap length told.1 ∙ length-append told.0 left in
+      let place : length told.0 ≡ length s - length left = omega arith in
+      let cut = ap (take (length told.0)) told.1 ∙ take_at told.0 left (length told.0) refl in
+      subst (λ n. StopsAt Spells s n) place (record {
+        within = omega arith;
+        begins = subst (λ b. Begins Spells b) (sym cut) (begun o told.0 told.2);
+        no_further = not_further s o told.0 left told.1 told.3;
+      })
+
+  err_told : (s : List ℕ) (o : Option V) (left : List ℕ) (bad : BadRecord) → Told R.run R.text R.value s o left → answer (length s) o left ≡ Err bad → StopsAt Spells s bad.place
+  err_told s (Some a) [] bad told is = absurd (cc)
+  err_told s o left bad told is =
+      let same : record { place = length s - length left } ≡ bad = cc in
+      subst (λ (b : BadRecord). StopsAt Spells s b.place) same (stops_told s o left told)
+
+  -- a refusal has its place
+  pub refused_stops : (s : List ℕ) (bad : BadRecord) → answer (length s) (R.run s).0 (R.run s).1 ≡ Err bad → StopsAt Spells s bad.place
+  refused_stops s bad is = err_told s (R.run s).0 (R.run s).1 bad (R.told s) is
+
+  -- bytes spell at most one value
+  pub one_value : (a b : V) (bytes : List ℕ) → Spells a bytes → Spells b bytes → a ≡ b
+  one_value a b bytes first second = some_of a b (sym (run_of a bytes first) ∙ run_of b bytes second)
 
 -- # Steps of the cursor.
 
@@ -667,9 +574,6 @@ pub ruleset counting = (digits_step, digits_other, digits_over)
 never : (s t : List ℕ) (m : ℕ) → ◌≡◌ {A = Option ℕ × List ℕ} (None, s) (Some m, t) → ⊥
 never s t m is = let one : None ≡ Some m = ap (λ (p : Option ℕ × List ℕ). p.0) is in absurd (cc)
 
-nor : (s t : List ℕ) (m : ℕ) → ◌≡◌ {A = Option ℕ × List ℕ} (Some m, s) (None, t) → ⊥
-nor s t m is = let one : Some m ≡ None = ap (λ (p : Option ℕ × List ℕ). p.0) is in absurd (cc)
-
 abbrev get_or_zero : Option ℕ → ℕ
 get_or_zero (Some n) = n
 get_or_zero None = 0
@@ -677,22 +581,18 @@ get_or_zero None = 0
 fixed_after : (limit : ℕ) (limits s t : List ℕ) (n m : ℕ) → fixed (limit ∷ []) n s ≡ (Some m, t) → fixed (limit ∷ limits) n s ≡ fixed limits m t
 unfolding fixed
 fixed_after limit limits [] t n m is = absurd (never [] t m is)
-fixed_after limit limits (c ∷ cs) t n m is = cases (is_ascii_digit c && nat_le (n * 10 + (c - 48)) limit) is
-  where
-    cases : (v : Bool) → (if v then fixed [] (n * 10 + (c - 48)) cs else (None, c ∷ cs)) ≡ (Some m, t)
-        → (if v then fixed limits (n * 10 + (c - 48)) cs else (None, c ∷ cs)) ≡ fixed limits m t
-    cases true is' = ap (λ (p : Option ℕ × List ℕ). fixed limits (get_or_zero p.0) p.1) is'
-    cases false is' = absurd (never (c ∷ cs) t m is')
+fixed_after limit limits (c ∷ cs) t n m is =
+    let value = ap (λ (p : Option ℕ × List ℕ). p.0) is in
+    let left = ap (λ (p : Option ℕ × List ℕ). p.1) is in
+    grind arith
 
 fixed_stopped : (limit : ℕ) (limits s t : List ℕ) (n : ℕ) → fixed (limit ∷ []) n s ≡ (None, t) → fixed (limit ∷ limits) n s ≡ (None, t)
 unfolding fixed
 fixed_stopped limit limits [] t n is = is
-fixed_stopped limit limits (c ∷ cs) t n is = cases (is_ascii_digit c && nat_le (n * 10 + (c - 48)) limit) is
-  where
-    cases : (v : Bool) → (if v then fixed [] (n * 10 + (c - 48)) cs else (None, c ∷ cs)) ≡ (None, t)
-        → (if v then fixed limits (n * 10 + (c - 48)) cs else (None, c ∷ cs)) ≡ (None, t)
-    cases true is' = absurd (nor cs t (n * 10 + (c - 48)) is')
-    cases false is' = is'
+fixed_stopped limit limits (c ∷ cs) t n is =
+    let value = ap (λ (p : Option ℕ × List ℕ). p.0) is in
+    let left = ap (λ (p : Option ℕ × List ℕ). p.1) is in
+    grind arith
 
 pub fixed_step : (limits s t : List ℕ) (n i m : ℕ) → i < length limits → fixed (get_or limits i 0 ∷ []) n s ≡ (Some m, t) → fixed (drop i limits) n s ≡ fixed (drop (i + 1) limits) m t
 fixed_step limits s t n i m within is =
@@ -712,22 +612,13 @@ last_limit : ℕ → List ℕ → ℕ
 last_limit limit [] = limit
 last_limit limit (next ∷ limits) = last_limit next limits
 
-fixed_most_at : (limit : ℕ) (limits : List ℕ) (n c : ℕ) (cs : List ℕ) (m : ℕ) (left : List ℕ) (v : Bool) → (is_ascii_digit c && nat_le (n * 10 + (c - 48)) limit) ≡ v
-    → (if v then fixed limits (n * 10 + (c - 48)) cs else (None, c ∷ cs)) ≡ (Some m, left)
-    → (n * 10 + (c - 48) ≤ limit → fixed limits (n * 10 + (c - 48)) cs ≡ (Some m, left) → m ≤ last_limit limit limits) → m ≤ last_limit limit limits
-fixed_most_at limit limits n c cs m left true test is rest =
-    let tests = and_parts (is_ascii_digit c) (nat_le (n * 10 + (c - 48)) limit) test in
-    let fits : n * 10 + (c - 48) ≤ limit = grind (arith, nat_tests) in
-    rest fits is
-fixed_most_at limit limits n c cs m left false test is rest = absurd (never (c ∷ cs) left m is)
-
 fixed_most : (limits : List ℕ) (l n : ℕ) (s : List ℕ) (m : ℕ) (left : List ℕ) → n ≤ l → fixed limits n s ≡ (Some m, left) → m ≤ last_limit l limits
 unfolding fixed last_limit
 fixed_most [] l n s m left within is = let same : n ≡ m = ap (λ (p : Option ℕ × List ℕ). get_or_zero p.0) is in omega arith
 fixed_most (limit ∷ limits) l n [] m left within is = absurd (never [] left m is)
 fixed_most (limit ∷ limits) l n (c ∷ cs) m left within is =
-    fixed_most_at limit limits n c cs m left (is_ascii_digit c && nat_le (n * 10 + (c - 48)) limit) refl is
-    (λ fits is'. fixed_most limits limit (n * 10 + (c - 48)) cs m left fits is')
+    let value = ap (λ (p : Option ℕ × List ℕ). p.0) is in
+    grind (arith, nat_tests, fixed_most limits limit (n * 10 + (c - 48)) cs m left)
 
 pub priority_most : (s left : List ℕ) (n : ℕ) → fixed priority_limits 0 s ≡ (Some n, left) → n ≤ 999
 unfolding last_limit
@@ -739,9 +630,6 @@ sequence_most s left n is = fixed_most sequence_limits 0 0 s n left (omega arith
 
 -- # Steps of a list that is read.
 
-abbrev pub nothing : (A : Type 0) → List A
-nothing A = []
-
 shut : {A : Type 0} (xs : List A) (o : Option (Unit {0})) (left : List ℕ)
     → with_front xs (after o left (λ u. gives [])) ≡ (option_map (λ u. xs) o, left)
 shut xs (Some u) left = ap (λ ys. (Some ys, left)) (append-nil xs)
@@ -750,36 +638,39 @@ shut xs None left = refl
 close_shut : {A : Type 0} (xs : List A) (s left : List ℕ) (o : Option (Unit {0})) → lead (93 ∷ []) s ≡ (o, left) → with_front xs (close s) ≡ (option_map (λ u. xs) o, left)
 close_shut xs s left o is = ap (λ (p : Option (Unit {0}) × List ℕ). with_front xs (after p.0 p.1 (λ u. gives []))) is ∙ shut xs o left
 
-pub rest_last : {A : Type 0} (r : Reader A) (xs : List A) (j : ℕ) (s left : List ℕ) (o : Option (Unit {0})) → j ≡ 0 → lead (93 ∷ []) s ≡ (o, left)
-    → with_front xs (rest_in r j s) ≡ (option_map (λ u. xs) o, left)
+pub rest_last : {A : Type 0} (r : Reader A) (xs : List A) (room at : ℕ) (s left : List ℕ) (o : Option (Unit {0})) → room ≤ at → lead (93 ∷ []) s ≡ (o, left)
+    → with_front xs (rest_in r (room - at) s) ≡ (option_map (λ u. xs) o, left)
 unfolding rest_in
-rest_last r xs j s left o end is = ap (λ k. with_front xs (rest_in r k s)) end ∙ close_shut xs s left o is
+rest_last r xs room at s left o most is = let none : room - at ≡ 0 = omega arith in ap (λ k. with_front xs (rest_in r k s)) none ∙ close_shut xs s left o is
 
-pub rest_shut : {A : Type 0} (r : Reader A) (xs : List A) (j k : ℕ) (s left : List ℕ) (o : Option (Unit {0})) → j ≡ suc k → begins 93 s ≡ true → lead (93 ∷ []) s ≡ (o, left)
-    → with_front xs (rest_in r j s) ≡ (option_map (λ u. xs) o, left)
-unfolding rest_in
-rest_shut r xs j k s left o more first is = ap (λ k. with_front xs (rest_in r k s)) more ∙ rw first (close_shut xs s left o is)
+one_more : (room at : ℕ) → at < room → room - at ≡ suc (room - (at + 1))
+one_more room at more = omega arith
 
-pub rest_no_comma : {A : Type 0} (r : Reader A) (xs : List A) (j k : ℕ) (s left : List ℕ) → j ≡ suc k → begins 93 s ≡ false → lead (44 ∷ []) s ≡ (None, left)
-    → with_front xs (rest_in r j s) ≡ (None, left)
+pub rest_shut : {A : Type 0} (r : Reader A) (xs : List A) (room at : ℕ) (s left : List ℕ) (o : Option (Unit {0})) → at < room → begins 93 s ≡ true → lead (93 ∷ []) s ≡ (o, left)
+    → with_front xs (rest_in r (room - at) s) ≡ (option_map (λ u. xs) o, left)
 unfolding rest_in
-rest_no_comma r xs j k s left more first is = ap (λ k. with_front xs (rest_in r k s)) more ∙ rw (first, is) refl
+rest_shut r xs room at s left o more first is = ap (λ k. with_front xs (rest_in r k s)) (one_more room at more) ∙ rw first (close_shut xs s left o is)
 
-pub rest_no_item : {A : Type 0} (r : Reader A) (xs : List A) (j k : ℕ) (s t left : List ℕ) → j ≡ suc k → begins 93 s ≡ false → lead (44 ∷ []) s ≡ (Some tt, t) → r t ≡ (None, left)
-    → with_front xs (rest_in r j s) ≡ (None, left)
+pub rest_no_comma : {A : Type 0} (r : Reader A) (xs : List A) (room at : ℕ) (s left : List ℕ) → at < room → begins 93 s ≡ false → lead (44 ∷ []) s ≡ (None, left)
+    → with_front xs (rest_in r (room - at) s) ≡ (None, left)
 unfolding rest_in
-rest_no_item r xs j k s t left more first comma is = ap (λ k. with_front xs (rest_in r k s)) more ∙ rw (first, comma, is) refl
+rest_no_comma r xs room at s left more first is = ap (λ k. with_front xs (rest_in r k s)) (one_more room at more) ∙ rw (first, is) refl
+
+pub rest_no_item : {A : Type 0} (r : Reader A) (xs : List A) (room at : ℕ) (s t left : List ℕ) → at < room → begins 93 s ≡ false → lead (44 ∷ []) s ≡ (Some tt, t) → r t ≡ (None, left)
+    → with_front xs (rest_in r (room - at) s) ≡ (None, left)
+unfolding rest_in
+rest_no_item r xs room at s t left more first comma is = ap (λ k. with_front xs (rest_in r k s)) (one_more room at more) ∙ rw (first, comma, is) refl
 
 longer : {A : Type 0} (xs : List A) (x : A) (o : Option (List A)) (left : List ℕ)
     → with_front xs (after o left (λ ys. gives (x ∷ ys))) ≡ with_front (xs ++ x ∷ []) (o, left)
 longer xs x (Some ys) left = ap (λ zs. (Some zs, left)) (sym (append_assoc xs (x ∷ []) ys))
 longer xs x None left = refl
 
-pub rest_item : {A : Type 0} (r : Reader A) (xs : List A) (j k : ℕ) (s t u : List ℕ) (x : A) → j ≡ suc k → begins 93 s ≡ false → lead (44 ∷ []) s ≡ (Some tt, t) → r t ≡ (Some x, u)
-    → with_front xs (rest_in r j s) ≡ with_front (xs ++ x ∷ []) (rest_in r k u)
+pub rest_item : {A : Type 0} (r : Reader A) (xs : List A) (room at : ℕ) (s t u : List ℕ) (x : A) → at < room → begins 93 s ≡ false → lead (44 ∷ []) s ≡ (Some tt, t) → r t ≡ (Some x, u)
+    → with_front xs (rest_in r (room - at) s) ≡ with_front (xs ++ x ∷ []) (rest_in r (room - (at + 1)) u)
 unfolding rest_in
-rest_item r xs j k s t u x more first comma is =
-    ap (λ k. with_front xs (rest_in r k s)) more ∙ rw (first, comma, is) (longer xs x (rest_in r k u).0 (rest_in r k u).1)
+rest_item r xs room at s t u x more first comma is =
+    ap (λ k. with_front xs (rest_in r k s)) (one_more room at more) ∙ rw (first, comma, is) (longer xs x (rest_in r (room - (at + 1)) u).0 (rest_in r (room - (at + 1)) u).1)
 
 -- what a push leaves if there is room
 pub pushed_row : {A : Type 0} (b : Bool) (n : ℕ) (old new : List A) (x : A) → (IsTrue b ↔ (length old < n)) → OnTrue b (new ≡ old ++ x ∷ []) → length old < n → new ≡ old ++ x ∷ []
@@ -787,24 +678,6 @@ pushed_row true n old new x room pushed below = pushed
 pushed_row false n old new x room pushed below = absurd (let held : false ≡ true = room.1 below in cc)
 
 -- ## Whole lists
-
-pub list_not_open : {A : Type 0} (r : Reader A) (k : ℕ) (s left : List ℕ) → lead (91 ∷ []) s ≡ (None, left) → list_in r k s ≡ (None, left)
-unfolding list_in
-list_not_open r k s left is = rw is refl
-
-shut_none : {A : Type 0} (o : Option (Unit {0})) (left : List ℕ) → after o left (λ u. gives (nothing A)) ≡ (option_map (λ u. nothing A) o, left)
-shut_none (Some u) left = refl
-shut_none None left = refl
-
-pub list_shut : {A : Type 0} (r : Reader A) (k : ℕ) (s t left : List ℕ) (o : Option (Unit {0})) (row : List A) → row ≡ [] → lead (91 ∷ []) s ≡ (Some tt, t) → begins 93 t ≡ true → lead (93 ∷ []) t ≡ (o, left)
-    → list_in r k s ≡ (option_map (λ u. row) o, left)
-unfolding list_in
-list_shut {A} r k s t left o row empty opened first is =
-    rw (opened, first, is) (shut_none o left) ∙ ap (λ (xs : List A). (option_map (λ u. xs) o, left)) (sym empty)
-
-pub list_no_item : {A : Type 0} (r : Reader A) (k : ℕ) (s t left : List ℕ) → lead (91 ∷ []) s ≡ (Some tt, t) → begins 93 t ≡ false → r t ≡ (None, left) → list_in r k s ≡ (None, left)
-unfolding list_in
-list_no_item r k s t left opened first is = rw (opened, first, is) refl
 
 fronted : {A : Type 0} (x : A) (o : Option (List A)) (left : List ℕ) → after o left (λ ys. gives (x ∷ ys)) ≡ with_front (x ∷ []) (o, left)
 fronted x (Some ys) left = refl

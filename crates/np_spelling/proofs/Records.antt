@@ -1,39 +1,19 @@
 -- nodes, roles, sessions and jobs, and the items in their lists, are read as they are spelled
-use Rattle.np_spelling.proofs.Prelude.{BadRecord, Bool, Declined, Ending, EndsIn, Err, HasParts, HasText, IfSome, IsDeclined, IsLabel, IsMarked, IsNode, IsNodeId, IsReason, IsSessionRole, JobRecord, LabelId, List, Marked, NodeId, NodeRecord, NodeState, None, Ok, Option, Phase, PoolId, Reason, RequestId, Role, RoleKind, RoleRecord, SessionRecord, Some, SpellsJob, SpellsNode, SpellsRole, SpellsSession, StopsAt, TenantId, after, answer, ap, append-nil, append_assoc, arith, asked_end_in, begins, codes, decimal, declined_text, default_tenant, ending_by, ending_word, false, flag_text, gives, inl, inr, job_end, job_end_in, job_front, job_front_in, job_in, job_text, joined, label_text, length, list_text, marked_in, marked_text, no_end_in, node_age_in, node_front, node_front_in, node_head_in, node_id_text, node_in, node_place_in, node_server, node_server_in, node_state_by, node_state_in, node_state_word, node_tenant, node_tenant_in, node_text_to, numbered, open_phase_in, over_end_in, phase_in, phase_word, priority_in, reason_text_of, refl, request_in, role_in, role_kind_by, role_kind_word, role_name, role_name_in, role_of, session_in, subst, sym, using_end_in, ℕ, [], ◌++◌, ◌<◌, ◌>>=◌, ◌^◌, ◌∙◌, ◌∷◌, ◌≡◌, ◌≤◌, ◌⊎◌}
-use Rattle.np_spelling.proofs.Readers.{Any, Means, NoDigit, Opens, Read, Tells, Valued, after_same, behind, chain, choosing, flag, forking, giving, giving_open, leading, left_within, listing, loosely, read_spells, refused_stops, same, spelled_reads, valued}
-use Rattle.np_spelling.proofs.Values.{below, most, number_behind_text, number_first, numbering, request_id, u32_behind}
+use Rattle.np_spelling.proofs.Prelude.{BadRecord, Bool, Declined, Ending, EndsIn, Err, HasParts, HasText, IfSome, IsDeclined, IsLabel, IsMarked, IsNode, IsNodeId, IsReason, IsSessionRole, JobRecord, LabelId, List, Marked, NodeId, NodeRecord, NodeState, None, Ok, Option, Phase, PoolId, Reason, RequestId, Role, RoleKind, RoleRecord, SessionRecord, Some, SpellsJob, SpellsNode, SpellsRole, SpellsSession, StopsAt, TenantId, [], answer, ap, append-nil, append_assoc, arith, asked_end_in, begins, codes, decimal, declined_text, default_tenant, ending_by, ending_word, false, flag_text, inl, inr, job_end, job_end_in, job_front, job_front_in, job_in, job_text, joined, label_text, length, list_in, list_text, marked_in, marked_text, no_end_in, node_age_in, node_front, node_front_in, node_head_in, node_id_text, node_in, node_place_in, node_server, node_server_in, node_state_by, node_state_in, node_state_word, node_tenant, node_tenant_in, node_text_to, numbered, open_phase_in, over_end_in, phase_in, phase_word, priority_in, reason_text_of, refl, request_in, role_in, role_kind_by, role_kind_word, role_name, role_name_in, role_of, session_in, sym, using_end_in, ℕ, ◌++◌, ◌<◌, ◌^◌, ◌∙◌, ◌∷◌, ◌≡◌, ◌≤◌, ◌⊎◌}
+use Rattle.np_spelling.proofs.Readers.{Any, Means, NoDigit, Opens, Read, Tells, Valued, behind, chain, choosing, flag, forking, giving, giving_open, leading, listing, loosely, optional, read_spells, refused_stops, renamed, spelled_reads, valued}
+use Rattle.np_spelling.proofs.Values.{number_behind_text, number_first, numbering, request_id, u32_behind}
 
 -- # Nodes, by their parts.
 
 -- ## The front
 
-abbrev pub front_parts : Read Any (Option RequestId)
-front_parts =
-    behind (leading (codes "{\"a")) (λ _.
-    forking 108
-    (behind (leading (codes "llocated-to\":\"")) (λ _. behind request_id (λ id. behind (leading (codes "\",\"attempts\":")) (λ _. giving (Some id)))))
-    (behind (leading (codes "ttempts\":")) (λ _. giving None))
-    (λ t x. refl) (λ t x f. refl))
-
-abbrev FrontOk : Option RequestId → Type 0
-FrontOk o = IfSome o HasText
-
-front_to : (t : front_parts.Tree) → FrontOk (front_parts.value t) × (node_front (front_parts.value t) ≡ front_parts.text t)
-front_to t = cases t.0 t.1
-  where
-    cases : (u : Unit {0}) (v : _) → FrontOk (front_parts.value (u, v)) × (node_front (front_parts.value (u, v)) ≡ front_parts.text (u, v))
-    cases u (inl v) = (v.1.0.1, refl)
-    cases u (inr v) = (tt, refl)
-
-front_back : (o : Option RequestId) → FrontOk o → (t : front_parts.Tree) × (front_parts.value t ≡ o) × (front_parts.text t ≡ node_front o)
-front_back (Some id) has = ((tt, inl (tt, ((id, has), (tt, tt)))), refl, refl)
-front_back None has = ((tt, inr (tt, tt)), refl, refl)
-
-pub front_valued : Valued front_parts FrontOk node_front
-front_valued = record { to = front_to; back = front_back }
+abbrev pub allocated : Read Any (Option RequestId)
+allocated = behind (leading (codes "llocated-to\":\"")) (λ _. behind request_id (λ id. behind (leading (codes "\",\"attempts\":")) (λ _. giving (Some id))))
 
 abbrev pub front : Read Any (Option RequestId)
-front = valued front_parts FrontOk node_front front_valued
+front =
+    optional (codes "{\"a") 108 allocated (codes "ttempts\":") (λ t x. refl) (λ x. refl) HasText node_front refl
+    (λ t. (t.1.0.1, refl)) (λ id has. ((tt, ((id, has), (tt, tt))), refl, refl))
 
 abbrev pub u8_number : Read NoDigit ℕ
 u8_number = numbering 255 (omega arith) (omega arith)
@@ -51,33 +31,13 @@ head =
 
 -- ## The server
 
-abbrev pub server_parts : Read Any (Option ℕ)
-server_parts =
-    behind (leading (codes ",\"s")) (λ _.
-    forking 101
-    (chain (number_behind_text (codes "erver\":") 18446744073709551615 (omega arith) (omega arith)) (λ server. behind (leading (codes ",\"since\":")) (λ _. giving (Some server))) (λ t u x f. refl))
-    (behind (leading (codes "ince\":")) (λ _. giving None))
-    (λ t x. refl) (λ t x f. refl))
-
-abbrev ServerOk : Option ℕ → Type 0
-ServerOk o = IfSome o (λ server. server < 2 ^ 64)
-
-server_to : (t : server_parts.Tree) → ServerOk (server_parts.value t) × (node_server (server_parts.value t) ≡ server_parts.text t)
-server_to t = cases t.0 t.1
-  where
-    cases : (u : Unit {0}) (v : _) → ServerOk (server_parts.value (u, v)) × (node_server (server_parts.value (u, v)) ≡ server_parts.text (u, v))
-    cases u (inl v) = (omega (arith, v.0.1.1), refl)
-    cases u (inr v) = (tt, refl)
-
-server_back : (o : Option ℕ) → ServerOk o → (t : server_parts.Tree) × (server_parts.value t ≡ o) × (server_parts.text t ≡ node_server o)
-server_back (Some n) small = ((tt, inl ((tt, (n, omega (arith, small))), (tt, tt))), refl, refl)
-server_back None small = ((tt, inr (tt, tt)), refl, refl)
-
-pub server_valued : Valued server_parts ServerOk node_server
-server_valued = record { to = server_to; back = server_back }
+abbrev pub served_by : Read Any (Option ℕ)
+served_by = chain (number_behind_text (codes "erver\":") 18446744073709551615 (omega arith) (omega arith)) (λ server. behind (leading (codes ",\"since\":")) (λ _. giving (Some server))) (λ t u x f. refl)
 
 abbrev pub server : Read Any (Option ℕ)
-server = valued server_parts ServerOk node_server server_valued
+server =
+    optional (codes ",\"s") 101 served_by (codes "ince\":") (λ t x. refl) (λ x. refl) (λ server. server < 2 ^ 64) node_server refl
+    (λ t. (omega (arith, t.0.1.1), refl)) (λ n small. (((tt, (n, omega (arith, small))), (tt, tt)), refl, refl))
 
 pub server_fits : (o : Option ℕ) (x : List ℕ) → NoDigit ((node_server o ++ []) ++ x)
 server_fits (Some n) x = refl
@@ -92,7 +52,7 @@ place =
 
 -- ## The age and the state
 
-pub state_tells : Tells node_state_by same node_state_word
+pub state_tells : Tells node_state_by node_state_word
 state_tells NodeState.Building = (98, codes "uilding", refl, refl)
 state_tells NodeState.Ready = (114, codes "eady", refl, refl)
 state_tells NodeState.InUse = (105, codes "n-use", refl, refl)
@@ -104,7 +64,7 @@ state_tells NodeState.Failed = (102, codes "ailed", refl, refl)
 abbrev pub state : Read Any NodeState
 state =
     behind (leading (codes ",\"state\":\"")) (λ _.
-    behind (choosing node_state_by same node_state_word state_tells NodeState.Building) (λ s.
+    behind (choosing node_state_by node_state_word state_tells NodeState.Building) (λ s.
     behind (leading (codes "\"")) (λ _. giving s)))
 
 abbrev pub u32_number : Read NoDigit ℕ
@@ -152,8 +112,8 @@ tenant_back None small = (inr (tt, inl (tt, tt)), refl, refl)
 
 -- ## Nodes
 
-abbrev pub node_read : Read Any NodeRecord
-node_read =
+abbrev pub node_parts : Read Any NodeRecord
+node_parts =
     behind head (λ h.
     behind place (λ p.
     behind age (λ a.
@@ -171,6 +131,13 @@ node_read =
       tenant = t;
     })))))
 
+pub node_run : node_parts.run ≡ node_in
+unfolding node_in node_head_in node_front_in node_place_in node_server_in node_age_in node_state_in node_tenant_in numbered request_in priority_in
+node_run = refl
+
+abbrev pub node_read : Read Any NodeRecord
+node_read = renamed node_parts node_in node_run
+
 group : (a b c d e f g h i j k l m n o p : List ℕ)
     → (a ++ (b ++ (c ++ (d ++ [])))) ++ (((e ++ f) ++ ((g ++ h) ++ (i ++ []))) ++ ((j ++ ((k ++ l) ++ ((m ++ (n ++ (o ++ []))) ++ []))) ++ (p ++ [])))
     ≡ a ++ (b ++ (c ++ (d ++ (e ++ (f ++ (g ++ (h ++ (i ++ (j ++ (k ++ (l ++ (m ++ (n ++ (o ++ (p ++ [])))))))))))))))
@@ -187,6 +154,12 @@ grouped t =
     group (node_front n.allocated_to) (decimal n.attempts) (codes ",\"in-flight\":") (flag_text n.in_flight) (codes ",\"label\":") (decimal n.label.0) (codes ",\"pool\":") (decimal n.pool.0)
     (node_server n.server) (decimal n.since) (codes ",\"start\":") (decimal n.start) (codes ",\"state\":\"") (node_state_word n.state) (codes "\"") (tenant.text t.1.1.1.0)
 
+-- a node's record with an end that says its tenant
+with_end : (n : NodeRecord) (end bytes : List ℕ) → bytes ≡ node_text_to end n → (end ≡ node_tenant n.tenant) ⊎ ((n.tenant ≡ default_tenant) × (end ≡ codes "}"))
+    → (bytes ≡ node_text_to (node_tenant n.tenant) n) ⊎ ((n.tenant ≡ default_tenant) × (bytes ≡ node_text_to (codes "}") n))
+with_end n end bytes text (inl is) = inl (text ∙ ap (λ e. node_text_to e n) is)
+with_end n end bytes text (inr is) = inr (is.0, text ∙ ap (λ e. node_text_to e n) is.1)
+
 node_to : (t : node_read.Tree) → SpellsNode (node_read.value t) (node_read.text t)
 node_to t =
     let end = tenant_to t.1.1.1.0 in (
@@ -200,14 +173,8 @@ node_to t =
         start = omega (arith, t.1.1.0.1.0.1.1);
         tenant = end.0;
       },
-      ends end.1,
+      with_end (node_read.value t) (tenant.text t.1.1.1.0) (node_read.text t) (grouped t) end.1,
     )
-  where
-    ends : (tenant.text t.1.1.1.0 ≡ node_tenant (tenant.value t.1.1.1.0)) ⊎ ((tenant.value t.1.1.1.0 ≡ default_tenant) × (tenant.text t.1.1.1.0 ≡ codes "}"))
-        → (node_read.text t ≡ node_text_to (node_tenant (tenant.value t.1.1.1.0)) (node_read.value t))
-        ⊎ ((tenant.value t.1.1.1.0 ≡ default_tenant) × (node_read.text t ≡ node_text_to (codes "}") (node_read.value t)))
-    ends (inl is) = inl (grouped t ∙ ap (λ end. node_text_to end (node_read.value t)) is)
-    ends (inr is) = inr (is.0, grouped t ∙ ap (λ end. node_text_to end (node_read.value t)) is.1)
 
 -- the tree of a node, with the tree of its tenant
 tree_of : (n : NodeRecord) → IsNode n → tenant.Tree → node_read.Tree
@@ -245,72 +212,65 @@ node_back n bytes spelled = ends spelled.1
 pub node_means : Means node_read SpellsNode
 node_means = record { to = node_to; back = node_back }
 
-pub node_left : (s left : List ℕ) (o : Option NodeRecord) → node_in s ≡ (o, left) → length left ≤ length s
-unfolding node_in node_head_in node_front_in node_place_in node_server_in node_age_in node_state_in node_tenant_in numbered request_in priority_in
-node_left s left o is = subst (λ (p : Option NodeRecord × List ℕ). length p.1 ≤ length s) is (left_within node_read s)
-
 pub node_reads : (s : List ℕ) (v : NodeRecord) → answer (length s) (node_in s).0 (node_in s).1 ≡ Ok v → SpellsNode v s
-unfolding node_in node_head_in node_front_in node_place_in node_server_in node_age_in node_state_in node_tenant_in numbered request_in priority_in
-node_reads s v is = read_spells node_read SpellsNode node_means (length s) s v is
+node_reads = read_spells node_read SpellsNode node_means
 
 pub node_all : (s : List ℕ) (v : NodeRecord) → SpellsNode v s → answer (length s) (node_in s).0 (node_in s).1 ≡ Ok v
-unfolding node_in node_head_in node_front_in node_place_in node_server_in node_age_in node_state_in node_tenant_in numbered request_in priority_in
-node_all s v spelled = spelled_reads node_read SpellsNode node_means (length s) s v spelled
+node_all = spelled_reads node_read SpellsNode node_means
 
 pub node_bad : (s : List ℕ) (bad : BadRecord) → answer (length s) (node_in s).0 (node_in s).1 ≡ Err bad → StopsAt SpellsNode s bad.place
-unfolding node_in node_head_in node_front_in node_place_in node_server_in node_age_in node_state_in node_tenant_in numbered request_in priority_in
-node_bad s bad is = refused_stops node_read SpellsNode node_means s bad is
+node_bad = refused_stops node_read SpellsNode node_means
 
 pub ruleset node_law = (node_reads, node_all, node_bad)
 
 -- # Roles, by their parts.
 
-abbrev pub role : Read Any RoleRecord
-role =
+abbrev pub role_record : Read Any RoleRecord
+role_record =
     chain (u32_behind (codes "{\"acts\":")) (λ acts.
     chain (u32_behind (codes ",\"starts\":")) (λ starts.
     chain (u32_behind (codes ",\"strikes\":")) (λ strikes.
     behind (leading (codes "}")) (λ _.
     giving (record { acts = acts; starts = starts; strikes = strikes }))) (λ t u x f. refl)) (λ t u x f. refl)) (λ t u x f. refl)
 
-pub role_left : (s left : List ℕ) (o : Option RoleRecord) → role_in s ≡ (o, left) → length left ≤ length s
+pub role_run : role_record.run ≡ role_in
 unfolding role_in numbered
-role_left s left o is = subst (λ (p : Option RoleRecord × List ℕ). length p.1 ≤ length s) is (left_within role s)
+role_run = refl
 
-pub role_means : Means role SpellsRole
+abbrev pub role_read : Read Any RoleRecord
+role_read = renamed role_record role_in role_run
+
+pub role_means : Means role_read SpellsRole
 role_means = record {
   to = λ t. (
-    record { acts = below t.0.1.0 t.0.1.1; starts = below t.1.0.1.0 t.1.0.1.1; strikes = below t.1.1.0.1.0 t.1.1.0.1.1 },
+    record { acts = omega (arith, t.0.1.1); starts = omega (arith, t.1.0.1.1); strikes = omega (arith, t.1.1.0.1.1) },
     refl,
   );
   back = λ v bytes spelled.
       let is = spelled.0 in
-      (((tt, (v.acts, most v.acts is.acts)), ((tt, (v.starts, most v.starts is.starts)), ((tt, (v.strikes, most v.strikes is.strikes)), (tt, tt)))), refl, sym spelled.1);
+      (((tt, (v.acts, omega (arith, is.acts))), ((tt, (v.starts, omega (arith, is.starts))), ((tt, (v.strikes, omega (arith, is.strikes))), (tt, tt)))), refl, sym spelled.1);
 }
 
-pub role_read : (s : List ℕ) (v : RoleRecord) → answer (length s) (role_in s).0 (role_in s).1 ≡ Ok v → SpellsRole v s
-unfolding role_in numbered
-role_read s v is = read_spells role SpellsRole role_means (length s) s v is
+pub role_reads : (s : List ℕ) (v : RoleRecord) → answer (length s) (role_in s).0 (role_in s).1 ≡ Ok v → SpellsRole v s
+role_reads = read_spells role_read SpellsRole role_means
 
 pub role_all : (s : List ℕ) (v : RoleRecord) → SpellsRole v s → answer (length s) (role_in s).0 (role_in s).1 ≡ Ok v
-unfolding role_in numbered
-role_all s v spelled = spelled_reads role SpellsRole role_means (length s) s v spelled
+role_all = spelled_reads role_read SpellsRole role_means
 
 pub role_bad : (s : List ℕ) (bad : BadRecord) → answer (length s) (role_in s).0 (role_in s).1 ≡ Err bad → StopsAt SpellsRole s bad.place
-unfolding role_in numbered
-role_bad s bad is = refused_stops role SpellsRole role_means s bad is
+role_bad = refused_stops role_read SpellsRole role_means
 
-pub ruleset role_law = (role_read, role_all, role_bad)
+pub ruleset role_law = (role_reads, role_all, role_bad)
 
 -- # Sessions, by their parts.
 
-pub kind_tells : Tells role_kind_by same role_kind_word
+pub kind_tells : Tells role_kind_by role_kind_word
 kind_tells RoleKind.Launcher = (108, codes "auncher", refl, refl)
 kind_tells RoleKind.Janitor = (106, codes "anitor", refl, refl)
 kind_tells RoleKind.Requester = (114, codes "equester", refl, refl)
 
 abbrev pub role_kind : Read Any RoleKind
-role_kind = choosing role_kind_by same role_kind_word kind_tells RoleKind.Launcher
+role_kind = choosing role_kind_by role_kind_word kind_tells RoleKind.Launcher
 
 abbrev pub role_parts : Read NoDigit Role
 role_parts =
@@ -318,25 +278,22 @@ role_parts =
     chain (number_behind_text (codes "-") 65535 (omega arith) (omega arith)) (λ n.
     giving_open (role_of kind n)) (λ t u x f. f))
 
-role_to : (k : RoleKind) (n : ℕ) → n ≤ 65535 → IsSessionRole (role_of k n) × (role_name (role_of k n) ≡ role_kind_word k ++ 45 ∷ (decimal n ++ []))
+pub role_to : (k : RoleKind) (n : ℕ) → n ≤ 65535 → IsSessionRole (role_of k n) × (role_name (role_of k n) ≡ role_kind_word k ++ 45 ∷ (decimal n ++ []))
 role_to RoleKind.Launcher n most = (omega arith, refl)
 role_to RoleKind.Janitor n most = (omega arith, refl)
 role_to RoleKind.Requester n most = (omega arith, refl)
 
-role_back : (r : Role) → IsSessionRole r → (t : role_parts.Tree) × (role_parts.value t ≡ r) × (role_parts.text t ≡ role_name r)
+pub role_back : (r : Role) → IsSessionRole r → (t : role_parts.Tree) × (role_parts.value t ≡ r) × (role_parts.text t ≡ role_name r)
 role_back (Role.Launcher p) is = ((RoleKind.Launcher, ((tt, (p.0, omega arith)), tt)), refl, refl)
 role_back (Role.Janitor p) is = ((RoleKind.Janitor, ((tt, (p.0, omega arith)), tt)), refl, refl)
 role_back (Role.Requester q) is = ((RoleKind.Requester, ((tt, (q.0, omega arith)), tt)), refl, refl)
 role_back Role.Reaper is = absurd is
 
-pub role_valued : Valued role_parts IsSessionRole role_name
-role_valued = record { to = λ t. role_to t.0 t.1.0.1.0 t.1.0.1.1; back = role_back }
-
 abbrev pub named_role : Read NoDigit Role
-named_role = valued role_parts IsSessionRole role_name role_valued
+named_role = valued role_parts IsSessionRole role_name (record { to = λ t. role_to t.0 t.1.0.1.0 t.1.0.1.1; back = role_back })
 
-abbrev pub session : Read Any SessionRecord
-session =
+abbrev pub session_parts : Read Any SessionRecord
+session_parts =
     behind (leading (codes "{\"mute\":")) (λ _.
     behind flag (λ mute.
     behind (leading (codes ",\"role\":\"")) (λ _.
@@ -344,29 +301,29 @@ session =
     behind (leading (codes "\"}")) (λ _.
     giving (record { mute = mute; role = role }))) (λ t u x f. refl))))
 
-pub session_left : (s left : List ℕ) (o : Option SessionRecord) → session_in s ≡ (o, left) → length left ≤ length s
+pub session_run : session_parts.run ≡ session_in
 unfolding session_in role_name_in numbered
-session_left s left o is = subst (λ (p : Option SessionRecord × List ℕ). length p.1 ≤ length s) is (left_within session s)
+session_run = refl
 
-pub session_means : Means session SpellsSession
+abbrev pub session_read : Read Any SessionRecord
+session_read = renamed session_parts session_in session_run
+
+pub session_means : Means session_read SpellsSession
 session_means = record {
   to = λ t. (t.1.1.1.0.1, refl);
   back = λ v bytes spelled. ((tt, (v.mute, (tt, ((v.role, spelled.0), (tt, tt))))), refl, sym spelled.1);
 }
 
-pub session_read : (s : List ℕ) (v : SessionRecord) → answer (length s) (session_in s).0 (session_in s).1 ≡ Ok v → SpellsSession v s
-unfolding session_in role_name_in numbered
-session_read s v is = read_spells session SpellsSession session_means (length s) s v is
+pub session_reads : (s : List ℕ) (v : SessionRecord) → answer (length s) (session_in s).0 (session_in s).1 ≡ Ok v → SpellsSession v s
+session_reads = read_spells session_read SpellsSession session_means
 
 pub session_all : (s : List ℕ) (v : SessionRecord) → SpellsSession v s → answer (length s) (session_in s).0 (session_in s).1 ≡ Ok v
-unfolding session_in role_name_in numbered
-session_all s v spelled = spelled_reads session SpellsSession session_means (length s) s v spelled
+session_all = spelled_reads session_read SpellsSession session_means
 
 pub session_bad : (s : List ℕ) (bad : BadRecord) → answer (length s) (session_in s).0 (session_in s).1 ≡ Err bad → StopsAt SpellsSession s bad.place
-unfolding session_in role_name_in numbered
-session_bad s bad is = refused_stops session SpellsSession session_means s bad is
+session_bad = refused_stops session_read SpellsSession session_means
 
-pub ruleset session_law = (session_read, session_all, session_bad)
+pub ruleset session_law = (session_reads, session_all, session_bad)
 
 -- # Items of lists, by their parts.
 
@@ -379,8 +336,8 @@ label_valued = record {
   back = λ l is. (((l.0, omega arith), tt), refl, append-nil (decimal l.0));
 }
 
-pub label_opens : Opens label
-label_opens t x = ap (begins 93) (append_assoc (decimal t.0.0) [] x) ∙ number_first 93 t.0.0 (inr (omega arith)) (omega (arith, t.0.1)) x
+pub label_opens : Opens IsLabel label_text
+label_opens l small = number_first 93 l.0 (inr (omega arith)) (omega arith)
 
 abbrev pub node_id : Read NoDigit NodeId
 node_id = chain u32_number (λ n. giving_open (record { 0 = n })) (λ t u x f. f)
@@ -391,8 +348,8 @@ node_id_valued = record {
   back = λ n is. (((n.0, omega arith), tt), refl, append-nil (decimal n.0));
 }
 
-pub node_id_opens : Opens node_id
-node_id_opens t x = ap (begins 93) (append_assoc (decimal t.0.0) [] x) ∙ number_first 93 t.0.0 (inr (omega arith)) (omega (arith, t.0.1)) x
+pub node_id_opens : Opens IsNodeId node_id_text
+node_id_opens n small = number_first 93 n.0 (inr (omega arith)) (omega arith)
 
 abbrev pub marked : Read NoDigit Marked
 marked = loosely (
@@ -408,8 +365,8 @@ marked_valued = record {
   back = λ m is. (((tt, (m.node.0, omega arith)), (tt, (m.ended, (tt, tt)))), refl, refl);
 }
 
-pub marked_opens : Opens marked
-marked_opens t x = refl
+pub marked_opens : Opens IsMarked marked_text
+marked_opens m is x = refl
 
 abbrev pub reason_n : Read NoDigit Reason
 reason_n =
@@ -438,22 +395,19 @@ reason_to_n t = cases t.0 t.1
     cases u (inl v) = (omega (arith, v.0.1.1), ap (λ x. codes "no-label-l" ++ x) (sym (append-nil (decimal v.0.1.0))))
     cases u (inr v) = (tt, refl)
 
-reason_to : (t : reason_parts.Tree) → IsReason (reason_parts.value t) × (reason_text_of (reason_parts.value t) ≡ reason_parts.text t)
+pub reason_to : (t : reason_parts.Tree) → IsReason (reason_parts.value t) × (reason_text_of (reason_parts.value t) ≡ reason_parts.text t)
 reason_to (inl t) = (omega (arith, t.0.1.1), ap (λ x. codes "spent-n" ++ x) (sym (append-nil (decimal t.0.1.0))))
 reason_to (inr (inl t)) = (tt, refl)
 reason_to (inr (inr t)) = reason_to_n t
 
-reason_back : (r : Reason) → IsReason r → (t : reason_parts.Tree) × (reason_parts.value t ≡ r) × (reason_parts.text t ≡ reason_text_of r)
+pub reason_back : (r : Reason) → IsReason r → (t : reason_parts.Tree) × (reason_parts.value t ≡ r) × (reason_parts.text t ≡ reason_text_of r)
 reason_back (Reason.NoLabel l) is = (inr (inr (tt, inl ((tt, (l.0, omega arith)), tt))), refl, ap (λ x. codes "no-label-l" ++ x) (append-nil (decimal l.0)))
 reason_back Reason.NeverFits is = (inr (inr (tt, inr (tt, tt))), refl, refl)
 reason_back Reason.TenantNeverFits is = (inr (inl (tt, tt)), refl, refl)
 reason_back (Reason.Spent n) is = (inl ((tt, (n.0, omega arith)), tt), refl, ap (λ x. codes "spent-n" ++ x) (append-nil (decimal n.0)))
 
-pub reason_valued : Valued reason_parts IsReason reason_text_of
-reason_valued = record { to = reason_to; back = reason_back }
-
 abbrev pub why : Read NoDigit Reason
-why = valued reason_parts IsReason reason_text_of reason_valued
+why = valued reason_parts IsReason reason_text_of (record { to = reason_to; back = reason_back })
 
 abbrev pub declined : Read NoDigit Declined
 declined = loosely (
@@ -469,12 +423,12 @@ declined_valued = record {
   back = λ d is. (((tt, (d.pool.0, omega (arith, is.pool))), (tt, ((d.reason, is.reason), (tt, tt)))), refl, refl);
 }
 
-pub declined_opens : Opens declined
-declined_opens t x = refl
+pub declined_opens : Opens IsDeclined declined_text
+declined_opens d is x = refl
 
 -- # Jobs, by their parts.
 
-pub ending_tells : Tells ending_by same ending_word
+pub ending_tells : Tells ending_by ending_word
 ending_tells Ending.Served = (115, codes "erved", refl, refl)
 ending_tells Ending.Lost = (108, codes "ost", refl, refl)
 ending_tells Ending.Failed = (102, codes "ailed", refl, refl)
@@ -482,33 +436,15 @@ ending_tells Ending.Withdrawn = (119, codes "ithdrawn", refl, refl)
 
 -- ## The front
 
-abbrev pub job_front_parts : Read Any (Option Ending)
-job_front_parts =
-    behind (leading (codes "{\"")) (λ _.
-    forking 101
-    (behind (leading (codes "ending\":\"")) (λ _. behind (choosing ending_by same ending_word ending_tells Ending.Served) (λ e. behind (leading (codes "\",\"nodes\":")) (λ _. giving (Some e)))))
-    (behind (leading (codes "nodes\":")) (λ _. giving None))
-    (λ t x. refl) (λ t x f. refl))
-
-abbrev AnyEnding : Option Ending → Type 0
-AnyEnding o = Unit {0}
-
-job_front_to : (t : job_front_parts.Tree) → AnyEnding (job_front_parts.value t) × (job_front (job_front_parts.value t) ≡ job_front_parts.text t)
-job_front_to t = cases t.0 t.1
-  where
-    cases : (u : Unit {0}) (v : _) → AnyEnding (job_front_parts.value (u, v)) × (job_front (job_front_parts.value (u, v)) ≡ job_front_parts.text (u, v))
-    cases u (inl v) = (tt, refl)
-    cases u (inr v) = (tt, refl)
-
-job_front_back : (o : Option Ending) → AnyEnding o → (t : job_front_parts.Tree) × (job_front_parts.value t ≡ o) × (job_front_parts.text t ≡ job_front o)
-job_front_back (Some e) is = ((tt, inl (tt, (e, (tt, tt)))), refl, refl)
-job_front_back None is = ((tt, inr (tt, tt)), refl, refl)
-
-pub job_front_valued : Valued job_front_parts AnyEnding job_front
-job_front_valued = record { to = job_front_to; back = job_front_back }
+abbrev pub ending : Read Any (Option Ending)
+ending = behind (leading (codes "ending\":\"")) (λ _. behind (choosing ending_by ending_word ending_tells Ending.Served) (λ e. behind (leading (codes "\",\"nodes\":")) (λ _. giving (Some e))))
 
 abbrev pub ended : Read Any (Option Ending)
-ended = valued job_front_parts AnyEnding job_front job_front_valued
+ended = optional (codes "{\"") 101 ending (codes "nodes\":") (λ t x. refl) (λ x. refl) (λ e. Unit {0}) job_front refl (λ t. (tt, refl)) (λ e is. ((tt, (e, (tt, tt))), refl, refl))
+
+any_ending : (o : Option Ending) → IfSome o (λ e. Unit {0})
+any_ending (Some e) = tt
+any_ending None = tt
 
 abbrev pub nodes : Read Any (List Marked)
 nodes = listing marked IsMarked marked_text marked_valued marked_opens 31
@@ -534,7 +470,7 @@ phase_text p = joined (codes ",\"phase\":\"" ∷ phase_word p ∷ codes "\"" ∷
 abbrev pub PhaseOk : Option Ending → Phase → Type 0
 PhaseOk ending p = EndsIn p ending
 
-phase_to : (e : Option Ending) (t : (phase_parts e).Tree) → PhaseOk e ((phase_parts e).value t) × (phase_text ((phase_parts e).value t) ≡ (phase_parts e).text t)
+pub phase_to : (e : Option Ending) (t : (phase_parts e).Tree) → PhaseOk e ((phase_parts e).value t) × (phase_text ((phase_parts e).value t) ≡ (phase_parts e).text t)
 phase_to (Some e) t = (tt, refl)
 phase_to None t = cases t.0 t.1
   where
@@ -543,21 +479,20 @@ phase_to None t = cases t.0 t.1
     cases u (inr (inl v)) = (tt, refl)
     cases u (inr (inr v)) = (tt, refl)
 
-phase_back : (e : Option Ending) (p : Phase) → PhaseOk e p → (t : (phase_parts e).Tree) × ((phase_parts e).value t ≡ p) × ((phase_parts e).text t ≡ phase_text p)
+pub phase_back : (e : Option Ending) (p : Phase) → PhaseOk e p → (t : (phase_parts e).Tree) × ((phase_parts e).value t ≡ p) × ((phase_parts e).text t ≡ phase_text p)
 phase_back (Some e) Phase.Over is = ((tt, tt), refl, refl)
-phase_back (Some e) Phase.New is = absurd is
-phase_back (Some e) Phase.Asked is = absurd is
-phase_back (Some e) Phase.Using is = absurd is
 phase_back None Phase.New is = ((tt, inl (tt, tt)), refl, refl)
 phase_back None Phase.Asked is = ((tt, inr (inl (tt, tt))), refl, refl)
 phase_back None Phase.Using is = ((tt, inr (inr (tt, tt))), refl, refl)
-phase_back None Phase.Over is = absurd is
+phase_back e p is = absurd is
 
-pub phase_valued : (e : Option Ending) → Valued (phase_parts e) (PhaseOk e) phase_text
-phase_valued e = record { to = phase_to e; back = phase_back e }
+pub phase_run : (e : Option Ending) → (phase_parts e).run ≡ phase_in e
+unfolding phase_in open_phase_in
+phase_run (Some e) = refl
+phase_run None = refl
 
 abbrev pub phase_read : Option Ending → Read Any Phase
-phase_read e = valued (phase_parts e) (PhaseOk e) phase_text (phase_valued e)
+phase_read e = renamed (valued (phase_parts e) (PhaseOk e) phase_text (record { to = phase_to e; back = phase_back e })) (phase_in e) (phase_run e)
 
 -- ## The end
 
@@ -599,42 +534,47 @@ over_to (inr t) = cases t.0 t.1
     cases u (inl v) = ((tt, omega (arith, v.0.1.1), v.1.1.0.1), refl)
     cases u (inr v) = ((tt, tt, v.1.0.1), refl)
 
-end_to : (p : Phase) (t : (end_parts p).Tree) → EndOk p ((end_parts p).value t) × (end_text ((end_parts p).value t) ≡ (end_parts p).text t)
+pub end_to : (p : Phase) (t : (end_parts p).Tree) → EndOk p ((end_parts p).value t) × (end_text ((end_parts p).value t) ≡ (end_parts p).text t)
 end_to Phase.New t = ((tt, tt, tt), refl)
 end_to Phase.Asked t = ((tt, tt, t.1.0.1), refl)
 end_to Phase.Using t = ((tt, omega (arith, t.0.1.1), t.1.1.0.1), refl)
 end_to Phase.Over t = over_to t
 
-end_back : (p : Phase) (pool : Option PoolId) (id : Option RequestId) → EndOk p (pool, id) → (t : (end_parts p).Tree) × ((end_parts p).value t ≡ (pool, id)) × ((end_parts p).text t ≡ job_end pool id)
+pub end_back : (p : Phase) (pool : Option PoolId) (id : Option RequestId) → EndOk p (pool, id) → (t : (end_parts p).Tree) × ((end_parts p).value t ≡ (pool, id)) × ((end_parts p).text t ≡ job_end pool id)
 end_back Phase.New None None ok = ((tt, tt), refl, refl)
-end_back Phase.New None (Some id) ok = absurd ok.0
-end_back Phase.New (Some p) id ok = absurd ok.0
 end_back Phase.Asked None (Some id) ok = ((tt, ((id, ok.2), (tt, tt))), refl, refl)
-end_back Phase.Asked None None ok = absurd ok.0
-end_back Phase.Asked (Some p) id ok = absurd ok.0
 end_back Phase.Using (Some p) (Some id) ok = (((tt, (p.0, omega (arith, ok.1))), (tt, ((id, ok.2), (tt, tt)))), refl, refl)
-end_back Phase.Using (Some p) None ok = absurd ok.0
-end_back Phase.Using None id ok = absurd ok.0
 end_back Phase.Over None None ok = (inl (tt, tt), refl, refl)
 end_back Phase.Over None (Some id) ok = (inr (tt, inr (tt, ((id, ok.2), (tt, tt)))), refl, refl)
 end_back Phase.Over (Some p) (Some id) ok = (inr (tt, inl ((tt, (p.0, omega (arith, ok.1))), (tt, ((id, ok.2), (tt, tt))))), refl, refl)
-end_back Phase.Over (Some p) None ok = absurd ok.0
+end_back p pool id ok = absurd ok.0
 
-pub end_valued : (p : Phase) → Valued (end_parts p) (EndOk p) end_text
-end_valued p = record { to = end_to p; back = λ e ok. end_back p e.0 e.1 ok }
+pub end_run : (p : Phase) → (end_parts p).run ≡ job_end_in p
+unfolding no_end_in asked_end_in using_end_in over_end_in numbered request_in priority_in
+end_run Phase.New = refl
+end_run Phase.Asked = refl
+end_run Phase.Using = refl
+end_run Phase.Over = refl
 
 abbrev pub end_read : Phase → Read Any Ends
-end_read p = valued (end_parts p) (EndOk p) end_text (end_valued p)
+end_read p = renamed (valued (end_parts p) (EndOk p) end_text (record { to = end_to p; back = λ e ok. end_back p e.0 e.1 ok })) (job_end_in p) (end_run p)
 
 -- ## Jobs
 
-abbrev pub job_read : Read Any JobRecord
-job_read =
+abbrev pub job_parts : Read Any JobRecord
+job_parts =
     behind ended (λ ending.
     behind nodes (λ nodes.
     behind (phase_read ending) (λ phase.
     behind (end_read phase) (λ e.
     giving (record { ending = ending; nodes = nodes; phase = phase; pool = e.0; request = e.1 })))))
+
+pub job_run : job_parts.run ≡ job_in
+unfolding job_in job_front_in list_in marked_in numbered
+job_run = refl
+
+abbrev pub job_read : Read Any JobRecord
+job_read = renamed job_parts job_in job_run
 
 job_grouped : (t : job_read.Tree) → job_text (job_read.value t) ≡ job_read.text t
 job_grouped t =
@@ -656,44 +596,17 @@ job_means = record {
   );
   back = λ j bytes spelled.
       let is = spelled.0 in
-      let t : job_read.Tree = ((j.ending, tt), ((j.nodes, (is.few, is.nodes)), ((j.phase, is.ending), (((j.pool, j.request), (is.parts, is.pool, is.request)), tt)))) in
+      let t : job_read.Tree = ((j.ending, any_ending j.ending), ((j.nodes, (is.few, is.nodes)), ((j.phase, is.ending), (((j.pool, j.request), (is.parts, is.pool, is.request)), tt)))) in
       (t, refl, sym (job_grouped t) ∙ sym spelled.1);
 }
 
-phase_run : (e : Option Ending) (s : List ℕ) → (phase_read e).run s ≡ phase_in e s
-unfolding phase_in open_phase_in
-phase_run (Some e) s = refl
-phase_run None s = refl
-
-end_run : (p : Phase) (s : List ℕ) → (end_read p).run s ≡ job_end_in p s
-unfolding no_end_in asked_end_in using_end_in over_end_in numbered request_in priority_in
-end_run Phase.New s = refl
-end_run Phase.Asked s = refl
-end_run Phase.Using s = refl
-end_run Phase.Over s = refl
-
-job_run : (s : List ℕ) → job_read.run s ≡ job_in s
-unfolding job_in job_front_in marked_in numbered
-job_run s =
-    after_same (ended.run s).0 (ended.run s).1 _ _ (λ e s1.
-    after_same (nodes.run s1).0 (nodes.run s1).1 _ _ (λ ns s2.
-    ap (λ (p : Option Phase × List ℕ). after p.0 p.1 (λ phase. (end_read phase).run >>= (λ ends. gives (record { ending = e; nodes = ns; phase = phase; pool = ends.0; request = ends.1 })))) (phase_run e s2)
-    ∙ after_same (phase_in e s2).0 (phase_in e s2).1 _ _ (λ phase s3.
-    ap (λ (p : Option Ends × List ℕ). after p.0 p.1 (λ ends. gives (record { ending = e; nodes = ns; phase = phase; pool = ends.0; request = ends.1 }))) (end_run phase s3))))
-
-pub job_left : (s left : List ℕ) (o : Option JobRecord) → job_in s ≡ (o, left) → length left ≤ length s
-job_left s left o is = subst (λ (p : Option JobRecord × List ℕ). length p.1 ≤ length s) (job_run s ∙ is) (left_within job_read s)
-
-answered : (s : List ℕ) → answer (length s) (job_read.run s).0 (job_read.run s).1 ≡ answer (length s) (job_in s).0 (job_in s).1
-answered s = ap (λ (p : Option JobRecord × List ℕ). answer (length s) p.0 p.1) (job_run s)
-
 pub job_reads : (s : List ℕ) (v : JobRecord) → answer (length s) (job_in s).0 (job_in s).1 ≡ Ok v → SpellsJob v s
-job_reads s v is = read_spells job_read SpellsJob job_means (length s) s v (answered s ∙ is)
+job_reads = read_spells job_read SpellsJob job_means
 
 pub job_all : (s : List ℕ) (v : JobRecord) → SpellsJob v s → answer (length s) (job_in s).0 (job_in s).1 ≡ Ok v
-job_all s v spelled = sym (answered s) ∙ spelled_reads job_read SpellsJob job_means (length s) s v spelled
+job_all = spelled_reads job_read SpellsJob job_means
 
 pub job_bad : (s : List ℕ) (bad : BadRecord) → answer (length s) (job_in s).0 (job_in s).1 ≡ Err bad → StopsAt SpellsJob s bad.place
-job_bad s bad is = refused_stops job_read SpellsJob job_means s bad (answered s ∙ is)
+job_bad = refused_stops job_read SpellsJob job_means
 
 pub ruleset job_law = (job_reads, job_all, job_bad)

@@ -1,6 +1,6 @@
 -- numbers and ids are read as they are spelled
-use Rattle.np_spelling.proofs.Prelude.{Bool, HasText, List, None, Option, RequestId, Some, all_ascii_digits, all_ascii_digits-ten, and_parts, ap, append-nil, append_assoc, arith, begins, cases_eq, cases_lt, codes, decimal, decimal-digits_value, decimal_digit, decimal_injective, decimal_nonempty, decimal_step, decimal_three, digit_value, digit_value_digit, digits, digits_decimal, digits_value, digits_value-decimal, digits_value-zeros, digits_value_after, eqb-true, false, first_decimal, fixed, get_or, if◌then◌else◌, inl, inr, is_ascii_digit, length, length-decimal-le, length-padded, model, nat_le, nat_tests, nonzero, number, padded, padded-digits_value, priority_limits, refl, request_text_of, sequence_limits, subst, suc, sym, ten_digits_of, true, ℕ, [], ◌%◌, ◌&&◌, ◌*◌, ◌++◌, ◌+◌, ◌-◌, ◌/◌, ◌<◌, ◌==◌, ◌^◌, ◌∙◌, ◌∷◌, ◌≡◌, ◌≢◌, ◌≤◌, ◌⊎◌}
-use Rattle.np_spelling.proofs.Readers.{Any, NoDigit, Read, Says, Told, Valued, agree_front, begins_same, behind, giving, leading, valued}
+use Rattle.np_spelling.proofs.Prelude.{Bool, HasText, List, None, Option, RequestId, Some, [], all_ascii_digits, all_ascii_digits-ten, and_parts, ap, append-nil, append_assoc, arith, begins, cases_eq, codes, decimal, decimal-digits_value, decimal_digit, decimal_injective, decimal_nonempty, decimal_step, decimal_three, digit_value, digit_value_digit, digits, digits_decimal, digits_value, digits_value-decimal, digits_value-zeros, digits_value_after, eqb-true, false, first_decimal, fixed, get_or, if◌then◌else◌, inl, inr, is_ascii_digit, length, length-decimal-le, length-padded, model, nat_le, nat_tests, nonzero, number, padded, padded-digits_value, priority_limits, refl, request_text_of, sequence_limits, subst, suc, sym, ten_digits_of, true, ℕ, ◌%◌, ◌&&◌, ◌*◌, ◌++◌, ◌+◌, ◌-◌, ◌/◌, ◌<◌, ◌==◌, ◌^◌, ◌∙◌, ◌∷◌, ◌≡◌, ◌≢◌, ◌≤◌, ◌⊎◌}
+use Rattle.np_spelling.proofs.Readers.{Any, NoDigit, Read, Says, Told, Valued, agree_front, begins_same, behind, giving, leading, told_by, valued}
 
 -- # Readers of numbers, with their laws.
 
@@ -26,11 +26,6 @@ decimal_more n c some digit small =
 abbrev one_longer : (max n c : ℕ) → decimal (n * 10 + (c - 48)) ≡ decimal n ++ c ∷ [] → Longer max (n * 10 + (c - 48)) → Longer max n
 one_longer max n c step t = (t.0, t.1, c ∷ t.2, sym (append_assoc (decimal n) (c ∷ []) t.2) ∙ ap (λ x. x ++ t.2) (sym step) ∙ t.3)
 
-says_longer : (max n c : ℕ) (step : decimal (n * 10 + (c - 48)) ≡ decimal n ++ c ∷ []) (o : Option ℕ) (front : List ℕ)
-    → Says (longer_text max (n * 10 + (c - 48))) (longer_value max (n * 10 + (c - 48))) o front → Says (longer_text max n) (longer_value max n) o (c ∷ front)
-says_longer max n c step (Some m) front says = (one_longer max n c step says.0, says.1, ap (λ x. c ∷ x) says.2)
-says_longer max n c step None front says = (one_longer max n c step says.0, says.1, ap (λ x. c ∷ x) says.2)
-
 abbrev DigitsTold : ℕ → ℕ → List ℕ → Option ℕ → List ℕ → Type 0
 DigitsTold max n s o left = Told (digits max n) (longer_text max n) (longer_value max n) s o left
 
@@ -46,8 +41,8 @@ digits_told_at max n c cs true test most some small rest =
     let tests = and_parts (is_ascii_digit c) (nat_le (n * 10 + (c - 48)) max) test in
     let fits : n * 10 + (c - 48) ≤ max = grind (arith, nat_tests) in
     let step = decimal_more n c some tests.0 (omega arith) in
-    let told = rest fits in
-    rw test (c ∷ told.0, ap (λ x. c ∷ x) told.1, says_longer max n c step (digits max (n * 10 + (c - 48)) cs).0 told.0 told.2, λ x agree. rw test (told.3 x agree))
+    rw test (told_by (digits max (n * 10 + (c - 48))) (longer_text max (n * 10 + (c - 48))) (longer_value max (n * 10 + (c - 48))) (digits max n) (longer_text max n) (longer_value max n) (one_longer max n c step) (c ∷ []) (λ t. refl) (λ t. refl) cs (λ x agree. rw test refl)
+    (digits max (n * 10 + (c - 48)) cs).0 (digits max (n * 10 + (c - 48)) cs).1 (rest fits))
 digits_told_at max n c cs false test most some small rest =
     rw test ([], refl, (ended max n most, refl, refl), λ x agree. rw agree.1 (rw test refl))
 
@@ -111,43 +106,32 @@ within_value max t = t.0
 abbrev NumberTold : ℕ → List ℕ → Option ℕ → List ℕ → Type 0
 NumberTold max s o left = Told (number max) (within_text max) (within_value max) s o left
 
-says_number : (max c : ℕ) → decimal (c - 48) ≡ c ∷ [] → (o : Option ℕ) (front : List ℕ)
-    → Says (longer_text max (c - 48)) (longer_value max (c - 48)) o front → Says (within_text max) (within_value max) o (c ∷ front)
-says_number max c one (Some m) front says =
-    ((says.0.0, says.0.1), says.1, sym says.0.3 ∙ ap (λ d. d ++ says.0.2) one ∙ ap (λ x. c ∷ x) says.2)
-says_number max c one None front says =
-    ((says.0.0, says.0.1), says.1, sym says.0.3 ∙ ap (λ d. d ++ says.0.2) one ∙ ap (λ x. c ∷ x) says.2)
-
 digit_text : (c : ℕ) → is_ascii_digit c ≡ true → decimal (c - 48) ≡ c ∷ []
 digit_text c digit =
     let range : (48 ≤ c) × (c - 48 < 10) = grind (arith, nat_tests) in
     let back : 48 + (c - 48) ≡ c = omega arith in
     decimal_digit (c - 48) range.1 ∙ ap (λ d. d ∷ []) back
 
-number_told_zero : (max c : ℕ) (cs : List ℕ) (v : Bool) → (c == 48) ≡ v → is_ascii_digit c ≡ true → 9 ≤ max → max < 2 ^ 64
+number_told_at : (max c : ℕ) (cs : List ℕ) (v w : Bool) → is_ascii_digit c ≡ v → (c == 48) ≡ w → 9 ≤ max → max < 2 ^ 64
     → NumberTold max (c ∷ cs) (number max (c ∷ cs)).0 (number max (c ∷ cs)).1
 unfolding number
-number_told_zero max c cs true is digit least small =
+number_told_at max c cs true true digit is least small =
     let zero_byte = eqb-true c 48 is in
     let text : decimal 0 ≡ c ∷ [] = decimal_digit 0 (omega arith) ∙ ap (λ d. d ∷ []) (sym zero_byte) in
     rw (digit, is) (c ∷ [], refl, ((0, omega arith), refl, text), λ x agree. rw (digit, is) refl)
-number_told_zero max c cs false is digit least small =
+number_told_at max c cs true false digit is least small =
     let range : (48 ≤ c) × (c - 48 < 10) = grind (arith, nat_tests) in
     let above : 1 ≤ c - 48 = grind (arith, nat_tests) in
-    let told = digits_told max (c - 48) cs (omega arith) above small in
-    rw (digit, is) (c ∷ told.0, ap (λ x. c ∷ x) told.1, says_number max c (digit_text c digit) (digits max (c - 48) cs).0 told.0 told.2, λ x agree. rw (digit, is) (told.3 x agree))
-
-number_told_at : (max c : ℕ) (cs : List ℕ) (v : Bool) → is_ascii_digit c ≡ v → 9 ≤ max → max < 2 ^ 64
-    → NumberTold max (c ∷ cs) (number max (c ∷ cs)).0 (number max (c ∷ cs)).1
-unfolding number
-number_told_at max c cs true digit least small = number_told_zero max c cs (c == 48) refl digit least small
-number_told_at max c cs false other least small =
+    rw (digit, is) (told_by (digits max (c - 48)) (longer_text max (c - 48)) (longer_value max (c - 48)) (number max) (within_text max) (within_value max) (λ (t : Longer max (c - 48)). (t.0, t.1)) (c ∷ []) (λ t. refl)
+    (λ t. sym t.3 ∙ ap (λ d. d ++ t.2) (digit_text c digit)) cs (λ x agree. rw (digit, is) refl)
+    (digits max (c - 48) cs).0 (digits max (c - 48) cs).1 (digits_told max (c - 48) cs (omega arith) above small))
+number_told_at max c cs false w other is least small =
     rw other ([], refl, ((0, omega arith), decimal 0, refl), λ x agree. rw agree.1 (rw other refl))
 
 pub number_told : (max : ℕ) → 9 ≤ max → max < 2 ^ 64 → (s : List ℕ) → NumberTold max s (number max s).0 (number max s).1
 unfolding number
 number_told max least small [] = ([], refl, ((0, omega arith), decimal 0, refl), λ x agree. absurd agree)
-number_told max least small (c ∷ cs) = number_told_at max c cs (is_ascii_digit c) refl least small
+number_told max least small (c ∷ cs) = number_told_at max c cs (is_ascii_digit c) (c == 48) refl refl least small
 
 number_behind : (max m : ℕ) (text x : List ℕ) → decimal m ≡ text → 48 < get_or text 0 0 → all_ascii_digits text ≡ true → m ≤ max → 9 ≤ max → max < 2 ^ 64 → NoDigit x
     → number max (text ++ x) ≡ (Some m, x)
@@ -161,17 +145,14 @@ number_behind max m (c ∷ t) x is first all most least small follows =
     let whole = ap (λ d. d ++ t) (digit_text c digit) ∙ sym is in
     rw (digit, other) (digits_complete max (c - 48) m t x most whole (omega arith) (omega arith) small follows)
 
-number_complete_zero : (max m : ℕ) (x : List ℕ) → m ≡ 0 → NoDigit x → number max (decimal m ++ x) ≡ (Some m, x)
-unfolding number
-number_complete_zero max m x zero_is follows =
-    let text = ap decimal zero_is ∙ decimal_digit 0 (omega arith) in
-    rw text (ap (λ k. (Some k, x)) (sym zero_is))
-
 pub number_complete : (max : ℕ) → 9 ≤ max → max < 2 ^ 64 → (t : Within max) (x : List ℕ) → NoDigit x → number max (decimal t.0 ++ x) ≡ (Some t.0, x)
+unfolding number
 number_complete max least small t x follows = cases (cases_eq t.0 0)
   where
     cases : (t.0 ≡ 0) ⊎ (t.0 ≢ 0) → number max (decimal t.0 ++ x) ≡ (Some t.0, x)
-    cases (inl zero_is) = number_complete_zero max t.0 x zero_is follows
+    cases (inl zero_is) =
+        let text = ap decimal zero_is ∙ decimal_digit 0 (omega arith) in
+        rw text (ap (λ k. (Some k, x)) (sym zero_is))
     cases (inr above) =
         number_behind max t.0 (decimal t.0) x refl (first_decimal t.0 (omega arith) (omega (arith, t.1))) (digits_decimal model t.0 (omega (arith, t.1))) t.1 least small follows
 
@@ -194,20 +175,11 @@ number_behind_text text max least small = behind (leading text) (λ _. numbering
 abbrev pub u32_behind : List ℕ → Read NoDigit ℕ
 u32_behind text = number_behind_text text 4294967295 (omega arith) (omega arith)
 
-pub below : (n : ℕ) → n ≤ 4294967295 → n < 2 ^ 32
-below n most = omega arith
-
-pub most : (n : ℕ) → n < 2 ^ 32 → n ≤ 4294967295
-most n small = omega arith
-
 -- ## The first byte of a number
 
 digits_first : (c : ℕ) → (c < 48) ⊎ (57 < c) → (text x : List ℕ) → 0 < length text → all_ascii_digits text ≡ true → begins c (text ++ x) ≡ false
 digits_first c other [] x some all = absurd (omega arith)
-digits_first c other (b ∷ t) x some all =
-    let digit = (and_parts (is_ascii_digit b) (all_ascii_digits t) all).0 in
-    let range : (48 ≤ b) × (b ≤ 57) = grind (arith, nat_tests) in
-    grind (arith, nat_tests)
+digits_first c other (b ∷ t) x some all = grind (arith, nat_tests)
 
 -- a byte that is no digit does not begin a number
 pub number_first : (c n : ℕ) → (c < 48) ⊎ (57 < c) → n < 2 ^ 64 → (x : List ℕ) → begins c (decimal n ++ x) ≡ false
@@ -218,9 +190,15 @@ number_first c n other small x = digits_first c other (decimal n) x (decimal_non
 -- ## A fixed count of digits
 
 -- each limit is the one before it with some digit appended
+abbrev pub steps : ℕ → List ℕ → Bool
+steps l [] = true
+steps l (m ∷ ms) = nat_le (l * 10) m && (nat_le m (l * 10 + 9) && steps m ms)
+
 abbrev pub Steps : ℕ → List ℕ → Type 0
-Steps l [] = Unit {0}
-Steps l (m ∷ ms) = (l * 10 ≤ m) × (m ≤ l * 10 + 9) × Steps m ms
+Steps l limits = steps l limits ≡ true
+
+stepped : (l m : ℕ) (ms : List ℕ) → Steps l (m ∷ ms) → (l * 10 ≤ m) × (m ≤ l * 10 + 9) × Steps m ms
+stepped l m ms is = grind (arith, nat_tests)
 
 abbrev pub last_of : ℕ → List ℕ → ℕ
 last_of l [] = l
@@ -239,83 +217,72 @@ abbrev FixedTold : (l : ℕ) (limits : List ℕ) (n : ℕ) → List ℕ → Opti
 FixedTold l limits n s o left = Told (fixed limits n) (fixed_text l limits n) (fixed_value l limits n) s o left
 
 pub zeros : (l : ℕ) (limits : List ℕ) (n : ℕ) → n ≤ l → Steps l limits → Fixed l limits n
-zeros l [] n within steps = ([], refl, refl, within)
-zeros l (m ∷ ms) n within steps =
-    let rest = zeros m ms (n * 10 + digit_value 48) (omega (arith, steps.0)) steps.2 in
+zeros l [] n within stepping = ([], refl, refl, within)
+zeros l (m ∷ ms) n within stepping =
+    let rest = zeros m ms (n * 10 + digit_value 48) (omega (arith, (stepped l m ms stepping).0)) (stepped l m ms stepping).2 in
     (48 ∷ rest.0, ap suc rest.1, rest.2, rest.3)
 
-one_fixed : (l m : ℕ) (ms : List ℕ) (n c : ℕ) → is_ascii_digit c ≡ true → (t : Fixed m ms (n * 10 + (c - 48)))
-    → (u : Fixed l (m ∷ ms) n) × (fixed_value l (m ∷ ms) n u ≡ fixed_value m ms (n * 10 + (c - 48)) t) × (u.0 ≡ c ∷ t.0)
-one_fixed l m ms n c digit t =
-    let same = ap (λ d. digits_value_after 10 (n * 10 + d) t.0) (digit_value_digit c digit) in
-    ((c ∷ t.0, ap suc t.1, rw digit t.2, subst (λ v. v ≤ last_of m ms) (sym same) t.3), same, refl)
+fixed_same : (n c : ℕ) → is_ascii_digit c ≡ true → (t : List ℕ) → digits_value_after 10 (n * 10 + digit_value c) t ≡ digits_value_after 10 (n * 10 + (c - 48)) t
+fixed_same n c digit t = ap (λ d. digits_value_after 10 (n * 10 + d) t) (digit_value_digit c digit)
 
-says_fixed : (l m : ℕ) (ms : List ℕ) (n c : ℕ) → is_ascii_digit c ≡ true → (o : Option ℕ) (front : List ℕ)
-    → Says (fixed_text m ms (n * 10 + (c - 48))) (fixed_value m ms (n * 10 + (c - 48))) o front → Says (fixed_text l (m ∷ ms) n) (fixed_value l (m ∷ ms) n) o (c ∷ front)
-says_fixed l m ms n c digit (Some v) front says =
-    let one = one_fixed l m ms n c digit says.0 in (one.0, one.1 ∙ says.1, one.2 ∙ ap (λ x. c ∷ x) says.2)
-says_fixed l m ms n c digit None front says =
-    let one = one_fixed l m ms n c digit says.0 in (one.0, says.1, one.2 ∙ ap (λ x. c ∷ x) says.2)
+abbrev one_fixed : (l m : ℕ) (ms : List ℕ) (n c : ℕ) → is_ascii_digit c ≡ true → Fixed m ms (n * 10 + (c - 48)) → Fixed l (m ∷ ms) n
+one_fixed l m ms n c digit t = (c ∷ t.0, ap suc t.1, rw digit t.2, subst (λ v. v ≤ last_of m ms) (sym (fixed_same n c digit t.0)) t.3)
 
 fixed_told_at : (l m : ℕ) (ms : List ℕ) (n c : ℕ) (cs : List ℕ) (v : Bool) → (is_ascii_digit c && nat_le (n * 10 + (c - 48)) m) ≡ v → n ≤ l → Steps l (m ∷ ms)
     → (n * 10 + (c - 48) ≤ m → FixedTold m ms (n * 10 + (c - 48)) cs (fixed ms (n * 10 + (c - 48)) cs).0 (fixed ms (n * 10 + (c - 48)) cs).1)
     → FixedTold l (m ∷ ms) n (c ∷ cs) (fixed (m ∷ ms) n (c ∷ cs)).0 (fixed (m ∷ ms) n (c ∷ cs)).1
 unfolding fixed
-fixed_told_at l m ms n c cs true test within steps rest =
+fixed_told_at l m ms n c cs true test within stepping rest =
     let tests = and_parts (is_ascii_digit c) (nat_le (n * 10 + (c - 48)) m) test in
     let fits : n * 10 + (c - 48) ≤ m = grind (arith, nat_tests) in
-    let told = rest fits in
-    rw test (c ∷ told.0, ap (λ x. c ∷ x) told.1, says_fixed l m ms n c tests.0 (fixed ms (n * 10 + (c - 48)) cs).0 told.0 told.2, λ x agree. rw test (told.3 x agree))
-fixed_told_at l m ms n c cs false test within steps rest =
-    let t = zeros l (m ∷ ms) n within steps in
+    rw test (told_by (fixed ms (n * 10 + (c - 48))) (fixed_text m ms (n * 10 + (c - 48))) (fixed_value m ms (n * 10 + (c - 48))) (fixed (m ∷ ms) n) (fixed_text l (m ∷ ms) n) (fixed_value l (m ∷ ms) n) (one_fixed l m ms n c tests.0) (c ∷ []) (λ t. fixed_same n c tests.0 t.0) (λ t. refl)
+    cs (λ x agree. rw test refl) (fixed ms (n * 10 + (c - 48)) cs).0 (fixed ms (n * 10 + (c - 48)) cs).1 (rest fits))
+fixed_told_at l m ms n c cs false test within stepping rest =
+    let t = zeros l (m ∷ ms) n within stepping in
     rw test ([], refl, (t, t.0, refl), λ x agree. rw agree.1 (rw test refl))
 
 pub fixed_told : (l : ℕ) (limits : List ℕ) (n : ℕ) → n ≤ l → Steps l limits → (s : List ℕ) → FixedTold l limits n s (fixed limits n s).0 (fixed limits n s).1
 unfolding fixed
-fixed_told l [] n within steps s = ([], refl, (([], refl, refl, within), refl, refl), λ x agree. refl)
-fixed_told l (m ∷ ms) n within steps [] =
-    let t = zeros l (m ∷ ms) n within steps in ([], refl, (t, t.0, refl), λ x agree. absurd agree)
-fixed_told l (m ∷ ms) n within steps (c ∷ cs) =
-    fixed_told_at l m ms n c cs (is_ascii_digit c && nat_le (n * 10 + (c - 48)) m) refl within steps
-    (λ fits. fixed_told m ms (n * 10 + (c - 48)) fits steps.2 cs)
+fixed_told l [] n within stepping s = ([], refl, (([], refl, refl, within), refl, refl), λ x agree. refl)
+fixed_told l (m ∷ ms) n within stepping [] =
+    let t = zeros l (m ∷ ms) n within stepping in ([], refl, (t, t.0, refl), λ x agree. absurd agree)
+fixed_told l (m ∷ ms) n within stepping (c ∷ cs) =
+    fixed_told_at l m ms n c cs (is_ascii_digit c && nat_le (n * 10 + (c - 48)) m) refl within stepping
+    (λ fits. fixed_told m ms (n * 10 + (c - 48)) fits (stepped l m ms stepping).2 cs)
 
 -- what is past one limit is past all that follow
 past : (l : ℕ) (limits : List ℕ) (n : ℕ) (t : List ℕ) → Steps l limits → length t ≡ length limits → l < n → last_of l limits < digits_value_after 10 n t
-past l [] n [] steps long above = above
-past l [] n (c ∷ t) steps long above = absurd (omega arith)
-past l (m ∷ ms) n [] steps long above = absurd (omega arith)
-past l (m ∷ ms) n (c ∷ t) steps long above = past m ms (n * 10 + digit_value c) t steps.2 (omega arith) (omega (arith, steps.1))
+past l [] n [] stepping long above = above
+past l [] n (c ∷ t) stepping long above = absurd (omega arith)
+past l (m ∷ ms) n [] stepping long above = absurd (omega arith)
+past l (m ∷ ms) n (c ∷ t) stepping long above = past m ms (n * 10 + digit_value c) t (stepped l m ms stepping).2 (omega arith) (omega (arith, (stepped l m ms stepping).1))
 
 fits_front : (l : ℕ) (limits : List ℕ) (n : ℕ) (t : List ℕ) → Steps l limits → length t ≡ length limits → digits_value_after 10 n t ≤ last_of l limits → n ≤ l
-fits_front l limits n t steps long most = cases (cases_lt l n)
-  where
-    cases : (l < n) ⊎ (n ≤ l) → n ≤ l
-    cases (inl above) = absurd (omega (arith, past l limits n t steps long above))
-    cases (inr within) = within
+fits_front l limits n t stepping long most = grind (arith, past l limits n t stepping long)
 
 pub fixed_complete : (l : ℕ) (limits : List ℕ) (n : ℕ) (t x : List ℕ) → Steps l limits → length t ≡ length limits → all_ascii_digits t ≡ true
     → digits_value_after 10 n t ≤ last_of l limits → fixed limits n (t ++ x) ≡ (Some (digits_value_after 10 n t), x)
 unfolding fixed
-fixed_complete l [] n [] x steps long all most = refl
-fixed_complete l [] n (c ∷ t) x steps long all most = absurd (omega arith)
-fixed_complete l (m ∷ ms) n [] x steps long all most = absurd (omega arith)
-fixed_complete l (m ∷ ms) n (c ∷ t) x steps long all most =
+fixed_complete l [] n [] x stepping long all most = refl
+fixed_complete l [] n (c ∷ t) x stepping long all most = absurd (omega arith)
+fixed_complete l (m ∷ ms) n [] x stepping long all most = absurd (omega arith)
+fixed_complete l (m ∷ ms) n (c ∷ t) x stepping long all most =
     let digits = and_parts (is_ascii_digit c) (all_ascii_digits t) all in
     let value = digit_value_digit c digits.0 in
-    let front = fits_front m ms (n * 10 + digit_value c) t steps.2 (omega arith) most in
+    let front = fits_front m ms (n * 10 + digit_value c) t (stepped l m ms stepping).2 (omega arith) most in
     let fits : nat_le (n * 10 + (c - 48)) m ≡ true = grind (arith, nat_tests) in
     let same = ap (λ d. fixed ms (n * 10 + d) (t ++ x)) value in
-    rw (digits.0, fits) (sym same ∙ fixed_complete m ms (n * 10 + digit_value c) t x steps.2 (omega arith) digits.1 most)
+    rw (digits.0, fits) (sym same ∙ fixed_complete m ms (n * 10 + digit_value c) t x (stepped l m ms stepping).2 (omega arith) digits.1 most)
 
 abbrev pub fixing : (l : ℕ) (limits : List ℕ) (n : ℕ) → n ≤ l → Steps l limits → Read Any ℕ
-fixing l limits n within steps = record {
+fixing l limits n within stepping = record {
   run = fixed limits n;
   Tree = Fixed l limits n;
   text = fixed_text l limits n;
   value = fixed_value l limits n;
-  some = zeros l limits n within steps;
-  told = fixed_told l limits n within steps;
-  complete = λ t x follows. fixed_complete l limits n t.0 x steps t.1 t.2 t.3;
+  some = zeros l limits n within stepping;
+  told = fixed_told l limits n within stepping;
+  complete = λ t x follows. fixed_complete l limits n t.0 x stepping t.1 t.2 t.3;
 }
 
 -- ## No leading zero
@@ -373,7 +340,7 @@ nonzeroing R some long = record {
 -- ## Request ids
 
 abbrev pub priority_digits : Read Any ℕ
-priority_digits = fixing 0 priority_limits 0 (omega arith) (omega arith, omega arith, (omega arith, omega arith, (omega arith, omega arith, tt)))
+priority_digits = fixing 0 priority_limits 0 (omega arith) refl
 
 pub priority_long : (t : priority_digits.Tree) → 0 < length (priority_digits.text t)
 priority_long t = omega (arith, t.1)
@@ -382,27 +349,7 @@ abbrev pub priority : Read Any ℕ
 priority = nonzeroing priority_digits ((codes "100", refl, refl, omega arith), refl) priority_long
 
 abbrev pub sequence : Read Any ℕ
-sequence = fixing 0 sequence_limits 0 (omega arith) (
-  omega arith,
-  omega arith,
-  (
-    omega arith,
-    omega arith,
-    (
-      omega arith,
-      omega arith,
-      (
-        omega arith,
-        omega arith,
-        (
-          omega arith,
-          omega arith,
-          (omega arith, omega arith, (omega arith, omega arith, (omega arith, omega arith, (omega arith, omega arith, (omega arith, omega arith, tt))))),
-        ),
-      ),
-    ),
-  ),
-)
+sequence = fixing 0 sequence_limits 0 (omega arith) refl
 
 abbrev pub request_parts : Read Any RequestId
 request_parts =
@@ -420,11 +367,7 @@ first_other [] first = refl
 first_other (c ∷ t) first = grind (arith, nat_tests)
 
 least_of : (n : ℕ) → n < 2 ^ 64 → length (decimal n) ≡ 3 → 100 ≤ n
-least_of n small three = cases (cases_lt n 100)
-  where
-    cases : (n < 100) ⊎ (100 ≤ n) → 100 ≤ n
-    cases (inl under) = absurd (omega (arith, length-decimal-le 2 n (omega arith) (omega arith) small))
-    cases (inr above) = above
+least_of n small three = grind (arith, length-decimal-le 2 n)
 
 request_to : (p q : List ℕ) → begins 48 p ≡ false → length p ≡ 3 → all_ascii_digits p ≡ true → digits_value 10 p ≤ 999
     → length q ≡ 10 → all_ascii_digits q ≡ true → digits_value 10 q ≤ 4294967295

@@ -43,8 +43,7 @@ fn front(cursor: &mut Cursor) -> Option<Option<Ending>>
     if cursor.begins(b'e') {
         cursor.lead(b"ending\":\"")?;
         let ending = ending_word(cursor)?;
-        cursor.lead(b"\",\"nodes\":")?;
-        Some(Some(ending))
+        cursor.spelled(b"\",\"nodes\":", Some(ending))
     } else {
         cursor.spelled(b"nodes\":", None)
     }
@@ -92,8 +91,7 @@ fn asked_end(cursor: &mut Cursor, text: &[u8], pool: Option<PoolId>) -> Option<E
 {
     cursor.lead(text)?;
     let id = request(cursor)?;
-    cursor.lead(b"\"}")?;
-    Some((pool, Some(id)))
+    cursor.spelled(b"\"}", (pool, Some(id)))
 }
 
 #[tactic(auto, unfolding(crate::specs::Reading::using_end_in))]

@@ -44,6 +44,7 @@ fn rest<T: Part, const N: usize>(cursor: &mut Cursor, row: &mut Row<T, N>, room:
 }
 
 /// Passes a list in brackets, and puts its items into an empty row.
+#[tactic(auto, unfolding(crate::specs::Reading::list_in))]
 fn list<T: Part, const N: usize>(cursor: &mut Cursor, row: &mut Row<T, N>) -> Option<()>
     requires empty { row.old ≡ [] }
     requires some { 0 < N }

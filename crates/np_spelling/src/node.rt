@@ -26,8 +26,7 @@ fn front(cursor: &mut Cursor) -> Option<Option<RequestId>>
     if cursor.begins(b'l') {
         cursor.lead(b"llocated-to\":\"")?;
         let id = request(cursor)?;
-        cursor.lead(b"\",\"attempts\":")?;
-        Some(Some(id))
+        cursor.spelled(b"\",\"attempts\":", Some(id))
     } else {
         cursor.spelled(b"ttempts\":", None)
     }
@@ -51,8 +50,7 @@ fn server(cursor: &mut Cursor) -> Option<Option<u64>>
     cursor.lead(b",\"s")?;
     if cursor.begins(b'e') {
         let server = cursor.u64_behind(b"erver\":")?;
-        cursor.lead(b",\"since\":")?;
-        Some(Some(server))
+        cursor.spelled(b",\"since\":", Some(server))
     } else {
         cursor.spelled(b"ince\":", None)
     }
@@ -97,8 +95,7 @@ fn state(cursor: &mut Cursor) -> Option<NodeState>
 {
     cursor.lead(b",\"state\":\"")?;
     let state = state_word(cursor)?;
-    cursor.lead(b"\"")?;
-    Some(state)
+    cursor.spelled(b"\"", state)
 }
 
 #[tactic(auto, unfolding(crate::specs::Reading::node_age_in))]
@@ -123,8 +120,7 @@ fn tenant(cursor: &mut Cursor) -> Option<Option<TenantId>>
         return cursor.spelled(b"\"none\"}", None);
     }
     let tenant = cursor.u16()?;
-    cursor.lead(b"}")?;
-    Some(Some(TenantId(tenant)))
+    cursor.spelled(b"}", Some(TenantId(tenant)))
 }
 
 #[tactic(auto, unfolding(crate::specs::Reading::node_in))]

@@ -21,8 +21,7 @@ fn job(cursor: &mut Cursor) -> Option<Option<JobId>>
     cursor.lead(b",\"")?;
     if cursor.begins(b'j') {
         let job = cursor.u32_behind(b"job\":")?;
-        cursor.lead(b",\"labels\":")?;
-        Some(Some(JobId(job)))
+        cursor.spelled(b",\"labels\":", Some(JobId(job)))
     } else {
         cursor.spelled(b"labels\":", None)
     }
@@ -46,8 +45,7 @@ fn pool(cursor: &mut Cursor) -> Option<Option<PoolId>>
     cursor.lead(b",\"")?;
     if cursor.begins(b'p') {
         let pool = cursor.u16_behind(b"pool\":")?;
-        cursor.lead(b",\"relative-priority\":")?;
-        Some(Some(PoolId(pool)))
+        cursor.spelled(b",\"relative-priority\":", Some(PoolId(pool)))
     } else {
         cursor.spelled(b"relative-priority\":", None)
     }

@@ -18,15 +18,14 @@ fn role(cursor: &mut Cursor) -> Option<RoleRecord>
     let acts = cursor.u32_behind(b"{\"acts\":")?;
     let starts = cursor.u32_behind(b",\"starts\":")?;
     let strikes = cursor.u32_behind(b",\"strikes\":")?;
-    cursor.lead(b"}")?;
-    Some(RoleRecord {
+    let role = RoleRecord {
         acts,
         starts,
         strikes,
-    })
+    };
+    cursor.spelled(b"}", role)
 }
 
-#[tactic(auto, using(crate::proofs::Records::role_left))]
 fn read_role(bytes: &[u8]) -> Result<RoleRecord, BadRecord>
     ensures { result ≡ answer (length bytes.now) (role_in bytes.now).0 (role_in bytes.now).1 }
 {

@@ -1,6 +1,6 @@
 -- what is read of the nodes of a stored state
-use Rattle.np_tree_rows.proofs.Prelude.{AllByRecursion, AllZip, BadRecord, Configuration, HasNodeLock, HasQueue, IfSome, IsGood, IsNodeRow, IsStored, IsWait, List, Node, NodeEntry, NodeId, NodeLock, NodeRecord, Nodes, None, Ok, Option, Result, Rises, Row, SessionId, Some, SpellsNode, State, TreeState, all-at, all-find, ap, bytes_at, false, find_named, found-node, is_named, is_node_it, length, named-by, node-itself, node-tells, node_before, node_entry, node_in, node_queue, node_view, option_map, option_map_or, other-name, path_of, persistent, place_name, refl, rises-zip, rows-rise, rows_at, slice_get, subst, sym, ten_digits_of, true, under, ℕ, [], ◌<◌, ◌^◌, ◌∙◌, ◌≡◌}
-use Rattle.np_tree_rows.proofs.Shown.{Beside, IsRead, beside-at, beside-found, bytes-named, found-there, if-at, length-beside, nothing-under}
+use Rattle.np_tree_rows.proofs.Prelude.{AllByRecursion, AllZip, BadRecord, Configuration, HasNodeLock, HasQueue, IsGood, IsNodeRow, IsStored, IsWait, List, Node, NodeEntry, NodeId, NodeLock, NodeRecord, NodeView, Nodes, None, Ok, Option, Result, Rises, Row, SessionId, Some, SpellsNode, State, TreeState, all-at, all-find, ap, bytes_at, false, find_named, found-node, is_named, is_node_it, length, named-by, node-itself, node-tells, node_before, node_entry, node_in, node_queue, node_view, option_map, option_map_or, other-name, path_of, persistent, place_name, refl, rises-zip, rows-rise, rows_at, slice_get, subst, sym, ten_digits_of, true, under, ℕ, [], ◌<◌, ◌^◌, ◌∙◌, ◌≡◌}
+use Rattle.np_tree_rows.proofs.Shown.{Beside, IsRead, beside-at, beside-found, beside-none, beside-some, bytes-named, found-there, length-beside, none-beside, nothing-under, unviewed, view-kept, viewed}
 
 -- a node is there, and its number is spelled by ten digits
 pub record IsSpelled (name : List ℕ) (o : Option NodeId) : Type 0 where
@@ -19,6 +19,10 @@ spelled-some name o read spelled reads =
 pub spelled-none : (name : List ℕ) (o : Option NodeId) → IsSpelled name o → ((n : ℕ) → n < 2 ^ 32 → name ≡ ten_digits_of n → None ≡ Some n) → None ≡ o
 spelled-none name o spelled reads = absurd (let is = reads spelled.number spelled.small spelled.digits in cc)
 
+-- what is seen of a node
+abbrev seen_node : NodeId → NodeRecord → Option SessionId → NodeView
+seen_node id kept holder = record { id = id; kept = kept; holder = holder }
+
 module _ (c : Configuration) (s : State) (t : TreeState) (stored : IsStored c s t) where
   abbrev HasId : NodeEntry → Type 0
   HasId e = IsGood (Node e.id)
@@ -35,27 +39,23 @@ module _ (c : Configuration) (s : State) (t : TreeState) (stored : IsStored c s 
 
   -- ## by place
 
-  named-at : (name : List ℕ) (o : Option Row) (p : Option NodeEntry) → Beside IsNodeRow o p → IfSome p HasId → Some name ≡ option_map (λ (row : Row). row.name) o → IsSpelled name (option_map (λ (e : NodeEntry). e.id) p)
-  named-at name None None beside good is = absurd cc
-  named-at name None (Some e) beside good is = absurd beside
-  named-at name (Some row) None beside good is = absurd beside
-  named-at name (Some row) (Some e) beside good is =
-      let here : name ≡ row.name = cc in
-      record { number = e.id.0; small = good; digits = here ∙ ap (λ (r : Row). r.name) beside.is; there = refl }
+  node-beside : (at : ℕ) → Beside IsNodeRow (slice_get (under Nodes t) at) (slice_get s.nodes at)
+  node-beside at = beside-at IsNodeRow (under Nodes t) s.nodes at node-rows
 
   -- the name of a row spells the number of the node there
   pub node-named : (at : ℕ) (name : List ℕ) → Some name ≡ option_map (λ (row : Row). row.name) (slice_get (under Nodes t) at) → IsSpelled name (option_map (λ (e : NodeEntry). e.id) (slice_get s.nodes at))
   node-named at name is =
-      named-at name (slice_get (under Nodes t) at) (slice_get s.nodes at) (beside-at IsNodeRow (under Nodes t) s.nodes at node-rows) (if-at HasId s.nodes at has-ids) is
-
-  unnamed-at : (o : Option Row) (p : Option NodeEntry) → Beside IsNodeRow o p → None ≡ option_map (λ (row : Row). row.name) o → None ≡ option_map (λ (e : NodeEntry). e.id) p
-  unnamed-at None None beside is = refl
-  unnamed-at None (Some e) beside is = absurd beside
-  unnamed-at (Some row) p beside is = absurd cc
+      let found = beside-some IsNodeRow (λ (row : Row). row.name) name _ _ (node-beside at) is in
+      record {
+        number = found.second.id.0;
+        small = all-at HasId s.nodes at found.second has-ids found.there;
+        digits = found.tells ∙ ap (λ (r : Row). r.name) found.beside.is;
+        there = ap (option_map (λ (e : NodeEntry). e.id)) found.there;
+      }
 
   -- and where there is no row there is no node
   pub node-unnamed : (at : ℕ) → None ≡ option_map (λ (row : Row). row.name) (slice_get (under Nodes t) at) → None ≡ option_map (λ (e : NodeEntry). e.id) (slice_get s.nodes at)
-  node-unnamed at is = unnamed-at (slice_get (under Nodes t) at) (slice_get s.nodes at) (beside-at IsNodeRow (under Nodes t) s.nodes at node-rows) is
+  node-unnamed at is = beside-none IsNodeRow (λ (row : Row). row.name) (λ (e : NodeEntry). e.id) _ _ (node-beside at) is
 
   -- ## by id
 
@@ -63,42 +63,29 @@ module _ (c : Configuration) (s : State) (t : TreeState) (stored : IsStored c s 
     row-found : Beside IsNodeRow (find_named (place_name (Node n)) (under Nodes t)) (node_entry n s.nodes)
     row-found = beside-found IsNodeRow (is_named (place_name (Node n))) (is_node_it n) (under Nodes t) s.nodes (node-tells n (under Nodes t) s.nodes good has-ids node-rows) node-rows
 
-    read-by : (bytes : List ℕ) (read : Result NodeRecord BadRecord) (o : Option Row) (p : Option NodeEntry) → Beside IsNodeRow o p → Some bytes ≡ option_map (λ (row : Row). row.bytes) o →
-        ((v : NodeRecord) → SpellsNode v bytes → read ≡ Ok v) → IsRead (option_map (λ (e : NodeEntry). e.kept) p) read
-    read-by bytes read None None beside is all = absurd cc
-    read-by bytes read None (Some e) beside is all = absurd beside
-    read-by bytes read (Some row) None beside is all = absurd beside
-    read-by bytes read (Some row) (Some e) beside is all =
-        let here : row.bytes ≡ bytes = cc in
-        record { kept = e.kept; there = refl; reads = all e.kept (subst (λ (b : List ℕ). SpellsNode e.kept b) here beside.spells) }
-
     -- its record is read from its bytes, whichever way they spell it
     pub node-read : (bytes : List ℕ) (read : Result NodeRecord BadRecord) → Some bytes ≡ bytes_at t (path_of (Node n)) → ((v : NodeRecord) → SpellsNode v bytes → read ≡ Ok v) → IsRead (node_in n s.nodes) read
     node-read bytes read is all =
-        read-by bytes read (find_named (place_name (Node n)) (under Nodes t)) (node_entry n s.nodes) row-found (is ∙ bytes-named t (Node n) Nodes stored.whole good refl) all
-
-    unread-by : (o : Option Row) (p : Option NodeEntry) → Beside IsNodeRow o p → None ≡ option_map (λ (row : Row). row.bytes) o → None ≡ option_map (λ (e : NodeEntry). e.kept) p
-    unread-by None None beside is = refl
-    unread-by None (Some e) beside is = absurd beside
-    unread-by (Some row) p beside is = absurd cc
+        let found = beside-some IsNodeRow (λ (row : Row). row.bytes) bytes _ _ row-found (is ∙ bytes-named t (Node n) Nodes stored.whole good refl) in
+        record {
+          kept = found.second.kept;
+          there = ap (option_map (λ (e : NodeEntry). e.kept)) found.there;
+          reads = all found.second.kept (subst (λ (b : List ℕ). SpellsNode found.second.kept b) (sym found.tells) found.beside.spells);
+        }
 
     -- and where there are none it is not there
     pub node-unread : None ≡ bytes_at t (path_of (Node n)) → None ≡ node_in n s.nodes
-    node-unread is = unread-by (find_named (place_name (Node n)) (under Nodes t)) (node_entry n s.nodes) row-found (is ∙ bytes-named t (Node n) Nodes stored.whole good refl)
+    node-unread is = beside-none IsNodeRow (λ (row : Row). row.bytes) (λ (e : NodeEntry). e.kept) _ _ row-found (is ∙ bytes-named t (Node n) Nodes stored.whole good refl)
 
     -- ## its queue
 
-    none-beside : (o : Option Row) → Beside IsNodeRow o None → o ≡ None
-    none-beside None beside = refl
-    none-beside (Some row) beside = absurd beside
-
     waits-by : (o : Option NodeEntry) → node_entry n s.nodes ≡ o → (next : ℕ) × AllZip (IsWait next) (under (NodeLock n) t) (node_queue n s.nodes)
     waits-by None there =
-        let none = none-beside (find_named (place_name (Node n)) (under Nodes t)) (subst (λ (o : Option NodeEntry). Beside IsNodeRow (find_named (place_name (Node n)) (under Nodes t)) o) there row-found) in
+        let none = none-beside IsNodeRow (find_named (place_name (Node n)) (under Nodes t)) (subst (λ (o : Option NodeEntry). Beside IsNodeRow (find_named (place_name (Node n)) (under Nodes t)) o) there row-found) in
         let bare = nothing-under t (Node n) Nodes stored.whole good refl none in
         let empty = nothing-under t (NodeLock n) (Node n) stored.whole good refl (ap (find_named (place_name (NodeLock n))) bare) in
         let queue : node_queue n s.nodes ≡ [] = ap (λ (o : Option NodeEntry). option_map_or (λ (e : NodeEntry). e.queue) o []) there in
-        (0, subst (λ (rows : List Row). AllZip (IsWait 0) rows (node_queue n s.nodes)) (sym empty) (subst (λ (list : List SessionId). AllZip (IsWait 0) [] list) (sym queue) tt))
+        (0, rw (empty, queue) tt)
     waits-by (Some e) there =
         let lock = all-find (HasNodeLock t) (is_node_it n) s.nodes e stored.lays.node_locks there in
         let same : node_queue n s.nodes ≡ e.queue = ap (λ (o : Option NodeEntry). option_map_or (λ (x : NodeEntry). x.queue) o []) there in
@@ -126,41 +113,15 @@ module _ (c : Configuration) (s : State) (t : TreeState) (stored : IsStored c s 
   abbrev viewed_at : ℕ → Option NodeId
   viewed_at at = option_map (λ (e : NodeEntry). e.id) (slice_get s.nodes at)
 
-  unviewed-by : (o : Option NodeEntry) → None ≡ option_map (λ (e : NodeEntry). e.id) o → None ≡ option_map node_view o
-  unviewed-by None is = refl
-  unviewed-by (Some e) is = absurd cc
-
   -- there is no view where there is no node
   pub node-unviewed : (at : ℕ) → None ≡ viewed_at at → None ≡ option_map node_view (slice_get s.nodes at)
-  node-unviewed at is = unviewed-by (slice_get s.nodes at) is
-
-  kept-by : (at : ℕ) (id : NodeId) (o : Option NodeEntry) → slice_get s.nodes at ≡ o → Some id ≡ option_map (λ (e : NodeEntry). e.id) o → o ≡ node_entry id s.nodes
-  kept-by at id None there is = absurd cc
-  kept-by at id (Some e) there is =
-      let same : id ≡ e.id = cc in
-      sym (ap (λ (n : NodeId). node_entry n s.nodes) same ∙ entry-at at e there)
-
-  view-by : (id : NodeId) (kept : NodeRecord) (holder : Option SessionId) (o p : Option NodeEntry) → o ≡ p → Some id ≡ option_map (λ (e : NodeEntry). e.id) o → Some kept ≡ option_map (λ (e : NodeEntry). e.kept) p → holder ≡ slice_get (option_map_or (λ (e : NodeEntry). e.queue) p []) 0 →
-      Some (record { id = id; kept = kept; holder = holder }) ≡ option_map node_view o
-  view-by id kept holder None p same is is_kept holds = absurd cc
-  view-by id kept holder (Some e) None same is is_kept holds = absurd cc
-  view-by id kept holder (Some e) (Some x) same is is_kept holds =
-      let this : e ≡ x = cc in
-      let first : id ≡ e.id = cc in
-      let second : kept ≡ x.kept = cc in
-      rw (first, second, holds, sym this) refl
+  node-unviewed at = unviewed (λ (e : NodeEntry). e.id) (λ (e : NodeEntry). e.kept) (λ (e : NodeEntry). e.queue) seen_node (λ id. node_entry id s.nodes) (slice_get s.nodes at)
 
   -- the view of the node that is there
   pub node-viewed : (at : ℕ) (id : NodeId) (kept : NodeRecord) (holder : Option SessionId) → Some id ≡ viewed_at at → Some kept ≡ node_in id s.nodes → holder ≡ slice_get (node_queue id s.nodes) 0 →
-      Some (record { id = id; kept = kept; holder = holder }) ≡ option_map node_view (slice_get s.nodes at)
-  node-viewed at id kept holder is is_kept holds =
-      view-by id kept holder (slice_get s.nodes at) (node_entry id s.nodes) (kept-by at id (slice_get s.nodes at) refl is) is is_kept holds
-
-  lost-by : (o p : Option NodeEntry) (id : NodeId) → o ≡ p → Some id ≡ option_map (λ (e : NodeEntry). e.id) o → None ≡ option_map (λ (e : NodeEntry). e.kept) p → None ≡ option_map node_view o
-  lost-by None p id same is none = refl
-  lost-by (Some e) None id same is none = absurd cc
-  lost-by (Some e) (Some x) id same is none = absurd cc
+      Some (seen_node id kept holder) ≡ option_map node_view (slice_get s.nodes at)
+  node-viewed at = viewed (λ (e : NodeEntry). e.id) (λ (e : NodeEntry). e.kept) (λ (e : NodeEntry). e.queue) seen_node (λ id. node_entry id s.nodes) (slice_get s.nodes at) (entry-at at)
 
   -- the node that is there has a record
   pub node-kept : (at : ℕ) (id : NodeId) → Some id ≡ viewed_at at → None ≡ node_in id s.nodes → None ≡ option_map node_view (slice_get s.nodes at)
-  node-kept at id is none = lost-by (slice_get s.nodes at) (node_entry id s.nodes) id (kept-by at id (slice_get s.nodes at) refl is) is none
+  node-kept at = view-kept (λ (e : NodeEntry). e.id) (λ (e : NodeEntry). e.kept) (λ (e : NodeEntry). e.queue) seen_node (λ id. node_entry id s.nodes) (slice_get s.nodes at) (entry-at at)

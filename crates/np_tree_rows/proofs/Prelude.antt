@@ -2,10 +2,9 @@
 pub use Rattle.np_changes.specs.Prelude.{AllByRecursion, AllZip, Configuration, HasText, JobId, JobRecord, NodeEntry, NodeId, NodeRecord, NonePass, PoolId, RequestEntry, RequestId, RequestRecord, RequesterId, Rises, Role, RoleRecord, SemId, SessionFacts, SessionId, SessionRecord, State, handles_of, has_handle, is_among, is_pair, is_queued, is_session, is_swept, node_entry, node_in, node_queue, number_of, option_copied, option_map, option_map_or, range_with_len, registered, request_entry, request_in, request_of, request_queue, role_in, session_of}
 pub use Rattle.np_layout.proofs.ChangeParts.{all-joined}
 pub use Rattle.np_layout.proofs.Creates.{node_before, rises-zip}
-pub use Rattle.np_layout.proofs.Deletes.{found-node, is_node_it, is_request_it, lock-names, node-tells, request-good, request-queue}
+pub use Rattle.np_layout.proofs.Deletes.{found-node, is_node_it, is_request_it, lock-names, node-named as named-by, node-tells, request-good, request-named as request-named-by, request-queue}
 pub use Rattle.np_layout.proofs.Names.{is_path-of, parts-of}
 pub use Rattle.np_layout.proofs.Rows.{Tells, all-numbered, all-put, any-by_name, any-mapped, at-range, rows_put, tells-mapped}
-pub use Rattle.np_layout.proofs.Sets.{named-by, request-named-by}
 pub use Rattle.np_layout.proofs.Steps.{named-here, named-other}
 pub use Rattle.np_layout.specs.Carried.{IsStored}
 pub use Rattle.np_layout.specs.Decoded.{decoded}
@@ -15,9 +14,11 @@ pub use Rattle.np_layout.specs.Rows.{by_name, handle_row, janitor_role_row, job_
 pub use Rattle.np_layout.specs.declared.place.Place.{Place}
 pub use Rattle.np_layout.specs.declared.place.Place.TheVariants.{Handle, JanitorRole, Job, Jobs, Launcher, LauncherRole, Launchers, Node, NodeLock, Nodes, Poolsim, Request, RequestLock, RequestLocks, RequesterRole, Requests, Roles, Semaphore, Semaphores, Session, Sessions, Swept, SweptPairs, Tick}
 pub use Rattle.np_lists.proofs.Changes.{all-at, all-find, all-weaker, filter-nothing, find-passes, length-insert_before, list_any-none}
-pub use Rattle.np_lists.proofs.Plain.{get-map, map-some, past-end}
+pub use Rattle.np_lists.proofs.Plain.{by_bool, get-map, map-some, past-end}
 pub use Rattle.np_lists.proofs.Searches.{none-find}
 pub use Rattle.np_look.specs.Readers.{queued_nodes, queued_requests}
+pub use Rattle.np_look.specs.declared.asked.NodeView.{NodeView}
+pub use Rattle.np_look.specs.declared.asked.RequestView.{RequestView}
 pub use Rattle.np_look.specs.Views.{node_view, request_view}
 pub use Rattle.np_machine.proofs.Ids.{node-itself, request-itself}
 pub use Rattle.np_machine.specs.declared.state.Registration.{Registration}

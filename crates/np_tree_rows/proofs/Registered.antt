@@ -1,6 +1,7 @@
 -- who holds, waits and is registered in a stored state, as its tree shows it
-use Rattle.np_tree_rows.proofs.Prelude.{AllByRecursion, AllZip, AreHolders, Bool, Configuration, Handle, HasHandles, HasNodeLock, HasQueue, HasText, IfSome, IsGood, IsNodeRow, IsStored, IsWait, IsWhole, Job, JobId, Launcher, Launchers, List, Node, NodeEntry, NodeId, NodeLock, Nodes, None, Option, Place, PoolId, Registration, Request, RequestEntry, RequestId, RequestLock, Requests, Rises, Row, SemId, Semaphore, Semaphores, SessionId, Some, Stat, State, Swept, SweptPair, SweptPairs, TreeState, above, add-one, all-at, all-find, all-numbered, all-weaker, any-by_name, any-mapped, ap, arith, at-range, by_name, bytes_eq, bytes_eq-from, cond, drop, drop_all, false, filter, filter-nothing, find, find-passes, find_named, handle_row, handles_of, has_handle, is_among, is_named, is_owner, is_pair, is_queued, is_session, is_some, is_swept, launcher_row, length, length-insert_before, length-map, list_any, list_any-none, map, map-some, named-other, nat_le, nat_lt, nat_tests, node_if_queued, option_and_then, option_map, option_map_or, or_parts, path_of, place_name, places, refl, registered, request_if_queued, request_of, request_of-spelled, request_row, row_before, rows_put, semaphore_row, slice_get, slice_get_past, stat_at, subst, suc, swept_row, sym, tree_session, true, under, unwrap_or, with_row, zero, ℕ, [], ◌+◌, ◌-◌, ◌<◌, ◌==◌, ◌^◌, ◌||◌, ◌∙◌, ◌∷◌, ◌≡◌, ◌≤◌}
+use Rattle.np_tree_rows.proofs.Prelude.{AllByRecursion, AllZip, AreHolders, Bool, Configuration, Handle, HasHandles, HasNodeLock, HasQueue, HasText, IfSome, IsGood, IsStored, IsWait, IsWhole, Job, JobId, Launcher, Launchers, List, NodeEntry, NodeId, NodeLock, None, Option, Place, PoolId, Registration, RequestEntry, RequestId, RequestLock, Rises, Row, SemId, Semaphore, Semaphores, SessionId, Some, Stat, State, Swept, SweptPair, SweptPairs, TreeState, above, add-one, all-at, all-find, all-numbered, all-weaker, any-by_name, any-mapped, ap, arith, at-range, by_bool, by_name, bytes_eq, bytes_eq-from, cond, drop, drop_all, false, filter, find, find-passes, find_named, handle_row, handles_of, has_handle, is_among, is_named, is_owner, is_pair, is_queued, is_session, is_some, is_swept, launcher_row, length, length-map, list_any, list_any-none, map, map-some, named-other, nat_le, nat_lt, nat_tests, node_if_queued, option_and_then, option_map, option_map_or, or_parts, path_of, place_name, places, refl, registered, request_if_queued, request_of, request_of-spelled, semaphore_row, slice_get, slice_get_past, stat_at, subst, suc, swept_row, sym, tree_session, true, under, unwrap_or, zero, ℕ, [], ◌+◌, ◌-◌, ◌<◌, ◌==◌, ◌||◌, ◌∙◌, ◌∷◌, ◌≡◌, ◌≤◌}
 use Rattle.np_tree_rows.proofs.Shown.{owner-named, rows-none, IsOnly, find-ordered}
+use Rattle.np_tree_rows.proofs.Stored.{length-by_name}
 use Rattle.np_layout.proofs.Creates.{named-by}
 
 -- # the members that pass a test, counted and found by a walk over all
@@ -18,14 +19,10 @@ module _ {A B : Type 0} (p : A → Bool) (f : A → B) where
   with_first None rest = rest
   with_first (Some b) rest = b ∷ rest
 
-  head-by : (a : A) (list : List A) (b : Bool) → map f (cond b (a ∷ filter p list) (filter p list)) ≡ with_first (cond b (Some (f a)) None) (map f (filter p list))
-  head-by a list true = refl
-  head-by a list false = refl
-
   step : (list : List A) (at : ℕ) → passing_from at list ≡ with_first (option_and_then if_passes (slice_get list at)) (passing_from (suc at) list)
   step [] zero = refl
   step [] (suc at) = refl
-  step (a ∷ list) zero = head-by a list (p a)
+  step (a ∷ list) zero = grind arith
   step (a ∷ list) (suc at) = step list at
 
   step-by : (list : List A) (at : ℕ) (o : Option B) → o ≡ option_and_then if_passes (slice_get list at) → passing_from at list ≡ with_first o (passing_from (suc at) list)
@@ -35,8 +32,7 @@ module _ {A B : Type 0} (p : A → Bool) (f : A → B) where
   pub count-step : (list : List A) (at : ℕ) (o : Option B) → o ≡ option_and_then if_passes (slice_get list at) → length (passing_from at list) ≡ cond (is_some o) 1 0 + length (passing_from (at + 1) list)
   count-step list at o is = rw add-one (ap length (step-by list at o is) ∙ by o) where
     by : (x : Option B) → length (with_first x (passing_from (suc at) list)) ≡ cond (is_some x) 1 0 + length (passing_from (suc at) list)
-    by None = omega arith
-    by (Some b) = omega arith
+    by x = grind arith
 
   -- one that passes is the first of those from its place on
   pub first-here : (list : List A) (at left : ℕ) (b : B) → Some b ≡ option_and_then if_passes (slice_get list at) → left ≡ 0 → slice_get (passing_from at list) left ≡ Some b
@@ -62,10 +58,7 @@ module _ {A B : Type 0} (p : A → Bool) (f : A → B) where
 
 find-any : {X : Type 0} (p : X → Bool) (xs : List X) → is_some (find p xs) ≡ list_any p xs
 find-any p [] = refl
-find-any p (x ∷ xs) = by (p x) (find-any p xs) where
-  by : (b : Bool) → is_some (find p xs) ≡ list_any p xs → is_some (cond b (Some x) (find p xs)) ≡ (b || list_any p xs)
-  by true later = refl
-  by false later = later
+find-any p (x ∷ xs) = grind (arith, find-any p xs)
 
 -- there is a stat at a good place if a row of its directory has its name
 pub there-named : (t : TreeState) (p dir : Place) → IsWhole t.nodes → IsGood p → above p ≡ Some dir → is_some (stat_at t (path_of p)) ≡ list_any (is_named (place_name p)) (under dir t)
@@ -79,19 +72,6 @@ there-named t p dir whole good over =
 is-none : (o : Option Stat) → is_some o ≡ false → o ≡ None
 is-none None is = refl
 is-none (Some stat) is = absurd cc
-
--- ## rows in order
-
-length-put : (rows sorted : List Row) → length (rows_put sorted rows) ≡ length sorted + length rows
-length-put [] sorted = omega arith
-length-put (row ∷ rows) sorted =
-    let later = length-put rows (with_row row sorted) in
-    let one = length-insert_before (λ other. row_before row other) row sorted in
-    omega arith
-
--- as many rows are in order as there are
-pub length-by_name : (rows : List Row) → length (by_name rows) ≡ length rows
-length-by_name rows = let all = length-put rows [] in omega arith
 
 -- ## handles
 
@@ -185,99 +165,101 @@ swept-there c s t n server stored good =
     (all-weaker (λ (pair : SweptPair). IsGood (Swept pair.node pair.server)) (λ (pair : SweptPair). is_named (place_name (Swept n server)) (swept_row pair) ≡ is_pair n server pair)
     (λ pair pair_good. pair-named n server pair (is_pair n server pair) refl good pair_good) s.swept stored.carried.good.swept)
 
--- # the jobs with a handle, from a number on
+-- # the members of a list that rises by number, from a number on
 
--- the jobs whose numbers are not below this one
-abbrev pub jobs_from : ℕ → List JobId → List JobId
-jobs_from k jobs = filter (λ j. nat_le k j.0) jobs
+past-first : {A : Type 0} (a : A) (list : List A) (at : ℕ) → (at ≡ 0 → ⊥) → slice_get (a ∷ list) at ≡ slice_get list (at - 1)
+past-first a list zero later = absurd (later refl)
+past-first a list (suc at) later = let minus : at ≡ suc at - 1 = omega arith in ap (slice_get list) minus
 
-abbrev pub is_job_before : JobId → JobId → Bool
-is_job_before a b = nat_lt a.0 b.0
+module _ {A : Type 0} (key : A → ℕ) where
+  -- by number
+  abbrev pub is_before : A → A → Bool
+  is_before a b = nat_lt (key a) (key b)
 
--- they are all jobs, from the first number on
-pub from-zero : (jobs : List JobId) → jobs_from 0 jobs ≡ jobs
-from-zero [] = refl
-from-zero (j ∷ jobs) = ap (λ (b : Bool). cond b (j ∷ jobs_from 0 jobs) (jobs_from 0 jobs)) (low j.0) ∙ ap (λ (list : List JobId). j ∷ list) (from-zero jobs) where
-  low : (n : ℕ) → nat_le 0 n ≡ true
-  low n = grind (arith, nat_tests)
+  abbrev has_number : ℕ → A → Bool
+  has_number n a = key a == n
 
-from-by : (k : ℕ) (j : JobId) (jobs : List JobId) (b c : Bool) → nat_le k j.0 ≡ b → nat_le (suc k) j.0 ≡ c → (b ≡ c) → jobs_from k jobs ≡ jobs_from (suc k) jobs → cond b (j ∷ jobs_from k jobs) (jobs_from k jobs) ≡ cond c (j ∷ jobs_from (suc k) jobs) (jobs_from (suc k) jobs)
-from-by k j jobs true true low high same later = ap (λ (list : List JobId). j ∷ list) later
-from-by k j jobs true false low high same later = absurd cc
-from-by k j jobs false true low high same later = absurd cc
-from-by k j jobs false false low high same later = later
+  -- those whose numbers are not below this one
+  abbrev pub from_number : ℕ → List A → List A
+  from_number n list = filter (λ a. nat_le n (key a)) list
 
--- a number that is none of theirs is passed over
-pub from-over : (k : ℕ) (jobs : List JobId) → is_among (record { 0 = k }) jobs ≡ false → jobs_from k jobs ≡ jobs_from (suc k) jobs
-from-over k [] is = refl
-from-over k (j ∷ jobs) is =
-    let none = or_parts (j.0 == k) (is_among (record { 0 = k }) jobs) is in
-    from-by k j jobs (nat_le k j.0) (nat_le (suc k) j.0) refl refl (steps k j.0 none.0) (from-over k jobs none.1) where
-      steps : (k n : ℕ) → (n == k) ≡ false → nat_le k n ≡ nat_le (suc k) n
-      steps k n other = grind (arith, nat_tests)
+  -- they are all, from the first number on
+  pub from-zero : (list : List A) → from_number 0 list ≡ list
+  from-zero [] = refl
+  from-zero (a ∷ list) = grind (arith, nat_tests, from-zero list)
 
--- none of those after a number is that number
-none-after : (k : ℕ) (j : JobId) (jobs : List JobId) → k ≤ j.0 → AllByRecursion (λ other. is_job_before j other ≡ true) jobs → is_among (record { 0 = k }) jobs ≡ false
-none-after k j jobs low all =
-    list_any-none (λ (other : JobId). other.0 == k) jobs
-    (all-weaker (λ (other : JobId). is_job_before j other ≡ true) (λ (other : JobId). (other.0 == k) ≡ false) (λ other later. apart k j.0 other.0 low later) jobs all) where
-      apart : (k m n : ℕ) → k ≤ m → nat_lt m n ≡ true → (n == k) ≡ false
-      apart k m n low later = grind (arith, nat_tests)
+  -- a number that is none of theirs is passed over
+  pub from-over : (n : ℕ) (list : List A) → list_any (has_number n) list ≡ false → from_number n list ≡ from_number (suc n) list
+  from-over n [] none = refl
+  from-over n (a ∷ list) none =
+      let parts = or_parts (key a == n) (list_any (has_number n) list) none in
+      grind (arith, nat_tests, parts.0, from-over n list parts.1)
 
--- a number that is one of theirs is the first of them
-pub from-here : (k : ℕ) (jobs : List JobId) → Rises is_job_before jobs → is_among (record { 0 = k }) jobs ≡ true → jobs_from k jobs ≡ record { 0 = k } ∷ jobs_from (suc k) jobs
-from-here k [] rises is = absurd cc
-from-here k (j ∷ jobs) rises is = here-by (j.0 == k) refl is (from-here k jobs rises.1) where
-  below : (k n : ℕ) → (n == k) ≡ false → nat_le k n ≡ true → k ≤ n
-  below k n other low = grind (arith, nat_tests)
+  none-after : (n : ℕ) (a : A) (list : List A) → n ≤ key a → AllByRecursion (λ b. is_before a b ≡ true) list → list_any (has_number n) list ≡ false
+  none-after n a [] low all = refl
+  none-after n a (b ∷ list) low all = grind (arith, nat_tests, all.0, none-after n a list low all.1)
 
-  above : (k n : ℕ) → nat_le k n ≡ false → nat_le (suc k) n ≡ false
-  above k n low = grind (arith, nat_tests)
+  -- one of that number is the first of them
+  pub from-here : (n : ℕ) (a : A) (list : List A) → Rises is_before list → find (has_number n) list ≡ Some a → from_number n list ≡ a ∷ from_number (suc n) list
+  from-here n a [] rises is = absurd cc
+  from-here n a (b ∷ list) rises is =
+      by_bool (λ (found : Bool). cond found (Some b) (find (has_number n) list) ≡ Some a → from_number n (b ∷ list) ≡ a ∷ from_number (suc n) (b ∷ list)) (key b == n)
+      (λ here told.
+      let same : b ≡ a = cc in
+      let over = from-over n list (none-after n b list (grind (arith, nat_tests)) rises.0) in
+      grind (arith, nat_tests, over))
+      (λ other told.
+      let past = all-find (λ (c : A). is_before b c ≡ true) (has_number n) list a rises.0 told in
+      let at = find-passes (has_number n) list a told in
+      grind (arith, nat_tests, from-here n a list rises.1 told))
+      is
 
-  low-by : (b c : Bool) → nat_le k j.0 ≡ b → nat_le (suc k) j.0 ≡ c → (j.0 == k) ≡ false → is_among (record { 0 = k }) jobs ≡ true → jobs_from k jobs ≡ record { 0 = k } ∷ jobs_from (suc k) jobs →
-      cond b (j ∷ jobs_from k jobs) (jobs_from k jobs) ≡ record { 0 = k } ∷ cond c (j ∷ jobs_from (suc k) jobs) (jobs_from (suc k) jobs)
-  low-by true c low high other any later = absurd (let none = none-after k j jobs (below k j.0 other low) rises.0 in cc)
-  low-by false true low high other any later = absurd (let no = above k j.0 low in cc)
-  low-by false false low high other any later = later
+  -- there are none from a number on that is past all
+  pub from-end : (n : ℕ) (list : List A) → AllByRecursion (λ a. key a < n) list → from_number n list ≡ []
+  from-end n [] all = refl
+  from-end n (a ∷ list) all = grind (arith, nat_tests, all.0, from-end n list all.1)
 
-  here-by : (b : Bool) → (j.0 == k) ≡ b → (b || is_among (record { 0 = k }) jobs) ≡ true → (is_among (record { 0 = k }) jobs ≡ true → jobs_from k jobs ≡ record { 0 = k } ∷ jobs_from (suc k) jobs) →
-      jobs_from k (j ∷ jobs) ≡ record { 0 = k } ∷ jobs_from (suc k) (j ∷ jobs)
-  here-by true same any later =
-      let number : j.0 ≡ k = grind (arith, nat_tests) in
-      let at : nat_le k j.0 ≡ true = grind (arith, nat_tests) in
-      let past : nat_le (suc k) j.0 ≡ false = grind (arith, nat_tests) in
-      let is_k : j ≡ record { 0 = k } = ap (λ (n : ℕ). record { 0 = n }) number in
-      let over = from-over k jobs (none-after k j jobs (omega arith) rises.0) in
-      ap (λ (b : Bool). cond b (j ∷ jobs_from k jobs) (jobs_from k jobs)) at
-      ∙ ap (λ (first : JobId). first ∷ jobs_from k jobs) is_k
-      ∙ ap (λ (list : List JobId). record { 0 = k } ∷ list) over
-      ∙ ap (λ (b : Bool). record { 0 = k } ∷ cond b (j ∷ jobs_from (suc k) jobs) (jobs_from (suc k) jobs)) (sym past)
-  here-by false other any later = low-by (nat_le k j.0) (nat_le (suc k) j.0) refl refl other any (later any)
+  module _ (n at : ℕ) (a : A) (list : List A) (rises : Rises is_before list) (is : find (has_number n) list ≡ Some a) where
+    -- it is at the first place
+    pub at-first : at ≡ 0 → slice_get (from_number n list) at ≡ Some a
+    at-first first = ap (slice_get (from_number n list)) first ∙ ap (λ (those : List A). slice_get those 0) (from-here n a list rises is)
 
--- there are none past the number of jobs
-pub from-end : (count k : ℕ) (jobs : List JobId) → AllByRecursion (λ j. j.0 < count) jobs → count ≤ k → jobs_from k jobs ≡ []
-from-end count k jobs all past =
-    filter-nothing (λ (j : JobId). nat_le k j.0) jobs
-    (all-weaker (λ (j : JobId). j.0 < count) (λ (j : JobId). nat_le k j.0 ≡ false) (λ j low. short k j.0 (omega arith)) jobs all) where
-      short : (k n : ℕ) → n < k → nat_le k n ≡ false
-      short k n low = grind (arith, nat_tests)
+    -- and the others are at the places after it
+    pub at-later : (at ≡ 0 → ⊥) → slice_get (from_number n list) at ≡ slice_get (from_number (suc n) list) (at - 1)
+    at-later later = ap (λ (those : List A). slice_get those at) (from-here n a list rises is) ∙ past-first a (from_number (suc n) list) at later
+
+-- the number of a job
+abbrev pub number_of_job : JobId → ℕ
+number_of_job j = j.0
+
+-- a job among others is found
+pub job-found : (k : ℕ) (jobs : List JobId) → is_among (record { 0 = k }) jobs ≡ true → find (λ j. j.0 == k) jobs ≡ Some (record { 0 = k })
+job-found k [] is = absurd cc
+job-found k (j ∷ jobs) is =
+    by_bool (λ (b : Bool). (b || is_among (record { 0 = k }) jobs) ≡ true → cond b (Some j) (find (λ (other : JobId). other.0 == k) jobs) ≡ Some (record { 0 = k })) (j.0 == k)
+    (λ here any. let number : j.0 ≡ k = grind (arith, nat_tests) in ap (λ (n : ℕ). Some (record { 0 = n })) number) (λ other any. job-found k jobs any) is
+
+-- what is found for a pool is its registration
+pub registration-found : (p : PoolId) (session : SessionId) (list : List Registration) → Some session ≡ registered p list → find (λ g. g.pool.0 == p.0) list ≡ Some (record { pool = p; session = session })
+registration-found p session list is = by (find (λ g. g.pool.0 == p.0) list) refl is where
+  by : (o : Option Registration) → find (λ g. g.pool.0 == p.0) list ≡ o → Some session ≡ option_map (λ (g : Registration). g.session) o → o ≡ Some (record { pool = p; session = session })
+  by None there told = absurd cc
+  by (Some g) there told =
+      let at = find-passes (λ (x : Registration). x.pool.0 == p.0) list g there in
+      let number : g.pool.0 ≡ p.0 = grind (arith, nat_tests) in
+      let who : g.session ≡ session = cc in
+      λ i. Some (record { pool = record { 0 = number i }; session = who i })
+
+-- and there is none of a pool for which nobody is registered
+pub registration-none : (p : PoolId) (list : List Registration) → None ≡ registered p list → list_any (λ g. g.pool.0 == p.0) list ≡ false
+registration-none p [] is = refl
+registration-none p (g ∷ list) is =
+    by_bool (λ (b : Bool). None ≡ option_map (λ (x : Registration). x.session) (cond b (Some g) (find (λ (x : Registration). x.pool.0 == p.0) list)) → (b || list_any (λ (x : Registration). x.pool.0 == p.0) list) ≡ false) (g.pool.0 == p.0)
+    (λ here told. absurd cc) (λ other told. registration-none p list told) is
 
 -- the handles of each semaphore of a stored state rise, and their jobs exist
 pub are-holders : (c : Configuration) (s : State) (t : TreeState) (x : SemId) → IsStored c s t → AreHolders (length c.jobs) (handles_of x s.handles)
 are-holders c s t x stored = of-handles (AreHolders (length c.jobs)) s.handles x (record { rise = tt; exist = tt }) stored.carried.ordered.handles
-
--- ## a place among them
-
--- a number that has a handle is at the first place of those from it on
-pub holder-here : (k at : ℕ) (jobs : List JobId) → Rises is_job_before jobs → is_among (record { 0 = k }) jobs ≡ true → at ≡ 0 → slice_get (jobs_from k jobs) at ≡ Some (record { 0 = k })
-holder-here k at jobs rises is first = ap (λ (n : ℕ). slice_get (jobs_from k jobs) n) first ∙ ap (λ (list : List JobId). slice_get list 0) (from-here k jobs rises is)
-
--- and the others are at the places after it
-pub holder-later : (k at : ℕ) (jobs : List JobId) → Rises is_job_before jobs → is_among (record { 0 = k }) jobs ≡ true → (at ≡ 0 → ⊥) → slice_get (jobs_from k jobs) at ≡ slice_get (jobs_from (suc k) jobs) (at - 1)
-holder-later k zero jobs rises is later = absurd (later refl)
-holder-later k (suc at) jobs rises is later =
-    let minus : suc at - 1 ≡ at = omega arith in
-    ap (λ (list : List JobId). slice_get list (suc at)) (from-here k jobs rises is) ∙ ap (λ (n : ℕ). slice_get (jobs_from (suc k) jobs) n) (sym minus)
 
 -- # the queues that a session is in, in a stored state and in its tree
 
@@ -316,6 +298,16 @@ any-step p [] (suc i) = refl
 any-step p (x ∷ xs) zero = refl
 any-step p (x ∷ xs) (suc i) = any-step p xs i
 
+-- the member at a place, if the session is in its queue
+queued-by : {E I : Type 0} (id_of : E → I) (queue_of : E → List SessionId) (lock : I → Place) (t : TreeState) (session : SessionId) (o : Option E) →
+    ((e : E) → o ≡ Some e → list_any (is_waiting session) (under (lock (id_of e)) t) ≡ is_queued session (queue_of e)) → (id : I) (b : Bool) → Some id ≡ option_map id_of o → list_any (is_waiting session) (under (lock id) t) ≡ b →
+    cond b (Some id) None ≡ option_and_then (λ (e : E). cond (is_queued session (queue_of e)) (Some (id_of e)) None) o
+queued-by id_of queue_of lock t session None waits id b found is = absurd cc
+queued-by id_of queue_of lock t session (Some e) waits id b found is =
+    let same : id ≡ id_of e = cc in
+    let queued : b ≡ is_queued session (queue_of e) = sym is ∙ ap (λ (x : _). list_any (is_waiting session) (under (lock x) t)) same ∙ waits e refl in
+    rw (queued, same) refl
+
 -- ## the names of requests and nodes
 
 pub has-text : (text : List ℕ) (o : Option RequestId) → o ≡ request_of text → IfSome o HasText
@@ -323,10 +315,6 @@ has-text text None is = tt
 has-text text (Some id) is = (request_of-spelled id text (sym is)).0
 
 module _ (c : Configuration) (s : State) (t : TreeState) (stored : IsStored c s t) where
-  -- the number of requests
-  pub requests-counted : length (under Requests t) ≡ length s.requests
-  requests-counted = ap length stored.lays.requests.rows ∙ length-map s.requests request_row
-
   -- a session waits at the lock of a request if it is in its queue
   pub request-waits : (at : ℕ) (session : SessionId) (e : RequestEntry) → slice_get s.requests at ≡ Some e → list_any (is_waiting session) (under (RequestLock e.id) t) ≡ is_queued session e.queue
   request-waits at session e there =
@@ -336,32 +324,9 @@ module _ (c : Configuration) (s : State) (t : TreeState) (stored : IsStored c s 
   -- the request at a place, if the session is in its queue
   pub request-queued : (at : ℕ) (session : SessionId) (request : RequestId) (b : Bool) → Some request ≡ option_map (λ (e : RequestEntry). e.id) (slice_get s.requests at) → list_any (is_waiting session) (under (RequestLock request) t) ≡ b →
       cond b (Some request) None ≡ option_and_then (request_if_queued session) (slice_get s.requests at)
-  request-queued at session request b found waits = by (slice_get s.requests at) refl found where
-    by : (o : Option RequestEntry) → slice_get s.requests at ≡ o → Some request ≡ option_map (λ (e : RequestEntry). e.id) o → cond b (Some request) None ≡ option_and_then (request_if_queued session) o
-    by None there some = absurd cc
-    by (Some e) there some =
-        let same : request ≡ e.id = cc in
-        let is : b ≡ is_queued session e.queue = sym waits ∙ ap (λ (r : RequestId). list_any (is_waiting session) (under (RequestLock r) t)) same ∙ request-waits at session e there in
-        ap (λ (x : Bool). cond x (Some request) None) is ∙ ap (λ (r : RequestId). cond (is_queued session e.queue) (Some r) None) same
+  request-queued at session = queued-by (λ (e : RequestEntry). e.id) (λ (e : RequestEntry). e.queue) RequestLock t session (slice_get s.requests at) (request-waits at session)
 
   -- ## the same of nodes
-
-  zip-name : (rows : List Row) (entries : List NodeEntry) → AllZip IsNodeRow rows entries → (at : ℕ) → option_map (λ (row : Row). row.name) (slice_get rows at) ≡ option_map (λ (e : NodeEntry). place_name (Node e.id)) (slice_get entries at)
-  zip-name [] [] zip at = refl
-  zip-name [] (e ∷ entries) zip at = absurd zip
-  zip-name (row ∷ rows) [] zip at = absurd zip
-  zip-name (row ∷ rows) (e ∷ entries) zip zero = ap (λ (r : Row). Some r.name) zip.0.is
-  zip-name (row ∷ rows) (e ∷ entries) zip (suc at) = zip-name rows entries zip.1 at
-
-  zip-length : (rows : List Row) (entries : List NodeEntry) → AllZip IsNodeRow rows entries → length rows ≡ length entries
-  zip-length [] [] zip = refl
-  zip-length [] (e ∷ entries) zip = absurd zip
-  zip-length (row ∷ rows) [] zip = absurd zip
-  zip-length (row ∷ rows) (e ∷ entries) zip = ap suc (zip-length rows entries zip.1)
-
-  -- the number of nodes
-  pub nodes-counted : length (under Nodes t) ≡ length s.nodes
-  nodes-counted = zip-length (under Nodes t) s.nodes stored.lays.nodes.rows
 
   -- a session waits at the lock of a node if it is in its queue
   pub node-waits : (at : ℕ) (session : SessionId) (e : NodeEntry) → slice_get s.nodes at ≡ Some e → list_any (is_waiting session) (under (NodeLock e.id) t) ≡ is_queued session e.queue
@@ -372,13 +337,7 @@ module _ (c : Configuration) (s : State) (t : TreeState) (stored : IsStored c s 
   -- the node at a place, if the session is in its queue
   pub node-queued : (at : ℕ) (session : SessionId) (node : NodeId) (b : Bool) → Some node ≡ option_map (λ (e : NodeEntry). e.id) (slice_get s.nodes at) → list_any (is_waiting session) (under (NodeLock node) t) ≡ b →
       cond b (Some node) None ≡ option_and_then (node_if_queued session) (slice_get s.nodes at)
-  node-queued at session node b found waits = by (slice_get s.nodes at) refl found where
-    by : (o : Option NodeEntry) → slice_get s.nodes at ≡ o → Some node ≡ option_map (λ (e : NodeEntry). e.id) o → cond b (Some node) None ≡ option_and_then (node_if_queued session) o
-    by None there some = absurd cc
-    by (Some e) there some =
-        let same : node ≡ e.id = cc in
-        let is : b ≡ is_queued session e.queue = sym waits ∙ ap (λ (n : NodeId). list_any (is_waiting session) (under (NodeLock n) t)) same ∙ node-waits at session e there in
-        ap (λ (x : Bool). cond x (Some node) None) is ∙ ap (λ (n : NodeId). cond (is_queued session e.queue) (Some n) None) same
+  node-queued at session = queued-by (λ (e : NodeEntry). e.id) (λ (e : NodeEntry). e.queue) NodeLock t session (slice_get s.nodes at) (node-waits at session)
 
 -- # who is registered for each pool, as the tree shows it, and the registrations in the order of pools
 
@@ -465,126 +424,29 @@ pub owner-session : (owner : ℕ) (f : Option Registration) → Some owner ≡ o
 owner-session owner None is = absurd cc
 owner-session owner (Some g) is = let same : owner ≡ g.session.0 + 1 = cc in let less : owner - 1 ≡ g.session.0 = omega arith in ap (λ (n : ℕ). Some (record { 0 = n })) less
 
--- ## the registrations from a pool on
-
--- those of this pool and of later ones
-abbrev pub from_pool : ℕ → List Registration → List Registration
-from_pool n list = filter (λ g. nat_le n g.pool.0) list
-
-all-by : (g : Registration) (list rest : List Registration) (b : Bool) → nat_le 0 g.pool.0 ≡ b → list ≡ rest → g ∷ list ≡ cond b (g ∷ rest) rest
-all-by g list rest true is same = ap (λ (gs : List Registration). g ∷ gs) same
-all-by g list rest false is same = absurd (grind (arith, nat_tests))
-
--- all are from the first pool on
-pub from_pool-first : (list : List Registration) → list ≡ from_pool 0 list
-from_pool-first [] = refl
-from_pool-first (g ∷ list) = all-by g list (from_pool 0 list) (nat_le 0 g.pool.0) refl (from_pool-first list)
-
-none-by : (n : ℕ) (g : Registration) (rest : List Registration) (b : Bool) → nat_le n g.pool.0 ≡ b → g.pool.0 < n → rest ≡ [] → cond b (g ∷ rest) rest ≡ []
-none-by n g rest true is low same = absurd (grind (arith, nat_tests))
-none-by n g rest false is low same = same
-
--- there are none from a pool on that does not exist
-pub from_pool-none : (n : ℕ) (list : List Registration) → AllByRecursion (λ g. g.pool.0 < n) list → from_pool n list ≡ []
-from_pool-none n [] low = refl
-from_pool-none n (g ∷ list) low = none-by n g (from_pool n list) (nat_le n g.pool.0) refl low.0 (from_pool-none n list low.1)
-
-same-by : (n : ℕ) (g : Registration) (these those : List Registration) (b d : Bool) → nat_le n g.pool.0 ≡ b → nat_le (n + 1) g.pool.0 ≡ d → (g.pool.0 == n) ≡ false → these ≡ those → cond b (g ∷ these) these ≡ cond d (g ∷ those) those
-same-by n g these those true true is next apart same = ap (λ (gs : List Registration). g ∷ gs) same
-same-by n g these those true false is next apart same = absurd (grind (arith, nat_tests))
-same-by n g these those false true is next apart same = absurd (grind (arith, nat_tests))
-same-by n g these those false false is next apart same = same
-
-none-of : (p : PoolId) (g : Registration) (list : List Registration) (b : Bool) → (g.pool.0 == p.0) ≡ b → None ≡ option_map (λ (x : Registration). x.session) (cond b (Some g) (find (λ x. x.pool.0 == p.0) list)) → ((g.pool.0 == p.0) ≡ false) × (None ≡ registered p list)
-none-of p g list true is none = absurd cc
-none-of p g list false is none = (is, none)
-
--- a pool for which nobody is registered
-pub from_pool-next : (p : PoolId) (list : List Registration) → None ≡ registered p list → from_pool p.0 list ≡ from_pool (p.0 + 1) list
-from_pool-next p [] none = refl
-from_pool-next p (g ∷ list) none =
-    let parts = none-of p g list (g.pool.0 == p.0) refl none in
-    same-by p.0 g (from_pool p.0 list) (from_pool (p.0 + 1) list) (nat_le p.0 g.pool.0) (nat_le (p.0 + 1) g.pool.0) refl refl parts.0 (from_pool-next p list parts.1)
-
--- all are past a pool
-past-by : (n : ℕ) (g : Registration) (these those : List Registration) (b d : Bool) → nat_le n g.pool.0 ≡ b → nat_le (n + 1) g.pool.0 ≡ d → n < g.pool.0 → these ≡ those → cond b (g ∷ these) these ≡ cond d (g ∷ those) those
-past-by n g these those true true is next past same = ap (λ (gs : List Registration). g ∷ gs) same
-past-by n g these those true false is next past same = absurd (grind (arith, nat_tests))
-past-by n g these those false d is next past same = absurd (grind (arith, nat_tests))
-
-past-same : (n : ℕ) (h : Registration) (list : List Registration) → h.pool.0 ≡ n → AllByRecursion (λ g. pool_before h g ≡ true) list → from_pool n list ≡ from_pool (n + 1) list
-past-same n h [] is after = refl
-past-same n h (g ∷ list) is after = past-by n g (from_pool n list) (from_pool (n + 1) list) (nat_le n g.pool.0) (nat_le (n + 1) g.pool.0) refl refl (let first = after.0 in grind (arith, nat_tests)) (past-same n h list is after.1)
-
--- the first one from a pool on is the pool's
-front-by : (n : ℕ) (g : Registration) (these those : List Registration) (b d : Bool) → nat_le n g.pool.0 ≡ b → nat_le (n + 1) g.pool.0 ≡ d → g.pool.0 ≡ n → these ≡ those → cond b (g ∷ these) these ≡ g ∷ cond d (g ∷ those) those
-front-by n g these those true true is next at same = absurd (grind (arith, nat_tests))
-front-by n g these those true false is next at same = ap (λ (gs : List Registration). g ∷ gs) same
-front-by n g these those false d is next at same = absurd (grind (arith, nat_tests))
-
-skip-by : (n : ℕ) (g : Registration) (these those : List Registration) (b d : Bool) → nat_le n g.pool.0 ≡ b → nat_le (n + 1) g.pool.0 ≡ d → g.pool.0 < n → (x : Registration) → these ≡ x ∷ those → cond b (g ∷ these) these ≡ x ∷ cond d (g ∷ those) those
-skip-by n g these those true d is next low x same = absurd (grind (arith, nat_tests))
-skip-by n g these those false true is next low x same = absurd (grind (arith, nat_tests))
-skip-by n g these those false false is next low x same = same
-
-module _ (p : PoolId) (session : SessionId) where
-  abbrev it : Registration
-  it = record { pool = p; session = session }
-
-  low-by : (g : Registration) (list : List Registration) (o : Option Registration) → find (λ (x : Registration). x.pool.0 == p.0) list ≡ o → Some session ≡ option_map (λ (x : Registration). x.session) o → AllByRecursion (λ h. pool_before g h ≡ true) list → g.pool.0 < p.0
-  low-by g list None there is after = absurd cc
-  low-by g list (Some x) there is after =
-      let past = all-find (λ h. pool_before g h ≡ true) (λ (y : Registration). y.pool.0 == p.0) list x after there in
-      let at = find-passes (λ (y : Registration). y.pool.0 == p.0) list x there in
-      grind (arith, nat_tests)
-
-  here-by : (g : Registration) (list : List Registration) (b : Bool) → (g.pool.0 == p.0) ≡ b → Some session ≡ option_map (λ (x : Registration). x.session) (cond b (Some g) (find (λ x. x.pool.0 == p.0) list)) → AllByRecursion (λ h. pool_before g h ≡ true) list →
-      (Some session ≡ registered p list → from_pool p.0 list ≡ it ∷ from_pool (p.0 + 1) list) → from_pool p.0 (g ∷ list) ≡ it ∷ from_pool (p.0 + 1) (g ∷ list)
-  here-by g list true at is after later =
-      let number : g.pool.0 ≡ p.0 = grind (arith, nat_tests) in
-      let who : session ≡ g.session = cc in
-      front-by p.0 g (from_pool p.0 list) (from_pool (p.0 + 1) list) (nat_le p.0 g.pool.0) (nat_le (p.0 + 1) g.pool.0) refl refl number (past-same p.0 g list number after)
-      ∙ ap (λ (x : Registration). x ∷ from_pool (p.0 + 1) (g ∷ list)) (ap (λ (n : ℕ). record { pool = record { 0 = n }; session = g.session }) number ∙ sym (ap (λ (k : SessionId). record { pool = p; session = k }) who))
-  here-by g list false at is after later =
-      skip-by p.0 g (from_pool p.0 list) (from_pool (p.0 + 1) list) (nat_le p.0 g.pool.0) (nat_le (p.0 + 1) g.pool.0) refl refl (low-by g list (find (λ (x : Registration). x.pool.0 == p.0) list) refl is after) it (later is)
-
-  -- a pool for which a session is registered
-  pub from_pool-here : (list : List Registration) → Rises pool_before list → Some session ≡ registered p list → from_pool p.0 list ≡ it ∷ from_pool (p.0 + 1) list
-  from_pool-here [] rises is = absurd cc
-  from_pool-here (g ∷ list) rises is = here-by g list (g.pool.0 == p.0) refl is rises.0 (from_pool-here list rises.1)
-
 -- ## the walk of the pools
 
--- there is no member at a place past the end
-pub past-end : {A : Type 0} (list : List A) (at : ℕ) → None ≡ slice_get list at → length list ≤ at
-past-end [] at is = omega arith
-past-end (a ∷ list) zero is = absurd cc
-past-end (a ∷ list) (suc at) is = let rest = past-end list at is in omega arith
-
-get-later : (g : Registration) (list : List Registration) (left : ℕ) → (left ≡ 0 → ⊥) → slice_get (g ∷ list) left ≡ slice_get list (left - 1)
-get-later g list zero some = absurd (some refl)
-get-later g list (suc left) some = let less : left ≡ suc left - 1 = omega arith in ap (slice_get list) less
+abbrev pub pool_of : Registration → ℕ
+pool_of g = g.pool.0
 
 module _ (c : Configuration) (s : State) (t : TreeState) (stored : IsStored c s t) (at left : ℕ) where
   -- after the last pool
-  pub walk-over : (n : ℕ) → length c.pools ≤ n → slice_get s.registrations at ≡ slice_get (from_pool n s.registrations) left → None ≡ slice_get s.registrations at
+  pub walk-over : (n : ℕ) → length c.pools ≤ n → slice_get s.registrations at ≡ slice_get (from_number pool_of n s.registrations) left → None ≡ slice_get s.registrations at
   walk-over n past is =
-      sym (is ∙ ap (λ (list : List Registration). slice_get list left) (from_pool-none n s.registrations
+      sym (is ∙ ap (λ (list : List Registration). slice_get list left) (from-end pool_of n s.registrations
       (all-weaker (λ (g : Registration). g.pool.0 < length c.pools) (λ g. g.pool.0 < n) (λ g low. omega arith) s.registrations stored.carried.ordered.pools)))
 
-  module _ (p : PoolId) (is : slice_get s.registrations at ≡ slice_get (from_pool p.0 s.registrations) left) where
+  module _ (p : PoolId) (is : slice_get s.registrations at ≡ slice_get (from_number pool_of p.0 s.registrations) left) where
     -- past a pool for which nobody is registered
-    pub walk-next : None ≡ registered p s.registrations → slice_get s.registrations at ≡ slice_get (from_pool (p.0 + 1) s.registrations) left
-    walk-next none = is ∙ ap (λ (list : List Registration). slice_get list left) (from_pool-next p s.registrations none)
+    pub walk-next : None ≡ registered p s.registrations → slice_get s.registrations at ≡ slice_get (from_number pool_of (p.0 + 1) s.registrations) left
+    walk-next none = rw add-one (is ∙ ap (λ (list : List Registration). slice_get list left) (from-over pool_of p.0 s.registrations (registration-none p s.registrations none)))
 
     -- at a pool's registration
     pub walk-here : (session : SessionId) → Some session ≡ registered p s.registrations → left ≡ 0 → Some (record { pool = p; session = session }) ≡ slice_get s.registrations at
     walk-here session there last =
-        sym (is ∙ ap (λ (list : List Registration). slice_get list left) (from_pool-here p session s.registrations stored.carried.ordered.registrations there)
-        ∙ ap (slice_get (record { pool = p; session = session } ∷ from_pool (p.0 + 1) s.registrations)) last)
+        sym (is ∙ at-first pool_of p.0 left (record { pool = p; session = session }) s.registrations stored.carried.ordered.registrations (registration-found p session s.registrations there) last)
 
     -- past it
-    pub walk-later : (session : SessionId) → Some session ≡ registered p s.registrations → (left ≡ 0 → ⊥) → slice_get s.registrations at ≡ slice_get (from_pool (p.0 + 1) s.registrations) (left - 1)
+    pub walk-later : (session : SessionId) → Some session ≡ registered p s.registrations → (left ≡ 0 → ⊥) → slice_get s.registrations at ≡ slice_get (from_number pool_of (p.0 + 1) s.registrations) (left - 1)
     walk-later session there more =
-        is ∙ ap (λ (list : List Registration). slice_get list left) (from_pool-here p session s.registrations stored.carried.ordered.registrations there)
-        ∙ get-later (record { pool = p; session = session }) (from_pool (p.0 + 1) s.registrations) left more
+        rw add-one (is ∙ at-later pool_of p.0 left (record { pool = p; session = session }) s.registrations stored.carried.ordered.registrations (registration-found p session s.registrations there) more)

@@ -1,5 +1,5 @@
 -- what a tree's readers answer at the path of a place, and what is read of the requests of a stored state
-use Rattle.np_tree_rows.proofs.Prelude.{AllByRecursion, AllZip, BadRecord, Bool, Configuration, HasText, IfSome, IsGood, IsRequest, IsStored, IsWait, IsWhole, List, None, Ok, Option, Place, Request, RequestEntry, RequestId, RequestLock, RequestLocks, RequestRecord, Requests, Result, Rises, Row, Seen, SessionId, Some, SpellsRequest, Stat, State, Tells, TreeState, above, all-at, all-find, all-put, all-weaker, any-by_name, ap, arith, at_path, by_name, bytes_at, bytes_eq-is, child_name, children_of, cond, false, find, find-passes, find_named, get-map, is_at, is_named, is_path-of, is_request_it, is_some, length, length-map, list_any, list_any-none, lock-names, map, name_of, none-find, nothing-below_nothing, option_map, option_map_or, other-name, parts-of, path_of, place_name, refl, request-good, request-itself, request-named-by, request-queue, request_entry, request_in, request_lock_row, request_of, request_of-text, request_queue, request_row, request_view, row_before, row_of, rows-nothing, rows-rise, rows_at, rows_from, seen-is-row, seen_at, seen_in, seen_of, slice_get, stat_at, stat_of, stat_of_child, subst, suc, sym, tells-mapped, true, under, zero, ℕ, [], ◌+◌, ◌-◌, ◌<◌, ◌||◌, ◌∙◌, ◌∷◌, ◌≡◌, ◌≤◌}
+use Rattle.np_tree_rows.proofs.Prelude.{AllByRecursion, AllZip, BadRecord, Bool, Configuration, HasText, IsGood, IsRequest, IsStored, IsWait, IsWhole, List, None, Ok, Option, Place, Request, RequestEntry, RequestId, RequestLock, RequestLocks, RequestRecord, RequestView, Requests, Result, Rises, Row, Seen, SessionId, Some, SpellsRequest, Stat, State, Tells, TreeState, above, all-at, all-find, all-put, all-weaker, any-by_name, ap, arith, at_path, by_name, bytes_at, bytes_eq-is, child_name, children_of, cond, false, find, find-passes, find_named, get-map, is_at, is_named, is_path-of, is_request_it, is_some, length, length-map, list_any, list_any-none, lock-names, map, name_of, none-find, nothing-below_nothing, option_map, option_map_or, other-name, parts-of, path_of, place_name, refl, request-good, request-itself, request-named-by, request-queue, request_entry, request_in, request_lock_row, request_of, request_of-text, request_queue, request_row, request_view, row_before, row_of, rows-nothing, rows-rise, rows_at, rows_from, seen-is-row, seen_at, seen_in, seen_of, slice_get, stat_at, stat_of, stat_of_child, subst, suc, sym, tells-mapped, true, under, zero, ℕ, [], ◌+◌, ◌-◌, ◌<◌, ◌||◌, ◌∙◌, ◌∷◌, ◌≡◌, ◌≤◌}
 use Rattle.np_layout.specs.Prelude.{Node}
 
 -- # two lists member by member: what is found in one stands beside what is found in the other
@@ -46,11 +46,61 @@ module _ {A B : Type 0} (R : A → B → Type 0) where
         subst (λ (found : Bool). Beside R (cond found (Some a) (find p these)) (cond (q b) (Some b) (find q those))) (sym agree.0)
         (found-by a b (find p these) (find q those) (q b) zip.0 (beside-found these those agree.1 zip.1))
 
--- what is true of each member is true of the one at a place
-pub if-at : {A : Type 0} (P : A → Type 0) (list : List A) (at : ℕ) → AllByRecursion P list → IfSome (slice_get list at) P
-if-at P [] at all = tt
-if-at P (a ∷ list) zero all = all.0
-if-at P (a ∷ list) (suc at) all = if-at P list at all.1
+-- two that stand beside one another, of which the first tells something
+pub record IsBeside {A B X : Type 0} (R : A → B → Type 0) (f : A → X) (x : X) (p : Option B) : Type 0 where
+  pub first : A
+  pub second : B
+  pub there : p ≡ Some second
+  pub beside : R first second
+  pub tells : x ≡ f first
+
+module _ {A B X : Type 0} (R : A → B → Type 0) (f : A → X) where
+  -- where something is told there are two
+  pub beside-some : (x : X) (o : Option A) (p : Option B) → Beside R o p → Some x ≡ option_map f o → IsBeside R f x p
+  beside-some x None p beside is = absurd cc
+  beside-some x (Some a) None beside is = absurd beside
+  beside-some x (Some a) (Some b) beside is = record { first = a; second = b; there = refl; beside = beside; tells = cc }
+
+  -- and elsewhere nothing stands beside
+  pub beside-none : {Y : Type 0} (g : B → Y) (o : Option A) (p : Option B) → Beside R o p → None ≡ option_map f o → None ≡ option_map g p
+  beside-none g None None beside is = refl
+  beside-none g None (Some b) beside is = absurd beside
+  beside-none g (Some a) p beside is = absurd cc
+
+pub none-beside : {A B : Type 0} (R : A → B → Type 0) (o : Option A) → Beside R o None → o ≡ None
+none-beside R None beside = refl
+none-beside R (Some a) beside = absurd beside
+
+-- ## members with an id, a record and a queue, and what is seen of them
+
+module _ {E I K V : Type 0} (id_of : E → I) (kept_of : E → K) (queue_of : E → List SessionId) (make : I → K → Option SessionId → V) (by_id : I → Option E) where
+  abbrev view_of : E → V
+  view_of e = make (id_of e) (kept_of e) (slice_get (queue_of e) 0)
+
+  -- there is no view where there is no member
+  pub unviewed : (o : Option E) → None ≡ option_map id_of o → None ≡ option_map view_of o
+  unviewed None is = refl
+  unviewed (Some e) is = absurd cc
+
+  -- the view of a member that is found by its id
+  pub viewed : (o : Option E) → ((e : E) → o ≡ Some e → by_id (id_of e) ≡ Some e) → (id : I) (kept : K) (holder : Option SessionId) → Some id ≡ option_map id_of o → Some kept ≡ option_map kept_of (by_id id) →
+      holder ≡ slice_get (option_map_or queue_of (by_id id) []) 0 → Some (make id kept holder) ≡ option_map view_of o
+  viewed None finds id kept holder is is_kept holds = absurd cc
+  viewed (Some e) finds id kept holder is is_kept holds =
+      let same : id ≡ id_of e = cc in
+      let found : by_id id ≡ Some e = ap by_id same ∙ finds e refl in
+      let told : Some kept ≡ Some (kept_of e) = is_kept ∙ ap (option_map kept_of) found in
+      let this : kept ≡ kept_of e = cc in
+      let who : holder ≡ slice_get (queue_of e) 0 = holds ∙ ap (λ (m : Option E). slice_get (option_map_or queue_of m []) 0) found in
+      rw (same, this, who) refl
+
+  -- it has a record
+  pub view-kept : (o : Option E) → ((e : E) → o ≡ Some e → by_id (id_of e) ≡ Some e) → (id : I) → Some id ≡ option_map id_of o → None ≡ option_map kept_of (by_id id) → None ≡ option_map view_of o
+  view-kept None finds id is none = refl
+  view-kept (Some e) finds id is none =
+      let same : id ≡ id_of e = cc in
+      let told : None ≡ Some (kept_of e) = none ∙ ap (option_map kept_of) (ap by_id same ∙ finds e refl) in
+      absurd cc
 
 -- ## lists in order
 
@@ -290,6 +340,10 @@ IsRequestRow row e = row ≡ request_row e
 abbrev pub IsLockRow : Row → RequestEntry → Type 0
 IsLockRow row e = row ≡ request_lock_row e
 
+-- what is seen of a request
+abbrev seen_request : RequestId → RequestRecord → Option SessionId → RequestView
+seen_request id kept holder = record { id = id; kept = kept; holder = holder }
+
 abbrev request_before : RequestEntry → RequestEntry → Bool
 request_before a b = row_before (request_row a) (request_row b)
 
@@ -312,27 +366,20 @@ module _ (c : Configuration) (s : State) (t : TreeState) (stored : IsStored c s 
 
   -- ## by place
 
-  named-at : (name : List ℕ) (o : Option Row) (p : Option RequestEntry) → Beside IsRequestRow o p → IfSome p HasId → Some name ≡ option_map (λ (row : Row). row.name) o → request_of name ≡ option_map (λ (e : RequestEntry). e.id) p
-  named-at name None None beside good is = absurd cc
-  named-at name None (Some e) beside good is = absurd beside
-  named-at name (Some row) None beside good is = absurd beside
-  named-at name (Some row) (Some e) beside good is =
-      let here : name ≡ row.name = cc in
-      ap request_of (here ∙ ap (λ (r : Row). r.name) beside) ∙ request_of-text e.id good
+  request-beside : (at : ℕ) → Beside IsRequestRow (slice_get (under Requests t) at) (slice_get s.requests at)
+  request-beside at = beside-at IsRequestRow (under Requests t) s.requests at request-rows
 
   -- the name of a row spells the id of the request there
   pub request-named : (at : ℕ) (name : List ℕ) → Some name ≡ option_map (λ (row : Row). row.name) (slice_get (under Requests t) at) → request_of name ≡ option_map (λ (e : RequestEntry). e.id) (slice_get s.requests at)
   request-named at name is =
-      named-at name (slice_get (under Requests t) at) (slice_get s.requests at) (beside-at IsRequestRow (under Requests t) s.requests at request-rows) (if-at HasId s.requests at has-ids) is
-
-  unnamed-at : (o : Option Row) (p : Option RequestEntry) → Beside IsRequestRow o p → None ≡ option_map (λ (row : Row). row.name) o → None ≡ option_map (λ (e : RequestEntry). e.id) p
-  unnamed-at None None beside is = refl
-  unnamed-at None (Some e) beside is = absurd beside
-  unnamed-at (Some row) p beside is = absurd cc
+      let found = beside-some IsRequestRow (λ (row : Row). row.name) name _ _ (request-beside at) is in
+      ap request_of (found.tells ∙ ap (λ (r : Row). r.name) found.beside)
+      ∙ request_of-text found.second.id (all-at HasId s.requests at found.second has-ids found.there)
+      ∙ sym (ap (option_map (λ (e : RequestEntry). e.id)) found.there)
 
   -- and where there is no row there is no request
   pub request-unnamed : (at : ℕ) → None ≡ option_map (λ (row : Row). row.name) (slice_get (under Requests t) at) → None ≡ option_map (λ (e : RequestEntry). e.id) (slice_get s.requests at)
-  request-unnamed at is = unnamed-at (slice_get (under Requests t) at) (slice_get s.requests at) (beside-at IsRequestRow (under Requests t) s.requests at request-rows) is
+  request-unnamed at is = beside-none IsRequestRow (λ (row : Row). row.name) (λ (e : RequestEntry). e.id) _ _ (request-beside at) is
 
   -- ## by id
 
@@ -361,46 +408,26 @@ module _ (c : Configuration) (s : State) (t : TreeState) (stored : IsStored c s 
     row-found : Beside IsRequestRow (find_named (place_name (Request r)) (under Requests t)) (request_entry r s.requests)
     row-found = beside-found IsRequestRow (is_named (place_name (Request r))) (is_request_it r) (under Requests t) s.requests row-tells request-rows
 
-    spelled : (o : Option RequestEntry) → request_entry r s.requests ≡ o → IfSome o (λ e. IsRequest e.kept)
-    spelled None there = tt
-    spelled (Some e) there = all-find (λ (x : RequestEntry). IsRequest x.kept) (is_request_it r) s.requests e stored.carried.spelled.requests there
-
-    read-by : (bytes : List ℕ) (read : Result RequestRecord BadRecord) (o : Option Row) (p : Option RequestEntry) → Beside IsRequestRow o p → IfSome p (λ e. IsRequest e.kept) → Some bytes ≡ option_map (λ (row : Row). row.bytes) o →
-        ((v : RequestRecord) → SpellsRequest v bytes → read ≡ Ok v) → IsRead (option_map (λ (e : RequestEntry). e.kept) p) read
-    read-by bytes read None None beside is_sound is all = absurd cc
-    read-by bytes read None (Some e) beside is_sound is all = absurd beside
-    read-by bytes read (Some row) None beside is_sound is all = absurd beside
-    read-by bytes read (Some row) (Some e) beside is_sound is all =
-        let here : bytes ≡ row.bytes = cc in
-        record { kept = e.kept; there = refl; reads = all e.kept (is_sound, here ∙ ap (λ (x : Row). x.bytes) beside) }
-
     -- its record is read from its bytes
     pub request-read : (bytes : List ℕ) (read : Result RequestRecord BadRecord) → Some bytes ≡ bytes_at t (path_of (Request r)) → ((v : RequestRecord) → SpellsRequest v bytes → read ≡ Ok v) → IsRead (request_in r s.requests) read
     request-read bytes read is all =
-        read-by bytes read (find_named (place_name (Request r)) (under Requests t)) (request_entry r s.requests) row-found (spelled (request_entry r s.requests) refl) (is ∙ bytes-named t (Request r) Requests stored.whole good refl) all
-
-    unread-by : (o : Option Row) (p : Option RequestEntry) → Beside IsRequestRow o p → None ≡ option_map (λ (row : Row). row.bytes) o → None ≡ option_map (λ (e : RequestEntry). e.kept) p
-    unread-by None None beside is = refl
-    unread-by None (Some e) beside is = absurd beside
-    unread-by (Some row) p beside is = absurd cc
+        let found = beside-some IsRequestRow (λ (row : Row). row.bytes) bytes _ _ row-found (is ∙ bytes-named t (Request r) Requests stored.whole good refl) in
+        let sound = all-find (λ (x : RequestEntry). IsRequest x.kept) (is_request_it r) s.requests found.second stored.carried.spelled.requests found.there in
+        record { kept = found.second.kept; there = ap (option_map (λ (e : RequestEntry). e.kept)) found.there; reads = all found.second.kept (sound, found.tells ∙ ap (λ (x : Row). x.bytes) found.beside) }
 
     -- and where there are none it is not there
     pub request-unread : None ≡ bytes_at t (path_of (Request r)) → None ≡ request_in r s.requests
-    request-unread is = unread-by (find_named (place_name (Request r)) (under Requests t)) (request_entry r s.requests) row-found (is ∙ bytes-named t (Request r) Requests stored.whole good refl)
+    request-unread is = beside-none IsRequestRow (λ (row : Row). row.bytes) (λ (e : RequestEntry). e.kept) _ _ row-found (is ∙ bytes-named t (Request r) Requests stored.whole good refl)
 
     -- ## its queue
-
-    none-beside : (o : Option Row) → Beside IsLockRow o None → o ≡ None
-    none-beside None beside = refl
-    none-beside (Some row) beside = absurd beside
 
     waits-by : (o : Option RequestEntry) → request_entry r s.requests ≡ o → (next : ℕ) × AllZip (IsWait next) (under (RequestLock r) t) (request_queue r s.requests)
     waits-by None there =
         let found = beside-found IsLockRow (is_named (place_name (RequestLock r))) (is_request_it r) (under RequestLocks t) s.requests lock-tells lock-rows in
-        let none = none-beside (find_named (place_name (RequestLock r)) (under RequestLocks t)) (subst (λ (o : Option RequestEntry). Beside IsLockRow (find_named (place_name (RequestLock r)) (under RequestLocks t)) o) there found) in
+        let none = none-beside IsLockRow (find_named (place_name (RequestLock r)) (under RequestLocks t)) (subst (λ (o : Option RequestEntry). Beside IsLockRow (find_named (place_name (RequestLock r)) (under RequestLocks t)) o) there found) in
         let empty = nothing-under t (RequestLock r) RequestLocks stored.whole good refl none in
         let queue : request_queue r s.requests ≡ [] = ap (λ (o : Option RequestEntry). option_map_or (λ (e : RequestEntry). e.queue) o []) there in
-        (0, subst (λ (rows : List Row). AllZip (IsWait 0) rows (request_queue r s.requests)) (sym empty) (subst (λ (list : List SessionId). AllZip (IsWait 0) [] list) (sym queue) tt))
+        (0, rw (empty, queue) tt)
     waits-by (Some e) there = let queue = request-queue s t r e stored.lays there in (queue.next, queue.waits)
 
     -- the rows of its lock are its queue
@@ -423,41 +450,15 @@ module _ (c : Configuration) (s : State) (t : TreeState) (stored : IsStored c s 
   abbrev viewed_at : ℕ → Option RequestId
   viewed_at at = option_map (λ (e : RequestEntry). e.id) (slice_get s.requests at)
 
-  unviewed-by : (o : Option RequestEntry) → None ≡ option_map (λ (e : RequestEntry). e.id) o → None ≡ option_map request_view o
-  unviewed-by None is = refl
-  unviewed-by (Some e) is = absurd cc
-
   -- there is no view where there is no request
   pub request-unviewed : (at : ℕ) → None ≡ viewed_at at → None ≡ option_map request_view (slice_get s.requests at)
-  request-unviewed at is = unviewed-by (slice_get s.requests at) is
-
-  kept-by : (at : ℕ) (id : RequestId) (o : Option RequestEntry) → slice_get s.requests at ≡ o → Some id ≡ option_map (λ (e : RequestEntry). e.id) o → o ≡ request_entry id s.requests
-  kept-by at id None there is = absurd cc
-  kept-by at id (Some e) there is =
-      let same : id ≡ e.id = cc in
-      sym (ap (λ (r : RequestId). request_entry r s.requests) same ∙ entry-at at e there)
-
-  view-by : (id : RequestId) (kept : RequestRecord) (holder : Option SessionId) (o p : Option RequestEntry) → o ≡ p → Some id ≡ option_map (λ (e : RequestEntry). e.id) o → Some kept ≡ option_map (λ (e : RequestEntry). e.kept) p → holder ≡ slice_get (option_map_or (λ (e : RequestEntry). e.queue) p []) 0 →
-      Some (record { id = id; kept = kept; holder = holder }) ≡ option_map request_view o
-  view-by id kept holder None p same is is_kept holds = absurd cc
-  view-by id kept holder (Some e) None same is is_kept holds = absurd cc
-  view-by id kept holder (Some e) (Some x) same is is_kept holds =
-      let this : e ≡ x = cc in
-      let first : id ≡ e.id = cc in
-      let second : kept ≡ x.kept = cc in
-      rw (first, second, holds, sym this) refl
+  request-unviewed at = unviewed (λ (e : RequestEntry). e.id) (λ (e : RequestEntry). e.kept) (λ (e : RequestEntry). e.queue) seen_request (λ id. request_entry id s.requests) (slice_get s.requests at)
 
   -- the view of the request that is there
   pub request-viewed : (at : ℕ) (id : RequestId) (kept : RequestRecord) (holder : Option SessionId) → Some id ≡ viewed_at at → Some kept ≡ request_in id s.requests → holder ≡ slice_get (request_queue id s.requests) 0 →
-      Some (record { id = id; kept = kept; holder = holder }) ≡ option_map request_view (slice_get s.requests at)
-  request-viewed at id kept holder is is_kept holds =
-      view-by id kept holder (slice_get s.requests at) (request_entry id s.requests) (kept-by at id (slice_get s.requests at) refl is) is is_kept holds
-
-  lost-by : (o p : Option RequestEntry) (id : RequestId) → o ≡ p → Some id ≡ option_map (λ (e : RequestEntry). e.id) o → None ≡ option_map (λ (e : RequestEntry). e.kept) p → None ≡ option_map request_view o
-  lost-by None p id same is none = refl
-  lost-by (Some e) None id same is none = absurd cc
-  lost-by (Some e) (Some x) id same is none = absurd cc
+      Some (seen_request id kept holder) ≡ option_map request_view (slice_get s.requests at)
+  request-viewed at = viewed (λ (e : RequestEntry). e.id) (λ (e : RequestEntry). e.kept) (λ (e : RequestEntry). e.queue) seen_request (λ id. request_entry id s.requests) (slice_get s.requests at) (entry-at at)
 
   -- the request that is there has a record
   pub request-kept : (at : ℕ) (id : RequestId) → Some id ≡ viewed_at at → None ≡ request_in id s.requests → None ≡ option_map request_view (slice_get s.requests at)
-  request-kept at id is none = lost-by (slice_get s.requests at) (request_entry id s.requests) id (kept-by at id (slice_get s.requests at) refl is) is none
+  request-kept at = view-kept (λ (e : RequestEntry). e.id) (λ (e : RequestEntry). e.kept) (λ (e : RequestEntry). e.queue) seen_request (λ id. request_entry id s.requests) (slice_get s.requests at) (entry-at at)

@@ -1,6 +1,6 @@
 -- the bytes of the records of a stored state, and how many there are of each kind
-use Rattle.np_tree_rows.proofs.Prelude.{AllByRecursion, AllDigits, BadRecord, Bool, Configuration, Err, IfSome, IsGood, IsJob, IsNumeral, IsRole, IsSession, IsSessionRole, IsStored, JanitorRole, Job, JobId, JobRecord, Jobs, LauncherRole, Launchers, List, None, NonePass, Ok, Option, ParsesUnsigned, Place, PoolId, Poolsim, RequesterId, RequesterRole, Result, Role, RoleRecord, Roles, Row, Session, SessionFacts, SessionId, SessionRecord, Sessions, Some, State, Tick, TreeState, above, all-at, all-joined, all-weaker, ap, arith, by_name, bytes_at, cond, decimal, decimal_is_IsNumeral, digits_value, digits_value-zeros, drop, eqb-false, eqb-true, false, find_named, is_in, is_named, is_some, janitor_role_row, job_row, job_text, launcher_role_row, launcher_row, length, length-insert_before, length-map, list_any, list_any-append, list_any-none, map, named-here, named-other, number_of, number_of-decimal, option_map, path_of, place_name, place_of_role, range_with_len, refl, replicate, requester_role_row, role_in, role_text, row_before, rows_at, rows_from, rows_put, session_of, session_row, session_text, slice_get, subst, suc, sym, ten-le-length, ten_digits_of, true, under, with_row, without_leading_plus, zero, ℕ, [], ◌++◌, ◌+◌, ◌-◌, ◌<◌, ◌==◌, ◌^◌, ◌||◌, ◌∙◌, ◌∷◌, ◌≡◌, ◌≤◌}
-use Rattle.np_tree_rows.proofs.Shown.{IsOnly, bytes-named, find-only, find-ordered, past-any, past-only, table-any, table-only}
+use Rattle.np_tree_rows.proofs.Prelude.{AllByRecursion, AllDigits, BadRecord, Bool, Configuration, Err, IfSome, IsGood, IsJob, IsNumeral, IsRole, IsSession, IsSessionRole, IsStored, JanitorRole, Job, JobId, JobRecord, Jobs, LauncherRole, Launchers, List, None, NonePass, Ok, Option, ParsesUnsigned, Place, PoolId, Poolsim, RequesterId, RequesterRole, Result, Role, RoleRecord, Roles, Row, Session, SessionFacts, SessionId, SessionRecord, Sessions, Some, State, Tick, TreeState, above, all-joined, all-weaker, ap, arith, by_name, bytes_at, cond, decimal, decimal_is_IsNumeral, digits_value, digits_value-zeros, drop, eqb-false, eqb-true, false, find_named, is_in, is_named, is_some, janitor_role_row, job_row, job_text, launcher_role_row, launcher_row, length, length-insert_before, length-map, list_any, list_any-append, list_any-none, map, named-here, named-other, number_of, number_of-decimal, option_map, path_of, persistent, place_name, place_of_role, range_with_len, refl, replicate, requester_role_row, role_in, role_text, row_before, rows_at, rows_from, rows_put, session_of, session_row, session_text, slice_get, subst, suc, sym, ten-le-length, ten_digits_of, true, under, with_row, without_leading_plus, zero, ℕ, [], ◌++◌, ◌+◌, ◌-◌, ◌<◌, ◌==◌, ◌^◌, ◌||◌, ◌∙◌, ◌∷◌, ◌≡◌, ◌≤◌}
+use Rattle.np_tree_rows.proofs.Shown.{IsOnly, IsRead, bytes-named, find-only, find-ordered, past-any, past-only, table-any, table-only}
 
 -- # ten digits are read as the number that they spell
 
@@ -107,16 +107,9 @@ map-bytes row text same (Some a) = ap Some (same a)
 
 -- what is true of each member is true of the one at a place
 pub get-if : {A : Type 0} (P : A → Type 0) (list : List A) (at : ℕ) → AllByRecursion P list → IfSome (slice_get list at) P
-get-if P list at all = by (slice_get list at) refl where
-  by : (o : Option _) → slice_get list at ≡ o → IfSome o P
-  by None there = tt
-  by (Some a) there = all-at P list at a all there
-
--- a record is read from its own text
-pub record Reads {A : Type 0} (o : Option A) (r : Result A BadRecord) : Type 0 where
-  pub kept : A
-  pub there : o ≡ Some kept
-  pub reads : r ≡ Ok kept
+get-if P [] at all = tt
+get-if P (a ∷ list) zero all = all.0
+get-if P (a ∷ list) (suc at) all = get-if P list at all.1
 
 module _ {A : Type 0} (Is : A → Type 0) (text : A → List ℕ) where
   -- there are no bytes only if there is no record
@@ -125,19 +118,11 @@ module _ {A : Type 0} (Is : A → Type 0) (text : A → List ℕ) where
   text-none (Some a) is = absurd cc
 
   -- and the bytes that are there are read as the record
-  pub text-some : (o : Option A) (bytes : List ℕ) (r : Result A BadRecord) → IfSome o Is → Some bytes ≡ option_map text o → ((v : A) → Is v × (bytes ≡ text v) → r ≡ Ok v) → Reads o r
+  pub text-some : (o : Option A) (bytes : List ℕ) (r : Result A BadRecord) → IfSome o Is → Some bytes ≡ option_map text o → ((v : A) → Is v × (bytes ≡ text v) → r ≡ Ok v) → IsRead o r
   text-some None bytes r sound is all = absurd cc
   text-some (Some a) bytes r sound is all =
       let same : bytes ≡ text a = cc in
       record { kept = a; there = refl; reads = all a (sound, same) }
-
--- so what is read is the record
-pub read-some : {A : Type 0} (o : Option A) (a : A) → Reads o (Ok a) → Some a ≡ o
-read-some o a reads = let same : a ≡ reads.kept = let is = reads.reads in cc in ap Some same ∙ sym reads.there
-
--- and something is read
-pub read-none : {A : Type 0} (o : Option A) (bad : BadRecord) (B : Type 0) → Reads o (Result.Err bad) → B
-read-none o bad B reads = absurd (let is = reads.reads in cc)
 
 -- ## one member of a table
 
@@ -214,28 +199,39 @@ if-cond : {A : Type 0} (P : A → Type 0) (b : Bool) (o : Option A) → (b ≡ f
 if-cond P true o is = tt
 if-cond P false o is = is refl
 
--- three tables in one directory
-or-first : (x y z b : Bool) → x ≡ b → y ≡ false → z ≡ false → ((x || y) || z) ≡ b
-or-first true y z b here away apart = here
-or-first false true z b here away apart = absurd cc
-or-first false false z b here away apart = apart ∙ here
+-- ## three tables in one directory
 
-or-second : (x y z b : Bool) → x ≡ false → y ≡ b → z ≡ false → ((x || y) || z) ≡ b
-or-second true y z b away here apart = absurd cc
-or-second false true z b away here apart = here
-or-second false false z b away here apart = apart ∙ here
+-- whether rows have one of a name, which can only be this one
+record HasOnly (name : List ℕ) (o : Option Row) (has : Bool) (rows : List Row) : Type 0 where
+  only : IsOnly name o rows
+  any : list_any (is_named name) rows ≡ has
 
-or-third : (x y z b : Bool) → x ≡ false → y ≡ false → z ≡ b → ((x || y) || z) ≡ b
-or-third true y z b away apart here = absurd cc
-or-third false true z b away apart here = absurd cc
-or-third false false z b away apart here = here
+find-three : (name : List ℕ) (o : Option Row) (x y z : Bool) (first second third : List Row) → HasOnly name o x first → HasOnly name o y second → HasOnly name o z third → ((x || y) || z) ≡ is_some o → find_named name (by_name (first ++ second ++ third)) ≡ o
+find-three name o x y z first second third a b c any =
+    find-ordered name (first ++ second ++ third) o
+    (all-joined (λ (row : Row). is_named name row ≡ true → Some row ≡ o) (first ++ second) third (all-joined (λ (row : Row). is_named name row ≡ true → Some row ≡ o) first second a.only b.only) c.only)
+    (rw (list_any-append (is_named name) (first ++ second) third, list_any-append (is_named name) first second, a.any, b.any, c.any) any)
 
-module _ (name : List ℕ) (o : Option Row) (first second third : List Row) where
-  find-three : IsOnly name o first → IsOnly name o second → IsOnly name o third → ((list_any (is_named name) first || list_any (is_named name) second) || list_any (is_named name) third) ≡ is_some o → find_named name (by_name (first ++ second ++ third)) ≡ o
-  find-three a b c any =
-      find-ordered name (first ++ second ++ third) o
-      (all-joined (λ (row : Row). is_named name row ≡ true → Some row ≡ o) (first ++ second) third (all-joined (λ (row : Row). is_named name row ≡ true → Some row ≡ o) first second a b) c)
-      (list_any-append (is_named name) (first ++ second) third ∙ ap (λ (b : Bool). b || list_any (is_named name) third) (list_any-append (is_named name) first second) ∙ any)
+or-nothing : (x : Bool) → (x || false) ≡ x
+or-nothing true = refl
+or-nothing false = refl
+
+module _ (p : Place) (good : IsGood p) (over : above p ≡ Some Roles) (place : ℕ → Place) (list : List RoleRecord) (goods : (n : ℕ) → n < length list → IsGood (place n)) (overs : (n : ℕ) → above (place n) ≡ Some Roles) where
+  abbrev role_row : ℕ → RoleRecord → Row
+  role_row n kept = persistent (place n) (role_text kept)
+
+  -- none of them has the name of a place that is none of theirs
+  has-none : (o : Option Row) → ((n : ℕ) → place n ≡ p → ⊥) → HasOnly (place_name p) o false (rows_from role_row 0 list)
+  has-none o apart =
+      let none = none-from role_row (place_name p) (length list) (λ n kept low. named-other p (place n) good (goods n low) (overs n ∙ sym over) (apart n)) list 0 (omega arith) in
+      record { only = none-only (place_name p) o (rows_from role_row 0 list) none; any = list_any-none (is_named (place_name p)) (rows_from role_row 0 list) none }
+
+  -- the one at a number has the name of its place
+  has-own : (k : ℕ) → ((n : ℕ) → place n ≡ p → n ≡ k) → p ≡ place k → HasOnly (place_name p) (option_map (role_row k) (slice_get list k)) (is_some (option_map (role_row k) (slice_get list k))) (rows_from role_row 0 list)
+  has-own k apart is =
+      let others : (n : ℕ) (kept : RoleRecord) → n < length list → (n ≡ k → ⊥) → is_named (place_name p) (role_row n kept) ≡ false = λ n kept low other. named-other p (place n) good (goods n low) (overs n ∙ sym over) (λ equal. other (apart n equal)) in
+      let here : (kept : RoleRecord) → is_named (place_name p) (role_row k kept) ≡ true = λ kept. subst (λ (q : Place). is_named (place_name p) (persistent q (role_text kept)) ≡ true) is (named-here p) in
+      record { only = table-only role_row (place_name p) k (length list) others here list 0 k (omega arith) (omega arith); any = table-any role_row (place_name p) k (length list) others here list 0 k (omega arith) (omega arith) }
 
 module _ (c : Configuration) (s : State) (t : TreeState) (stored : IsStored c s t) where
   -- ## jobs
@@ -300,14 +296,14 @@ module _ (c : Configuration) (s : State) (t : TreeState) (stored : IsStored c s 
 
   -- ## roles
 
-  launchers-none : (p : Place) → IsGood p → above p ≡ Some Roles → ((n : ℕ) → launcher_at n ≡ p → ⊥) → NonePass (is_named (place_name p)) (rows_from launcher_role_row 0 s.launchers)
-  launchers-none p good over apart = none-from launcher_role_row (place_name p) (length s.launchers) (λ n kept low. named-other p (launcher_at n) good (let few = stored.carried.good.launchers in omega arith) (sym over) (apart n)) s.launchers 0 (omega arith)
+  launchers-good : (n : ℕ) → n < length s.launchers → IsGood (launcher_at n)
+  launchers-good n low = let few = stored.carried.good.launchers in omega arith
 
-  janitors-none : (p : Place) → IsGood p → above p ≡ Some Roles → ((n : ℕ) → janitor_at n ≡ p → ⊥) → NonePass (is_named (place_name p)) (rows_from janitor_role_row 0 s.janitors)
-  janitors-none p good over apart = none-from janitor_role_row (place_name p) (length s.janitors) (λ n kept low. named-other p (janitor_at n) good (let few = stored.carried.good.janitors in omega arith) (sym over) (apart n)) s.janitors 0 (omega arith)
+  janitors-good : (n : ℕ) → n < length s.janitors → IsGood (janitor_at n)
+  janitors-good n low = let few = stored.carried.good.janitors in omega arith
 
-  requesters-none : (p : Place) → IsGood p → above p ≡ Some Roles → ((n : ℕ) → requester_at n ≡ p → ⊥) → NonePass (is_named (place_name p)) (rows_from requester_role_row 0 s.requesters)
-  requesters-none p good over apart = none-from requester_role_row (place_name p) (length s.requesters) (λ n kept low. named-other p (requester_at n) good (let few = stored.carried.good.requesters in omega arith) (sym over) (apart n)) s.requesters 0 (omega arith)
+  requesters-good : (n : ℕ) → n < length s.requesters → IsGood (requester_at n)
+  requesters-good n low = let few = stored.carried.good.requesters in omega arith
 
   -- the bytes at a place are those of the row of its name among all roles
   role-found : (p : Place) (o : Option RoleRecord) (row : RoleRecord → Row) → ((kept : RoleRecord) → (row kept).bytes ≡ role_text kept) → IsGood p → above p ≡ Some Roles →
@@ -320,51 +316,30 @@ module _ (c : Configuration) (s : State) (t : TreeState) (stored : IsStored c s 
 
   launcher-bytes : (p : PoolId) → IsGood (LauncherRole p) → bytes_at t (path_of (LauncherRole p)) ≡ option_map role_text (slice_get s.launchers p.0)
   launcher-bytes p good =
-      let name : List ℕ = place_name (LauncherRole p) in
-      let o : Option Row = option_map (launcher_role_row p.0) (slice_get s.launchers p.0) in
-      let others : (n : ℕ) (kept : RoleRecord) → n < length s.launchers → (n ≡ p.0 → ⊥) → is_named name (launcher_role_row n kept) ≡ false = λ n kept low apart. named-other (LauncherRole p) (launcher_at n) good (let few = stored.carried.good.launchers in omega arith) refl (λ equal. apart (ap number_in equal)) in
-      let janitors = janitors-none (LauncherRole p) good refl (λ n same. cc) in
-      let requesters = requesters-none (LauncherRole p) good refl (λ n same. cc) in
       role-found (LauncherRole p) (slice_get s.launchers p.0) (launcher_role_row p.0) (λ kept. refl) good refl
-      (find-three name o (rows_from launcher_role_row 0 s.launchers) (rows_from janitor_role_row 0 s.janitors) (rows_from requester_role_row 0 s.requesters)
-      (table-only launcher_role_row name p.0 (length s.launchers) others (λ kept. named-here (LauncherRole p)) s.launchers 0 p.0 (omega arith) (omega arith))
-      (none-only name o (rows_from janitor_role_row 0 s.janitors) janitors)
-      (none-only name o (rows_from requester_role_row 0 s.requesters) requesters)
-      (or-first _ _ _ (is_some o) (table-any launcher_role_row name p.0 (length s.launchers) others (λ kept. named-here (LauncherRole p)) s.launchers 0 p.0 (omega arith) (omega arith))
-      (list_any-none (is_named name) (rows_from janitor_role_row 0 s.janitors) janitors)
-      (list_any-none (is_named name) (rows_from requester_role_row 0 s.requesters) requesters)))
+      (find-three (place_name (LauncherRole p)) _ _ _ _ _ _ _
+      (has-own (LauncherRole p) good refl launcher_at s.launchers launchers-good (λ n. refl) p.0 (λ n equal. ap number_in equal) refl)
+      (has-none (LauncherRole p) good refl janitor_at s.janitors janitors-good (λ n. refl) _ (λ n same. cc))
+      (has-none (LauncherRole p) good refl requester_at s.requesters requesters-good (λ n. refl) _ (λ n same. cc))
+      (or-nothing _ ∙ or-nothing _))
 
   janitor-bytes : (p : PoolId) → IsGood (JanitorRole p) → bytes_at t (path_of (JanitorRole p)) ≡ option_map role_text (slice_get s.janitors p.0)
   janitor-bytes p good =
-      let name : List ℕ = place_name (JanitorRole p) in
-      let o : Option Row = option_map (janitor_role_row p.0) (slice_get s.janitors p.0) in
-      let others : (n : ℕ) (kept : RoleRecord) → n < length s.janitors → (n ≡ p.0 → ⊥) → is_named name (janitor_role_row n kept) ≡ false = λ n kept low apart. named-other (JanitorRole p) (janitor_at n) good (let few = stored.carried.good.janitors in omega arith) refl (λ equal. apart (ap number_in equal)) in
-      let launchers = launchers-none (JanitorRole p) good refl (λ n same. cc) in
-      let requesters = requesters-none (JanitorRole p) good refl (λ n same. cc) in
       role-found (JanitorRole p) (slice_get s.janitors p.0) (janitor_role_row p.0) (λ kept. refl) good refl
-      (find-three name o (rows_from launcher_role_row 0 s.launchers) (rows_from janitor_role_row 0 s.janitors) (rows_from requester_role_row 0 s.requesters)
-      (none-only name o (rows_from launcher_role_row 0 s.launchers) launchers)
-      (table-only janitor_role_row name p.0 (length s.janitors) others (λ kept. named-here (JanitorRole p)) s.janitors 0 p.0 (omega arith) (omega arith))
-      (none-only name o (rows_from requester_role_row 0 s.requesters) requesters)
-      (or-second _ _ _ (is_some o) (list_any-none (is_named name) (rows_from launcher_role_row 0 s.launchers) launchers)
-      (table-any janitor_role_row name p.0 (length s.janitors) others (λ kept. named-here (JanitorRole p)) s.janitors 0 p.0 (omega arith) (omega arith))
-      (list_any-none (is_named name) (rows_from requester_role_row 0 s.requesters) requesters)))
+      (find-three (place_name (JanitorRole p)) _ _ _ _ _ _ _
+      (has-none (JanitorRole p) good refl launcher_at s.launchers launchers-good (λ n. refl) _ (λ n same. cc))
+      (has-own (JanitorRole p) good refl janitor_at s.janitors janitors-good (λ n. refl) p.0 (λ n equal. ap number_in equal) refl)
+      (has-none (JanitorRole p) good refl requester_at s.requesters requesters-good (λ n. refl) _ (λ n same. cc))
+      (or-nothing _))
 
   requester-bytes : (q : RequesterId) → IsGood (RequesterRole q) → bytes_at t (path_of (RequesterRole q)) ≡ option_map role_text (slice_get s.requesters q.0)
   requester-bytes q good =
-      let name : List ℕ = place_name (RequesterRole q) in
-      let o : Option Row = option_map (requester_role_row q.0) (slice_get s.requesters q.0) in
-      let others : (n : ℕ) (kept : RoleRecord) → n < length s.requesters → (n ≡ q.0 → ⊥) → is_named name (requester_role_row n kept) ≡ false = λ n kept low apart. named-other (RequesterRole q) (requester_at n) good (let few = stored.carried.good.requesters in omega arith) refl (λ equal. apart (ap number_in equal)) in
-      let launchers = launchers-none (RequesterRole q) good refl (λ n same. cc) in
-      let janitors = janitors-none (RequesterRole q) good refl (λ n same. cc) in
       role-found (RequesterRole q) (slice_get s.requesters q.0) (requester_role_row q.0) (λ kept. refl) good refl
-      (find-three name o (rows_from launcher_role_row 0 s.launchers) (rows_from janitor_role_row 0 s.janitors) (rows_from requester_role_row 0 s.requesters)
-      (none-only name o (rows_from launcher_role_row 0 s.launchers) launchers)
-      (none-only name o (rows_from janitor_role_row 0 s.janitors) janitors)
-      (table-only requester_role_row name q.0 (length s.requesters) others (λ kept. named-here (RequesterRole q)) s.requesters 0 q.0 (omega arith) (omega arith))
-      (or-third _ _ _ (is_some o) (list_any-none (is_named name) (rows_from launcher_role_row 0 s.launchers) launchers)
-      (list_any-none (is_named name) (rows_from janitor_role_row 0 s.janitors) janitors)
-      (table-any requester_role_row name q.0 (length s.requesters) others (λ kept. named-here (RequesterRole q)) s.requesters 0 q.0 (omega arith) (omega arith))))
+      (find-three (place_name (RequesterRole q)) _ _ _ _ _ _ _
+      (has-none (RequesterRole q) good refl launcher_at s.launchers launchers-good (λ n. refl) _ (λ n same. cc))
+      (has-none (RequesterRole q) good refl janitor_at s.janitors janitors-good (λ n. refl) _ (λ n same. cc))
+      (has-own (RequesterRole q) good refl requester_at s.requesters requesters-good (λ n. refl) q.0 (λ n equal. ap number_in equal) refl)
+      refl)
 
   -- what is at the place of a role
   abbrev IsShown : Role → Place → Type 0

@@ -1,5 +1,6 @@
 use Rattle.np_tree_rows.proofs.Prelude.{IsJob, arith, job_text, slice_get, ◌∙◌}
-use Rattle.np_tree_rows.proofs.Stored.{job-bytes, job-sound, read-none, read-some, text-none, text-some}
+use Rattle.np_tree_rows.proofs.Shown.{read-none, read-some}
+use Rattle.np_tree_rows.proofs.Stored.{job-bytes, job-sound, text-none, text-some}
 use Rattle.np_tree_rows.proofs.job_table.job.Goals as goal
 
 pub returns-in_default : goal.returns-in_default
@@ -12,5 +13,5 @@ returns-in-Ok c config s stored =
 
 pub returns-in-Err : goal.returns-in-Err
 returns-in-Err c config s stored =
-    read-none (slice_get s.jobs c.args.job.0) _ _
+    read-none (slice_get s.jobs c.args.job.0) _
     (text-some IsJob job_text (slice_get s.jobs c.args.job.0) c.in-Some.bytes.now _ (job-sound config s c.args.tree.now stored c.args.job) (c.in-Some.ensures ∙ job-bytes config s c.args.tree.now stored c.args.job (omega arith)) c.in-Err.ensures.all)

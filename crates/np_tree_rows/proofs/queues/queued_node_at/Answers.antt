@@ -1,5 +1,6 @@
 use Rattle.np_tree_rows.proofs.Prelude.{List, NodeEntry, NodeId, add-one, ap, arith, is_queued, length, rows_at, slice_get, sym, ℕ, ◌∙◌, ◌≡◌, ◌≤◌}
-use Rattle.np_tree_rows.proofs.Registered.{first-here, first-later, first-over, nodes-counted, passing-past}
+use Rattle.np_tree_rows.proofs.NodeReads.{nodes-counted}
+use Rattle.np_tree_rows.proofs.Registered.{first-here, first-later, first-over, passing-past}
 use Rattle.np_tree_rows.proofs.queues.queued_node_at.Goals as goal
 
 pub loop-place-preserved-in_default : goal.loop-place-preserved-in_default

@@ -1,5 +1,6 @@
 use Rattle.np_tree_rows.proofs.Prelude.{List, NodeEntry, None, Some, ap, arith, is_queued, length, rows_at, ℕ, ◌∙◌, ◌≡◌, ◌≤◌}
-use Rattle.np_tree_rows.proofs.Registered.{count-step, nodes-counted, passing-past}
+use Rattle.np_tree_rows.proofs.NodeReads.{nodes-counted}
+use Rattle.np_tree_rows.proofs.Registered.{count-step, passing-past}
 use Rattle.np_tree_rows.proofs.queues.queued_nodes.Goals as goal
 
 pub loop-at-preserved-in_default : goal.loop-at-preserved-in_default

@@ -1,5 +1,6 @@
 use Rattle.np_tree_rows.proofs.Prelude.{List, RequestEntry, RequestId, add-one, ap, arith, is_queued, length, rows_at, slice_get, sym, ℕ, ◌∙◌, ◌≡◌, ◌≤◌}
-use Rattle.np_tree_rows.proofs.Registered.{first-here, first-later, first-over, passing-past, requests-counted}
+use Rattle.np_tree_rows.proofs.Shown.{requests-counted}
+use Rattle.np_tree_rows.proofs.Registered.{first-here, first-later, first-over, passing-past}
 use Rattle.np_tree_rows.proofs.queues.queued_request_at.Goals as goal
 
 pub loop-place-preserved-in_default : goal.loop-place-preserved-in_default

@@ -1,5 +1,6 @@
 use Rattle.np_tree_rows.proofs.Prelude.{List, None, RequestEntry, Some, ap, arith, is_queued, length, rows_at, ℕ, ◌∙◌, ◌≡◌, ◌≤◌}
-use Rattle.np_tree_rows.proofs.Registered.{count-step, passing-past, requests-counted}
+use Rattle.np_tree_rows.proofs.Shown.{requests-counted}
+use Rattle.np_tree_rows.proofs.Registered.{count-step, passing-past}
 use Rattle.np_tree_rows.proofs.queues.queued_requests.Goals as goal
 
 pub loop-at-preserved-in_default : goal.loop-at-preserved-in_default

@@ -1,5 +1,6 @@
 use Rattle.np_tree_rows.proofs.Prelude.{IsSession, arith, option_map, session_of, session_text, ◌∙◌}
-use Rattle.np_tree_rows.proofs.Stored.{kept_of, read-none, read-some, session-bytes, session-known, session-none, session-sound, text-none, text-some}
+use Rattle.np_tree_rows.proofs.Shown.{read-none, read-some}
+use Rattle.np_tree_rows.proofs.Stored.{kept_of, session-bytes, session-known, session-none, session-sound, text-none, text-some}
 use Rattle.np_tree_rows.proofs.session_table.session.Goals as goal
 
 pub returns-in_default : goal.returns-in_default
@@ -14,5 +15,6 @@ returns-in-Ok c config s stored few =
 
 pub returns-in-Err : goal.returns-in-Err
 returns-in-Err c config s stored few =
-    read-none (option_map kept_of (session_of c.args.session s)) _ _
-    (text-some IsSession session_text (option_map kept_of (session_of c.args.session s)) c.in-Some.bytes.now _ (session-sound config s c.args.tree.now stored c.args.session) (c.in-Some.ensures ∙ session-bytes config s c.args.tree.now stored c.args.session (omega arith)) c.in-Err.ensures.all)
+    session-none (session_of c.args.session s)
+    (read-none (option_map kept_of (session_of c.args.session s)) _
+    (text-some IsSession session_text (option_map kept_of (session_of c.args.session s)) c.in-Some.bytes.now _ (session-sound config s c.args.tree.now stored c.args.session) (c.in-Some.ensures ∙ session-bytes config s c.args.tree.now stored c.args.session (omega arith)) c.in-Err.ensures.all))
