@@ -14,9 +14,8 @@ is-some-within (x ∷ xs) (suc i) within = is-some-within xs i (omega arith)
 -- ## the plan of a pool
 
 in-plan : (o : Option (Option Outstanding)) (x : Outstanding) → plan_in o ≡ Some x → o ≡ Some (Some x)
-in-plan None x is = absurd cc
-in-plan (Some None) x is = absurd cc
 in-plan (Some (Some y)) x is = let same : y ≡ x = cc in ap (λ (z : Outstanding). Some (Some z)) same
+in-plan other x is = absurd cc
 
 pub plan-there : (p : PoolId) (plans : List (Option Outstanding)) (x : Outstanding) → plan_of p plans ≡ Some x → slice_get plans p.0 ≡ Some (Some x)
 plan-there p plans x is = in-plan (slice_get plans p.0) x is
@@ -332,12 +331,6 @@ module _ (old new : Planning) where
   -- the turn answers as a desk wants it
   pub taken-answers : (a : PlanAsk) (t : PlanTurn) → IsPlanTaken old a t new → plan_answers old.configuration old.journal a t
   taken-answers (PlanAsk.Plain plain) (PlanTurn.Plain t) taken = taken.taken.answer
-  taken-answers (PlanAsk.Plain plain) (PlanTurn.Planned plan) taken = absurd taken
-  taken-answers (PlanAsk.Plain plain) (PlanTurn.Fired spot) taken = absurd taken
-  taken-answers (PlanAsk.Plain plain) (PlanTurn.Did e) taken = absurd taken
-  taken-answers (PlanAsk.Plain plain) (PlanTurn.Stale spot change) taken = absurd taken
-  taken-answers (PlanAsk.Plain plain) PlanTurn.Idle taken = absurd taken
-  taken-answers (PlanAsk.Plain plain) PlanTurn.Full taken = absurd taken
   taken-answers (PlanAsk.Peek p) (PlanTurn.Plain t) taken = absurd taken
   taken-answers (PlanAsk.Peek p) (PlanTurn.Planned plan) taken = tt
   taken-answers (PlanAsk.Peek p) (PlanTurn.Fired spot) taken = absurd taken
@@ -359,6 +352,7 @@ module _ (old new : Planning) where
   taken-answers (PlanAsk.Commit p) (PlanTurn.Stale spot change) taken = tt
   taken-answers (PlanAsk.Commit p) PlanTurn.Idle taken = tt
   taken-answers (PlanAsk.Commit p) PlanTurn.Full taken = taken.0.full
+  taken-answers (PlanAsk.Plain plain) other taken = absurd taken
 
   -- what a turn does to the journal
   pub record Grows (a : PlanAsk) (t : PlanTurn) : Type 0 where
@@ -379,12 +373,6 @@ module _ (old new : Planning) where
 
   pub taken-grows : (a : PlanAsk) (t : PlanTurn) → IsPlanTaken old a t new → Grows a t
   taken-grows (PlanAsk.Plain plain) (PlanTurn.Plain t) taken = record { configuration = taken.taken.configuration; journal = taken.taken.journal }
-  taken-grows (PlanAsk.Plain plain) (PlanTurn.Planned plan) taken = absurd taken
-  taken-grows (PlanAsk.Plain plain) (PlanTurn.Fired spot) taken = absurd taken
-  taken-grows (PlanAsk.Plain plain) (PlanTurn.Did e) taken = absurd taken
-  taken-grows (PlanAsk.Plain plain) (PlanTurn.Stale spot change) taken = absurd taken
-  taken-grows (PlanAsk.Plain plain) PlanTurn.Idle taken = absurd taken
-  taken-grows (PlanAsk.Plain plain) PlanTurn.Full taken = absurd taken
   taken-grows (PlanAsk.Peek p) (PlanTurn.Plain t) taken = absurd taken
   taken-grows (PlanAsk.Peek p) (PlanTurn.Planned plan) taken = same-grows (PlanAsk.Peek p) (PlanTurn.Planned plan) (with_plan p (Some taken.watched) old.plans) refl taken.left
   taken-grows (PlanAsk.Peek p) (PlanTurn.Fired spot) taken = absurd taken
@@ -406,6 +394,7 @@ module _ (old new : Planning) where
   taken-grows (PlanAsk.Commit p) (PlanTurn.Stale spot change) taken = same-grows (PlanAsk.Commit p) (PlanTurn.Stale spot change) (with_plan p None old.plans) refl taken.left
   taken-grows (PlanAsk.Commit p) PlanTurn.Idle taken = still-grows (PlanAsk.Commit p) PlanTurn.Idle refl taken.1
   taken-grows (PlanAsk.Commit p) PlanTurn.Full taken = still-grows (PlanAsk.Commit p) PlanTurn.Full refl taken.1
+  taken-grows (PlanAsk.Plain plain) other taken = absurd taken
 
 -- each entry of a turn has the machine's reply
 plan-replied : (c : Configuration) (journal : List Entry) (a : PlanAsk) (t : PlanTurn) (e : Entry) → plan_answers c journal a t → plan_recorded a t ≡ Some e → IsReplied c journal e
@@ -492,17 +481,12 @@ do-taken old new e r runs room replied is =
 act-answers : (c : Configuration) (journal : List Entry) (role : Role) (e : Event) (t : Turn) → IsUseful c (after c journal) role e → answers_do c journal e t → answers_act c journal role t
 act-answers c journal role e (Turn.Did d) useful answer =
     (subst (λ (x : Event). IsUseful c (after c journal) role x) (sym answer.0) useful, answer.1)
-act-answers c journal role e (Turn.DueNode n x) useful answer = absurd answer
-act-answers c journal role e Turn.Swept useful answer = absurd answer
-act-answers c journal role e Turn.Idle useful answer = absurd answer
 act-answers c journal role e Turn.Full useful answer = ((e, useful), answer)
+act-answers c journal role e other useful answer = absurd answer
 
 same-entries : (one other : Ask) (t : Turn) → recorded one t ≡ recorded other t
 same-entries one other (Turn.Did d) = refl
-same-entries one other (Turn.DueNode n x) = refl
-same-entries one other Turn.Swept = refl
-same-entries one other Turn.Idle = refl
-same-entries one other Turn.Full = refl
+same-entries one other rest = refl
 
 retaken : (old new : Ran) (one other : Ask) (t : Turn) → answers old.configuration old.journal other t → IsTaken old one t new → IsTaken old other t new
 retaken old new one other t answer taken = record {
@@ -525,10 +509,8 @@ idle-taken m role runs none =
 sweep-answers : (c : Configuration) (journal : List Entry) (p : PoolId) (session : SessionId) (n : NodeId) (x : ℕ) (t : Turn) → IsNotKept p n x (after c journal) → is_swept n x (after c journal).swept ≡ false → is_current (Janitor p) session (after c journal) ≡ true → answers_do c journal (Event.Sweep session n x) t → answers_sweep c journal p n x t
 sweep-answers c journal p session n x (Turn.Did d) lost unswept current answer =
     (lost, unswept, record { session = session; current = current; event = answer.0 }, answer.1)
-sweep-answers c journal p session n x (Turn.DueNode m y) lost unswept current answer = absurd answer
-sweep-answers c journal p session n x Turn.Swept lost unswept current answer = absurd answer
-sweep-answers c journal p session n x Turn.Idle lost unswept current answer = absurd answer
 sweep-answers c journal p session n x Turn.Full lost unswept current answer = (lost, unswept, answer)
+sweep-answers c journal p session n x other lost unswept current answer = absurd answer
 
 pub sweep-taken : (old new : Ran) (p : PoolId) (session : SessionId) (n : NodeId) (x : ℕ) (t : Turn) → Runs old.configuration old.journal old.state → IsNotKept p n x old.state → is_swept n x old.state.swept ≡ false → is_current (Janitor p) session old.state ≡ true → IsTaken old (Ask.Do (Event.Sweep session n x)) t new → IsTaken old (Ask.Sweep p n x) t new
 sweep-taken old new p session n x t runs lost unswept current taken =
@@ -555,10 +537,7 @@ swept-taken m p n x runs lost swept =
 
 unrecorded : (c : Configuration) (journal : List Entry) (p : PoolId) (t : Turn) → answers_due c journal p t → recorded (Ask.Due p) t ≡ None
 unrecorded c journal p (Turn.Did d) answer = absurd answer
-unrecorded c journal p (Turn.DueNode n x) answer = refl
-unrecorded c journal p Turn.Swept answer = refl
-unrecorded c journal p Turn.Idle answer = refl
-unrecorded c journal p Turn.Full answer = refl
+unrecorded c journal p other answer = refl
 
 pub due-taken : (m : Ran) (p : PoolId) (t : Turn) → answers_due m.configuration m.journal p t → IsTaken m (Ask.Due p) t m
 due-taken m p t answer = none-taken m (Ask.Due p) t (unrecorded m.configuration m.journal p t answer) answer

@@ -19,30 +19,22 @@ module _ {F E A T : Type 0} (says : F → List E → A → T → Type 0) (record
 -- a role may have recorded more
 pub also : (c : Configuration) (journal : List Entry) (more : Also) (a : Ask) (t : Turn) → answers c journal a t → answers_also more c journal a t
 also c journal more (Ask.Act r) (Turn.Did e) h = (inl h.0, h.1)
-also c journal more (Ask.Act r) (Turn.DueNode n x) h = h
-also c journal more (Ask.Act r) Turn.Swept h = h
-also c journal more (Ask.Act r) Turn.Idle h = h
-also c journal more (Ask.Act r) Turn.Full h = h
 also c journal more (Ask.Do event) t h = h
 also c journal more (Ask.Due p) t h = h
 also c journal more (Ask.Sweep p n x) t h = h
+also c journal more (Ask.Act r) other h = h
 
 old-use : (c : Configuration) (journal : List Entry) (r : Role) (e : Event) → launchers_before c journal r e → WasUseful c journal r e
 old-use c journal (Role.Launcher p) e h = h
-old-use c journal (Role.Janitor p) e h = absurd h
-old-use c journal (Role.Requester q) e h = absurd h
-old-use c journal Role.Reaper e h = absurd h
+old-use c journal other e h = absurd h
 
 wider : (c : Configuration) (journal : List Entry) (a : Ask) (t : Turn) → answers_also launchers_before c journal a t → answers_also WasUseful c journal a t
 wider c journal (Ask.Act r) (Turn.Did e) (inl h, replied) = (inl h, replied)
 wider c journal (Ask.Act r) (Turn.Did e) (inr h, replied) = (inr (old-use c journal r e.event h), replied)
-wider c journal (Ask.Act r) (Turn.DueNode n x) h = h
-wider c journal (Ask.Act r) Turn.Swept h = h
-wider c journal (Ask.Act r) Turn.Idle h = h
-wider c journal (Ask.Act r) Turn.Full h = h
 wider c journal (Ask.Do event) t h = h
 wider c journal (Ask.Due p) t h = h
 wider c journal (Ask.Sweep p n x) t h = h
+wider c journal (Ask.Act r) other h = h
 
 pub turned-wider : (c : Configuration) (v w : Sight Entry) (a : Ask) (r : Result Turn NoMemory) → Turned (answers_also launchers_before) recorded c v a r w → Turned (answers_also WasUseful) recorded c v a r w
 turned-wider c v w a (Ok t) h = (h.0, h.1, wider c h.0 a t h.2, h.3)
@@ -64,11 +56,7 @@ asks-turn Stage.Planned left x a h = inr (of-left (left == 0) (turn_ask Stage.Pl
 
 asks-none : (s : Stage) (left : ℕ) (a : PlanAsk) → next_ask s left None ≡ Some a → (p : PoolId) × (Some (PlanAsk.Peek p) ≡ Some a)
 asks-none (Stage.PlanningNext p) left a h = (p, h)
-asks-none Stage.Committing left a h = absurd cc
-asks-none Stage.Hearing left a h = absurd cc
-asks-none Stage.Planning left a h = absurd cc
-asks-none Stage.Asking left a h = absurd cc
-asks-none Stage.Planned left a h = absurd cc
+asks-none other left a h = absurd cc
 
 -- with a ticket a launcher plans its next event, or there is a turn of the series
 asks-what : (s : Stage) (left : ℕ) (o : Option Ask) (a : PlanAsk) → next_ask s left o ≡ Some a
@@ -103,40 +91,25 @@ module _ {S : Type 0} (asks_of : S → Option Ask) (hears : S → Turn → S →
   asking w u x a t is h = let same : a ≡ x = cc in subst (λ (z : PlanAsk). AtOnce w z t u) same h
 
   after-peek : (p : PoolId) (t : PlanTurn) (b d : Batch S) (w u : Sight Entry) → Hears b t d → AtOnce w (PlanAsk.Peek p) t u → OneTurn b d w u ⊎ NoTurn b d w u
-  after-peek p (PlanTurn.Plain y) b d w u h k = absurd k.0
   after-peek p (PlanTurn.Planned plan) b d w u h k = no-turn b d _ w u h k.1
-  after-peek p (PlanTurn.Fired spot) b d w u h k = absurd k.0
-  after-peek p (PlanTurn.Did e) b d w u h k = absurd k.0
-  after-peek p (PlanTurn.Stale spot change) b d w u h k = absurd k.0
   after-peek p PlanTurn.Idle b d w u h k = no-turn b d _ w u h k.1
-  after-peek p PlanTurn.Full b d w u h k = absurd k.0
+  after-peek p other b d w u h k = absurd k.0
 
   after-news : (p : PoolId) (t : PlanTurn) (b d : Batch S) (w u : Sight Entry) → Hears b t d → AtOnce w (PlanAsk.News p) t u → OneTurn b d w u ⊎ NoTurn b d w u
-  after-news p (PlanTurn.Plain y) b d w u h k = absurd k.0
-  after-news p (PlanTurn.Planned plan) b d w u h k = absurd k.0
   after-news p (PlanTurn.Fired spot) b d w u h k = no-turn b d _ w u h k.1
-  after-news p (PlanTurn.Did e) b d w u h k = absurd k.0
-  after-news p (PlanTurn.Stale spot change) b d w u h k = absurd k.0
   after-news p PlanTurn.Idle b d w u h k = no-turn b d _ w u h k.1
-  after-news p PlanTurn.Full b d w u h k = absurd k.0
+  after-news p other b d w u h k = absurd k.0
 
   after-commit : (p : PoolId) (t : PlanTurn) (b d : Batch S) (w u : Sight Entry) → asks_of b.series ≡ Some (Ask.Act (Launcher p)) → (b.left == 0) ≡ false → Hears b t d → AtOnce w (PlanAsk.Commit p) t u → OneTurn b d w u ⊎ NoTurn b d w u
-  after-commit p (PlanTurn.Plain y) b d w u is some h k = absurd k.0
-  after-commit p (PlanTurn.Planned plan) b d w u is some h k = absurd k.0
-  after-commit p (PlanTurn.Fired spot) b d w u is some h k = absurd k.0
   after-commit p (PlanTurn.Did e) b d w u is some h k = inl (Ask.Act (Launcher p), Turn.Did e, is, h.0, one-less b.left d.left some h.1, (w.seen, starts_same w.seen, (inr k.0.0, k.0.1), k.1))
   after-commit p (PlanTurn.Stale spot change) b d w u is some h k = no-turn b d _ w u h k.1
   after-commit p PlanTurn.Idle b d w u is some h k = no-turn b d _ w u h k.1
   after-commit p PlanTurn.Full b d w u is some h k = no-turn b d _ w u h k.1
+  after-commit p other b d w u is some h k = absurd k.0
 
   after-plain : (x : Ask) (t : PlanTurn) (b d : Batch S) (w u : Sight Entry) → asks_of b.series ≡ Some x → (b.left == 0) ≡ false → Hears b t d → AtOnce w (PlanAsk.Plain x) t u → OneTurn b d w u ⊎ NoTurn b d w u
   after-plain x (PlanTurn.Plain y) b d w u is some h k = inl (x, y, is, h.0, one-less b.left d.left some h.1, (w.seen, starts_same w.seen, also c w.seen launchers_before x y k.0, k.1))
-  after-plain x (PlanTurn.Planned plan) b d w u is some h k = absurd k.0
-  after-plain x (PlanTurn.Fired spot) b d w u is some h k = absurd k.0
-  after-plain x (PlanTurn.Did e) b d w u is some h k = absurd k.0
-  after-plain x (PlanTurn.Stale spot change) b d w u is some h k = absurd k.0
-  after-plain x PlanTurn.Idle b d w u is some h k = absurd k.0
-  after-plain x PlanTurn.Full b d w u is some h k = absurd k.0
+  after-plain x other b d w u is some h k = absurd k.0
 
   after-launcher : (s : Stage) (p : PoolId) (a : PlanAsk) (t : PlanTurn) (b d : Batch S) (w u : Sight Entry) → asks_of b.series ≡ Some (Ask.Act (Launcher p)) → (b.left == 0) ≡ false → launcher_ask s p ≡ Some a
       → Hears b t d → AtOnce w a t u → OneTurn b d w u ⊎ NoTurn b d w u
@@ -144,8 +117,7 @@ module _ {S : Type 0} (asks_of : S → Option Ask) (hears : S → Turn → S →
   after-launcher Stage.Hearing p a t b d w u is some e h k = after-news p t b d w u h (asking w u (PlanAsk.News p) a t e k)
   after-launcher Stage.Planning p a t b d w u is some e h k = after-peek p t b d w u h (asking w u (PlanAsk.Peek p) a t e k)
   after-launcher Stage.Asking p a t b d w u is some e h k = after-plain (Ask.Act (Launcher p)) t b d w u is some h (asking w u (PlanAsk.Plain (Ask.Act (Launcher p))) a t e k)
-  after-launcher (Stage.PlanningNext q) p a t b d w u is some e h k = absurd cc
-  after-launcher Stage.Planned p a t b d w u is some e h k = absurd cc
+  after-launcher other p a t b d w u is some e h k = absurd cc
 
   after-turn : (s : Stage) (x : Ask) (a : PlanAsk) (t : PlanTurn) (b d : Batch S) (w u : Sight Entry) → asks_of b.series ≡ Some x → (b.left == 0) ≡ false → turn_ask s x ≡ Some a
       → Hears b t d → AtOnce w a t u → OneTurn b d w u ⊎ NoTurn b d w u

@@ -114,9 +114,7 @@ create-spared t k w name bytes mode (Some above) = under-spared t k w above name
 part-spared : (t : TreeState) (k w : ℕ) (part : Op) → after_part (with_spare t k) w part ≡ with_spare (after_part t w part) k
 part-spared t k w (Op.Create path bytes mode) = create-spared t k w (name_of path) bytes mode (parent_of path)
 part-spared t k w (Op.CreateUnder parent bytes mode) = under-spared t k w parent [] bytes mode (at_path t.nodes parent)
-part-spared t k w (Op.Set path bytes expect) = refl
-part-spared t k w (Op.Delete path expect) = refl
-part-spared t k w (Op.Check path expect) = refl
+part-spared t k w other = refl
 
 parts-spared : (t : TreeState) (k w : ℕ) (parts : List Op) → after_parts (with_spare t k) w parts ≡ with_spare (after_parts t w parts) k
 parts-spared t k w [] = refl
@@ -124,10 +122,7 @@ parts-spared t k w (part ∷ parts) = ap (λ (u : TreeState). after_parts u w pa
 
 answer-spared : (t : TreeState) (k w : ℕ) (part : Op) → part_answer (with_spare t k) w part ≡ part_answer t w part
 answer-spared t k w (Op.Create path bytes mode) = refl
-answer-spared t k w (Op.CreateUnder parent bytes mode) = refl
-answer-spared t k w (Op.Set path bytes expect) = refl
-answer-spared t k w (Op.Delete path expect) = refl
-answer-spared t k w (Op.Check path expect) = refl
+answer-spared t k w other = refl
 
 -- a call is answered the same
 pub answers-spared : (at : ℕ) (t : TreeState) (k w : ℕ) (parts : List Op) → answers_from at (with_spare t k) w parts ≡ answers_from at t w parts
@@ -240,13 +235,7 @@ module _ (c : Configuration) where
       more ≡ role_text no_deeds → g ≡ f ++ make_each more requester_at c.requesters →
       last ≡ g ++ make (48 ∷ []) Tick ∷ [] → last ≡ first_parts c
   first-is o a b d e f g last job role again more is-o is-a is-b is-job is-d is-role is-e is-again is-f is-more is-g is-last =
-      let made-a : a ≡ directories = is-a ∙ ap (λ (parts : List Op). parts ++ directories) is-o in
-      let made-b : b ≡ with_semaphores = is-b ∙ ap (λ (parts : List Op). parts ++ make_each [] semaphore_at c.semaphores) made-a in
-      let made-d : d ≡ with_jobs (job_text new_job) = is-d ∙ ap (λ (parts : List Op). parts ++ make_each job job_at c.jobs) made-b ∙ ap with_jobs is-job in
-      let made-e : e ≡ with_launchers (role_text no_deeds) = is-e ∙ ap (λ (parts : List Op). parts ++ make_each role launcher_at c.pools) made-d ∙ ap with_launchers is-role in
-      let made-f : f ≡ with_janitors (role_text no_deeds) = is-f ∙ ap (λ (parts : List Op). parts ++ make_each again janitor_at c.pools) made-e ∙ ap with_janitors is-again in
-      let made-g : g ≡ with_requesters (role_text no_deeds) = is-g ∙ ap (λ (parts : List Op). parts ++ make_each more requester_at c.requesters) made-f ∙ ap with_requesters is-more in
-      is-last ∙ ap (λ (parts : List Op). parts ++ make (48 ∷ []) Tick ∷ []) made-g ∙ ap (λ (text : List ℕ). with_requesters (role_text no_deeds) ++ make text Tick ∷ []) (sym zero-text)
+      rw (is-last, is-g, is-f, is-e, is-d, is-b, is-a, is-o, is-more, is-again, is-role, is-job) (ap (λ (text : List ℕ). with_requesters (role_text no_deeds) ++ make text Tick ∷ []) (sym zero-text))
 
 -- ## how many they are
 
@@ -390,23 +379,14 @@ multi-moves t w parts low goes = by (list_any (λ part. not (is_check part)) par
       inr (record { nodes = ap (λ (u : TreeState). u.nodes) both.0; number = ap (λ (u : TreeState). u.changes) both.0 })
 
 begin-moves : (growth : Growth) (t u : TreeState) → Moves t u → Moves t (with_begin growth u)
-begin-moves Growth.Nothing t u moves = moves
 begin-moves (Growth.Session role) t u (inl more) = inl more
 begin-moves (Growth.Session role) t u (inr same) = inr (record { nodes = same.nodes; number = same.number })
-begin-moves (Growth.Registration p) t u moves = moves
-begin-moves (Growth.Request priority asked) t u moves = moves
-begin-moves (Growth.Node kept) t u moves = moves
-begin-moves (Growth.JoinRequest r) t u moves = moves
-begin-moves (Growth.JoinNode n) t u moves = moves
-begin-moves (Growth.Allocate n r tenant) t u moves = moves
-begin-moves (Growth.Handles j) t u moves = moves
-begin-moves (Growth.Swept n x) t u moves = moves
+begin-moves other t u moves = moves
 
 end-moves : (change : SessionsChange) (t u : TreeState) → u.changes < 18_446_744_073_709_551_615 → Moves t u → Moves t (with_end change u)
-end-moves SessionsChange.Same t u low moves = moves
-end-moves (SessionsChange.Mute session) t u low moves = moves
 end-moves (SessionsChange.End session) t u low (inl more) = let next = min-low u.changes 18_446_744_073_709_551_615 low in inl (omega arith)
 end-moves (SessionsChange.End session) t u low (inr same) = let next = min-low u.changes 18_446_744_073_709_551_615 low in let number = same.number in inl (omega arith)
+end-moves other t u low moves = moves
 
 room-same : (t u : TreeState) (more : ℕ) → IsSame t u → HasRoomFor more t → HasRoomFor more u
 room-same t u more same room = record {
@@ -425,20 +405,11 @@ room-same t u more same room = record {
 
 begun-begin : (growth : Growth) (t u : TreeState) → u.begun ≡ t.begun → (with_begin growth u).begun ≤ t.begun + 1
 begun-begin Growth.Nothing t u same = omega arith
-begun-begin (Growth.Session role) t u same = omega arith
-begun-begin (Growth.Registration p) t u same = omega arith
-begun-begin (Growth.Request priority asked) t u same = omega arith
-begun-begin (Growth.Node kept) t u same = omega arith
-begun-begin (Growth.JoinRequest r) t u same = omega arith
-begun-begin (Growth.JoinNode n) t u same = omega arith
-begun-begin (Growth.Allocate n r tenant) t u same = omega arith
-begun-begin (Growth.Handles j) t u same = omega arith
-begun-begin (Growth.Swept n x) t u same = omega arith
+begun-begin other t u same = omega arith
 
 begun-end : (change : SessionsChange) (u : TreeState) → (with_end change u).begun ≡ u.begun
 begun-end SessionsChange.Same u = refl
-begun-end (SessionsChange.Mute session) u = refl
-begun-end (SessionsChange.End session) u = refl
+begun-end other u = refl
 
 -- parts change neither sessions nor the spare
 record KeepsSessions (t u : TreeState) : Type 0 where
@@ -465,41 +436,23 @@ multi-sessions t w parts = by (list_any (λ part. not (is_check part)) parts) wh
 
 begin-number : (growth : Growth) (u : TreeState) → (with_begin growth u).changes ≡ u.changes
 begin-number Growth.Nothing u = refl
-begin-number (Growth.Session role) u = refl
-begin-number (Growth.Registration p) u = refl
-begin-number (Growth.Request priority asked) u = refl
-begin-number (Growth.Node kept) u = refl
-begin-number (Growth.JoinRequest r) u = refl
-begin-number (Growth.JoinNode n) u = refl
-begin-number (Growth.Allocate n r tenant) u = refl
-begin-number (Growth.Handles j) u = refl
-begin-number (Growth.Swept n x) u = refl
+begin-number other u = refl
 
 begin-by : (growth : Growth) (t u : TreeState) → KeepsSessions t u → t.begun < 4_294_967_295 → HasSpare growth t → CanBegin growth u
-begin-by Growth.Nothing t u keeps low spare = tt
 begin-by (Growth.Session role) t u keeps low spare = (let same = keeps.spare in omega arith, let same = keeps.begun in omega arith)
-begin-by (Growth.Registration p) t u keeps low spare = tt
-begin-by (Growth.Request priority asked) t u keeps low spare = tt
-begin-by (Growth.Node kept) t u keeps low spare = tt
-begin-by (Growth.JoinRequest r) t u keeps low spare = tt
-begin-by (Growth.JoinNode n) t u keeps low spare = tt
-begin-by (Growth.Allocate n r tenant) t u keeps low spare = tt
-begin-by (Growth.Handles j) t u keeps low spare = tt
-begin-by (Growth.Swept n x) t u keeps low spare = tt
+begin-by other t u keeps low spare = tt
 
 end-by : (c : Configuration) (t : TreeState) (k : ℕ) (ch : Changes) (change : SessionsChange) → SessionsPremise (decoded c t) ch change → (u : TreeState) → KeepsSessions t u → length (decoded c t).sessions + 2 < 2 ^ 32 → CanEnd change (with_spare (with_begin ch.grows u) k)
-end-by c t k ch SessionsChange.Same premise u keeps few = tt
-end-by c t k ch (SessionsChange.Mute session) premise u keeps few = tt
 end-by c t k ch (SessionsChange.End session) premise u keeps few =
     let same : (with_begin ch.grows u).live ≡ t.live = ap (λ (growth : Growth). (with_begin growth u).live) premise.same_size ∙ keeps.live in
     let low = session-low session (decoded c t) premise.facts premise.begun in
     (omega arith, ap (λ (live : List ℕ). is_in live (tree_session session)) same ∙ live-session c t session premise.facts premise.begun ∙ premise.live)
+end-by c t k ch other premise u keeps few = tt
 
 -- an end does not see the spare
 pub end-spared : (change : SessionsChange) (u : TreeState) (k : ℕ) → with_end change (with_spare u k) ≡ with_spare (with_end change u) k
 end-spared SessionsChange.Same u k = refl
-end-spared (SessionsChange.Mute session) u k = refl
-end-spared (SessionsChange.End session) u k = refl
+end-spared other u k = refl
 
 -- ## the whole
 
@@ -622,33 +575,16 @@ pub later-same : (t u : TreeState) → u ≡ t → IsLater t u
 later-same t u is = subst (IsLater t) (sym is) (later-than-itself t)
 
 begin-later : (growth : Growth) (t : TreeState) → IsLater t (with_begin growth t)
-begin-later Growth.Nothing t = later-than-itself t
 begin-later (Growth.Session role) t = begins-later t
-begin-later (Growth.Registration p) t = later-than-itself t
-begin-later (Growth.Request priority asked) t = later-than-itself t
-begin-later (Growth.Node kept) t = later-than-itself t
-begin-later (Growth.JoinRequest r) t = later-than-itself t
-begin-later (Growth.JoinNode n) t = later-than-itself t
-begin-later (Growth.Allocate n r tenant) t = later-than-itself t
-begin-later (Growth.Handles j) t = later-than-itself t
-begin-later (Growth.Swept n x) t = later-than-itself t
+begin-later other t = later-than-itself t
 
 end-later : (change : SessionsChange) (t : TreeState) → IsWhole t.nodes → t.changes < 18_446_744_073_709_551_615 → IsLater t (with_end change t)
-end-later SessionsChange.Same t whole low = later-than-itself t
-end-later (SessionsChange.Mute session) t whole low = later-than-itself t
 end-later (SessionsChange.End session) t whole low = ends-later t (tree_session session) whole low
+end-later other t whole low = later-than-itself t
 
 begin-nodes : (growth : Growth) (t : TreeState) → (with_begin growth t).nodes ≡ t.nodes
 begin-nodes Growth.Nothing t = refl
-begin-nodes (Growth.Session role) t = refl
-begin-nodes (Growth.Registration p) t = refl
-begin-nodes (Growth.Request priority asked) t = refl
-begin-nodes (Growth.Node kept) t = refl
-begin-nodes (Growth.JoinRequest r) t = refl
-begin-nodes (Growth.JoinNode n) t = refl
-begin-nodes (Growth.Allocate n r tenant) t = refl
-begin-nodes (Growth.Handles j) t = refl
-begin-nodes (Growth.Swept n x) t = refl
+begin-nodes other t = refl
 
 -- a call, then the begin of a session, then an end
 pub made-later : (t called begun ended : TreeState) (w k : ℕ) (parts : List Op) (growth : Growth) (change : SessionsChange) →

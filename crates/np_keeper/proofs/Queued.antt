@@ -187,6 +187,10 @@ request_queue-fits c s r fits =
 
 -- ## a row and its queue
 
+row-there : {E V : Type 0} (view : E → V) (row : V → List SessionId → E) (waits : V → List SessionId) (v : V) (queue : List SessionId) (o : Option E) → ((e : E) → o ≡ Some e → row (view e) (waits (view e)) ≡ e) → Some v ≡ option_map view o → queue ≡ waits v → Some (row v queue) ≡ o
+row-there view row waits v queue None rows is same = absurd cc
+row-there view row waits v queue (Some e) rows is same = let seen : v ≡ view e = cc in rw (same, seen) (ap Some (rows e refl))
+
 module _ (c : Configuration) (s : State) (reached : IsReached c s) where
   -- what holds of every state that a run leads to
   abbrev holds : Invariant c s
@@ -209,29 +213,17 @@ module _ (c : Configuration) (s : State) (reached : IsReached c s) where
       (found_there (λ (x : NodeEntry). x.id) is_node_before same_node node_one_way node_equal node_some_way s.nodes i e holds.numbered.nodes_rise there)
 
   -- what a view shows, with the queue of its id, is the row
-  request-by : (i : ℕ) (view : RequestView) (queue : List SessionId) (o : Option RequestEntry) → slice_get s.requests i ≡ o → Some view ≡ option_map request_view o → queue ≡ request_queue view.id s.requests
-      → Some (record { id = view.id; kept = view.kept; queue = queue }) ≡ o
-  request-by i view queue None at is same = absurd cc
-  request-by i view queue (Some e) at is same =
-      let seen : view ≡ request_view e = cc in
-      let waits : queue ≡ e.queue = same ∙ ap (λ (v : RequestView). request_queue v.id s.requests) seen ∙ request-queue i e at in
-      rw (waits, seen) refl
-
   pub request_there : (i : ℕ) (view : RequestView) (queue : List SessionId) → Some view ≡ option_map request_view (slice_get s.requests i) → queue ≡ request_queue view.id s.requests
       → Some (record { id = view.id; kept = view.kept; queue = queue }) ≡ slice_get s.requests i
-  request_there i view queue is same = request-by i view queue (slice_get s.requests i) refl is same
-
-  node-by : (i : ℕ) (view : NodeView) (queue : List SessionId) (o : Option NodeEntry) → slice_get s.nodes i ≡ o → Some view ≡ option_map node_view o → queue ≡ node_queue view.id s.nodes
-      → Some (record { id = view.id; kept = view.kept; queue = queue }) ≡ o
-  node-by i view queue None at is same = absurd cc
-  node-by i view queue (Some e) at is same =
-      let seen : view ≡ node_view e = cc in
-      let waits : queue ≡ e.queue = same ∙ ap (λ (v : NodeView). node_queue v.id s.nodes) seen ∙ node-queue i e at in
-      rw (waits, seen) refl
+  request_there i view queue is same =
+      row-there request_view (λ (v : RequestView) (q : List SessionId). record { id = v.id; kept = v.kept; queue = q }) (λ (v : RequestView). request_queue v.id s.requests) view queue (slice_get s.requests i)
+      (λ e at. let waits : request_queue e.id s.requests ≡ e.queue = request-queue i e at in rw waits refl) is same
 
   pub node_there : (i : ℕ) (view : NodeView) (queue : List SessionId) → Some view ≡ option_map node_view (slice_get s.nodes i) → queue ≡ node_queue view.id s.nodes
       → Some (record { id = view.id; kept = view.kept; queue = queue }) ≡ slice_get s.nodes i
-  node_there i view queue is same = node-by i view queue (slice_get s.nodes i) refl is same
+  node_there i view queue is same =
+      row-there node_view (λ (v : NodeView) (q : List SessionId). record { id = v.id; kept = v.kept; queue = q }) (λ (v : NodeView). node_queue v.id s.nodes) view queue (slice_get s.nodes i)
+      (λ e at. let waits : node_queue e.id s.nodes ≡ e.queue = node-queue i e at in rw waits refl) is same
 
 -- past the last row there is none
 pub none_seen : {X V : Type 0} (view : X → V) (o : Option X) → None ≡ option_map view o → None ≡ o
@@ -272,18 +264,9 @@ abbrev pub ten_items : List ℕ → List ℕ
 ten_items digits = get_or digits 0 0 ∷ get_or digits 1 0 ∷ get_or digits 2 0 ∷ get_or digits 3 0 ∷ get_or digits 4 0 ∷ get_or digits 5 0 ∷ get_or digits 6 0 ∷ get_or digits 7 0 ∷ get_or digits 8 0 ∷ get_or digits 9 0 ∷ []
 
 ten_of : (digits : List ℕ) → length digits ≡ 10 → ten_items digits ≡ digits
-ten_of [] is = absurd (let short = is in omega arith)
-ten_of (a ∷ []) is = absurd (let short = is in omega arith)
-ten_of (a ∷ b ∷ []) is = absurd (let short = is in omega arith)
-ten_of (a ∷ b ∷ c ∷ []) is = absurd (let short = is in omega arith)
-ten_of (a ∷ b ∷ c ∷ d ∷ []) is = absurd (let short = is in omega arith)
-ten_of (a ∷ b ∷ c ∷ d ∷ e ∷ []) is = absurd (let short = is in omega arith)
-ten_of (a ∷ b ∷ c ∷ d ∷ e ∷ f ∷ []) is = absurd (let short = is in omega arith)
-ten_of (a ∷ b ∷ c ∷ d ∷ e ∷ f ∷ g ∷ []) is = absurd (let short = is in omega arith)
-ten_of (a ∷ b ∷ c ∷ d ∷ e ∷ f ∷ g ∷ h ∷ []) is = absurd (let short = is in omega arith)
-ten_of (a ∷ b ∷ c ∷ d ∷ e ∷ f ∷ g ∷ h ∷ i ∷ []) is = absurd (let short = is in omega arith)
 ten_of (a ∷ b ∷ c ∷ d ∷ e ∷ f ∷ g ∷ h ∷ i ∷ j ∷ []) is = refl
 ten_of (a ∷ b ∷ c ∷ d ∷ e ∷ f ∷ g ∷ h ∷ i ∷ j ∷ k ∷ rest) is = absurd (let long = is in omega arith)
+ten_of other is = absurd (let short = is in omega arith)
 
 -- what is told of the request is the number
 pub ten_told : (digits : List ℕ) (o : Option RequestId) → length digits ≡ 10 → o ≡ request_of (49 ∷ 48 ∷ 48 ∷ 45 ∷ ten_items digits) → option_map (λ (r : RequestId). r.seq) o ≡ sequence_of digits

@@ -1,6 +1,6 @@
 -- the spots of a planned event whose paths are fresh, and the first that is not
-use Rattle.np_planned.proofs.Prelude.{Agree, AllByRecursion, AllZip, BadRecord, Bool, Configuration, Done, Event, FirstAt, FreshCommits, HasNodeLock, HasParts-below, HasQueue, HasText, HavePaths, IfSome, Invariant, IsFreshPath, IsGood, IsLive, IsNodeId, IsQueued, IsRead, IsRequest, IsSession, IsStored, IsWait, List, Node, NodeEntry, NodeId, None, Ok, Option, Place, PoolId, Reason, Refusal, Registration, RequestEntry, RequestId, RequestRecord, Result, Role, Row, Seen, SessionFacts, SessionId, SessionRecord, Since, Some, Spot, SpotsHaveParents, SpotsHavePaths, StaleHasParent, Stat, State, Tag, TreeState, above, all-find, all-weaker, answer, ap, arith, at_path, below, by_node_holder, by_registrant, by_request_holder, bytes-seen, bytes_at, change_at_path, change_by, codes, cond, false, find, find_named, found-node, found-some, fresh-listed, fresh-seen, get_or, holder, invariant-Runs, is_building, is_fresh, is_fresh_by, is_node_it, is_ok, is_path, is_path-of, is_pending_by, is_planned, is_queued, is_request_it, is_session_of, is_some, is_stale, is_true, judge, judge_decline, judge_fulfil, judge_start, judge_take_ready, judge_unlock_node, judge_unlock_request, kept_of, launcher, launcher-maker, length, listed, maker, map, need, next_under, node-read, node-unread, node-waits, node_all, node_at, node_entry, node_in, node_queue, node_record_in, not, not-false, not-true, of_node, of_nodes, of_pool, of_reason, of_request, of_role, option_and_then, option_map, option_map_or, parts-of, path_at, path_of, paths_at, persistent, place_name, place_of, refl, registered, registered-owner, request-queue, request-read, request-unread, request-waits, request_all, request_at, request_entry, request_holder, request_in, request_queue, request_record_in, role_of, seen-named, seen_at, seen_in, seen_of, session-bytes, session-read, session-sound, session_in, session_of, session_text, slice_get, spots_of, stale-is-later, starts_of, stat_above, stat_at, stat_of, subst, suc, sym, tag_of, tags_at, test-says-fresh, true, under, unlock_request_as, unwrap_or, wrong_node, wrong_request, zero, ℕ, [], ◌&&◌, ◌*◌, ◌++◌, ◌+◌, ◌<◌, ◌==◌, ◌>>=◌, ◌>>◌, ◌^◌, ◌∙◌, ◌∷◌, ◌≡◌, ◌≤◌}
-use Rattle.np_planned.proofs.Accepted.{HasNode, HasRequest, IsMaker, Stand, StandsAt, asked, decline-true, decline_rest, decline_with, first-ok, fulfil_rest, fulfil_with, leave_request_with, live-first, live-queued, maker-is, need-true, node-known, node-live, noded, passes-of, pool-known, request-known, request-live, second-ok, session-known, spent-there, spots-decide, stand-decline, stand-fulfil, stand-start, stand-take, stand-unlock_node, stand-unlock_request, start_with, take_rest, take_with, unlock_node_with, unlock_request_with}
+use Rattle.np_planned.proofs.Prelude.{Agree, AllByRecursion, AllZip, BadRecord, Bool, Configuration, FirstAt, FreshCommits, HasNodeLock, HasParts-below, HasQueue, HasText, HavePaths, IfSome, Invariant, IsFreshPath, IsGood, IsLive, IsRead, IsSession, IsStored, IsWait, List, Node, NodeEntry, NodeId, None, Ok, Option, Place, PoolId, Registration, RequestEntry, RequestId, Result, Role, Row, Seen, SessionFacts, SessionId, SessionRecord, Since, Some, Spot, SpotsHaveParents, SpotsHavePaths, StaleHasParent, Stat, State, Tag, TreeState, above, all-find, answer, ap, arith, at_path, below, bytes-seen, bytes_at, change_at_path, change_by, codes, cond, false, find, find_named, found-node, fresh-listed, fresh-seen, get_or, invariant-Runs, is_fresh, is_fresh_by, is_node_it, is_path, is_path-of, is_some, is_stale, kept_of, length, map, node-read, node-unread, node-waits, node_all, node_entry, node_in, node_queue, node_record_in, not, not-false, not-true, of_node, of_nodes, option_and_then, option_map, parts-of, path_at, path_of, paths_at, persistent, place_name, place_of, refl, registered, registered-owner, request-queue, request-read, request-unread, request-waits, request_all, request_entry, request_in, request_queue, request_record_in, seen-named, seen_at, seen_in, seen_of, session-bytes, session-read, session-sound, session_in, session_of, session_text, slice_get, spots_of, stale-is-later, stat_above, stat_at, stat_of, subst, suc, sym, tag_of, tags_at, test-says-fresh, true, under, unwrap_or, zero, ℕ, [], ◌*◌, ◌++◌, ◌+◌, ◌<◌, ◌==◌, ◌^◌, ◌∙◌, ◌∷◌, ◌≡◌}
+use Rattle.np_planned.proofs.Accepted.{IsMaker, Stand, at_end, at_node, at_pool, at_reason, at_request, kept-there, made, session-known, spots-decide}
 
 -- # what is fresh in a later tree is the same in the states of both trees
 
@@ -126,30 +126,18 @@ facts-same f g same first second =
       facts_with : SessionRecord → Bool → Option SessionFacts
       facts_with k live = Some (record { role = k.role; live = live; mute = k.mute })
 
-module _ (c : Configuration) (s u : State) (t v : TreeState) (z : ℕ) (stored : IsStored c s t) (later : IsStored c u v) (since : Since z t v) (queued : IsQueued u) where
+module _ (c : Configuration) (s u : State) (t v : TreeState) (z : ℕ) (stored : IsStored c s t) (later : IsStored c u v) (since : Since z t v) where
   abbrev AllFresh : List Spot → Type 0
   AllFresh spots = AllByRecursion (λ spot. IsFreshPath z v (path_at spot)) spots
 
-  -- ## spot by spot
-
-  request-agrees : (r : RequestId) → HasText r → AllFresh (of_request r) → Agree s u (of_request r)
-  request-agrees r good fresh = (request-same c s u t v z stored later since r good fresh.0, (request_lock-same c s u t v z stored later since r good fresh.1.0, tt))
-
-  node-agrees : (n : NodeId) → n.0 < 2 ^ 32 → AllFresh (of_node n) → Agree s u (of_node n)
-  node-agrees n good fresh = (node-same c s u t v z stored later since n good fresh.0, (node_lock-same c s u t v z stored later since n good fresh.1.0, tt))
-
-  nodes-agree : (numbers : List NodeId) → AllByRecursion IsNodeId numbers → AllFresh (of_nodes numbers) → Agree s u (of_nodes numbers)
-  nodes-agree [] good fresh = tt
-  nodes-agree (n ∷ numbers) good fresh =
-      (node-same c s u t v z stored later since n good.0 fresh.0, (node_lock-same c s u t v z stored later since n good.0 fresh.1.0, nodes-agree numbers good.1 fresh.1.1))
-
-  reason-agrees : (p : PoolId) (request : RequestRecord) (why : Reason) → is_true c s p request why ≡ true → AllFresh (of_reason why) → Agree s u (of_reason why)
-  reason-agrees p request (Reason.NoLabel l) is fresh = tt
-  reason-agrees p request Reason.NeverFits is fresh = tt
-  reason-agrees p request Reason.TenantNeverFits is fresh = tt
-  reason-agrees p request (Reason.Spent n) is fresh =
-      let has = spent-there c s p request n is in
-      (node-same c s u t v z stored later since n (node-known c s t stored n has.node has.there) fresh.0, tt)
+  agrees : (spots : List Spot) → Stand c s spots → AllFresh spots → Agree s u spots
+  agrees _ at_end fresh = tt
+  agrees _ (at_pool p rest good stand) fresh = (launcher-same c s u t v z stored later since p good fresh.0, agrees rest stand fresh.1)
+  agrees _ (at_request r rest k good there stand) fresh =
+      (request-same c s u t v z stored later since r good fresh.0, (request_lock-same c s u t v z stored later since r good fresh.1.0, agrees rest stand fresh.1.1))
+  agrees _ (at_node n rest good there stand) fresh =
+      (node-same c s u t v z stored later since n good fresh.0, (node_lock-same c s u t v z stored later since n good fresh.1.0, agrees rest stand fresh.1.1))
+  agrees _ (at_reason n good) fresh = (node-same c s u t v z stored later since n good fresh.0, tt)
 
   module _ (x : SessionId) where
     record-same : (f g : SessionFacts) → session_of x s ≡ Some f → session_of x u ≡ Some g → IsFreshPath z v (path_of (Place.Session x)) → kept_of f ≡ kept_of g
@@ -171,183 +159,27 @@ module _ (c : Configuration) (s u : State) (t v : TreeState) (z : ℕ) (stored :
         ∙ facts-same known.facts live.facts (record-same known.facts live.facts known.there live.begun fresh) known.live live.live
         ∙ sym live.begun
 
-    -- ## a launcher's events over a request
-
-    module _ (r : RequestId) (rest : List Spot) (p : PoolId) (known : IsMaker s x (Role.Launcher p)) (has : role_of x s ≡ Some (Role.Launcher p)) (good : HasText r)
-        (fresh : AllFresh (of_role (role_of x s) ++ of_request r ++ rest)) where
-      all-fresh : AllFresh (of_role (Some (Role.Launcher p)) ++ of_request r ++ rest)
-      all-fresh = subst (λ (o : Option Role). AllFresh (of_role o ++ of_request r ++ rest)) has fresh
-
-      rest-fresh : AllFresh rest
-      rest-fresh = all-fresh.1.1.1
-
-      all-agree : Agree s u rest → Agree s u (of_role (role_of x s) ++ of_request r ++ rest)
-      all-agree agree =
-          subst (λ (o : Option Role). Agree s u (of_role o ++ of_request r ++ rest)) (sym has) (
-            launcher-same c s u t v z stored later since p (pool-known c s t stored x p known) all-fresh.0,
-            (request-same c s u t v z stored later since r good all-fresh.1.0, (request_lock-same c s u t v z stored later since r good all-fresh.1.1.0, agree)),
-          )
-
-      -- the maker is in the lock's queue, so it is live
-      maker-lives : is_ok (by_request_holder s r x) ≡ true → IsLive u x
-      maker-lives ok =
-          let first : is_session_of x (holder (request_queue r s.requests)) ≡ true = need-true (is_session_of x (request_holder r s.requests)) Refusal.NotHeld ok in
-          let same : request_queue r s.requests ≡ request_queue r u.requests = request_lock-same c s u t v z stored later since r good all-fresh.1.1.0 in
-          live-first u x (request_queue r u.requests) (request-live u queued r) (subst (λ (queue : List SessionId). is_session_of x (holder queue) ≡ true) same first)
-
-    fresh-decline : (r : RequestId) (why : Reason) → AllFresh (spots_of s (Event.Decline x r why)) → is_ok (judge_decline c s x r why) ≡ true → Agree s u (spots_of s (Event.Decline x r why))
-    fresh-decline r why fresh ok =
-        let is = asked s x r (decline_with c s x r why) ok in
-        let good = (request-known c s t stored r is.request is.there).0 in
-        let holds = second-ok (by_registrant s is.pool x) (by_request_holder s r x) (decline_rest c s why is.pool is.request) is.passes in
-        let rest = reason-agrees is.pool is.request why (decline-true c s x r why is.pool is.request is.passes) (rest-fresh r (of_reason why) is.pool is.known is.has good fresh.1) in (
-          session-agrees (Role.Launcher is.pool) is.known (maker-lives r (of_reason why) is.pool is.known is.has good fresh.1 holds) fresh.0,
-          all-agree r (of_reason why) is.pool is.known is.has good fresh.1 rest,
-        )
-
-    fresh-take : (r : RequestId) (n : NodeId) → AllFresh (spots_of s (Event.TakeReady x r n)) → is_ok (judge_take_ready s x r n) ≡ true → Agree s u (spots_of s (Event.TakeReady x r n))
-    fresh-take r n fresh ok =
-        let is = asked s x r (λ p request. node_at s n >>= take_with s x r n p request) ok in
-        let good = (request-known c s t stored r is.request is.there).0 in
-        let k = noded s n (take_with s x r n is.pool is.request) is.passes in
-        let holds = second-ok (by_registrant s is.pool x) (by_request_holder s r x) (take_rest s n is.pool is.request k.node) k.passes in
-        let rest = node-agrees n (node-known c s t stored n k.node k.there) (rest-fresh r (of_node n) is.pool is.known is.has good fresh.1) in (
-          session-agrees (Role.Launcher is.pool) is.known (maker-lives r (of_node n) is.pool is.known is.has good fresh.1 holds) fresh.0,
-          all-agree r (of_node n) is.pool is.known is.has good fresh.1 rest,
-        )
-
-    fresh-fulfil : (r : RequestId) → AllFresh (spots_of s (Event.Fulfil x r)) → is_ok (judge_fulfil s x r) ≡ true → Agree s u (spots_of s (Event.Fulfil x r))
-    fresh-fulfil r fresh ok =
-        let is = asked s x r (fulfil_with s x r) ok in
-        let good = request-known c s t stored r is.request is.there in
-        let holds = second-ok (by_registrant s is.pool x) (by_request_holder s r x) (fulfil_rest s x r is.pool is.request) is.passes in
-        let numbers : AllByRecursion IsNodeId (listed r s) = subst (λ (o : Option RequestRecord). AllByRecursion IsNodeId (option_map_or (λ (k : RequestRecord). k.nodes) o [])) (sym is.there) good.1 in
-        let rest = nodes-agree (listed r s) numbers (rest-fresh r (of_nodes (listed r s)) is.pool is.known is.has good.0 fresh.1) in (
-          session-agrees (Role.Launcher is.pool) is.known (maker-lives r (of_nodes (listed r s)) is.pool is.known is.has good.0 fresh.1 holds) fresh.0,
-          all-agree r (of_nodes (listed r s)) is.pool is.known is.has good.0 fresh.1 rest,
-        )
-
-    -- ## the others
-
-    fresh-start : (n : NodeId) → AllFresh (spots_of s (Event.Start x n)) → is_ok (judge_start s x n) ≡ true → Agree s u (spots_of s (Event.Start x n))
-    fresh-start n fresh ok =
-        let pool = passes-of (launcher s x) (λ p. node_at s n >>= start_with s x n p) ok in
-        let known = maker-is s x (Role.Launcher pool.found) (launcher-maker s x pool.found pool.is) in
-        let k = noded s n (start_with s x n pool.found) pool.passes in
-        let agree = node-agrees n (node-known c s t stored n k.node k.there) fresh.1 in
-        let same : node_queue n s.nodes ≡ node_queue n u.nodes = agree.1.0 in
-        let holds = second-ok (of_pool pool.found k.node) (by_node_holder s n x) (need (is_building k.node.state && not k.node.in_flight) (wrong_node k.node) >> Ok (Done.Started (k.node.attempts + 1) (starts_of pool.found s + 1))) k.passes in
-        let first : is_session_of x (holder (node_queue n s.nodes)) ≡ true = need-true (is_session_of x (holder (node_queue n s.nodes))) Refusal.NotHeld holds in
-        let live = live-first u x (node_queue n u.nodes) (node-live u queued n) (subst (λ (queue : List SessionId). is_session_of x (holder queue) ≡ true) same first) in
-        (session-agrees (Role.Launcher pool.found) known live fresh.0, agree)
-
-    fresh-unlock_node : (n : NodeId) → AllFresh (spots_of s (Event.UnlockNode x n)) → is_ok (judge_unlock_node s x n) ≡ true → Agree s u (spots_of s (Event.UnlockNode x n))
-    fresh-unlock_node n fresh ok =
-        let makes = passes-of (maker s x) (λ role. node_at s n >>= unlock_node_with s x n) ok in
-        let known = maker-is s x makes.found makes.is in
-        let k = noded s n (unlock_node_with s x n) makes.passes in
-        let agree = node-agrees n (node-known c s t stored n k.node k.there) fresh.1 in
-        let same : node_queue n s.nodes ≡ node_queue n u.nodes = agree.1.0 in
-        let waits : is_queued x (node_queue n s.nodes) ≡ true = need-true (is_queued x (node_queue n s.nodes)) Refusal.NotHeld (first-ok (need (is_queued x (node_queue n s.nodes)) Refusal.NotHeld) (Ok Done.Plain) k.passes) in
-        let live = live-queued u x (node_queue n u.nodes) (node-live u queued n) (subst (λ (queue : List SessionId). is_queued x queue ≡ true) same waits) in
-        (session-agrees makes.found known live fresh.0, agree)
-
-    -- the request that is unlocked is there, and the maker holds it
-    unlock-holds : (r : RequestId) (role : Role) → is_ok (unlock_request_as s x r role) ≡ true → (request : RequestRecord) × (request_in r s.requests ≡ Some request) × (is_ok (by_request_holder s r x) ≡ true)
-    unlock-holds r (Role.Launcher p) ok =
-        let request = passes-of (request_at s r) (unlock_request_with s x r p) ok in (
-          request.found,
-          found-some (request_in r s.requests) Refusal.NoRequest request.found request.is,
-          first-ok (by_request_holder s r x) (need (not (is_pending_by p request.found)) (wrong_request request.found) >> Ok Done.Plain) request.passes,
-        )
-    unlock-holds r (Role.Janitor p) ok =
-        let request = passes-of (request_at s r) (leave_request_with s x r) ok in
-        (request.found, found-some (request_in r s.requests) Refusal.NoRequest request.found request.is, first-ok (by_request_holder s r x) (Ok Done.Plain) request.passes)
-    unlock-holds r (Role.Requester q) ok = absurd cc
-    unlock-holds r Role.Reaper ok = absurd cc
-
-    fresh-unlock_request : (r : RequestId) → AllFresh (spots_of s (Event.UnlockRequest x r)) → is_ok (judge_unlock_request s x r) ≡ true → Agree s u (spots_of s (Event.UnlockRequest x r))
-    fresh-unlock_request r fresh ok =
-        let makes = passes-of (maker s x) (unlock_request_as s x r) ok in
-        let known = maker-is s x makes.found makes.is in
-        let holds = unlock-holds r makes.found makes.passes in
-        let agree = request-agrees r (request-known c s t stored r holds.0 holds.1).0 fresh.1 in
-        let same : request_queue r s.requests ≡ request_queue r u.requests = agree.1.0 in
-        let first : is_session_of x (holder (request_queue r s.requests)) ≡ true = need-true (is_session_of x (request_holder r s.requests)) Refusal.NotHeld holds.2 in
-        let live = live-first u x (request_queue r u.requests) (request-live u queued r) (subst (λ (queue : List SessionId). is_session_of x (holder queue) ≡ true) same first) in
-        (session-agrees makes.found known live fresh.0, agree)
-
-  fresh-agree : (e : Event) → is_planned e ≡ true → AllFresh (spots_of s e) → is_ok (judge c s e) ≡ true → Agree s u (spots_of s e)
-  fresh-agree (Event.Start x n) planned fresh ok = fresh-start x n fresh ok
-  fresh-agree (Event.UnlockNode x n) planned fresh ok = fresh-unlock_node x n fresh ok
-  fresh-agree (Event.UnlockRequest x r) planned fresh ok = fresh-unlock_request x r fresh ok
-  fresh-agree (Event.Decline x r why) planned fresh ok = fresh-decline x r why fresh ok
-  fresh-agree (Event.TakeReady x r n) planned fresh ok = fresh-take x r n fresh ok
-  fresh-agree (Event.Fulfil x r) planned fresh ok = fresh-fulfil x r fresh ok
-  fresh-agree _ planned fresh ok = absurd cc
-
 pub fresh-commits : FreshCommits
 fresh-commits c journal s u t v z e runs stored later since fresh planned ok =
-    let queued = (invariant-Runs c journal u runs).queued in
-    spots-decide c s u e planned
-    (fresh-agree c s u t v z stored later since queued e planned (all-unmapped (IsFreshPath z v) path_at (spots_of s e) fresh) ok)
-    ok
+    let is = made c s t stored e planned ok in
+    let all = subst (AllByRecursion (λ spot. IsFreshPath z v (path_at spot))) is.are (all-unmapped (IsFreshPath z v) path_at (spots_of s e) fresh) in
+    let rest = agrees c s u t v z stored later since is.rest is.stand all.1 in
+    let session = session-agrees c s u t v z stored later since is.maker is.role is.known (is.lives u (invariant-Runs c journal u runs).queued rest) all.0 in
+    spots-decide c s u e planned (subst (Agree s u) (sym is.are) (session, rest)) ok
 
 -- # the spots of an accepted event have paths, and the first that isn't fresh is below a node
 
--- ## paths
-
-few-of : (x : SessionId) (o : Option Role) (r : RequestId) (rest : List Spot) → length rest ≤ 64 → length (Spot.Session x ∷ of_role o ++ of_request r ++ rest) ≤ 68
-few-of x None r rest few = omega arith
-few-of x (Some (Role.Launcher p)) r rest few = omega arith
-few-of x (Some (Role.Janitor p)) r rest few = omega arith
-few-of x (Some (Role.Requester q)) r rest few = omega arith
-few-of x (Some Role.Reaper) r rest few = omega arith
-
-nodes-few : (numbers : List NodeId) → length (of_nodes numbers) ≡ length numbers + length numbers
-nodes-few [] = refl
-nodes-few (n ∷ numbers) = let rest = nodes-few numbers in omega arith
-
-reason-few : (why : Reason) → length (of_reason why) ≤ 64
-reason-few (Reason.NoLabel l) = omega arith
-reason-few Reason.NeverFits = omega arith
-reason-few Reason.TenantNeverFits = omega arith
-reason-few (Reason.Spent n) = omega arith
-
-module _ (c : Configuration) (s : State) (t : TreeState) (stored : IsStored c s t) (x : SessionId) where
-  pub spot-good : (at : Spot) → StandsAt s x at → IsGood (place_of at)
-  spot-good (Spot.Session y) (role, known) = session-known c s t stored y known.facts known.there
-  spot-good (Spot.Launcher p) known = pool-known c s t stored x p known
-  spot-good (Spot.Request r) has = (request-known c s t stored r has.request has.there).0
-  spot-good (Spot.RequestLock r) has = (request-known c s t stored r has.request has.there).0
-  spot-good (Spot.Node n) has = node-known c s t stored n has.node has.there
-  spot-good (Spot.NodeLock n) has = node-known c s t stored n has.node has.there
-
-  spots-good : (spots : List Spot) → Stand s x spots → AllByRecursion (λ at. IsGood (place_of at)) spots
-  spots-good spots stand = all-weaker (StandsAt s x) (λ at. IsGood (place_of at)) spot-good spots stand
-
-  listed-few : (r : RequestId) → length (listed r s) ≤ 32
-  listed-few r = by (request_entry r s.requests) refl where
-    by : (o : Option RequestEntry) → request_entry r s.requests ≡ o → length (option_map_or (λ (k : _). k.nodes) (option_map (λ (e : RequestEntry). e.kept) o) []) ≤ 32
-    by None there = omega arith
-    by (Some e) there = (all-find (λ (y : RequestEntry). IsRequest y.kept) (is_request_it r) s.requests e stored.carried.spelled.requests there).few_nodes
-
-  paths-of : (spots : List Spot) → Stand s x spots → length spots ≤ 68 → HavePaths spots
-  paths-of spots stand few = record { good = spots-good spots stand; few = few }
+spots-good : (c : Configuration) (s : State) (spots : List Spot) → Stand c s spots → AllByRecursion (λ at. IsGood (place_of at)) spots
+spots-good c s _ at_end = tt
+spots-good c s _ (at_pool p rest good stand) = (good, spots-good c s rest stand)
+spots-good c s _ (at_request r rest k good there stand) = (good, (good, spots-good c s rest stand))
+spots-good c s _ (at_node n rest good there stand) = (good, (good, spots-good c s rest stand))
+spots-good c s _ (at_reason n good) = (good, tt)
 
 pub spots-have-paths : SpotsHavePaths
-spots-have-paths c journal s t (Event.Start x n) runs stored planned ok = paths-of c s t stored x (spots_of s (Event.Start x n)) (stand-start c s (invariant-Runs c journal s runs) x n ok) (omega arith)
-spots-have-paths c journal s t (Event.UnlockNode x n) runs stored planned ok = paths-of c s t stored x (spots_of s (Event.UnlockNode x n)) (stand-unlock_node c s (invariant-Runs c journal s runs) x n ok) (omega arith)
-spots-have-paths c journal s t (Event.UnlockRequest x r) runs stored planned ok = paths-of c s t stored x (spots_of s (Event.UnlockRequest x r)) (stand-unlock_request c s (invariant-Runs c journal s runs) x r ok) (omega arith)
-spots-have-paths c journal s t (Event.Decline x r why) runs stored planned ok =
-    paths-of c s t stored x (spots_of s (Event.Decline x r why)) (stand-decline c s (invariant-Runs c journal s runs) x r why ok) (few-of x (role_of x s) r (of_reason why) (reason-few why))
-spots-have-paths c journal s t (Event.TakeReady x r n) runs stored planned ok =
-    paths-of c s t stored x (spots_of s (Event.TakeReady x r n)) (stand-take c s (invariant-Runs c journal s runs) x r n ok) (few-of x (role_of x s) r (of_node n) (omega arith))
-spots-have-paths c journal s t (Event.Fulfil x r) runs stored planned ok =
-    let some = listed-few c s t stored x r in
-    let twice = nodes-few (listed r s) in
-    paths-of c s t stored x (spots_of s (Event.Fulfil x r)) (stand-fulfil c s (invariant-Runs c journal s runs) x r ok) (few-of x (role_of x s) r (of_nodes (listed r s)) (omega arith))
-spots-have-paths c journal s t _ runs stored planned ok = absurd cc
+spots-have-paths c journal s t e runs stored planned ok =
+    let is = made c s t stored e planned ok in
+    subst HavePaths (sym is.are) (record { good = (session-known c s t stored is.maker is.known.facts is.known.there, spots-good c s is.rest is.stand); few = omega (arith, is.few) })
 
 -- ## parents
 
@@ -359,11 +191,7 @@ counter-stat : (nodes : List Node) (o : Option Node) (next : ℕ) → option_map
 counter-stat nodes None next is = absurd cc
 counter-stat nodes (Some n) next is = refl
 
-kept-there : {E K : Type 0} (f : E → K) (o : Option E) (k : K) → option_map f o ≡ Some k → (e : E) × (o ≡ Some e)
-kept-there f None k is = absurd cc
-kept-there f (Some e) k is = (e, refl)
-
-module _ (c : Configuration) (s u : State) (t v : TreeState) (z : ℕ) (stored : IsStored c s t) (later : IsStored c u v) (since : Since z t v) (x : SessionId) where
+module _ (c : Configuration) (s u : State) (t v : TreeState) (z : ℕ) (stored : IsStored c s t) (later : IsStored c u v) (since : Since z t v) where
   -- above each spot there is a node if those before it are fresh
   abbrev Parented : List Spot → Type 0
   Parented [] = Unit {0}
@@ -389,107 +217,42 @@ module _ (c : Configuration) (s u : State) (t v : TreeState) (z : ℕ) (stored :
       let parts = HasParts-below (path_of lock) (codes "lock-") (is_path-of lock good) refl in
       subst (λ (o : Option (List ℕ)). is_some (option_and_then (stat_at v) o) ≡ true) (sym parts.above) stands
 
-  sessions-stand : is_some (stat_at v (path_of Place.Sessions)) ≡ true
-  sessions-stand = dir-stands Place.Sessions Place.Poolsim tt refl (ap (find_named (place_name Place.Sessions)) later.lays.frame.poolsim)
+  node-parented : (n : NodeId) → n.0 < 2 ^ 32 → is_some (stat_above v (path_of (Place.Node n))) ≡ true
+  node-parented n good =
+      above-record (Place.Node n) Place.Nodes good refl (dir-stands Place.Nodes Place.Nodepool tt refl (ap (find_named (place_name Place.Nodes)) later.lays.frame.nodepool))
 
-  launchers-stand : is_some (stat_at v (path_of Place.Launchers)) ≡ true
-  launchers-stand = dir-stands Place.Launchers Place.Nodepool tt refl (ap (find_named (place_name Place.Launchers)) later.lays.frame.nodepool)
-
-  requests-stand : is_some (stat_at v (path_of Place.Requests)) ≡ true
-  requests-stand = dir-stands Place.Requests Place.Nodepool tt refl (ap (find_named (place_name Place.Requests)) later.lays.frame.nodepool)
-
-  nodes-stand : is_some (stat_at v (path_of Place.Nodes)) ≡ true
-  nodes-stand = dir-stands Place.Nodes Place.Nodepool tt refl (ap (find_named (place_name Place.Nodes)) later.lays.frame.nodepool)
-
-  lock-stands : (lock : Place) (next : ℕ) → next_under lock v ≡ Some next → is_some (stat_at v (path_of lock)) ≡ true
-  lock-stands lock next gives = counter-stat v.nodes (at_path v.nodes (path_of lock)) next gives
-
-  -- ## records and locks
-
-  with-request : (r : RequestId) (rest : List Spot) → HasRequest s r → Parented rest → Parented (Spot.Request r ∷ Spot.RequestLock r ∷ rest)
-  with-request r rest has all =
-      let good = (request-known c s t stored r has.request has.there).0 in (
-        above-record (Place.Request r) Place.Requests good refl requests-stand,
-        λ fresh.
-            let same = request-same c s u t v z stored later since r good ((test-says-fresh v z (path_of (Place.Request r))).0 fresh) in
-            let e = kept-there (λ (e : RequestEntry). e.kept) (request_entry r u.requests) has.request (sym same ∙ has.there) in
-            let queue = request-queue u v r e.0 later.lays e.1 in
-            (above-wait (Place.RequestLock r) good (lock-stands (Place.RequestLock r) queue.next queue.gives), λ _. all),
-      )
-
-  with-node : (n : NodeId) (rest : List Spot) → HasNode s n → Parented rest → Parented (Spot.Node n ∷ Spot.NodeLock n ∷ rest)
-  with-node n rest has all =
-      let good = node-known c s t stored n has.node has.there in (
-        above-record (Place.Node n) Place.Nodes good refl nodes-stand,
-        λ fresh.
-            let same = node-same c s u t v z stored later since n good ((test-says-fresh v z (path_of (Place.Node n))).0 fresh) in
-            let e = kept-there (λ (e : NodeEntry). e.kept) (node_entry n u.nodes) has.node (sym same ∙ has.there) in
-            let lock = all-find (HasNodeLock v) (is_node_it n) u.nodes e.0 later.lays.node_locks e.1 in
-            let queue : HasQueue (Place.NodeLock n) (e.0).queue v = subst (λ (id : NodeId). HasQueue (Place.NodeLock id) (e.0).queue v) (found-node n u.nodes e.0 e.1) lock.queue in
-            (above-wait (Place.NodeLock n) good (lock-stands (Place.NodeLock n) queue.next queue.gives), λ _. all),
-      )
-
-  with-nodes : (numbers : List NodeId) → Stand s x (of_nodes numbers) → Parented (of_nodes numbers)
-  with-nodes [] stand = tt
-  with-nodes (n ∷ numbers) stand = with-node n (of_nodes numbers) stand.0 (with-nodes numbers stand.1.1)
-
-  with-reason : (why : Reason) → Stand s x (of_reason why) → Parented (of_reason why)
-  with-reason (Reason.NoLabel l) stand = tt
-  with-reason Reason.NeverFits stand = tt
-  with-reason Reason.TenantNeverFits stand = tt
-  with-reason (Reason.Spent n) stand = (above-record (Place.Node n) Place.Nodes (node-known c s t stored n stand.0.node stand.0.there) refl nodes-stand, λ _. tt)
-
-  with-session : (rest : List Spot) → StandsAt s x (Spot.Session x) → Parented rest → Parented (Spot.Session x ∷ rest)
-  with-session rest stands all = (above-record (Place.Session x) Place.Sessions (spot-good c s t stored x (Spot.Session x) stands) refl sessions-stand, λ _. all)
-
-  -- a launcher's event over a request
-  with-asked : (o : Option Role) (r : RequestId) (rest : List Spot) → Stand s x (of_role o ++ of_request r ++ rest) → (Stand s x rest → Parented rest) → Parented (of_role o ++ of_request r ++ rest)
-  with-asked None r rest stand all = with-request r rest stand.0 (all stand.1.1)
-  with-asked (Some (Role.Launcher p)) r rest stand all =
-      (above-record (Place.Launcher p) Place.Launchers (pool-known c s t stored x p stand.0) refl launchers-stand, λ _. with-request r rest stand.1.0 (all stand.1.1.1))
-  with-asked (Some (Role.Janitor p)) r rest stand all = with-request r rest stand.0 (all stand.1.1)
-  with-asked (Some (Role.Requester q)) r rest stand all = with-request r rest stand.0 (all stand.1.1)
-  with-asked (Some Role.Reaper) r rest stand all = with-request r rest stand.0 (all stand.1.1)
-
-  module _ (holds : Invariant c s) where
-    start-parented : (n : NodeId) → is_ok (judge c s (Event.Start x n)) ≡ true → Parented (spots_of s (Event.Start x n))
-    start-parented n ok = let stand = stand-start c s holds x n ok in with-session (of_node n) stand.0 (with-node n [] stand.1.0 tt)
-
-    unlock_node-parented : (n : NodeId) → is_ok (judge c s (Event.UnlockNode x n)) ≡ true → Parented (spots_of s (Event.UnlockNode x n))
-    unlock_node-parented n ok = let stand = stand-unlock_node c s holds x n ok in with-session (of_node n) stand.0 (with-node n [] stand.1.0 tt)
-
-    unlock_request-parented : (r : RequestId) → is_ok (judge c s (Event.UnlockRequest x r)) ≡ true → Parented (spots_of s (Event.UnlockRequest x r))
-    unlock_request-parented r ok = let stand = stand-unlock_request c s holds x r ok in with-session (of_request r) stand.0 (with-request r [] stand.1.0 tt)
-
-    decline-parented : (r : RequestId) (why : Reason) → is_ok (judge c s (Event.Decline x r why)) ≡ true → Parented (spots_of s (Event.Decline x r why))
-    decline-parented r why ok =
-        let stand = stand-decline c s holds x r why ok in
-        with-session (of_role (role_of x s) ++ of_request r ++ of_reason why) stand.0 (with-asked (role_of x s) r (of_reason why) stand.1 (with-reason why))
-
-    take-parented : (r : RequestId) (n : NodeId) → is_ok (judge c s (Event.TakeReady x r n)) ≡ true → Parented (spots_of s (Event.TakeReady x r n))
-    take-parented r n ok =
-        let stand = stand-take c s holds x r n ok in
-        with-session (of_role (role_of x s) ++ of_request r ++ of_node n) stand.0 (with-asked (role_of x s) r (of_node n) stand.1 (λ rest. with-node n [] rest.0 tt))
-
-    fulfil-parented : (r : RequestId) → is_ok (judge c s (Event.Fulfil x r)) ≡ true → Parented (spots_of s (Event.Fulfil x r))
-    fulfil-parented r ok =
-        let stand = stand-fulfil c s holds x r ok in
-        with-session (of_role (role_of x s) ++ of_request r ++ of_nodes (listed r s)) stand.0 (with-asked (role_of x s) r (of_nodes (listed r s)) stand.1 (with-nodes (listed r s)))
+  parented : (spots : List Spot) → Stand c s spots → Invariant c s → Parented spots
+  parented _ at_end holds = tt
+  parented _ (at_pool p rest good stand) holds =
+      (above-record (Place.Launcher p) Place.Launchers good refl (dir-stands Place.Launchers Place.Nodepool tt refl (ap (find_named (place_name Place.Launchers)) later.lays.frame.nodepool)), λ _. parented rest stand holds)
+  parented _ (at_request r rest k good there stand) holds = (
+    above-record (Place.Request r) Place.Requests good refl (dir-stands Place.Requests Place.Nodepool tt refl (ap (find_named (place_name Place.Requests)) later.lays.frame.nodepool)),
+    λ fresh.
+        let same = request-same c s u t v z stored later since r good ((test-says-fresh v z (path_of (Place.Request r))).0 fresh) in
+        let e = kept-there (λ (e : RequestEntry). e.kept) (request_entry r u.requests) k (sym same ∙ there) in
+        let queue = request-queue u v r e.0 later.lays e.1.0 in
+        (above-wait (Place.RequestLock r) good (counter-stat v.nodes (at_path v.nodes (path_of (Place.RequestLock r))) queue.next queue.gives), λ _. parented rest stand holds),
+  )
+  parented _ (at_node n rest good there stand) holds = (
+    node-parented n good,
+    λ fresh.
+        let has = there holds in
+        let same = node-same c s u t v z stored later since n good ((test-says-fresh v z (path_of (Place.Node n))).0 fresh) in
+        let e = kept-there (λ (e : NodeEntry). e.kept) (node_entry n u.nodes) has.0 (sym same ∙ has.1) in
+        let lock = all-find (HasNodeLock v) (is_node_it n) u.nodes e.0 later.lays.node_locks e.1.0 in
+        let queue : HasQueue (Place.NodeLock n) (e.0).queue v = subst (λ (id : NodeId). HasQueue (Place.NodeLock id) (e.0).queue v) (found-node n u.nodes e.0 e.1.0) lock.queue in
+        (above-wait (Place.NodeLock n) good (counter-stat v.nodes (at_path v.nodes (path_of (Place.NodeLock n))) queue.next queue.gives), λ _. parented rest stand holds),
+  )
+  parented _ (at_reason n good) holds = (node-parented n good, λ _. tt)
 
 pub spots-have-parents : SpotsHaveParents
-spots-have-parents c journal s u t v z (Event.Start x n) runs stored later since planned ok =
-    first-parented c s u t v z stored later since x (spots_of s (Event.Start x n)) (start-parented c s u t v z stored later since x (invariant-Runs c journal s runs) n ok)
-spots-have-parents c journal s u t v z (Event.UnlockNode x n) runs stored later since planned ok =
-    first-parented c s u t v z stored later since x (spots_of s (Event.UnlockNode x n)) (unlock_node-parented c s u t v z stored later since x (invariant-Runs c journal s runs) n ok)
-spots-have-parents c journal s u t v z (Event.UnlockRequest x r) runs stored later since planned ok =
-    first-parented c s u t v z stored later since x (spots_of s (Event.UnlockRequest x r)) (unlock_request-parented c s u t v z stored later since x (invariant-Runs c journal s runs) r ok)
-spots-have-parents c journal s u t v z (Event.Decline x r why) runs stored later since planned ok =
-    first-parented c s u t v z stored later since x (spots_of s (Event.Decline x r why)) (decline-parented c s u t v z stored later since x (invariant-Runs c journal s runs) r why ok)
-spots-have-parents c journal s u t v z (Event.TakeReady x r n) runs stored later since planned ok =
-    first-parented c s u t v z stored later since x (spots_of s (Event.TakeReady x r n)) (take-parented c s u t v z stored later since x (invariant-Runs c journal s runs) r n ok)
-spots-have-parents c journal s u t v z (Event.Fulfil x r) runs stored later since planned ok =
-    first-parented c s u t v z stored later since x (spots_of s (Event.Fulfil x r)) (fulfil-parented c s u t v z stored later since x (invariant-Runs c journal s runs) r ok)
-spots-have-parents c journal s u t v z _ runs stored later since planned ok = absurd cc
+spots-have-parents c journal s u t v z e runs stored later since planned ok =
+    let is = made c s t stored e planned ok in
+    let good = session-known c s t stored is.maker is.known.facts is.known.there in
+    let stands = dir-stands c s u t v z stored later since Place.Sessions Place.Poolsim tt refl (ap (find_named (place_name Place.Sessions)) later.lays.frame.poolsim) in
+    first-parented c s u t v z stored later since (spots_of s e)
+    (subst (Parented c s u t v z stored later since) (sym is.are)
+    (above-record c s u t v z stored later since (Place.Session is.maker) Place.Sessions good refl stands, λ _. parented c s u t v z stored later since is.rest is.stand (invariant-Runs c journal s runs)))
 
 -- # the first member of a list that passes a test, by its place, and a path that isn't fresh
 

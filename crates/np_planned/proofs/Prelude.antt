@@ -14,7 +14,7 @@ pub use Rattle.np_layout.specs.Prelude.{BadRecord, IsGood, IsNodeId, IsRequest, 
 pub use Rattle.np_layout.specs.Rows.{persistent}
 pub use Rattle.np_layout.specs.declared.place.Place.{Place}
 pub use Rattle.np_lists.proofs.Changes.{all-find, all-from_at, all-weaker}
-pub use Rattle.np_lists.proofs.Plain.{found-some, need-ok, there-at}
+pub use Rattle.np_lists.proofs.Plain.{by_bool, found-some, need-ok, there-at}
 pub use Rattle.np_lists.specs.Rising.{FirstAt}
 pub use Rattle.np_machine.specs.Tests.{by_node_holder, by_registrant, by_request_holder, in_pending_by, incomplete, none_missing, not_declined, of_pool, wrong_node, wrong_request}
 pub use Rattle.np_path.proofs.PathLaws.{HasParts-below}
@@ -43,4 +43,4 @@ pub use Rattle.std.proofs.lemmas.Bool.{and_parts, eqb-true, not-false, not-true}
 pub use Rattle.std.proofs.lemmas.Bool.Decides.{nat_tests}
 pub use Rattle.std.proofs.lemmas.List.{take_more}
 pub use Rattle.std.proofs.lemmas.Option.{slice_get_within}
-pub use Rattle.std.specs.Prelude.{IfSome, find, is_none, is_ok, option_and_then, slice_get, ◌&&◌, ◌==◌}
+pub use Rattle.std.specs.Prelude.{IfSome, find, is_none, is_ok, option_and_then, slice_get, ◌&&◌, ◌==◌, ◌||◌}

@@ -93,16 +93,12 @@ GoesOn _ = Unit {0}
 
 role_goes : (r : Role) → GoesOn (after_role r)
 role_goes (Role.Launcher p) = tt
-role_goes (Role.Janitor p) = tt
-role_goes (Role.Requester q) = tt
-role_goes Role.Reaper = tt
+role_goes other = tt
 
 acting_goes : (r : Role) (n : ℕ) → GoesOn (acting r n)
 acting_goes r zero = role_goes r
 acting_goes (Role.Launcher p) (suc n) = tt
-acting_goes (Role.Janitor p) (suc n) = tt
-acting_goes (Role.Requester q) (suc n) = tt
-acting_goes Role.Reaper (suc n) = tt
+acting_goes other (suc n) = tt
 
 start_goes : (p : PoolId) (n : ℕ) (o : Option Start) → GoesOn (after_start p n o)
 start_goes p n None = acting_goes (Role.Launcher p) n
@@ -139,13 +135,13 @@ turn_goes (owes_report p n s o) a (Turn.DueNode node x) g = inl (acting_goes (Ro
 turn_goes (owes_report p n s o) a Turn.Swept g = inl (acting_goes (Role.Launcher p) n)
 turn_goes (owes_report p n s o) a Turn.Idle g = inl (acting_goes (Role.Launcher p) n)
 turn_goes (owes_report p n s o) a Turn.Full g = inr refl
+turn_goes (looks p n) a Turn.Full g = inr refl
+turn_goes (owes_due p n x) a t g = inl tt
 turn_goes (looks p n) a (Turn.Did e) g = inl tt
 turn_goes (looks p n) a (Turn.DueNode node None) g = inl tt
 turn_goes (looks p n) a (Turn.DueNode node (Some x)) g = inl tt
 turn_goes (looks p n) a Turn.Swept g = inl tt
 turn_goes (looks p n) a Turn.Idle g = inl tt
-turn_goes (looks p n) a Turn.Full g = inr refl
-turn_goes (owes_due p n x) a t g = inl tt
 turn_goes (sweeps p) a (Turn.Did e) g = inl (sweep_goes p _ (is_unwanted (Turn.Did e)))
 turn_goes (sweeps p) a (Turn.DueNode node x) g = inl tt
 turn_goes (sweeps p) a Turn.Swept g = inl tt
@@ -157,25 +153,15 @@ turn_goes ended a t g = absurd g
 
 launch_goes : (p : Phase) (o : Outcome) → GoesOn p → GoesOn (after_launch p o)
 launch_goes (acts r n) o g = tt
-launch_goes (owes_launch p n s) o g = tt
-launch_goes (owes_report p n s x) o g = tt
-launch_goes (looks p n) o g = tt
-launch_goes (owes_due p n x) o g = tt
-launch_goes (sweeps p) o g = tt
-launch_goes (owes_swept p x) o g = tt
 launch_goes rests o g = tt
 launch_goes ended o g = g
+launch_goes other o g = tt
 
 removal_goes : (p : Phase) → GoesOn p → GoesOn (after_removal p)
 removal_goes (acts r n) g = tt
-removal_goes (owes_launch p n s) g = tt
-removal_goes (owes_report p n s x) g = tt
-removal_goes (looks p n) g = tt
-removal_goes (owes_due p n x) g = tt
-removal_goes (sweeps p) g = tt
-removal_goes (owes_swept p x) g = tt
 removal_goes rests g = tt
 removal_goes ended g = g
+removal_goes other g = tt
 
 -- a history without room has none after it has grown
 pub full_later : (later seen : List Entry) → StartsWith later seen → IsFull seen → IsFull later
@@ -195,10 +181,7 @@ module _ (plans : Bool) (c : Configuration) where
   -- what is seen of the history only grows
   pub grows_turn : (v w : Sight Entry) (a : Ask) (t : Turn) → Answered (answers_of plans) recorded c v a t w → StartsWith w.seen v.seen
   grows_turn v w a (Turn.Did e) h = subst (λ (l : List Entry). StartsWith l v.seen) (sym h.3.0) (starts_more h.0 v.seen (e ∷ []) h.1)
-  grows_turn v w a (Turn.DueNode n x) h = subst (λ (l : List Entry). StartsWith l v.seen) (sym h.3.0) h.1
-  grows_turn v w a Turn.Swept h = subst (λ (l : List Entry). StartsWith l v.seen) (sym h.3.0) h.1
-  grows_turn v w a Turn.Idle h = subst (λ (l : List Entry). StartsWith l v.seen) (sym h.3.0) h.1
-  grows_turn v w a Turn.Full h = subst (λ (l : List Entry). StartsWith l v.seen) (sym h.3.0) h.1
+  grows_turn v w a other h = subst (λ (l : List Entry). StartsWith l v.seen) (sym h.3.0) h.1
 
   pub grows : (trace : List Move) (v w : Sight Entry) → Walk (answers_of plans) c trace v w → StartsWith w.seen v.seen
   grows [] v w h = h.0
@@ -371,15 +354,11 @@ module _ {D : Type 0} (facts : D → DriverFacts) (plan : D → Plan) (sound : D
 
 -- a worker that rests owes no report
 no_report : (p : Phase) → OwesRemoval p → IsCutOff p → ⊥
-no_report (acts r n) owes report = report
 no_report (owes_launch pool n s) owes report = owes
 no_report (owes_report pool n s o) owes report = owes
-no_report (looks pool n) owes report = report
-no_report (owes_due pool n x) owes report = report
-no_report (sweeps pool) owes report = report
-no_report (owes_swept pool x) owes report = report
 no_report rests owes report = report
 no_report ended owes report = owes
+no_report other owes report = report
 
 rests_reported : (work : Work) (before now : Option Driving) (trace : List Move) (to : Phase) → Rests work before now trace to → IsCutOff to → ⊥
 rests_reported (of_pool pool) before now trace to h report = ⊎_elim
@@ -585,10 +564,8 @@ is_round plans facts plan sound room desk n p q r crews ends ws ws' ws'' t k is 
 
 pub tick_stops : (c : Configuration) (v w : Sight Entry) (t : Turn) → Answered answers recorded c v (Ask.Do Event.Tick) t w → Stops (is_full t) w.seen
 tick_stops c v w (Turn.Did e) h = inr (record { earlier = h.0; last = e; ends = h.3.0; tick = h.2.0 })
-tick_stops c v w (Turn.DueNode n x) h = absurd h.2
-tick_stops c v w Turn.Swept h = absurd h.2
-tick_stops c v w Turn.Idle h = absurd h.2
 tick_stops c v w Turn.Full h = full_turn false c v w (Ask.Do Event.Tick) h
+tick_stops c v w other h = absurd h.2
 
 -- beside a whole pass nothing else was added
 pub whole_tick : (desk : DeskView Configuration Entry) (p r : PassView Configuration Entry) (t : Turn) → Knows desk p r → Answered answers recorded desk.origin.fixed (sight_of p) (Ask.Do Event.Tick) t (sight_of r) → IsTick desk.origin.fixed p.seen r.seen (is_full t)
@@ -600,9 +577,6 @@ whole_tick desk p r (Turn.Did e) k h =
       left = h.3.0 ∙ ap (λ (l : List Entry). l ++ e ∷ []) same;
       whether = refl;
     }
-whole_tick desk p r (Turn.DueNode n x) k h = absurd h.2
-whole_tick desk p r Turn.Swept k h = absurd h.2
-whole_tick desk p r Turn.Idle k h = absurd h.2
 whole_tick desk p r Turn.Full k h =
     let still : r.seen ≡ p.seen = still_seen desk p r k h.3.1 in record {
       answer = Turn.Full;
@@ -610,6 +584,7 @@ whole_tick desk p r Turn.Full k h =
       left = still;
       whether = refl;
     }
+whole_tick desk p r other k h = absurd h.2
 
 -- # A worker's round, where launchers may also commit what they chose before.
 

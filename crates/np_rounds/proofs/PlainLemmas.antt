@@ -7,12 +7,7 @@ use Rattle.np_desk.specs.Series.{Walk}
 module _ (c : Configuration) where
   only_plain : (journal : List Entry) (a : Ask) (t : PlanTurn) → plan_answers c journal (PlanAsk.Plain a) t → (u : Turn) × (t ≡ PlanTurn.Plain u)
   only_plain journal a (PlanTurn.Plain u) h = (u, refl)
-  only_plain journal a (PlanTurn.Planned plan) h = absurd h
-  only_plain journal a (PlanTurn.Fired spot) h = absurd h
-  only_plain journal a (PlanTurn.Did e) h = absurd h
-  only_plain journal a (PlanTurn.Stale spot change) h = absurd h
-  only_plain journal a PlanTurn.Idle h = absurd h
-  only_plain journal a PlanTurn.Full h = absurd h
+  only_plain journal a other h = absurd h
 
   -- the answer is one without a plan
   pub plain_turn : (v w : Sight Entry) (a : Ask) (t : PlanTurn) → Answered plan_answers plan_recorded c v (PlanAsk.Plain a) t w → (u : Turn) × (t ≡ PlanTurn.Plain u) × Answered answers recorded c v a u w

@@ -52,8 +52,7 @@ module _ {D : Type 0} (facts : D → DriverFacts) (plan : D → Plan) (sound : D
   -- a worker that is not a pool's has none
   pub no_driver : (w : Worker D) → ((p : PoolId) (d : D) → w ≡ Worker.Pool p d → ⊥) → driving_of facts plan sound room w ≡ None
   no_driver (Worker.Pool p d) other = absurd (other p d refl)
-  no_driver (Worker.Requester q) other = refl
-  no_driver Worker.Reaper other = refl
+  no_driver rest other = refl
 
   -- ## numbers
 
@@ -214,8 +213,7 @@ IsSoundDriving d = Soundness d.facts d.sound
 module _ {D : Type 0} (facts : D → DriverFacts) (plan : D → Plan) (sound : D → List ℕ → Bool) (room : D → ℕ) where
   worker_sound : ((d : D) → Soundness (facts d) (sound d)) → (w : Worker D) → All IsSoundDriving (drivings_of (player_of facts plan sound room w ∷ []))
   worker_sound each (Worker.Pool p d) = All-cons IsSoundDriving (driving facts plan sound room d) [] (each d) (All-nil IsSoundDriving)
-  worker_sound each (Worker.Requester q) = All-nil IsSoundDriving
-  worker_sound each Worker.Reaper = All-nil IsSoundDriving
+  worker_sound each other = All-nil IsSoundDriving
 
   -- the workers' drivers are as drivers always are
   pub workers_sound : ((d : D) → Soundness (facts d) (sound d)) → (ws : List (Worker D)) → HaveSoundness (drivings_of (players_of facts plan sound room ws))
@@ -338,10 +336,7 @@ module _ (plans : Bool) (c : Configuration) where
 
 turn_starts : (later : List Entry) (t : Turn) → StartsWith (with_turn later t) later
 turn_starts later (Turn.Did e) = (e ∷ [], refl)
-turn_starts later (Turn.DueNode n x) = starts_same later
-turn_starts later Turn.Swept = starts_same later
-turn_starts later Turn.Idle = starts_same later
-turn_starts later Turn.Full = starts_same later
+turn_starts later other = starts_same later
 
 tick_starts : (later : List Entry) (tick : Option Turn) → StartsWith (with_tick later tick) later
 tick_starts later None = starts_same later
@@ -390,10 +385,8 @@ module _ (plans : Bool) (c : Configuration) (Holds : Bool → List Entry → Lis
 -- a tick as the board answers it
 ticks_as : (c : Configuration) (later : List Entry) (t : Turn) → answers c later (Ask.Do Event.Tick) t → Ticks (is_full t) later (with_turn later t)
 ticks_as c later (Turn.Did e) h = (e, h.0, refl)
-ticks_as c later (Turn.DueNode n x) h = absurd h
-ticks_as c later Turn.Swept h = absurd h
-ticks_as c later Turn.Idle h = absurd h
 ticks_as c later Turn.Full h = refl
+ticks_as c later other h = absurd h
 
 -- ## driven journals
 

@@ -37,16 +37,13 @@ join-numbered : (lock : Place) (queue : List SessionId) (session : SessionId) �
 join-numbered lock queue session = if-numbered (is_queued session queue) [] (wait_at lock ∷ []) refl refl
 
 grown-numbered : (c : Configuration) (maker : Option Maker) (growth : Growth) (s : State) → AreNumbered (grown_parts c maker growth s)
-grown-numbered c maker Growth.Nothing s = refl
-grown-numbered c maker (Growth.Session role) s = refl
 grown-numbered c maker (Growth.Registration p) s = maker-numbered maker _ (λ session. refl)
-grown-numbered c maker (Growth.Request priority asked) s = refl
-grown-numbered c maker (Growth.Node kept) s = refl
 grown-numbered c maker (Growth.JoinRequest r) s = maker-numbered maker _ (λ session. join-numbered (RequestLock r) (request_queue r s.requests) session)
 grown-numbered c maker (Growth.JoinNode n) s = maker-numbered maker _ (λ session. join-numbered (NodeLock n) (node_queue n s.nodes) session)
 grown-numbered c maker (Growth.Allocate n r tenant) s = maker-numbered maker _ (λ session. there-numbered (node_entry n s.nodes) _ (λ e. join-numbered (NodeLock e.id) e.queue session))
 grown-numbered c maker (Growth.Handles j) s = acquire-numbered j (semaphores_of c j) s.handles
 grown-numbered c maker (Growth.Swept n x) s = if-numbered (is_swept n x s.swept) [] _ refl refl
+grown-numbered c maker other s = refl
 
 -- ## what may not fail
 
@@ -96,9 +93,8 @@ deed-numbered maker (Some (Deed.StartsAndActs p)) s = role-numbered (λ role. on
 deed-numbered maker (Some (Deed.Strikes role counted)) s = role-numbered (struck_unless counted) role s
 
 session-numbered : (change : SessionsChange) (s : State) → AreNumbered (session_parts change s)
-session-numbered SessionsChange.Same s = refl
 session-numbered (SessionsChange.Mute session) s = there-numbered (session_of session s) _ (λ facts. refl)
-session-numbered (SessionsChange.End session) s = refl
+session-numbered other s = refl
 
 tick-numbered : (ticks : Bool) (tick : ℕ) → AreNumbered (tick_parts ticks tick)
 tick-numbered ticks tick = if-numbered ticks _ [] refl refl
@@ -123,13 +119,11 @@ parts-numbered c ch s t =
 -- no session ends in the call, so no queue is left
 requests-stay : (change : SessionsChange) (rows : List RequestEntry) → requests_left (in_call change) rows ≡ rows
 requests-stay SessionsChange.Same rows = refl
-requests-stay (SessionsChange.Mute session) rows = refl
-requests-stay (SessionsChange.End session) rows = refl
+requests-stay other rows = refl
 
 nodes-stay : (change : SessionsChange) (rows : List NodeEntry) → nodes_left (in_call change) rows ≡ rows
 nodes-stay SessionsChange.Same rows = refl
-nodes-stay (SessionsChange.Mute session) rows = refl
-nodes-stay (SessionsChange.End session) rows = refl
+nodes-stay other rows = refl
 
 -- ## what is written has a spelling
 

@@ -110,68 +110,38 @@ module _ (s : State) (session : SessionId) where
 
 pub request-maker : (kind : RequestKind) (session : SessionId) (r : RequestId) → maker_of (request_event kind session r) ≡ Some session
 request-maker RequestKind.Lock session r = refl
-request-maker RequestKind.Unlock session r = refl
-request-maker RequestKind.Accept session r = refl
-request-maker RequestKind.Create session r = refl
-request-maker RequestKind.Fulfil session r = refl
-request-maker RequestKind.Reset session r = refl
-request-maker RequestKind.FailDeclined session r = refl
+request-maker other session r = refl
 
 pub node-maker : (kind : NodeKind) (session : SessionId) (n : NodeId) → maker_of (node_event kind session n) ≡ Some session
 node-maker NodeKind.Lock session n = refl
-node-maker NodeKind.Unlock session n = refl
-node-maker NodeKind.Start session n = refl
-node-maker (NodeKind.End as_what) session n = refl
-node-maker NodeKind.MarkDeleting session n = refl
-node-maker NodeKind.Gone session n = refl
-node-maker NodeKind.Free session n = refl
+node-maker other session n = refl
 
 pub job-maker : (kind : JobKind) (session : SessionId) (j : JobId) → maker_of (job_event kind session j) ≡ Some session
 job-maker JobKind.Acquire session j = refl
-job-maker JobKind.Submit session j = refl
-job-maker JobKind.Take session j = refl
-job-maker JobKind.Finish session j = refl
-job-maker JobKind.Release session j = refl
+job-maker other session j = refl
 
 -- ## what it names exists
 
 module _ (c : Configuration) (s : State) (session : SessionId) (what : Done) where
   pub request-there : (kind : RequestKind) (r : RequestId) → judge c s (request_event kind session r) ≡ Ok what → request_in r s.requests ≡ None → ⊥
   request-there RequestKind.Lock r is none = grind (arith, nat_tests)
-  request-there RequestKind.Unlock r is none = grind (arith, nat_tests)
-  request-there RequestKind.Accept r is none = grind (arith, nat_tests)
-  request-there RequestKind.Create r is none = grind (arith, nat_tests)
-  request-there RequestKind.Fulfil r is none = grind (arith, nat_tests)
-  request-there RequestKind.Reset r is none = grind (arith, nat_tests)
-  request-there RequestKind.FailDeclined r is none = grind (arith, nat_tests)
+  request-there other r is none = grind (arith, nat_tests)
 
   pub node-there : (kind : NodeKind) (n : NodeId) → judge c s (node_event kind session n) ≡ Ok what → node_in n s.nodes ≡ None → ⊥
   node-there NodeKind.Lock n is none = grind (arith, nat_tests)
-  node-there NodeKind.Unlock n is none = grind (arith, nat_tests)
-  node-there NodeKind.Start n is none = grind (arith, nat_tests)
-  node-there (NodeKind.End as_what) n is none = grind (arith, nat_tests)
-  node-there NodeKind.MarkDeleting n is none = grind (arith, nat_tests)
-  node-there NodeKind.Gone n is none = grind (arith, nat_tests)
-  node-there NodeKind.Free n is none = grind (arith, nat_tests)
+  node-there other n is none = grind (arith, nat_tests)
 
   pub job-there : (kind : JobKind) (j : JobId) → judge c s (job_event kind session j) ≡ Ok what → slice_get s.jobs j.0 ≡ None → ⊥
   job-there JobKind.Acquire j is none = grind (arith, nat_tests)
-  job-there JobKind.Submit j is none = grind (arith, nat_tests)
-  job-there JobKind.Take j is none = grind (arith, nat_tests)
-  job-there JobKind.Finish j is none = grind (arith, nat_tests)
-  job-there JobKind.Release j is none = grind (arith, nat_tests)
+  job-there other j is none = grind (arith, nat_tests)
 
 -- ## who makes it is in the queue
 
 module _ (c : Configuration) (s : State) (session : SessionId) (what : Done) where
   request-held : (kind : RequestKind) (r : RequestId) → is_from_request_queue kind ≡ true → judge c s (request_event kind session r) ≡ Ok what → is_session_of session (request_holder r s.requests) ≡ true
   request-held RequestKind.Lock r from is = absurd cc
-  request-held RequestKind.Unlock r from is = grind (arith, nat_tests)
-  request-held RequestKind.Accept r from is = grind (arith, nat_tests)
-  request-held RequestKind.Create r from is = grind (arith, nat_tests)
-  request-held RequestKind.Fulfil r from is = grind (arith, nat_tests)
-  request-held RequestKind.Reset r from is = grind (arith, nat_tests)
   request-held RequestKind.FailDeclined r from is = absurd cc
+  request-held other r from is = grind (arith, nat_tests)
 
   pub request-queued : (kind : RequestKind) (r : RequestId) → is_from_request_queue kind ≡ true → judge c s (request_event kind session r) ≡ Ok what → is_queued session (request_queue r s.requests) ≡ true
   request-queued kind r from is = holder-queued session (request_queue r s.requests) (request-held kind r from is)
@@ -182,11 +152,7 @@ module _ (c : Configuration) (s : State) (session : SessionId) (what : Done) whe
   pub node-queued : (kind : NodeKind) (n : NodeId) → is_from_node_queue kind ≡ true → judge c s (node_event kind session n) ≡ Ok what → is_queued session (node_queue n s.nodes) ≡ true
   node-queued NodeKind.Lock n from is = absurd cc
   node-queued NodeKind.Unlock n from is = grind (arith, nat_tests)
-  node-queued NodeKind.Start n from is = node-held n (grind (arith, nat_tests))
-  node-queued (NodeKind.End as_what) n from is = node-held n (grind (arith, nat_tests))
-  node-queued NodeKind.MarkDeleting n from is = node-held n (grind (arith, nat_tests))
-  node-queued NodeKind.Gone n from is = node-held n (grind (arith, nat_tests))
-  node-queued NodeKind.Free n from is = node-held n (grind (arith, nat_tests))
+  node-queued other n from is = node-held n (grind (arith, nat_tests))
 
 -- # the jobs that pass, by their place among them
 
@@ -346,7 +312,6 @@ has-some c role s (Some session) names some = rw (current-has role s session nam
 -- roles that are the same are equal-numbers
 pub same-role : (one other : Role) → same_role one other ≡ true → one ≡ other
 same-role (Launcher p) (Launcher q) is = ap (λ (n : ℕ). Launcher (record { 0 = n })) (equal-numbers p.0 q.0 is)
-same-role (Launcher p) (Janitor q) is = absurd cc
 same-role (Launcher p) (Requester q) is = absurd cc
 same-role (Launcher p) Reaper is = absurd cc
 same-role (Janitor p) (Launcher q) is = absurd cc
@@ -354,13 +319,12 @@ same-role (Janitor p) (Janitor q) is = ap (λ (n : ℕ). Janitor (record { 0 = n
 same-role (Janitor p) (Requester q) is = absurd cc
 same-role (Janitor p) Reaper is = absurd cc
 same-role (Requester p) (Launcher q) is = absurd cc
-same-role (Requester p) (Janitor q) is = absurd cc
 same-role (Requester p) (Requester q) is = ap (λ (n : ℕ). Requester (record { 0 = n })) (equal-numbers p.0 q.0 is)
 same-role (Requester p) Reaper is = absurd cc
 same-role Reaper (Launcher q) is = absurd cc
-same-role Reaper (Janitor q) is = absurd cc
 same-role Reaper (Requester q) is = absurd cc
 same-role Reaper Reaper is = refl
+same-role other (Janitor q) is = absurd cc
 
 module _ (c : Configuration) (s : State) where
   -- the row of an opening is true only for the role's own opening, if the role may open one
@@ -539,9 +503,8 @@ module _ (c : Configuration) (s : State) (session : SessionId) (j : JobId) where
   -- every role's row of the release says that the job has a handle
   released-has : (role : Role) → row_holds c s role (Event.Release session j) ≡ true → job_is j c (has_some_handle s j) ≡ true
   released-has (Launcher p) is = let never : false ≡ true = (and-parts c s (Launcher p) (is_by_registrant s p (Event.Release session j)) false is).1 in absurd cc
-  released-has (Janitor p) is = is
-  released-has (Requester q) is = is
   released-has Reaper is = absurd cc
+  released-has other is = is
 
   -- a job whose release is accepted, whoever makes it, is over
   release-over : (what : Done) → judge c s (Event.Release session j) ≡ Ok what → (kept : JobRecord) × ((slice_get s.jobs j.0 ≡ Some kept) × (is_over kept.phase ≡ true))

@@ -3,16 +3,10 @@ use Rattle.np_keeper.proofs.Enacted.{decoded-first, first-few, first-goes-spared
 use Rattle.np_keeper.proofs.start.first_tree.Goals as goal
 
 pub call-requires-clause-few : goal.call-requires-clause-few
-call-requires-clause-few c =
-    let ops : c.as_slice.result.now ≡ first_parts c.args.config.now = c.as_slice.ensures.value ∙ c.in_ok-ops.ensures in
-    let many : length c.as_slice.result.now ≡ length (first_parts c.args.config.now) = ap length ops in
-    let few = first-few c.args.config.now c.requires in
-    omega arith
+call-requires-clause-few c = omega (arith, ap length (c.as_slice.ensures.value ∙ c.in_ok-ops.ensures), first-few c.args.config.now c.requires)
 
 pub call-requires-clause-numbered : goal.call-requires-clause-numbered
-call-requires-clause-numbered c =
-    let ops : c.as_slice.result.now ≡ first_parts c.args.config.now = c.as_slice.ensures.value ∙ c.in_ok-ops.ensures in
-    ap (λ (list : List Op). list_all is_numbered list) ops ∙ first-numbered c.args.config.now
+call-requires-clause-numbered c = ap (λ (list : List Op). list_all is_numbered list) (c.as_slice.ensures.value ∙ c.in_ok-ops.ensures) ∙ first-numbered c.args.config.now
 
 pub call-requires-clause-goes : goal.call-requires-clause-goes
 call-requires-clause-goes c =
