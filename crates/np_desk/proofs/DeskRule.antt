@@ -1,6 +1,6 @@
 -- each step at a desk keeps its rule, by the accounts of places and parts
-use Rattle.np_desk.proofs.Prelude.{Act, Allows, AreRising, AreShort, Bool, Final, Fits, Has, Idle, IfSome, IfSome_then, IsFair, IsHome, IsOut, IsPass, IsWhole, Joins, Kept, KnowsMine, List, Me, None, Option, Origin, PassView, SeatView, Seen, Shared, Some, Splits, Stage, Stands, StartsWith, State, TableId, Valid, Waits, added, after_turn, ap, append-nil, arith, at_longer, at_set, at_snoc, at_stage, both_views, carried_after, cond, dite, drew, drop, either, eq-eqb, eqb, exchanged, false, first_half, first_view, get_elem?, get_or, gives, has_word, inl, inr, is_same, joined, keeps, learned, left_half, length, length-append, looked, ne_eqb, none, not, opening, origin_of, pass_view, places, posted, pow-suc, refl, right_half, rung, seat_view, second_half, set, set-get_or, set_again, set_else, set_here, share, some, some-injective, some-ne-none, spent, step, stepped, subst, suc, sym, takes, times, total, true, with_word, without, zero, ℕ, ℕ_discrete, [], ⊎_elim, ◌*◌, ◌++◌, ◌+◌, ◌-◌, ◌<◌, ◌^◌, ◌∙◌, ◌∷◌, ◌≡◌, ◌≢◌, ◌≤◌}
-use Rattle.np_desk.proofs.HistoryLemmas.{length-rest, places_grow, times-append, times_merged, once, rising_more, rising_places, rising_append, rising_merged, same_places, starts_same, starts_more, drop-all, starts_on}
+use Rattle.np_desk.proofs.Prelude.{Act, Allows, AreRising, AreShort, Bool, Final, Fits, Has, Idle, IfSome, IfSome_then, IsFair, IsHome, IsOut, IsPass, IsWhole, Joins, Kept, KnowsMine, List, Me, None, Option, Origin, PassView, SeatView, Seen, Shared, Some, Splits, Stage, Stands, StartsWith, State, TableId, Valid, Waits, added, after_turn, ap, append-nil, arith, at_longer, at_set, at_snoc, at_stage, both_views, carried_after, cond, dite, drew, drop, either, eq-eqb, eqb, exchanged, false, first_half, first_view, get_elem?, get_or, gives, has_word, inl, inr, is_same, joined, keeps, learned, left_half, length, length-append, looked, ne_eqb, none, not, opening, origin_of, pass_view, places, posted, pow-suc, refl, right_half, rung, seat_view, second_half, set, set-get_or, set_again, set_else, set_here, share, some, some-injective, some-ne-none, spent, step, stepped, subst, suc, sym, takes, times, total, true, with_word, without, zero, ℕ, ℕ_discrete, [], ⊎_elim, ◌++◌, ◌+◌, ◌-◌, ◌<◌, ◌^◌, ◌∙◌, ◌∷◌, ◌≡◌, ◌≢◌, ◌≤◌}
+use Rattle.np_desk.proofs.HistoryLemmas.{by_bool, length-rest, places_grow, times-append, times_merged, once, rising_more, rising_places, rising_append, rising_merged, same_places, starts_same, starts_more, drop-all, starts_on}
 use Rattle.std.specs.Prelude as std
 
 -- # Parts: halves, what joins them, and their shares of a whole.
@@ -11,12 +11,9 @@ share_twice depth w h = let e : suc depth - length w ≡ suc (depth - length w) 
 share_half : (depth : ℕ) (b : Bool) (w : List Bool) → share (suc depth) (b ∷ w) ≡ share depth w
 share_half depth b w = let e : suc depth - suc (length w) ≡ depth - length w = omega arith in ap (λ (k : ℕ). 2 ^ k) e
 
-twice_some : (k : ℕ) → 0 < k → 0 < k * 2
-twice_some k h = omega arith
-
 power_some : (k : ℕ) → 0 < 2 ^ k
 power_some zero = omega arith
-power_some (suc k) = subst (λ (n : ℕ). 0 < n) (sym (pow-suc 2 k)) (twice_some (2 ^ k) (power_some k))
+power_some (suc k) = omega (arith, pow-suc 2 k, power_some k)
 
 pub share_all : (depth : ℕ) → share depth [] ≡ 2 ^ depth
 share_all depth = let e : depth - 0 ≡ depth = omega arith in ap (λ (k : ℕ). 2 ^ k) e
@@ -56,28 +53,18 @@ bit false = 0
 
 same_word : (v w : List Bool) → is_same v w ≡ true → v ≡ w
 same_word [] [] e = refl
-same_word [] (b ∷ w) e = absurd (omega (arith, ap bit e))
-same_word (a ∷ v) [] e = absurd (omega (arith, ap bit e))
 same_word (true ∷ v) (true ∷ w) e = ap (λ (z : List Bool). true ∷ z) (same_word v w e)
-same_word (true ∷ v) (false ∷ w) e = absurd (omega (arith, ap bit e))
-same_word (false ∷ v) (true ∷ w) e = absurd (omega (arith, ap bit e))
 same_word (false ∷ v) (false ∷ w) e = ap (λ (z : List Bool). false ∷ z) (same_word v w e)
+same_word v w e = absurd (omega (arith, ap bit e))
 
 same_self : (w : List Bool) → is_same w w ≡ true
 same_self [] = refl
 same_self (true ∷ w) = same_self w
 same_self (false ∷ w) = same_self w
 
-by_bool : (P : Bool → Type 0) (b : Bool) → (b ≡ true → P true) → (b ≡ false → P false) → P b
-by_bool P true t f = t refl
-by_bool P false t f = f refl
-
 taken_out : (g : List Bool → ℕ) (w : List Bool) (vs : List (List Bool)) → has_word w vs ≡ true → total g (without w vs) + g w ≡ total g vs
 taken_out g w [] e = absurd (omega (arith, ap bit e))
-taken_out g w (v ∷ vs) e = by_bool (λ b. cond b true (has_word w vs) ≡ true → total g (cond b vs (v ∷ without w vs)) + g w ≡ total g (v ∷ vs)) (is_same v w)
-    (λ is _. omega (arith, ap g (same_word v w is)))
-    (λ is more. omega (arith, taken_out g w vs more))
-    e
+taken_out g w (v ∷ vs) e = grind (arith, e, same_word v w, taken_out g w vs)
 
 short_without : (depth : ℕ) (w : List Bool) (vs : List (List Bool)) → AreShort depth vs → AreShort depth (without w vs)
 short_without depth w [] h = tt
@@ -118,22 +105,13 @@ with_none : (w : List Bool) → with_word w [] ≡ w ∷ []
 with_none [] = refl
 with_none (b ∷ w) = refl
 
-joined_halves : (w : List Bool) → joined (first_half (w ∷ [])) (second_half (w ∷ [])) ≡ w ∷ []
-joined_halves w = subst
-    (λ (b : Bool). cond (cond b true false) (with_word w (cond b [] ((false ∷ w) ∷ []))) ((true ∷ w) ∷ (false ∷ w) ∷ []) ≡ w ∷ [])
-    (sym (same_self w)) (with_none w)
-
 -- a join puts the halves of a split together again
 pub joined_back : (w : List Bool) (part other new : List (List Bool)) → new ≡ joined part other → part ≡ first_half (w ∷ []) → other ≡ second_half (w ∷ []) → new ≡ w ∷ []
-joined_back w part other new is left right = is ∙ ((λ i. joined (left i) (right i)) ∙ joined_halves w)
+joined_back w part other new is left right = is ∙ rw (left, right, same_self w) (with_none w)
 
-pub first_not_whole : (ws : List (List Bool)) → IsWhole (first_half ws) → ⊥
-first_not_whole [] e = absurd (omega (arith, ap length e))
-first_not_whole (w ∷ ws) e = absurd (omega (arith, ap (total length) e))
-
-pub second_not_whole : (ws : List (List Bool)) → IsWhole (second_half ws) → ⊥
-second_not_whole [] e = absurd (omega (arith, ap length e))
-second_not_whole (w ∷ ws) e = absurd (omega (arith, ap (total length) e))
+pub half_not_whole : (ws : List (List Bool)) → (IsWhole (first_half ws) → ⊥) × (IsWhole (second_half ws) → ⊥)
+half_not_whole [] = ((λ e. absurd (omega (arith, ap length e))), (λ e. absurd (omega (arith, ap length e))))
+half_not_whole (w ∷ ws) = ((λ e. absurd (omega (arith, ap (total length) e))), (λ e. absurd (omega (arith, ap (total length) e))))
 
 -- # Sums over lists that change at one place.
 
@@ -168,6 +146,14 @@ module _ {A : Type 0} where
   all_one's g h (x ∷ xs) zero v e each all = let same = some-injective x v e in omega (arith, ap g same, ap h same, all_zero g h xs (λ j u e. each (suc j) u e) (omega (arith, ap h same)))
   all_one's g h (x ∷ xs) (suc i) v e each all = let part = term_le h xs i v e in omega (arith, each 0 x refl (omega arith), all_one's g h xs i v e (λ j u e. each (suc j) u e) (omega arith))
 
+  -- what holds of each member, after one is put into its place, and after one more
+  at_each : (P : ℕ → A → Type 0) (l : List A) (i : ℕ) (w : A) → P i w → ((j : ℕ) (u : A) → j ≢ i → get_elem? l j ≡ some u → P j u) → (j : ℕ) (u : A) → get_elem? (set l i w) j ≡ some u → P j u
+  at_each P l i w here rest j u e = ⊎_elim
+      (λ (q : (j ≡ i) × (w ≡ u)). subst (λ (z : ℕ × A). P z.0 z.1) (λ k. (sym q.0 k, q.1 k)) here) (λ q. rest j u q.0 q.1) (at_set l i j w u e)
+
+  at_end : (P : ℕ → A → Type 0) (l : List A) (w : A) → ((j : ℕ) (u : A) → get_elem? l j ≡ some u → P j u) → ((j : ℕ) → P j w) → (j : ℕ) (u : A) → get_elem? (l ++ w ∷ []) j ≡ some u → P j u
+  at_end P l w rest here j u e = ⊎_elim (λ q. rest j u q) (λ (q : w ≡ u). subst (P j) q (here j)) (at_snoc l w u j e)
+
 -- # The accounts of places and parts, over each kind of step.
 
 module _ {F E : Type 0} where
@@ -184,12 +170,8 @@ module _ {F E : Type 0} where
     long = h.long;
     counted = λ x. omega (arith, total-set (count x) views id v w at, ap (times x) mine, h.counted x);
     whole = omega (arith, total-set (weight h.depth) views id v w at, ap (total (share h.depth)) part, h.whole);
-    each_part = λ j u e. ⊎_elim
-        (λ (q : (j ≡ id) × (w ≡ u)). let old = h.each_part id v at in
-        subst (IsFair h.depth log) q.1
-        (subst (AreShort h.depth) (sym part) old.0, (λ none-left. (mine ∙ (old.1 (sym part ∙ none-left)).0, idle none-left)), subst (λ (ms : List ℕ). AreRising 0 ms (length log)) (sym mine) old.2))
-        (λ q. h.each_part j u q.1)
-        (at_set views id j w u e);
+    each_part = let old = h.each_part id v at in at_each (λ _. IsFair h.depth log) views id w
+        (rw part old.0, (λ none-left. (mine ∙ (old.1 (sym part ∙ none-left)).0, idle none-left)), rw mine old.2) (λ j u _. h.each_part j u);
   }
 
   -- the seat adds the places of new entries
@@ -200,12 +182,9 @@ module _ {F E : Type 0} where
     long = omega (arith, h.long, length-append log more);
     counted = λ x. omega (arith, total-set (count x) views id v w at, ap (times x) mine, times-append x v.mine (places (length log) more), h.counted x, ap (times x) (places_grow n log more h.long), times-append x (places n (drop n log)) (places (length log) more));
     whole = omega (arith, total-set (weight h.depth) views id v w at, ap (total (share h.depth)) part, h.whole);
-    each_part = λ j u e. ⊎_elim
-        (λ (q : (j ≡ id) × (w ≡ u)). let old = h.each_part id v at in
-        subst (IsFair h.depth (log ++ more)) q.1
-        (subst (AreShort h.depth) (sym part) old.0, (λ none-left. absurd (omega (arith, ap length (sym part ∙ none-left)))), subst (λ (t : List ℕ × ℕ). AreRising 0 t.0 t.1) (λ i. (sym mine i, sym (length-append log more) i)) (rising_append 0 (length log) v.mine more (omega arith) old.2)))
-        (λ q. let old = h.each_part j u q.1 in (old.0, old.1, rising_more 0 (length log) (length (log ++ more)) u.mine (omega (arith, length-append log more)) old.2))
-        (at_set views id j w u e);
+    each_part = let old = h.each_part id v at in at_each (λ _. IsFair h.depth (log ++ more)) views id w
+        (rw part old.0, (λ none-left. absurd (omega (arith, ap length (sym part ∙ none-left)))), rw (mine, length-append log more) (rising_append 0 (length log) v.mine more (omega arith) old.2))
+        (λ j u _ e. let old = h.each_part j u e in (old.0, old.1, rising_more 0 (length log) (length (log ++ more)) u.mine (omega (arith, length-append log more)) old.2));
   }
 
   pub shared_split : (n : ℕ) (log : List E) (views : List (SeatView F E)) (id : ℕ) (v : SeatView F E) → get_elem? views id ≡ some v → 0 < length v.part → Shared n log views → Shared n log (set views id (left_half v) ++ right_half v ∷ [])
@@ -223,13 +202,11 @@ module _ {F E : Type 0} where
           h.whole,
           pow-suc 2 h.depth,
         );
-        each_part = λ j u e. ⊎_elim
-            (λ e'. ⊎_elim
-            (λ (q : (j ≡ id) × (l ≡ u)). subst (IsFair (suc h.depth) log) q.1 (halves.0, (λ none-left. absurd (omega (arith, some.0, ap length none-left))), mine.2))
-            (λ q. let old = h.each_part j u q.1 in (short_more h.depth u.part old.0, old.1, old.2))
-            (at_set views id j l u e'))
-            (λ (q : r ≡ u). subst (IsFair (suc h.depth) log) q (halves.1, (λ _. (refl, refl)), tt))
-            (at_snoc (set views id l) r u j e);
+        each_part = at_end (λ _. IsFair (suc h.depth) log) (set views id l) r
+            (at_each (λ _. IsFair (suc h.depth) log) views id l
+            (halves.0, (λ none-left. absurd (omega (arith, some.0, ap length none-left))), mine.2)
+            (λ j u _ e. let old = h.each_part j u e in (short_more h.depth u.part old.0, old.1, old.2)))
+            (λ _. (halves.1, (λ _. (refl, refl)), tt));
       }
 
   pub shared_join : (n : ℕ) (log : List E) (views : List (SeatView F E)) (id : ℕ) (v : SeatView F E) (other : ℕ) (w : SeatView F E) → get_elem? views id ≡ some v → ¬ (other ≡ id) → get_elem? (set views id (both_views v w)) other ≡ some w → get_elem? views other ≡ some w → 0 < length v.part
@@ -243,14 +220,10 @@ module _ {F E : Type 0} where
         long = h.long;
         counted = counted';
         whole = omega (arith, total-set (weight h.depth) vs other w spent them, total-set (weight h.depth) views id v b at, joined_share h.depth v.part w.part theirs.0, h.whole);
-        each_part = λ j u e. ⊎_elim
-            (λ (q : (j ≡ other) × (spent ≡ u)). subst (IsFair h.depth log) q.1 (tt, (λ _. (refl, refl)), tt))
-            (λ q. ⊎_elim
-            (λ (p : (j ≡ id) × (b ≡ u)). subst (IsFair h.depth log) p.1
-            (joined_short h.depth v.part w.part mine.0 theirs.0, (λ none-left. absurd (omega (arith, joined_some v.part w.part some_part, ap length none-left))), rising_merged (length log) v.mine 0 w.mine mine.2 theirs.2 one))
-            (λ p. h.each_part j u p.1)
-            (at_set views id j b u q.1))
-            (at_set vs other j spent u e);
+        each_part = at_each (λ _. IsFair h.depth log) vs other spent (tt, (λ _. (refl, refl)), tt)
+            (λ j u _. at_each (λ _. IsFair h.depth log) views id b
+            (joined_short h.depth v.part w.part mine.0 theirs.0, (λ none-left. absurd (omega (arith, joined_some v.part w.part some_part, ap length none-left))), rising_merged (length log) v.mine 0 w.mine mine.2 theirs.2 one)
+            (λ j u _. h.each_part j u) j u);
       }
 
   -- beside a whole part the others have nothing
@@ -310,6 +283,25 @@ module _ {M F E : Type 0} (history : M → List E) (fixed : M → F) (legal : F 
 
   abbrev Sat : Type 0
   Sat = Me M (SeatView F E)
+
+  -- the seats change, and the words and slots stay
+  reseated : (s : St) (r : Rule s) (views : List (SeatView F E)) → (IsOut r.now r.drawer s.views → IsOut r.now r.drawer views) → ((j : ℕ) (u : SeatView F E) → get_elem? views j ≡ some u → Fits o r.next r.now r.drawer r.log j u)
+      → Shared (length o.history) r.log views → Rule record { words = s.words; homes = s.homes; views = views }
+  reseated s r views out each shared = record {
+    log = r.log;
+    next = r.next;
+    now = r.now;
+    drawer = r.drawer;
+    home = r.home;
+    bells = r.bells;
+    words = r.words;
+    homes = r.homes;
+    order = r.order;
+    lawful = r.lawful;
+    object = ⊎_elim (λ h. inl h) (λ h. inr (out h)) r.object;
+    each_seat = each;
+    shared = shared;
+  }
 
   -- a step that changes nothing
   unmoved : (s : St) (r : Rule s) (i id : ℕ) (m : Sat) → get_elem? s.views id ≡ some m.0 → Rule (stepped s i (get_or s.words i 0) id m.1 m.0 keeps)
@@ -372,11 +364,9 @@ module _ {M F E : Type 0} (history : M → List E) (fixed : M → F) (legal : F 
               let other : r.drawer r.now ≢ id = λ e. let u : h.0 ≡ m.0 = some-injective h.0 m.0 (sym h.1 ∙ (ap (get_elem? s.views) e ∙ at)) in omega (arith, ap kind (sym h.2), ap (λ (z : SeatView F E). kind z.stage) u, ap kind idle) in
               inr (h.0, ap (get_elem? (set s.views id w)) same ∙ (set_else s.views id (r.drawer r.now) w other ∙ h.1), h.2))
               r.object;
-          each_seat = λ j u e. ⊎_elim
-              (λ (q : (j ≡ id) × (w ≡ u)). subst (λ (z : SeatView F E). Fits o (suc r.next) r.now drawer r.log j z) q.1
-              (me.0, me.1, me.2, (omega (arith, r.order, found, hit), omega (arith, found, hit), ap drawer (hit ∙ sym found) ∙ (mine ∙ sym q.0))))
-              (λ q. let old = r.each_seat j u q.1 in (old.0, old.1, old.2, stands_drawn r.next r.now id r.drawer r.log j u.seen u.stage old.3))
-              (at_set s.views id j w u e);
+          each_seat = at_each (Fits o (suc r.next) r.now drawer r.log) s.views id w
+              (me.0, me.1, me.2, (omega (arith, r.order, found, hit), omega (arith, found, hit), ap drawer (hit ∙ sym found) ∙ mine))
+              (λ j u _ e. let old = r.each_seat j u e in (old.0, old.1, old.2, stands_drawn r.next r.now id r.drawer r.log j u.seen u.stage old.3));
           shared = shared_same (length o.history) r.log s.views id m.0 w at refl refl (λ none-left. absurd (omega (arith, ap length none-left))) r.shared;
         },
         ((λ _. refl), λ miss. absurd (miss hit)),
@@ -407,11 +397,8 @@ module _ {M F E : Type 0} (history : M → List E) (fixed : M → F) (legal : F 
           order = r.order;
           lawful = r.lawful;
           object = inr (w, ap (get_elem? (set s.views id w)) (ap r.drawer served ∙ mine.2) ∙ set_here s.views id w (inside s.views id m.0 at), ap Has (sym served));
-          each_seat = λ j u e. ⊎_elim
-              (λ (q : (j ≡ id) × (w ≡ u)). subst (λ (z : SeatView F E). Fits o r.next r.now r.drawer r.log j z) q.1
-              (me.0, subst (StartsWith r.log) (sym h.2) (starts_same r.log), me.2, (served, mine.1, mine.2 ∙ sym q.0, h.2)))
-              (λ q. r.each_seat j u q.1)
-              (at_set s.views id j w u e);
+          each_seat = at_each (Fits o r.next r.now r.drawer r.log) s.views id w
+              (me.0, subst (StartsWith r.log) (sym h.2) (starts_same r.log), me.2, (served, mine.1, mine.2, h.2)) (λ j u _. r.each_seat j u);
           shared = shared_same (length o.history) r.log s.views id m.0 w at refl refl (λ none-left. absurd (omega (arith, ap length none-left))) r.shared;
         },
         λ t' is. let e = same t' is in (
@@ -451,12 +438,10 @@ module _ {M F E : Type 0} (history : M → List E) (fixed : M → F) (legal : F 
           order = omega (arith, mine.0, mine.1);
           lawful = ap (legal o.fixed) (sym now_all) ∙ lawful;
           object = inl (x, refl, now_all, same_fixed);
-          each_seat = λ j u e. ⊎_elim
-              (λ (q : (j ≡ id) × (w ≡ u)). subst (λ (z : SeatView F E). Fits o r.next (suc r.now) r.drawer log j z) q.1
-              (me.0, subst (StartsWith log) (sym now_all) (starts_same log), starts_more r.log v.told more me.2, tt))
-              (λ q. let old = r.each_seat j u q.1 in
-              (old.0, starts_more r.log u.seen more old.1, starts_more r.log u.told more old.2, stands_called r.next r.now id r.drawer r.log more j u.seen u.stage served q.0 old.3))
-              (at_set s.views id j w u e);
+          each_seat = at_each (Fits o r.next (suc r.now) r.drawer log) s.views id w
+              (me.0, subst (StartsWith log) (sym now_all) (starts_same log), starts_more r.log v.told more me.2, tt)
+              (λ j u other e. let old = r.each_seat j u e in
+              (old.0, starts_more r.log u.seen more old.1, starts_more r.log u.told more old.2, stands_called r.next r.now id r.drawer r.log more j u.seen u.stage served other old.3));
           shared = shared;
         },
         λ y is. let e : x ≡ y = ap (λ (c : List (ℕ × M)). (get_or c 0 (0, x)).1) is in
@@ -491,25 +476,11 @@ module _ {M F E : Type 0} (history : M → List E) (fixed : M → F) (legal : F 
         w,
         keeps,
         tt,
-        record {
-          log = r.log;
-          next = r.next;
-          now = r.now;
-          drawer = r.drawer;
-          home = r.home;
-          bells = r.bells;
-          words = set-get_or s.words 0 0 ∙ r.words;
-          homes = r.homes;
-          order = r.order;
-          lawful = r.lawful;
-          object = ⊎_elim (λ h. inl h) (λ h. inr (out_stays r.now id r.drawer s.views m.0 w at refl h)) r.object;
-          each_seat = λ j u e. ⊎_elim
-              (λ (q : (j ≡ id) × (w ≡ u)). subst (λ (z : SeatView F E). Fits o r.next r.now r.drawer r.log j z) q.1
-              (me.0, starts_same r.log, (r.log, refl), subst (Stands r.next r.now r.drawer r.log j r.log) (sym idle) tt))
-              (λ q. r.each_seat j u q.1)
-              (at_set s.views id j w u e);
-          shared = shared;
-        },
+        subst (λ (ws : List ℕ). PassRule record { words = ws; homes = s.homes; views = set s.views id w }) (sym (set-get_or s.words 0 0))
+            (reseated history fixed legal o s r (set s.views id w) (out_stays r.now id r.drawer s.views m.0 w at refl)
+            (at_each (Fits o r.next r.now r.drawer r.log) s.views id w
+            (me.0, starts_same r.log, (r.log, refl), subst (Stands r.next r.now r.drawer r.log id r.log) (sym idle) tt) (λ j u _. r.each_seat j u))
+            shared),
         (
           r.log,
           refl,
@@ -521,52 +492,22 @@ module _ {M F E : Type 0} (history : M → List E) (fixed : M → F) (legal : F 
       )
 
   pub splits : (id : ℕ) (v : SeatView F E) → 0 < length v.part → Splits PassRule id v (left_half v) (right_half v)
-  splits id v some_part s r at = let me = r.each_seat id v at in let l : SeatView F E = left_half v in let new : SeatView F E = right_half v in record {
-    log = r.log;
-    next = r.next;
-    now = r.now;
-    drawer = r.drawer;
-    home = r.home;
-    bells = r.bells;
-    words = r.words;
-    homes = r.homes;
-    order = r.order;
-    lawful = r.lawful;
-    object = ⊎_elim (λ h. inl h) (λ h. inr (out_longer r.now r.drawer (set s.views id l) (new ∷ []) (out_stays r.now id r.drawer s.views v l at refl h))) r.object;
-    each_seat = λ j u e. ⊎_elim
-        (λ e'. ⊎_elim
-        (λ (q : (j ≡ id) × (l ≡ u)). subst (λ (z : SeatView F E). Fits o r.next r.now r.drawer r.log j z) q.1 (subst (λ (k : ℕ). Fits o r.next r.now r.drawer r.log k l) (sym q.0) me))
-        (λ q. r.each_seat j u q.1)
-        (at_set s.views id j l u e'))
-        (λ (q : new ≡ u). subst (λ (z : SeatView F E). Fits o r.next r.now r.drawer r.log j z) q (me.0, me.1, (r.log, refl), tt))
-        (at_snoc (set s.views id l) new u j e);
-    shared = shared_split (length o.history) r.log s.views id v at some_part r.shared;
-  }
+  splits id v some_part s r at = let me = r.each_seat id v at in let l : SeatView F E = left_half v in let new : SeatView F E = right_half v in
+      reseated history fixed legal o s r (set s.views id l ++ new ∷ [])
+      (λ h. out_longer r.now r.drawer (set s.views id l) (new ∷ []) (out_stays r.now id r.drawer s.views v l at refl h))
+      (at_end (Fits o r.next r.now r.drawer r.log) (set s.views id l) new
+      (at_each (Fits o r.next r.now r.drawer r.log) s.views id l me (λ j u _. r.each_seat j u)) (λ _. (me.0, me.1, (r.log, refl), tt)))
+      (shared_split (length o.history) r.log s.views id v at some_part r.shared)
 
   pub joins : (id : ℕ) (v : SeatView F E) (other : ℕ) (w : SeatView F E) → 0 < length v.part → w.stage ≡ Idle → Joins PassRule id v other w (both_views v w) spent
   joins id v other w some_part idle s r at apart them = let b : SeatView F E = both_views v w in let vs : List (SeatView F E) = set s.views id b in
       let there : get_elem? s.views other ≡ some w = sym (set_else s.views id other b apart) ∙ them in
-      let me = r.each_seat id v at in let they = r.each_seat other w there in record {
-        log = r.log;
-        next = r.next;
-        now = r.now;
-        drawer = r.drawer;
-        home = r.home;
-        bells = r.bells;
-        words = r.words;
-        homes = r.homes;
-        order = r.order;
-        lawful = r.lawful;
-        object = ⊎_elim (λ h. inl h) (λ h. inr (out_stays r.now other r.drawer vs w spent them (sym idle) (out_stays r.now id r.drawer s.views v b at refl h))) r.object;
-        each_seat = λ j u e. ⊎_elim
-            (λ (q : (j ≡ other) × (spent ≡ u)). subst (λ (z : SeatView F E). Fits o r.next r.now r.drawer r.log j z) q.1 (tt, (r.log, refl), (r.log, refl), tt))
-            (λ q. ⊎_elim
-            (λ (p : (j ≡ id) × (b ≡ u)). subst (λ (z : SeatView F E). Fits o r.next r.now r.drawer r.log j z) p.1 (me.0, me.1, they.1, subst (λ (k : ℕ). Stands r.next r.now r.drawer r.log k v.seen v.stage) (sym p.0) me.3))
-            (λ p. r.each_seat j u p.1)
-            (at_set s.views id j b u q.1))
-            (at_set vs other j spent u e);
-        shared = shared_join (length o.history) r.log s.views id v other w at apart them there some_part r.shared;
-      }
+      let me = r.each_seat id v at in let they = r.each_seat other w there in
+      reseated history fixed legal o s r (set vs other spent)
+      (λ h. out_stays r.now other r.drawer vs w spent them (sym idle) (out_stays r.now id r.drawer s.views v b at refl h))
+      (at_each (Fits o r.next r.now r.drawer r.log) vs other spent (tt, (r.log, refl), (r.log, refl), tt)
+      (λ j u _. at_each (Fits o r.next r.now r.drawer r.log) s.views id b (me.0, me.1, they.1, me.3) (λ j u _. r.each_seat j u) j u))
+      (shared_join (length o.history) r.log s.views id v other w at apart them there some_part r.shared)
 
 module _ {F E : Type 0} where
   begins_on : (origin : std.Option (Origin F E)) (log seen : List E) → StartsWith log seen → IfSome origin (λ o. StartsWith seen o.history) → IfSome origin (λ o. StartsWith log o.history)
@@ -591,7 +532,7 @@ module _ {M F E : Type 0} (legal : F → List E → Bool) where
     idle = p.idle;
     nothing = p.nothing;
     some_part = (half_some m.0.part p.some_part).0;
-    mine = (p.mine.0, λ whole. absurd (first_not_whole m.0.part whole));
+    mine = (p.mine.0, λ whole. absurd ((half_not_whole m.0.part).0 whole));
     lawful = p.lawful;
     begins = p.begins;
   }
@@ -601,7 +542,7 @@ module _ {M F E : Type 0} (legal : F → List E → Bool) where
     idle = refl;
     nothing = refl;
     some_part = (half_some m.0.part p.some_part).1;
-    mine = (tt, λ whole. absurd (second_not_whole m.0.part whole));
+    mine = (tt, λ whole. absurd ((half_not_whole m.0.part).1 whole));
     lawful = p.lawful;
     begins = p.begins;
   }
@@ -613,37 +554,29 @@ module _ {E : Type 0} where
   nothing_added log = ap (places (length log)) (ap (drop (length log)) (sym (append-nil log)) ∙ drop-all log [])
 
 module _ {M F E : Type 0} (history : M → List E) (fixed : M → F) (legal : F → List E → Bool) where
-  starts : (bells : List ℕ) (x : M) → legal (fixed x) (history x) ≡ true → Kept history fixed legal (origin_of fixed history x) (opening (0 ∷ 0 ∷ bells) (x ∷ []) (first_view (origin_of fixed history x)))
-  starts bells x lawful = let log : List E = history x in let o : Origin F E = origin_of fixed history x in let first : SeatView F E = first_view o in record {
-    log = log;
-    next = 0;
-    now = 0;
-    drawer = λ _. 0;
-    home = some x;
-    bells = bells;
-    words = refl;
-    homes = refl;
-    order = omega arith;
-    lawful = lawful;
-    object = inl (x, refl, refl, refl);
-    each_seat = λ j u e. ⊎_elim
-        (λ (q : get_elem? [] j ≡ some u). absurd (some-ne-none u (sym q)))
-        (λ (q : first ≡ u). subst (λ (z : SeatView F E). Fits o 0 0 (λ _. 0) log j z) q (refl, starts_same log, (log, refl), tt))
-        (at_snoc [] first u j e);
-    shared = record {
-      depth = 0;
-      long = omega arith;
-      counted = λ k. sym (ap (times k) (nothing_added log));
-      whole = refl;
-      each_part = λ j u e. ⊎_elim
-          (λ (q : get_elem? [] j ≡ some u). absurd (some-ne-none u (sym q)))
-          (λ (q : first ≡ u). subst (IsFair 0 log) q ((omega arith, tt), (λ none-left. absurd (omega (arith, ap length none-left))), tt))
-          (at_snoc [] first u j e);
-    };
-  }
-
   pub starts_at : (bells : List ℕ) (x y : M) (xs : List M) → y ≡ x → xs ≡ x ∷ [] → legal (fixed x) (history x) ≡ true → Kept history fixed legal (origin_of fixed history y) (opening (0 ∷ 0 ∷ bells) xs (first_view (origin_of fixed history y)))
-  starts_at bells x y xs same is lawful = subst (λ (z : M × List M). Kept history fixed legal (origin_of fixed history z.0) (opening (0 ∷ 0 ∷ bells) z.1 (first_view (origin_of fixed history z.0)))) (λ i. (sym same i, sym is i)) (starts bells x lawful)
+  starts_at bells x y xs same is lawful = let log : List E = history x in let o : Origin F E = origin_of fixed history x in let first : SeatView F E = first_view o in
+      subst (λ (z : M × List M). Kept history fixed legal (origin_of fixed history z.0) (opening (0 ∷ 0 ∷ bells) z.1 (first_view (origin_of fixed history z.0)))) (λ i. (sym same i, sym is i)) record {
+        log = log;
+        next = 0;
+        now = 0;
+        drawer = λ _. 0;
+        home = some x;
+        bells = bells;
+        words = refl;
+        homes = refl;
+        order = omega arith;
+        lawful = lawful;
+        object = inl (x, refl, refl, refl);
+        each_seat = at_end (Fits o 0 0 (λ _. 0) log) [] first (λ j u q. absurd (some-ne-none u (sym q))) (λ _. (refl, starts_same log, (log, refl), tt));
+        shared = record {
+          depth = 0;
+          long = omega arith;
+          counted = λ k. sym (ap (times k) (nothing_added log));
+          whole = refl;
+          each_part = at_end (λ _. IsFair 0 log) [] first (λ j u q. absurd (some-ne-none u (sym q))) (λ _. ((omega arith, tt), (λ none-left. absurd (omega (arith, ap length none-left))), tt));
+        };
+      }
 
   -- the first pass
   pub first_pass : (x y : M) (me : Me M (SeatView F E)) → y ≡ x → legal (fixed x) (history x) ≡ true → me ≡ (first_view (origin_of fixed history y), []) → IsPass legal me

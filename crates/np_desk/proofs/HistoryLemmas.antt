@@ -1,5 +1,5 @@
 -- histories that grow, and the turns of a series in them
-use Rattle.np_desk.proofs.Prelude.{Answered, AnsweredAtOnce, AreRising, Asked, Bool, Err, Heard, IfOk, IsOver, List, MatchResult, NoMemory, None, Ok, Records, Result, Sight, Some, StartsWith, Took, TookAtOnce, Turned, Unturned, Walk, ap, append-nil, append_assoc, arith, cond, dec_le, dite, drop, entries_of, eq-eqb, eqb, false, grown, le-ltb, length, length-append, lt-ltb, merged, nat_lt, ne_eqb, places, refl, subst, suc, sym, times, true, whole_sight, with_place, zero, zero-add, ℕ, ℕ_discrete, [], ◌++◌, ◌+◌, ◌<◌, ◌∙◌, ◌∷◌, ◌≡◌, ◌≢◌, ◌≤◌, ◌⊎◌}
+use Rattle.np_desk.proofs.Prelude.{Answered, AnsweredAtOnce, AreRising, Asked, Bool, Err, Heard, IfOk, IsOver, List, MatchResult, NoMemory, None, Ok, Records, Result, Sight, Some, StartsWith, Took, TookAtOnce, Turned, Unturned, Walk, ap, append-nil, append_assoc, arith, nat_tests, cond, drop, entries_of, false, grown, length, length-append, merged, nat_lt, places, refl, subst, suc, sym, times, true, whole_sight, with_place, zero, zero-add, ℕ, [], ◌++◌, ◌+◌, ◌<◌, ◌∙◌, ◌∷◌, ◌≡◌, ◌≤◌, ◌⊎◌}
 use Rattle.std.specs.Prelude.{Option}
 
 -- # Histories that grow, and rising places in them.
@@ -40,41 +40,26 @@ pub times-append : (x : ℕ) (l m : List ℕ) → times x (l ++ m) ≡ times x l
 times-append x [] m = omega arith
 times-append x (y ∷ ys) m = omega (arith, times-append x ys m)
 
-by_bool : (P : Bool → Type 0) (b : Bool) → (b ≡ true → P true) → (b ≡ false → P false) → P b
+pub by_bool : (P : Bool → Type 0) (b : Bool) → (b ≡ true → P true) → (b ≡ false → P false) → P b
 by_bool P true t f = t refl
 by_bool P false t f = f refl
 
 times_with : (k x : ℕ) (ys : List ℕ) → times k (with_place x ys) ≡ times k (x ∷ ys)
 times_with k x [] = refl
-times_with k x (y ∷ ys) = by_bool (λ b. times k (cond b (x ∷ y ∷ ys) (y ∷ with_place x ys)) ≡ times k (x ∷ y ∷ ys)) (nat_lt x y) (λ _. refl) (λ _. omega (arith, times_with k x ys))
+times_with k x (y ∷ ys) = grind (arith, times_with k x ys)
 
 pub times_merged : (k : ℕ) (xs ys : List ℕ) → times k (merged xs ys) ≡ times k xs + times k ys
 times_merged k xs [] = omega arith
 times_merged k xs (y ∷ ys) = omega (arith, times_merged k (with_place y xs) ys, times_with k y xs)
 
-abbrev one_if : Bool → ℕ
-one_if b = cond b 1 0
-
-one_here : (k : ℕ) → one_if (eqb k k) ≡ 1
-one_here k = ap one_if (eq-eqb k k refl)
-
-none_here : (k y : ℕ) → k ≢ y → one_if (eqb k y) ≡ 0
-none_here k y ne = ap one_if (ne_eqb k y ne)
-
-one_at_most : (b : Bool) → one_if b ≤ 1
-one_at_most true = omega arith
-one_at_most false = omega arith
-
 none_below : (k a n : ℕ) (xs : List ℕ) → k < a → AreRising a xs n → times k xs ≡ 0
 none_below k a n [] lt h = refl
-none_below k a n (x ∷ xs) lt h = omega (arith, none_here k x (λ e. omega (arith, h.0)), none_below k (suc x) n xs (omega (arith, h.0)) h.2)
+none_below k a n (x ∷ xs) lt h = grind (arith, nat_tests, h.0, none_below k (suc x) n xs (omega (arith, h.0)) h.2)
 
 -- a rising list has no place twice
 pub once : (a n : ℕ) (xs : List ℕ) → AreRising a xs n → (k : ℕ) → times k xs ≤ 1
 once a n [] h k = omega arith
-once a n (x ∷ xs) h k = dite (ℕ_discrete k x)
-    (λ e. omega (arith, one_at_most (eqb k x), none_below k (suc x) n xs (omega arith) h.2))
-    (λ ne. omega (arith, none_here k x ne, once (suc x) n xs h.2 k))
+once a n (x ∷ xs) h k = grind (arith, nat_tests, none_below k (suc x) n xs, h.2, once (suc x) n xs h.2 k)
 
 pub rising_more : (a n m : ℕ) (xs : List ℕ) → n ≤ m → AreRising a xs n → AreRising a xs m
 rising_more a n m [] le h = tt
@@ -90,27 +75,23 @@ rising_append a n (x ∷ xs) es le h = (h.0, omega (arith, h.1), rising_append (
 
 rising_with : (a n x : ℕ) (xs : List ℕ) → a ≤ x → x < n → times x xs ≡ 0 → AreRising a xs n → AreRising a (with_place x xs) n
 rising_with a n x [] from to new h = (from, to, tt)
-rising_with a n x (y ∷ ys) from to new h = dite (dec_le (suc x) y)
-    (λ lt. subst (λ b. AreRising a (cond b (x ∷ y ∷ ys) (y ∷ with_place x ys)) n) (sym (lt-ltb x y lt)) (from, to, (omega arith, h.1, h.2)))
-    (λ ge. let le : y ≤ x = omega arith in let apart : x ≢ y = λ e. omega (arith, new, one_here x, ap (λ (z : ℕ). one_if (eqb x z)) e) in
-    subst (λ b. AreRising a (cond b (x ∷ y ∷ ys) (y ∷ with_place x ys)) n) (sym (le-ltb x y le)) (h.0, h.1, rising_with (suc y) n x ys (dite (dec_le (suc y) x) (λ lt. lt) (λ nlt. absurd (apart (omega arith)))) to (omega (arith, new)) h.2))
+rising_with a n x (y ∷ ys) from to new h = by_bool (λ b. AreRising a (cond b (x ∷ y ∷ ys) (y ∷ with_place x ys)) n) (nat_lt x y)
+    (λ is. (from, to, (grind (arith, nat_tests, is), h.1, h.2)))
+    (λ is. (h.0, h.1, rising_with (suc y) n x ys (grind (arith, nat_tests, is, new)) to (omega (arith, new)) h.2))
 
 pub rising_merged : (n : ℕ) (xs : List ℕ) (a : ℕ) (ys : List ℕ) → AreRising 0 xs n → AreRising a ys n → ((k : ℕ) → times k xs + times k ys ≤ 1) → AreRising 0 (merged xs ys) n
 rising_merged n xs a [] h k one = h
 rising_merged n xs a (y ∷ ys) h k one = rising_merged n (with_place y xs) (suc y) ys
-    (rising_with 0 n y xs (omega arith) k.1 (omega (arith, one y, one_here y)) h) k.2
-    (λ j. omega (arith, times_with j y xs, one j))
+    (rising_with 0 n y xs (omega arith) k.1 (grind (arith, nat_tests, one y)) h) k.2 (λ j. omega (arith, times_with j y xs, one j))
 
 -- rising lists with the same places are the same
 pub same_places : (a b n : ℕ) (xs ys : List ℕ) → AreRising a xs n → AreRising b ys n → ((k : ℕ) → times k xs ≡ times k ys) → xs ≡ ys
 same_places a b n [] [] h k same = refl
-same_places a b n [] (y ∷ ys) h k same = absurd (omega (arith, same y, one_here y))
-same_places a b n (x ∷ xs) [] h k same = absurd (omega (arith, same x, one_here x))
+same_places a b n [] (y ∷ ys) h k same = grind (arith, nat_tests, same y)
+same_places a b n (x ∷ xs) [] h k same = grind (arith, nat_tests, same x)
 same_places a b n (x ∷ xs) (y ∷ ys) h k same =
-    let low : (p q : ℕ) (ps qs : List ℕ) → p < q → AreRising (suc q) qs n → times p (p ∷ ps) ≡ times p (q ∷ qs) → ⊥ = λ p q ps qs lt r e. omega (arith, e, one_here p, none_here p q (λ z. omega arith), none_below p (suc q) n qs (omega arith) r) in
-    let e : x ≡ y = dite (dec_le (suc x) y) (λ lt. absurd (low x y xs ys lt k.2 (same x))) (λ ge. dite (dec_le (suc y) x) (λ lt. absurd (low y x ys xs lt h.2 (sym (same y)))) (λ ge'. omega arith)) in
-    let tails : xs ≡ ys = same_places (suc x) (suc y) n xs ys h.2 k.2 (λ j. omega (arith, same j, ap (λ (z : ℕ). one_if (eqb j z)) e)) in
-    ap (λ (z : ℕ). z ∷ xs) e ∙ ap (λ (zs : List ℕ). y ∷ zs) tails
+    let e : x ≡ y = grind (arith, nat_tests, same x, same y, none_below x (suc y) n ys, k.2, none_below y (suc x) n xs, h.2) in
+    λ i. e i ∷ same_places (suc x) (suc y) n xs ys h.2 k.2 (λ j. grind (arith, e, same j)) i
 
 -- if every place is one's own, a turn adds the place of its entry
 alone_records : {E : Type 0} (entry : Option E) (old new : List E) → new ≡ old ++ entries_of entry → Records entry old (whole_sight old) (whole_sight new)
@@ -190,10 +171,6 @@ module _ {E A T S : Type 0} (step : Sight E → A → T → Sight E → Type 0) 
   }
 
 module _ {F E A T S : Type 0} (answers : F → List E → A → T → Type 0) (recorded : A → T → Option E) (asks : S → Option A) (hears : S → T → S → Type 0) where
-  grown_turn : (f : F) (mine : List ℕ) (before mid after : List E) (a : A) (t : T) → StartsWith mid before → answers f mid a t → after ≡ mid ++ entries_of (recorded a t)
-      → AnsweredAtOnce answers recorded f (grown mine before mid) a t (grown mine before after)
-  grown_turn f mine before mid after a t h k e = (k, grown_records mine before mid after (recorded a t) h e)
-
   -- so many turns of the series were taken at once
   abbrev pub WentAtOnce : F → Sight E → S → ℕ → Sight E → S → Type 0
   WentAtOnce f v p n w q = Went (AnsweredAtOnce answers recorded f) asks hears v p n w q
@@ -201,40 +178,17 @@ module _ {F E A T S : Type 0} (answers : F → List E → A → T → Type 0) (r
   pub went_on : (f : F) (mine : List ℕ) (before mid after : List E) (p q r : S) (n : ℕ) (a : A) (t : T) → WentAtOnce f (grown mine before before) p n (grown mine before mid) q
       → asks q ≡ Some a → hears q t r → StartsWith mid before → answers f mid a t → after ≡ mid ++ entries_of (recorded a t)
       → WentAtOnce f (grown mine before before) p (n + 1) (grown mine before after) r
-  went_on f mine before mid after p q r n a t h e k s y g = one-more (AnsweredAtOnce answers recorded f) asks hears (grown mine before before) (grown mine before mid) (grown mine before after) p q r n a t h e (grown_turn f mine before mid after a t s y g) k
+  went_on f mine before mid after p q r n a t h e k s y g = one-more (AnsweredAtOnce answers recorded f) asks hears (grown mine before before) (grown mine before mid) (grown mine before after) p q r n a t h e (y, grown_records mine before mid after (recorded a t) s g) k
 
-  pub took_all : {R : Type 0} (f : F) (v : Sight E) (p : S) (most n : ℕ) (w : Sight E) (q : S) (y : R) → WentAtOnce f v p n w q → n ≤ most → (asks q ≡ None) ⊎ (n ≡ most) → TookAtOnce answers recorded asks hears f v p most (Ok y) w q
-  took_all f v p most n w q y h few over = record {
+  pub took_so : {R : Type 0} (f : F) (v : Sight E) (p : S) (most n : ℕ) (result : Result R NoMemory) (w : Sight E) (q : S) → WentAtOnce f v p n w q → n ≤ most → IfOk result (λ _. (asks q ≡ None) ⊎ (n ≡ most)) → TookAtOnce answers recorded asks hears f v p most result w q
+  took_so f v p most n result w q h few over = record {
     turns = h.turns;
     first = v;
     saw = unturned-same v;
     walked = h.walked;
     heard = h.heard;
     few = omega (arith, h.count);
-    over = subst (λ (m : ℕ). (asks q ≡ None) ⊎ (m ≡ most)) (sym h.count) over;
-  }
-
-  pub took_some : {R : Type 0} (f : F) (v : Sight E) (p : S) (most n : ℕ) (result : Result R NoMemory) (y : NoMemory) (u w : Sight E) (q : S) → result ≡ Err y → WentAtOnce f v p n u q → n ≤ most → u ≡ w → TookAtOnce answers recorded asks hears f v p most result w q
-  took_some {R} f v p most n result y u w q e h few same = subst (λ (z : Result R NoMemory). TookAtOnce answers recorded asks hears f v p most z w q) (sym e) record {
-    turns = h.turns;
-    first = v;
-    saw = unturned-same v;
-    walked = subst (λ (z : Sight E). Walk (AnsweredAtOnce answers recorded f) v h.turns z) same h.walked;
-    heard = h.heard;
-    few = omega (arith, h.count);
-    over = tt;
-  }
-
-  -- the same, if less had been seen before
-  pub took_later : {R : Type 0} {f : F} {v : Sight E} {u : Sight E} {p : S} {most : ℕ} {result : Result R NoMemory} {w : Sight E} {q : S} → Unturned v u → TookAtOnce answers recorded asks hears f u p most result w q → TookAtOnce answers recorded asks hears f v p most result w q
-  took_later {R} {f} {v} {u} h k = record {
-    turns = k.turns;
-    first = k.first;
-    saw = unturned_on v u k.first h k.saw;
-    walked = k.walked;
-    heard = k.heard;
-    few = k.few;
-    over = k.over;
+    over = subst (λ (m : ℕ). IfOk result (λ _. (asks q ≡ None) ⊎ (m ≡ most))) (sym h.count) over;
   }
 
   walked-loosely : (f : F) (v w : Sight E) (xs : List (Asked A T)) → Walk (AnsweredAtOnce answers recorded f) v xs w → Walk (Answered answers recorded f) v xs w
@@ -245,34 +199,26 @@ module _ {F E A T S : Type 0} (answers : F → List E → A → T → Type 0) (r
   over-loosely (Ok y) w most xs q h = (refl, h)
   over-loosely (Err y) w most xs q h = unturned-same w
 
-  -- turns that were taken at once were taken
-  pub took-loosely : {R : Type 0} (f : F) (v : Sight E) (p : S) (most : ℕ) (result : Result R NoMemory) (w : Sight E) (q : S) → TookAtOnce answers recorded asks hears f v p most result w q → Took answers recorded asks hears f v p most result w q
-  took-loosely f v p most result w q h = record {
+  -- turns that were taken at once were taken, also if less had been seen before
+  pub took_later : {R : Type 0} (f : F) (u v : Sight E) (p : S) (most : ℕ) (result : Result R NoMemory) (w : Sight E) (q : S) → Unturned u v → TookAtOnce answers recorded asks hears f v p most result w q → Took answers recorded asks hears f u p most result w q
+  took_later f u v p most result w q less h = record {
     turns = h.turns;
     first = h.first;
     last = w;
-    saw = h.saw;
+    saw = unturned_on u v h.first less h.saw;
     walked = walked-loosely f h.first w h.turns h.walked;
     heard = h.heard;
     few = h.few;
     over = over-loosely result w most h.turns q h.over;
   }
 
-  -- turns that were taken one after another, and all of them
-  pub took-whole : {R : Type 0} (f : F) (v w : Sight E) (p q : S) (most n : ℕ) (y : R) → Went (Answered answers recorded f) asks hears v p n w q → n ≤ most → (asks q ≡ None) ⊎ (n ≡ most) → Took answers recorded asks hears f v p most (Ok y) w q
-  took-whole f v w p q most n y went few over = record {
-    turns = went.turns;
-    first = v;
-    last = w;
-    saw = unturned-same v;
-    walked = went.walked;
-    heard = went.heard;
-    few = omega (arith, went.count);
-    over = (refl, subst (λ (m : ℕ). (asks q ≡ None) ⊎ (m ≡ most)) (sym went.count) over);
-  }
+  pub took-loosely : {R : Type 0} (f : F) (v : Sight E) (p : S) (most : ℕ) (result : Result R NoMemory) (w : Sight E) (q : S) → TookAtOnce answers recorded asks hears f v p most result w q → Took answers recorded asks hears f v p most result w q
+  took-loosely f v p most result w q h = took_later f v v p most result w q (unturned-same v) h
 
-  pub took-part : {R : Type 0} (f : F) (v u w : Sight E) (p q : S) (most n : ℕ) (result : Result R NoMemory) (y : NoMemory) → result ≡ Err y → Went (Answered answers recorded f) asks hears v p n u q → n ≤ most → Unturned u w → Took answers recorded asks hears f v p most result w q
-  took-part {R} f v u w p q most n result y is went few rest = subst (λ (z : Result R NoMemory). Took answers recorded asks hears f v p most z w q) (sym is) record {
+  -- turns that were taken one after another
+  took : {R : Type 0} (f : F) (v u w : Sight E) (p q : S) (most n : ℕ) (result : Result R NoMemory) → Went (Answered answers recorded f) asks hears v p n u q → n ≤ most
+      → MatchResult result (λ _. (w ≡ u) × ((asks q ≡ None) ⊎ (n ≡ most))) (λ _. Unturned u w) → Took answers recorded asks hears f v p most result w q
+  took f v u w p q most n result went few over = record {
     turns = went.turns;
     first = v;
     last = u;
@@ -280,5 +226,12 @@ module _ {F E A T S : Type 0} (answers : F → List E → A → T → Type 0) (r
     walked = went.walked;
     heard = went.heard;
     few = omega (arith, went.count);
-    over = rest;
+    over = subst (λ (m : ℕ). MatchResult result (λ _. (w ≡ u) × ((asks q ≡ None) ⊎ (m ≡ most))) (λ _. Unturned u w)) (sym went.count) over;
   }
+
+  -- all of them, or so many before memory ran out
+  pub took-whole : {R : Type 0} (f : F) (v w : Sight E) (p q : S) (most n : ℕ) (y : R) → Went (Answered answers recorded f) asks hears v p n w q → n ≤ most → (asks q ≡ None) ⊎ (n ≡ most) → Took answers recorded asks hears f v p most (Ok y) w q
+  took-whole f v w p q most n y went few over = took f v w w p q most n (Ok y) went few (refl, over)
+
+  pub took-part : {R : Type 0} (f : F) (v u w : Sight E) (p q : S) (most n : ℕ) (result : Result R NoMemory) (y : NoMemory) → result ≡ Err y → Went (Answered answers recorded f) asks hears v p n u q → n ≤ most → Unturned u w → Took answers recorded asks hears f v p most result w q
+  took-part f v u w p q most n result y is went few rest = took f v u w p q most n result went few (subst (λ z. MatchResult z (λ _. (w ≡ u) × ((asks q ≡ None) ⊎ (n ≡ most))) (λ _. Unturned u w)) (sym is) rest)

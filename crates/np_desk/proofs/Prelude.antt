@@ -17,6 +17,7 @@ pub use Rattle.np_desk.specs.declared.view.Stage.TheVariants.{Has, Idle, Waits}
 pub use Rattle.np_text.specs.declared.memory.NoMemory.{NoMemory}
 pub use Rattle.std.proofs.Common.{Bool, List, ap, append-nil, append_assoc, arith, cond, drop, eq-eqb, eqb, false, get_or, inl, inr, le-ltb, length, length-append, lt-ltb, ne_eqb, not, refl, rules, set, subst, suc, sym, true, zero, zero-add, ℕ, [], ⊎_elim, ◌*◌, ◌++◌, ◌+◌, ◌-◌, ◌<◌, ◌^◌, ◌∙◌, ◌∷◌, ◌≡◌, ◌≢◌, ◌≤◌}
 pub use Rattle.std.proofs.Math.Nat.{pow-suc}
+pub use Rattle.std.proofs.lemmas.Bool.Decides.{nat_tests}
 pub use Rattle.std.proofs.lemmas.Option.{IfSome_then}
 pub use Rattle.std.proofs.lemmas.Result.{err_from_is_err_and}
 pub use Rattle.std.specs.Prelude.{Err, IfOk, IfSome, MatchResult, None, Ok, Result, Some, nat_lt, ◌%◌, ◌⊎◌}

@@ -1,5 +1,5 @@
 -- the searches of janitors: one request or the jobs of requesters decide whether an event of a kind is useful
-use Rattle.np_janitor.proofs.Prelude.{All-get_or, AllByRecursion, Bool, Chooses, ChoosesFinish, ChoosesOf, ChoosesOfAny, ChoosesRelease, Configuration, Done, Event, EventKind, IsReached, IsSound, IsUseful, Janitor, Job, JobId, JobKind, JobRecord, List, NodeKind, None, NoneFinished, NoneOf, NoneOpens, NoneReleased, Ok, Option, Phase, PoolId, REQUESTERS, RequestEntry, RequestId, RequestKind, RequestRecord, Requester, RequesterId, Role, SessionId, Some, State, [], after_release, among, and_from, and_parts, ap, arith, before_fail, eq-eqb, false, false-apart, first_declined_by_all, first_unheld_pending, get_or, get_or_from_slice_get, has_some_handle, holder, is_asked, is_current, is_declined_by_all, is_failed, is_finishable, is_job_to_finish, is_none, is_ok, is_pending, is_pending_by, is_pool, is_requested, is_some, is_stopped, is_unheld_pending, is_using, janitor, janitor_order, job_event, job_is, job_to_finish, judge, kept-is, kinds-choose, length, lock_pending, made-by, maker, maker_of, may_finish, nat_tests, none-is, ok-is, on-check, on-found, on-given, on-need, on-not, on-vacant, option_and_then, option_map, option_map_or, passes, refl, request_entry, request_holder, request_in, request_state_of, requester_or_janitor, row-of, row_holds, slice_get, slice_get_within, some-unless, subst, sym, true, undeclined, useful-passes, ℕ, ◌&&◌, ◌++◌, ◌<◌, ◌==◌, ◌||◌, ◌∙◌, ◌∷◌, ◌≡◌, ◌≤◌}
+use Rattle.np_janitor.proofs.Prelude.{All-get_or, AllByRecursion, Bool, Chooses, ChoosesOf, ChoosesOfAny, Configuration, Done, Event, EventKind, IsReached, IsSound, IsUseful, Janitor, Job, JobId, JobKind, JobRecord, NodeKind, None, NoneFinished, NoneOf, NoneOpens, NoneReleased, Ok, Option, Phase, PoolId, REQUESTERS, RequestEntry, RequestId, RequestKind, RequestRecord, Requester, RequesterId, Role, SessionId, Some, State, [], among, and_from, and_parts, ap, arith, before_fail, eq-eqb, false, false-apart, first_declined_by_all, first_unheld_pending, get_or, get_or_from_slice_get, has_some_handle, holder, is_asked, is_current, is_declined_by_all, is_failed, is_finishable, is_job_to_finish, is_none, is_pending, is_pending_by, is_pool, is_requested, is_some, is_stopped, is_unheld_pending, is_using, janitor, janitor_order, job_event, job_is, job_to_finish, judge, kept-is, kinds-choose, length, lock_pending, made-by, maker, maker_of, may_finish, nat_tests, none-is, ok-is, on-check, on-found, on-given, on-need, on-not, on-vacant, option_and_then, option_map, option_map_or, passes, refl, request_entry, request_holder, request_in, request_state_of, requester_or_janitor, row-of, slice_get, slice_get_within, some-unless, subst, sym, true, undeclined, useful-passes, ℕ, ◌&&◌, ◌<◌, ◌==◌, ◌||◌, ◌∙◌, ◌≡◌}
 use Rattle.np_janitor.proofs.Nodes.{first-request, maker-is}
 
 -- # one request decides whether an event of a kind is useful
@@ -12,15 +12,11 @@ pub record IsFirstPassing (c : Configuration) (s : State) (role : Role) (event :
 
 module _ (c : Configuration) (s : State) (role : Role) (session : SessionId) (current : is_current role session s ≡ true) (event : SessionId → RequestId → Event) (makes : (by : SessionId) (r : RequestId) → maker_of (event by r) ≡ Some by) where
   module _ (first : Option RequestId) (one : (r : RequestId) → IsUseful c s role (event session r) → IsFirstPassing c s role (event session) first) where
-    first-of : (other : SessionId) (r : RequestId) → IsUseful c s role (event other r) → IsFirstPassing c s role (event session) first
-    first-of other r useful =
-        let same : other ≡ session = made-by c s role session current other (event other r) (makes other r) useful in
-        one r (subst (λ (x : SessionId). IsUseful c s role (event x r)) same useful)
-
     -- if there is no such request, or the first is refused, none of the events is useful
     pub none-passes : (o : Option RequestId) → first ≡ o → option_map_or (λ r. passes c s role (event session r)) o false ≡ false → (other : SessionId) (r : RequestId) → IsUseful c s role (event other r) → ⊥
     none-passes o is refused other r useful =
-        let found = first-of other r useful in
+        let mine : other ≡ session = made-by c s role session current other (event other r) (makes other r) useful in
+        let found = one r (subst (λ (x : SessionId). IsUseful c s role (event x r)) mine useful) in
         let same : o ≡ Some found.id = sym is ∙ found.is in
         let no : passes c s role (event session found.id) ≡ false = rw same at refused in
         let yes : passes c s role (event session found.id) ≡ true = found.passes in
@@ -30,16 +26,16 @@ module _ (c : Configuration) (s : State) (role : Role) (session : SessionId) (cu
 
 module _ (c : Configuration) (s : State) (session : SessionId) where
   -- what the machine tests before a janitor fails the request
-  record IsFailed (r : RequestId) : Type 0 where
-    pool : PoolId
-    made : janitor s session ≡ Ok pool
-    request : RequestRecord
-    there : request_in r s.requests ≡ Some request
-    requested : is_requested request.state ≡ true
-    some : (length s.registrations == 0) ≡ false
-    none : (undeclined s.registrations request == 0) ≡ true
+  pub record IsFailed (r : RequestId) : Type 0 where
+    pub pool : PoolId
+    pub made : janitor s session ≡ Ok pool
+    pub request : RequestRecord
+    pub there : request_in r s.requests ≡ Some request
+    pub requested : is_requested request.state ≡ true
+    pub some : (length s.registrations == 0) ≡ false
+    pub none : (undeclined s.registrations request == 0) ≡ true
 
-  fail-is : (r : RequestId) (what : Done) → judge c s (Event.FailDeclined session r) ≡ Ok what → IsFailed r
+  pub fail-is : (r : RequestId) (what : Done) → judge c s (Event.FailDeclined session r) ≡ Ok what → IsFailed r
   fail-is r what is =
       on-given (janitor s session) _ what is (λ p made rest.
       on-found (request_in r s.requests) _ _ what rest (λ request there rest.
@@ -47,9 +43,6 @@ module _ (c : Configuration) (s : State) (session : SessionId) where
       on-not (length s.registrations == 0) _ _ what rest (λ some rest.
       on-need (undeclined s.registrations request == 0) _ _ what rest (λ none rest.
       record { pool = p; made = made; request = request; there = there; requested = requested; some = some; none = none })))))
-
-  fails : (r : RequestId) → IsFailed r → is_ok (judge c s (Event.FailDeclined session r)) ≡ true
-  fails r is = rw (is.made, is.there, is.requested, is.some, is.none) refl
 
   abbrev declined_by_all : RequestEntry → Bool
   declined_by_all e = is_declined_by_all s e.kept
@@ -66,32 +59,20 @@ module _ (c : Configuration) (s : State) (session : SessionId) where
         let passes : declined_by_all row.0 ≡ true = subst (λ (request : RequestRecord). is_declined_by_all s request ≡ true) (sym own) (and_from (is_requested failed.request.state) (undeclined s.registrations failed.request == 0) failed.requested failed.none) in
         let first = first-request c s reached declined_by_all r row.0 row.1 passes in
         let parts = and_parts (is_requested first.row.kept.state) (undeclined s.registrations first.row.kept == 0) first.passes in
-        let may = fails first.row.id (record {
-          pool = failed.pool;
-          made = failed.made;
-          request = first.row.kept;
-          there = ap (option_map (λ (e : RequestEntry). e.kept)) first.there;
-          requested = parts.0;
-          some = failed.some;
-          none = parts.1;
-        }) in
+        let there : request_in first.row.id s.requests ≡ Some first.row.kept = ap (option_map (λ (e : RequestEntry). e.kept)) first.there in
         record {
           id = first.row.id;
           is = rw failed.some (ap (option_map (λ (e : RequestEntry). e.id)) first.is);
-          passes = and_from (is_ok (judge c s (Event.FailDeclined session first.row.id))) true may refl;
+          passes = rw (failed.made, there, parts.0, failed.some, parts.1) refl;
         }
 
     module _ (current : is_current (Janitor p) session s ≡ true) where
       module _ (reached : IsReached c s) where
-        -- a useful failing names such a request
-        useful-failing-first : (r : RequestId) → IsUseful c s (Janitor p) (Event.FailDeclined session r) → IsFirstDeclined
-        useful-failing-first r useful =
-            let answer = ok-is (judge c s (Event.FailDeclined session r)) useful.accepted in
-            first-declined reached r (fail-is r answer.0 answer.1)
-
         -- if there is no such request, or the first is refused, none is failed
         pub first-refused : (o : Option RequestId) → first_declined_by_all s ≡ o → option_map_or (λ r. passes c s (Janitor p) (Event.FailDeclined session r)) o false ≡ false → NoneOf c s (Janitor p) (EventKind.Request RequestKind.FailDeclined)
-        first-refused o found refused = none-passes c s (Janitor p) session current (λ by r. Event.FailDeclined by r) (λ by r. refl) (first_declined_by_all s) useful-failing-first o found refused
+        first-refused o found refused =
+            none-passes c s (Janitor p) session current (λ by r. Event.FailDeclined by r) (λ by r. refl) (first_declined_by_all s)
+            (λ r useful. let answer = ok-is (judge c s (Event.FailDeclined session r)) useful.accepted in first-declined reached r (fail-is r answer.0 answer.1)) o found refused
 
 -- # the first request that is pending by its pool and that nobody holds decides whether a janitor locks one
 
@@ -126,18 +107,11 @@ module _ (c : Configuration) (s : State) (session : SessionId) (p : PoolId) (cur
 
   -- ## the lock of any such request passes
 
-  lock-accepted : (r : RequestId) (e : RequestEntry) → request_entry r s.requests ≡ Some e → is_pending e.kept.state ≡ true → holder e.queue ≡ None → is_ok (judge c s (Event.LockRequest session r)) ≡ true
-  lock-accepted r e there pending free = rw (made, there, pending, free) refl
-
-  lock-row : (r : RequestId) (e : RequestEntry) → request_entry r s.requests ≡ Some e → is_pending_by p e.kept ≡ true → row_holds c s (Janitor p) (Event.LockRequest session r) ≡ true
-  lock-row r e there pending = rw there pending
-
   lock-passes : (r : RequestId) (e : RequestEntry) → IsUnheld r e → passes c s (Janitor p) (Event.LockRequest session r) ≡ true
   lock-passes r e is =
       let parts = and_parts (is_pending_by p e.kept) (is_none (holder e.queue)) is.unheld in
       let pending = and_parts (is_pending e.kept.state) (is_pool p e.kept.pool) parts.0 in
-      and_from (is_ok (judge c s (Event.LockRequest session r))) (row_holds c s (Janitor p) (Event.LockRequest session r))
-      (lock-accepted r e is.there pending.0 (none-is (holder e.queue) parts.1)) (lock-row r e is.there parts.0)
+      rw (made, is.there, pending.0, pending.1, none-is (holder e.queue) parts.1) refl
 
   -- ## the first such request
 
@@ -157,16 +131,20 @@ module _ (c : Configuration) (s : State) (session : SessionId) (p : PoolId) (cur
     pub unheld-refused : (o : Option RequestId) → first_unheld_pending p s ≡ o → option_map_or (λ r. passes c s (Janitor p) (Event.LockRequest session r)) o false ≡ false → NoneOf c s (Janitor p) (EventKind.Request RequestKind.Lock)
     unheld-refused o found refused = none-passes c s (Janitor p) session current (λ by r. Event.LockRequest by r) (λ by r. refl) (first_unheld_pending p s) useful-lock-first o found refused
 
+-- # what a search that found nothing says
+
+pub none-chosen : (Says : Option Event → Type 0) (o : Option Event) → is_some o ≡ false → Says o → Says None
+none-chosen Says None is none = none
+none-chosen Says (Some e) is none = absurd cc
+
 -- # every job is a job of a requester, so that what is useful for none of them is useful for no job
 
 module _ (c : Configuration) where
   few : IsSound c → (j : JobId) (job : Job) → slice_get c.jobs j.0 ≡ Some job → job.requester.0 < REQUESTERS
   few sound j job row =
-      let at : j.0 < length c.jobs = slice_get_within c.jobs j.0 job row in
-      let owned : (get_or c.jobs j.0 job).requester.0 < length c.requesters = All-get_or (λ (x : Job). x.requester.0 < length c.requesters) c.jobs j.0 job at sound.demand.owned in
+      let owned : (get_or c.jobs j.0 job).requester.0 < length c.requesters = All-get_or (λ (x : Job). x.requester.0 < length c.requesters) c.jobs j.0 job (slice_get_within c.jobs j.0 job row) sound.demand.owned in
       let low : job.requester.0 < length c.requesters = subst (λ (x : Job). x.requester.0 < length c.requesters) (get_or_from_slice_get c.jobs j.0 job job row) owned in
-      let most : length c.requesters ≤ REQUESTERS = sound.few_requesters in
-      omega (arith, low, most)
+      omega (arith, low, sound.few_requesters)
 
   own : (j : JobId) (job : Job) → slice_get c.jobs j.0 ≡ Some job → job_is j c (λ row. row.requester.0 == job.requester.0) ≡ true
   own j job row = rw (row, eq-eqb job.requester.0 job.requester.0 refl) refl
@@ -215,11 +193,6 @@ module _ (c : Configuration) (s : State) (p : PoolId) where
       let holds : passes c s (Janitor p) (Event.Finish session j) ≡ true = useful-passes c s (Janitor p) (Event.Finish session j) mine in
       cc
 
-  -- a requester for which nothing was found has no such finish
-  pub found-none : (q : RequesterId) (o : Option Event) → is_some o ≡ false → ChoosesFinish c s p q o → NoneFinished c s p q
-  found-none q None is none = none
-  found-none q (Some e) is useful = absurd cc
-
   -- if for no requester a finish of its jobs is useful, none is
   pub finish-none : IsSound c → ((k : ℕ) → k < REQUESTERS → NoneFinished c s p (record { 0 = k })) → NoneOf c s (Janitor p) (EventKind.Job JobKind.Finish)
   finish-none sound none = none-of c s p JobKind.Finish (λ j job. is_stopped c (Requester job.requester) s) sound (λ by j useful. useful.row) none
@@ -227,57 +200,34 @@ module _ (c : Configuration) (s : State) (p : PoolId) where
 -- # if no release of a job of any requester is useful, none is
 
 module _ (c : Configuration) (s : State) (p : PoolId) where
-  -- a requester for which nothing was found has no such release
-  pub none-found : (q : RequesterId) (o : Option Event) → is_some o ≡ false → ChoosesRelease c s (Janitor p) q o → NoneReleased c s (Janitor p) q
-  none-found q None is none = none
-  none-found q (Some e) is useful = absurd cc
-
   pub release-none : IsSound c → ((k : ℕ) → k < REQUESTERS → NoneReleased c s (Janitor p) (record { 0 = k })) → NoneOf c s (Janitor p) (EventKind.Job JobKind.Release)
   release-none sound none = none-of c s p JobKind.Release (λ j job. has_some_handle s j job) sound (λ by j useful. useful.row) none
 
 -- # a janitor's useful events are of the kinds in the order
 
-module _ (c : Configuration) (s : State) (p : PoolId) (opens : NoneOpens c s (Janitor p)) (all : AllByRecursion (NoneOf c s (Janitor p)) janitor_order) where
-  useless : (e : Event) → IsUseful c s (Janitor p) e → ⊥
-  useless (Event.OpenSession role) useful = opens role useful
-  useless (Event.Gone session n) useful = all.0 session n useful
-  useless (Event.FreeNode session n) useful = all.1.0 session n useful
-  useless (Event.MarkDeleting session n) useful = all.1.1.0 session n useful
-  useless (Event.UnlockNode session n) useful = all.1.1.1.0 session n useful
-  useless (Event.Reset session r) useful = all.1.1.1.1.0 session r useful
-  useless (Event.UnlockRequest session r) useful = all.1.1.1.1.1.0 session r useful
-  useless (Event.FailDeclined session r) useful = all.1.1.1.1.1.1.0 session r useful
-  useless (Event.Finish session j) useful = all.1.1.1.1.1.1.1.0 session j useful
-  useless (Event.Release session j) useful = all.1.1.1.1.1.1.1.1.0 session j useful
-  useless (Event.LockRequest session r) useful = all.1.1.1.1.1.1.1.1.1.0 session r useful
-  useless (Event.LockNode session n) useful = all.1.1.1.1.1.1.1.1.1.1.0 session n useful
-  useless _ useful = false-apart useful.row
-
 pub janitor-law : (c : Configuration) (s : State) (p : PoolId) → NoneOpens c s (Janitor p) → AllByRecursion (NoneOf c s (Janitor p)) janitor_order → (e : Event) → IsUseful c s (Janitor p) e → ⊥
-janitor-law c s p opens all e useful = useless c s p opens all e useful
+janitor-law c s p opens all (Event.OpenSession role) useful = opens role useful
+janitor-law c s p opens all (Event.Gone session n) useful = all.0 session n useful
+janitor-law c s p opens all (Event.FreeNode session n) useful = all.1.0 session n useful
+janitor-law c s p opens all (Event.MarkDeleting session n) useful = all.1.1.0 session n useful
+janitor-law c s p opens all (Event.UnlockNode session n) useful = all.1.1.1.0 session n useful
+janitor-law c s p opens all (Event.Reset session r) useful = all.1.1.1.1.0 session r useful
+janitor-law c s p opens all (Event.UnlockRequest session r) useful = all.1.1.1.1.1.0 session r useful
+janitor-law c s p opens all (Event.FailDeclined session r) useful = all.1.1.1.1.1.1.0 session r useful
+janitor-law c s p opens all (Event.Finish session j) useful = all.1.1.1.1.1.1.1.0 session j useful
+janitor-law c s p opens all (Event.Release session j) useful = all.1.1.1.1.1.1.1.1.0 session j useful
+janitor-law c s p opens all (Event.LockRequest session r) useful = all.1.1.1.1.1.1.1.1.1.0 session r useful
+janitor-law c s p opens all (Event.LockNode session n) useful = all.1.1.1.1.1.1.1.1.1.1.0 session n useful
+janitor-law c s p opens all _ useful = false-apart useful.row
 
 -- ## one search after another
 
 module _ (c : Configuration) (s : State) (p : PoolId) where
-  -- nothing was found among the first kinds, and then false-apart of the others is useful
-  any-then : (first : List EventKind) (o : Option Event) → is_some o ≡ false → ChoosesOfAny c s (Janitor p) first o → (other : List EventKind) → AllByRecursion (NoneOf c s (Janitor p)) other → AllByRecursion (NoneOf c s (Janitor p)) (first ++ other)
-  any-then [] o fails found other rest = rest
-  any-then (kind ∷ first) None fails found other rest = (found.0, any-then first None fails found.1 other rest)
-  any-then (kind ∷ first) (Some e) fails found other rest = absurd cc
-
-  -- the same after the search of one kind
-  one-then : (kind : EventKind) (o : Option Event) → is_some o ≡ false → ChoosesOf c s (Janitor p) kind o → (other : List EventKind) → AllByRecursion (NoneOf c s (Janitor p)) other → AllByRecursion (NoneOf c s (Janitor p)) (kind ∷ other)
-  one-then kind None fails found other rest = (found, rest)
-  one-then kind (Some e) fails found other rest = absurd cc
-
   module _ (session : SessionId) (current : is_current (Janitor p) session s ≡ true) (before : Option Event) (first : ChoosesOfAny c s (Janitor p) before_fail before) (no_first : is_some before ≡ false) (fail : Option Event) (declined : ChoosesOf c s (Janitor p) (EventKind.Request RequestKind.FailDeclined) fail) (no_declined : is_some fail ≡ false) (finish : Option Event) (second : ChoosesOf c s (Janitor p) (EventKind.Job JobKind.Finish) finish) (no_second : is_some finish ≡ false) (release : Option Event) (third : ChoosesOf c s (Janitor p) (EventKind.Job JobKind.Release) release) (no_third : is_some release ≡ false) (lock : Option Event) (fourth : ChoosesOf c s (Janitor p) (EventKind.Request RequestKind.Lock) lock) (no_fourth : is_some lock ≡ false) where
     -- if nothing was found before, the last search decides
     pub last-chooses : (o : Option Event) → ChoosesOf c s (Janitor p) (EventKind.Node NodeKind.Lock) o → Chooses c s (Janitor p) o
     last-chooses None last =
+        let all = none-chosen (ChoosesOfAny c s (Janitor p) before_fail) before no_first first in
         kinds-choose c s (Janitor p) janitor_order (janitor-law c s p) session current None
-        (any-then before_fail before no_first first (EventKind.Request RequestKind.FailDeclined ∷ EventKind.Job JobKind.Finish ∷ EventKind.Job JobKind.Release ∷ after_release)
-        (one-then (EventKind.Request RequestKind.FailDeclined) fail no_declined declined (EventKind.Job JobKind.Finish ∷ EventKind.Job JobKind.Release ∷ after_release)
-        (one-then (EventKind.Job JobKind.Finish) finish no_second second (EventKind.Job JobKind.Release ∷ after_release)
-        (one-then (EventKind.Job JobKind.Release) release no_third third after_release
-        (one-then (EventKind.Request RequestKind.Lock) lock no_fourth fourth (EventKind.Node NodeKind.Lock ∷ []) (last, tt))))))
+        (all.0, (all.1.0, (all.1.1.0, (all.1.1.1.0, (all.1.1.1.1.0, (all.1.1.1.1.1.0, (none-chosen (ChoosesOf c s (Janitor p) (EventKind.Request RequestKind.FailDeclined)) fail no_declined declined, (none-chosen (ChoosesOf c s (Janitor p) (EventKind.Job JobKind.Finish)) finish no_second second, (none-chosen (ChoosesOf c s (Janitor p) (EventKind.Job JobKind.Release)) release no_third third, (none-chosen (ChoosesOf c s (Janitor p) (EventKind.Request RequestKind.Lock)) lock no_fourth fourth, (last, tt)))))))))))
     last-chooses (Some e) last = last

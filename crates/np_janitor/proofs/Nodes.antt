@@ -1,5 +1,5 @@
 -- nodes that janitors lock and clean up: it is enough to try those that are due first
-use Rattle.np_janitor.proofs.Prelude.{AllByRecursion, Bool, ChoosesOf, Configuration, Event, EventKind, IsFirst, IsFirstThatPasses, IsNumbered, IsReached, IsUseful, Janitor, List, NodeEntry, NodeId, NodeKind, NodeRecord, NodeState, None, Ok, Option, PoolId, RequestEntry, RequestId, Rises, Role, SessionFacts, SessionId, Some, StandsIn, State, UnheldKind, [], all-at, all-filter_to, all-find, all-from_at, and_from, and_parts, ap, arith, by_bool, cond, current-speaks, due_after, due_at, due_of, eq-eqb, false, filter, find, find-passes, first_due, fold, holder, if◌then◌else◌, invariant-Runs, is_cleanable, is_cleanable_as, is_current, is_id_before, is_maker_of, is_node_of, is_none, is_ok, is_old_hold, is_old_ready, is_past, is_paused, is_some, is_unclaimed, is_unheld, is_unheld_as, judge, length, lock_due_at, made-by, maker, maker_of, most, nat_lt, nat_tests, node-apart, node_entry, none-find, not, not-zero, option_and_then, option_map, option_map_or, or_left, or_right, passes, passes-useful, passing, passing-is, passing-none, ready_age, refl, request-apart, request-itself, request_entry, row_holds, same-role, same_kind, same_pool, same_request, same_role, session_of, slice_get, some-unless, sooner, soonest, standing, subst, suc, sym, tried_kinds, true, true≢false, unheld_kind, unheld_kind_as, zero, ℕ, ◌&&◌, ◌<◌, ◌==◌, ◌||◌, ◌∙◌, ◌∷◌, ◌≡◌, ◌≤◌}
+use Rattle.np_janitor.proofs.Prelude.{AllByRecursion, Bool, ChoosesOf, Configuration, Event, EventKind, IsFirst, IsFirstThatPasses, IsNumbered, IsReached, IsUseful, Janitor, List, NodeEntry, NodeId, NodeKind, NodeRecord, NodeState, None, Ok, Option, PoolId, RequestEntry, RequestId, Rises, Role, SessionFacts, SessionId, Some, StandsIn, State, UnheldKind, [], all-at, all-filter_to, all-find, all-from_at, and_from, and_parts, ap, arith, by_bool, cond, current-speaks, due_after, due_at, due_of, eq-eqb, false, filter, find, find-passes, first_due, fold, holder, if◌then◌else◌, invariant-Runs, is_cleanable, is_cleanable_as, is_current, is_id_before, is_maker_of, is_node_of, is_none, is_old_hold, is_old_ready, is_past, is_paused, is_some, is_unclaimed, is_unheld, is_unheld_as, length, lock_due_at, made-by, maker, maker_of, most, nat_lt, nat_tests, node-apart, node_entry, none-find, not, not-zero, option_and_then, option_map, option_map_or, or_left, or_right, passes, passes-useful, passing, passing-is, passing-none, ready_age, refl, request-apart, request-itself, request_entry, same-role, same_kind, same_pool, same_request, same_role, session_of, slice_get, some-unless, sooner, soonest, subst, suc, sym, tried_kinds, true, true≢false, unheld_kind, unheld_kind_as, zero, ℕ, ◌&&◌, ◌<◌, ◌==◌, ◌||◌, ◌∙◌, ◌∷◌, ◌≡◌, ◌≤◌}
 
 -- # rows by their ids, of which no two are the same
 
@@ -12,26 +12,20 @@ module _ {X : Type 0} (before : X → X → Bool) (p : X → Bool) (x : X) (pass
       let fails : p y ≡ false = earlier y (all-at (λ (z : X). before y z ≡ true) xs i x rises.0 there) in
       rw fails (found-at xs i there rises.1)
 
-nodes-found : (rows : List NodeEntry) → Rises (λ a b. nat_lt a.id.0 b.id.0) rows → AllByRecursion (λ e. node_entry e.id rows ≡ Some e) rows
-nodes-found rows rise =
-    all-from_at (λ (e : NodeEntry). node_entry e.id rows ≡ Some e) rows
-    (λ i e there. found-at (λ (a b : NodeEntry). nat_lt a.id.0 b.id.0) (λ x. x.id.0 == e.id.0) e (eq-eqb e.id.0 e.id.0 refl) (λ y order. node-apart y.id e.id order) rows i there rise)
-
-requests-found : (rows : List RequestEntry) → Rises (λ a b. is_id_before a.id b.id) rows → AllByRecursion (λ e. request_entry e.id rows ≡ Some e) rows
-requests-found rows rise =
-    all-from_at (λ (e : RequestEntry). request_entry e.id rows ≡ Some e) rows
-    (λ i e there. found-at (λ (a b : RequestEntry). is_id_before a.id b.id) (λ x. same_request x.id e.id) e (request-itself e.id) (λ y order. request-apart y.id e.id order) rows i there rise)
-
 module _ (c : Configuration) (s : State) (reached : IsReached c s) where
   numbered : IsNumbered s
   numbered = (invariant-Runs c reached.journal s reached.runs).numbered
 
   -- in a state that a run reaches each node and each request is found by its id
   pub each-node : AllByRecursion (λ e. node_entry e.id s.nodes ≡ Some e) s.nodes
-  each-node = nodes-found s.nodes numbered.nodes_rise
+  each-node =
+      all-from_at (λ (e : NodeEntry). node_entry e.id s.nodes ≡ Some e) s.nodes
+      (λ i e there. found-at (λ (a b : NodeEntry). nat_lt a.id.0 b.id.0) (λ x. x.id.0 == e.id.0) e (eq-eqb e.id.0 e.id.0 refl) (λ y order. node-apart y.id e.id order) s.nodes i there numbered.nodes_rise)
 
   pub each-request : AllByRecursion (λ e. request_entry e.id s.requests ≡ Some e) s.requests
-  each-request = requests-found s.requests numbered.requests_rise
+  each-request =
+      all-from_at (λ (e : RequestEntry). request_entry e.id s.requests ≡ Some e) s.requests
+      (λ i e there. found-at (λ (a b : RequestEntry). is_id_before a.id b.id) (λ x. same_request x.id e.id) e (request-itself e.id) (λ y order. request-apart y.id e.id order) s.requests i there numbered.requests_rise)
 
   -- the first request that passes the test, with its row
   pub record IsFirstRequest (such : RequestEntry → Bool) : Type 0 where
@@ -70,40 +64,17 @@ module _ (c : Configuration) (kind : UnheldKind) (P : NodeEntry → Type 0) wher
     row : NodeEntry
     is : fold (sooner c kind) (Some best) rows ≡ Some row
     such : P row
-    first : NoLater row best
-    least : AllByRecursion (NoLater row) rows
+    least : AllByRecursion (NoLater row) (best ∷ rows)
 
   best-by : (best e : NodeEntry) (rows : List NodeEntry) (b : Bool) → nat_lt (due_of c kind e.kept) (due_of c kind best.kept) ≡ b → IsBest e rows → IsBest best rows → IsBest best (e ∷ rows)
-  best-by best e rows true less from_row from_best = record {
-    row = from_row.row;
-    is = rw less from_row.is;
-    such = from_row.such;
-    first = grind (arith, nat_tests, less, from_row.first);
-    least = (from_row.first, from_row.least);
-  }
-  best-by best e rows false more from_row from_best = record {
-    row = from_best.row;
-    is = rw more from_best.is;
-    such = from_best.such;
-    first = from_best.first;
-    least = (grind (arith, nat_tests, more, from_best.first), from_best.least);
-  }
+  best-by best e rows true less from_row from_best =
+      record { row = from_row.row; is = rw less from_row.is; such = from_row.such; least = (grind (arith, nat_tests, less, from_row.least.0), from_row.least) }
+  best-by best e rows false more from_row from_best =
+      record { row = from_best.row; is = rw more from_best.is; such = from_best.such; least = (from_best.least.0, (grind (arith, nat_tests, more, from_best.least.0), from_best.least.1)) }
 
   best-of : (best : NodeEntry) (rows : List NodeEntry) → P best → AllByRecursion P rows → IsBest best rows
-  best-of best [] good all = record { row = best; is = refl; such = good; first = omega arith; least = tt }
+  best-of best [] good all = record { row = best; is = refl; such = good; least = (omega arith, tt) }
   best-of best (e ∷ rows) good all = best-by best e rows (nat_lt (due_of c kind e.kept) (due_of c kind best.kept)) refl (best-of e rows all.0 all.1) (best-of best rows good all.1)
-
-  -- the soonest of the rows
-  record IsSoonest (rows : List NodeEntry) : Type 0 where
-    row : NodeEntry
-    is : soonest c kind rows ≡ Some row
-    such : P row
-    least : AllByRecursion (NoLater row) rows
-
-  soonest-of : (e : NodeEntry) (rows : List NodeEntry) → AllByRecursion P (e ∷ rows) → IsSoonest (e ∷ rows)
-  soonest-of e rows all =
-      let best = best-of e rows all.0 all.1 in
-      record { row = best.row; is = best.is; such = best.such; least = (best.first, best.least) }
 
   -- the soonest of those that pass, if one does
   pub record IsDueFirst (p : NodeEntry → Bool) (rows : List NodeEntry) (other : NodeEntry) : Type 0 where
@@ -116,7 +87,7 @@ module _ (c : Configuration) (kind : UnheldKind) (P : NodeEntry → Type 0) wher
   first-by p q rows [] other same all there passes =
       absurd (all-find (λ (e : NodeEntry). p e ≡ true → ⊥) q rows other (passing-all (λ (e : NodeEntry). ⊥) p rows (subst (λ (xs : List NodeEntry). AllByRecursion (λ e. ⊥) xs) (sym same) tt)) there passes)
   first-by p q rows (e ∷ kept) other same all there passes =
-      let best = soonest-of e kept all in
+      let best = best-of e kept all.0 all.1 in
       record {
         row = best.row;
         is = ap (λ (xs : List NodeEntry). soonest c kind xs) same ∙ best.is;
@@ -139,38 +110,19 @@ or-cases false u is one other = other is
 
 -- ## past an age, and the tick from which on
 
-past-due : (age since tick : ℕ) → tick ≤ most → is_past age since tick ≡ true → due_after age since ≤ tick
-past-due zero since tick low past = absurd cc
-past-due (suc age) since tick low past = grind (arith, nat_tests, past)
-
-due-past : (age since tick : ℕ) → tick ≤ most → due_after age since ≤ tick → is_past age since tick ≡ true
-due-past zero since tick low due = absurd (omega (arith, low, due))
-due-past (suc age) since tick low due = grind (arith, nat_tests, due)
-
 -- what is due no later is past its age, if the other is
 past-still : (age since other_age other_since tick : ℕ) → tick ≤ most → due_after other_age other_since ≤ due_after age since → is_past age since tick ≡ true → is_past other_age other_since tick ≡ true
-past-still age since other_age other_since tick low no_later past =
-    let due : due_after age since ≤ tick = past-due age since tick low past in
-    due-past other_age other_since tick low (omega (arith, no_later, due))
+past-still zero since other_age other_since tick low no_later past = absurd cc
+past-still (suc age) since zero other_since tick low no_later past = grind (arith, nat_tests, low, no_later, past)
+past-still (suc age) since (suc other_age) other_since tick low no_later past = grind (arith, nat_tests, no_later, past)
 
 -- ## kinds
 
 kind-self : (kind : UnheldKind) → same_kind kind kind ≡ true
-kind-self UnheldKind.Free = refl
-kind-self UnheldKind.LeftOver = refl
-kind-self UnheldKind.Hold = refl
-kind-self UnheldKind.Abandoned = refl
-
-kind-is : (one other : UnheldKind) → same_kind one other ≡ true → other ≡ one
-kind-is UnheldKind.Free UnheldKind.Free same = refl
-kind-is UnheldKind.LeftOver UnheldKind.LeftOver same = refl
-kind-is UnheldKind.Hold UnheldKind.Hold same = refl
-kind-is UnheldKind.Abandoned UnheldKind.Abandoned same = refl
-kind-is one other same = absurd cc
+kind-self kind = grind arith
 
 kind-of : (kind : UnheldKind) (o : Option UnheldKind) → option_map_or (same_kind kind) o false ≡ true → o ≡ Some kind
-kind-of kind None is = absurd cc
-kind-of kind (Some other) is = ap Some (kind-is kind other is)
+kind-of kind o is = grind (arith, nat_tests)
 
 -- the kind of a ready node
 abbrev ready_kind : Option RequestId → Bool → Option UnheldKind
@@ -182,13 +134,9 @@ ready-of (Some r) true go free is = (UnheldKind.LeftOver, refl)
 ready-of (Some r) false go free is = absurd cc
 
 module _ (c : Configuration) (s : State) where
-  unallocated : (request : Option RequestId) → is_some request ≡ false → is_none (standing s request) ≡ true
-  unallocated None none = refl
-  unallocated (Some r) none = absurd cc
-
   -- a node that can be cleaned up is of a kind
   kind-as : (k : NodeRecord) (state : NodeState) → is_cleanable_as c s k state ≡ true → (kind : UnheldKind) × (unheld_kind_as state (is_unclaimed s k) k ≡ Some kind)
-  kind-as k NodeState.Ready is = ready-of k.allocated_to (is_unclaimed s k) (is_old_ready c s k || is_paused c s k.pool) (unallocated k.allocated_to) is
+  kind-as k NodeState.Ready is = ready-of k.allocated_to (is_unclaimed s k) (is_old_ready c s k || is_paused c s k.pool) (λ none. grind (arith, nat_tests, none)) is
   kind-as k NodeState.Hold is = (UnheldKind.Hold, refl)
   kind-as k _ is = (UnheldKind.Abandoned, refl)
 
@@ -259,9 +207,12 @@ module _ (c : Configuration) (s : State) where
           }
 
       module _ (reached : IsReached c s) where
-        first-of : (kind : UnheldKind) (n : NodeId) (e : NodeEntry) → unheld_kind (is_unclaimed s e.kept) e.kept ≡ Some kind → IsToClean n e → IsFirstToClean
-        first-of kind n e kind_is to_clean =
-            let passes : is_unheld_as s p kind e ≡ true = and_from (is_unheld p e) (of_kind kind e) to_clean.free (ap (λ (o : Option UnheldKind). option_map_or (same_kind kind) o false) kind_is ∙ kind-self kind) in
+        -- if a node is to be cleaned up, so is one that is due first
+        pub first-to_clean : (n : NodeId) (e : NodeEntry) → IsToClean n e → IsFirstToClean
+        first-to_clean n e to_clean =
+            let of = kind-as e.kept e.kept.state to_clean.clean in
+            let kind = of.0 in
+            let passes : is_unheld_as s p kind e ≡ true = and_from (is_unheld p e) (of_kind kind e) to_clean.free (ap (λ (o : Option UnheldKind). option_map_or (same_kind kind) o false) of.1 ∙ kind-self kind) in
             let rows : AllByRecursion (IsRow kind) (filter (is_unheld_as s p kind) s.nodes) =
             all-filter_to (λ (x : NodeEntry). node_entry x.id s.nodes ≡ Some x) (IsRow kind) (is_unheld_as s p kind) s.nodes (λ x is there. record { there = there; passes = is }) (each-node c s reached) in
             let first = due-first c kind (IsRow kind) (is_unheld_as s p kind) (λ x. x.id.0 == n.0) s.nodes e rows to_clean.there passes in
@@ -269,14 +220,8 @@ module _ (c : Configuration) (s : State) where
               kind = kind;
               row = first.row;
               is = ap (option_map (λ (x : NodeEntry). x.id)) first.is;
-              to_clean = row-cleans kind n e first.row kind_is to_clean first.such first.no_later;
+              to_clean = row-cleans kind n e first.row of.1 to_clean first.such first.no_later;
             }
-
-        -- if a node is to be cleaned up, so is one that is due first
-        pub first-to_clean : (n : NodeId) (e : NodeEntry) → IsToClean n e → IsFirstToClean
-        first-to_clean n e to_clean =
-            let of = kind-as e.kept e.kept.state to_clean.clean in
-            first-of of.0 n e of.1 to_clean
 
 -- # a role's current session, and that the machine takes its events for the role's
 
@@ -302,12 +247,9 @@ module _ (s : State) (role : Role) (session : SessionId) where
         speaks = parts.1;
       }
 
-  maker-made-by : IsOf → maker s session ≡ Ok role
-  maker-made-by who = rw (who.known, who.live, who.speaks, who.same) refl
-
   -- the machine takes its events for the role's
   pub maker-is : is_current role session s ≡ true → maker s session ≡ Ok role
-  maker-is current = maker-made-by (is-of current)
+  maker-is current = let who = is-of current in rw (who.known, who.live, who.speaks, who.same) refl
 
 -- # if a janitor may lock a node, it may lock one of those that are due first
 
@@ -315,8 +257,7 @@ module _ (c : Configuration) (s : State) (p : PoolId) (session : SessionId) (cur
   -- ## what passes at a place is useful
 
   lock-maker : (o : Option NodeId) (e : Event) → option_map (λ n. Event.LockNode session n) o ≡ Some e → maker_of e ≡ Some session
-  lock-maker None e is = absurd cc
-  lock-maker (Some n) e is = let same : Event.LockNode session n ≡ e = cc in ap maker_of (sym same)
+  lock-maker o e is = grind (arith, is)
 
   lock-useful : (e : Event) → IsFirst c s (Janitor p) (length tried_kinds) (lock_due_at c s session p) e → IsUseful c s (Janitor p) e
   lock-useful e first =
@@ -350,16 +291,10 @@ module _ (c : Configuration) (s : State) (p : PoolId) (session : SessionId) (cur
       (e, record { there = there; free = and_from (is_node_of p e.kept) (is_none (holder e.queue)) own.0 parts.1; clean = own.1 })
 
   -- a lock of such a row passes
-  lock-row : (n : NodeId) (e : NodeEntry) → IsToClean c s p n e → row_holds c s (Janitor p) (Event.LockNode session n) ≡ true
-  lock-row n e is =
+  lock-passes : (n : NodeId) (e : NodeEntry) → IsToClean c s p n e → passes c s (Janitor p) (Event.LockNode session n) ≡ true
+  lock-passes n e is =
       let parts = and_parts (is_node_of p e.kept) (is_none (holder e.queue)) is.free in
-      rw (is.there, parts.0, is.clean, parts.1) refl
-
-  made : maker s session ≡ Ok (Janitor p)
-  made = maker-is s (Janitor p) session current
-
-  lock-accepted : (n : NodeId) (e : NodeEntry) → node_entry n s.nodes ≡ Some e → is_ok (judge c s (Event.LockNode session n)) ≡ true
-  lock-accepted n e there = rw (made, there) refl
+      rw (maker-is s (Janitor p) session current, is.there, parts.0, is.clean, parts.1) refl
 
   module _ (reached : IsReached c s) (low : s.tick ≤ most) where
     lock-named : (n : NodeId) → IsUseful c s (Janitor p) (Event.LockNode session n) → IsNamed
@@ -372,7 +307,7 @@ module _ (c : Configuration) (s : State) (p : PoolId) (session : SessionId) (cur
           within = place.within;
           id = first.row.id;
           there = ap (λ (o : Option UnheldKind). option_and_then (λ kind. first_due c p kind s) o) place.there ∙ first.is;
-          passes = and_from (is_ok (judge c s (Event.LockNode session first.row.id))) (row_holds c s (Janitor p) (Event.LockNode session first.row.id)) (lock-accepted first.row.id first.row first.to_clean.there) (lock-row first.row.id first.row first.to_clean);
+          passes = lock-passes first.row.id first.row first.to_clean;
         }
 
     none-useful : ((at : ℕ) → at < length tried_kinds → passing c s (Janitor p) (lock_due_at c s session p at) ≡ None) → (other : SessionId) (n : NodeId) → IsUseful c s (Janitor p) (Event.LockNode other n) → ⊥

@@ -5,7 +5,7 @@ pub use Rattle.np_changes.proofs.Premises.{premises}
 pub use Rattle.np_changes.proofs.Runs.{invariant-Runs, invariant-changed, invariant-start}
 pub use Rattle.np_changes.proofs.Turns.{CameBy, came, edit-premise, pending-open, requested-open}
 pub use Rattle.np_changes.specs.Parts.{Invariant, IsLauncher, IsNumbered}
-pub use Rattle.np_changes.specs.Prelude.{AllByRecursion, Configuration, Declined, Done, Entry, Event, Fault, FaultKind, IsReached, IsSound, Janitor, Job, JobId, JobRecord, Launcher, NodeEntry, NodeId, NodeRecord, NodeState, Phase, PoolId, REQUESTERS, Reaper, Reason, Registration, RequestEntry, RequestId, RequestRecord, Requester, RequesterId, Rises, Role, SessionFacts, SessionId, State, changed, declined_with, edited, ended, grown, holder, is_asked, is_declined_by, is_failed, is_finishable, is_id_before, is_last_pool, is_pending, is_pending_by, is_pool, is_requested, is_role, is_using, janitor, judge, left, list_all, maker, maker_of, may_finish, most, muted, next, node_entry, option_map, option_map_or, plan, request_entry, request_holder, request_in, requester_or_janitor, same_request, same_role, session_of, sessions_changed, standing, start, state_after, undeclined}
+pub use Rattle.np_changes.specs.Prelude.{AllByRecursion, Configuration, Declined, Done, Entry, Event, Fault, FaultKind, IsReached, IsSound, Janitor, Job, JobId, JobRecord, Launcher, NodeEntry, NodeId, NodeRecord, NodeState, Phase, PoolId, REQUESTERS, Reaper, Reason, Registration, RequestEntry, RequestId, RequestRecord, Requester, RequesterId, Rises, Role, SessionFacts, SessionId, State, changed, declined_with, edited, ended, grown, holder, is_asked, is_declined_by, is_failed, is_finishable, is_id_before, is_last_pool, is_pending, is_pending_by, is_pool, is_requested, is_role, is_using, janitor, judge, left, list_all, maker, maker_of, may_finish, most, muted, next, node_entry, option_map, option_map_or, plan, request_entry, request_holder, request_in, requester_or_janitor, same_request, same_role, session_of, sessions_changed, start, state_after, undeclined}
 pub use Rattle.np_changes.specs.Premises.{EditPremise, GrowthPremise, MayDecline, Premises}
 pub use Rattle.np_changes.specs.declared.changes.Changes.{Changes}
 pub use Rattle.np_changes.specs.declared.changes.Growth.{Growth}
@@ -14,10 +14,10 @@ pub use Rattle.np_changes.specs.declared.changes.RequestEdit.{RequestEdit}
 pub use Rattle.np_changes.specs.declared.changes.SessionsChange.{SessionsChange}
 pub use Rattle.np_janitor.specs.Candidates.{due_at, lacks_registration, lock_due_at, tried_kinds}
 pub use Rattle.np_janitor.specs.Finishes.{ChoosesFinish, NoneFinished}
-pub use Rattle.np_janitor.specs.Order.{after_release, before_fail, janitor_order}
+pub use Rattle.np_janitor.specs.Order.{before_fail, janitor_order}
 pub use Rattle.np_janitor.specs.Struck.{ChoosesStrike, due_kind, strike_by, strike_of, strike_on}
 pub use Rattle.np_lists.proofs.Changes.{all-at, all-change_at, all-filter_to, all-find, all-from_at, all-push, all-weaker, find-passes}
-pub use Rattle.np_lists.proofs.Plain.{and_true, by_bool, false-apart, none-is, not-below, not-zero, some-of, some-unless}
+pub use Rattle.np_lists.proofs.Plain.{by_bool, false-apart, none-is, not-below, not-zero, some-of, some-unless}
 pub use Rattle.np_lists.proofs.Searches.{none-find}
 pub use Rattle.np_look.proofs.Looks.{session-at}
 pub use Rattle.np_look.specs.Jobs.{is_job_to_finish, job_to_finish}
@@ -35,13 +35,13 @@ pub use Rattle.np_useful.specs.Passing.{IsFirst, IsFirstThatPasses, passes, pass
 pub use Rattle.np_useful.specs.Reaper.{is_mute}
 pub use Rattle.np_useful.specs.Rows.{has_some_handle, is_node_of, job_is}
 pub use Rattle.np_useful.specs.Sessions.{has_current, has_due, is_current, is_due, is_expire, is_stopped, is_struck_by, next_fault, strikes_of}
-pub use Rattle.np_useful.specs.Useful.{IsUseful, is_maker_of, row_holds}
+pub use Rattle.np_useful.specs.Useful.{IsUseful, is_maker_of}
 pub use Rattle.np_useful.specs.declared.kind.EventKind.{EventKind}
 pub use Rattle.np_useful.specs.declared.kind.JobKind.{JobKind}
 pub use Rattle.np_useful.specs.declared.kind.NodeKind.{NodeKind}
 pub use Rattle.np_useful.specs.declared.kind.RequestKind.{RequestKind}
 pub use Rattle.std.proofs.Common.{Bool, List, None, Ok, Option, Some, ap, arith, below_more, cond, eqb-true, false, inl, inr, length, refl, subst, suc, sym, true, true≢false, zero, ℕ, [], ◌++◌, ◌+◌, ◌-◌, ◌<◌, ◌∙◌, ◌∷◌, ◌≡◌, ◌≤◌}
-pub use Rattle.std.proofs.lemmas.Bool.{and_from, and_parts, and_right, cond-true, eq-eqb, or_left, or_parts, or_right, true_from_ne_false}
+pub use Rattle.std.proofs.lemmas.Bool.{and_from, and_parts, cond-true, eq-eqb, or_left, or_parts, or_right, true_from_ne_false}
 pub use Rattle.std.proofs.lemmas.Bool.Decides.{nat_tests}
 pub use Rattle.std.proofs.lemmas.List.Elements.{All-get_or}
 pub use Rattle.std.proofs.lemmas.List.Folds.{list_any-append}

@@ -1,13 +1,12 @@
 -- what the planned faults do now, and that the reaper has nothing else to do
-use Rattle.np_janitor.proofs.Prelude.{Bool, Chooses, ChoosesStrike, Configuration, Done, Event, Fault, FaultKind, IsUseful, List, NamesCurrent, None, Ok, Option, Reaper, Role, SessionFacts, SessionId, Some, State, [], all-at, all-filter_to, all-from_at, and_parts, and_right, and_true, ap, arith, by_bool, current-has, current-names, current_of, due_kind, false, false-apart, filter, first_mute, has_current, has_due, if◌then◌else◌, is_current, is_due, is_expire, is_mute, is_some, is_struck_by, judge, mute_from, nat_tests, next_fault, not, ok-is, on-found, on-need, option_and_then, option_map, option_map_or, or_left, or_right, refl, same-role, same_role, session-at, session_of, slice_get, strike_by, strike_of, strike_on, strikes_of, subst, suc, sym, true, zero, ℕ, ◌&&◌, ◌+◌, ◌-◌, ◌==◌, ◌∙◌, ◌∷◌, ◌≡◌}
+use Rattle.np_janitor.proofs.Prelude.{Bool, Chooses, ChoosesStrike, Configuration, Event, Fault, FaultKind, IsUseful, List, NamesCurrent, None, Option, Reaper, Role, SessionFacts, SessionId, Some, State, [], all-at, all-filter_to, all-from_at, and_parts, ap, arith, by_bool, current-has, current-names, current_of, due_kind, false, false-apart, filter, first_mute, has_current, has_due, if◌then◌else◌, is_current, is_due, is_expire, is_mute, is_some, is_struck_by, judge, mute_from, nat_tests, next_fault, not, ok-is, on-found, on-need, option_and_then, option_map, option_map_or, or_left, or_right, refl, same-role, same_role, session-at, session_of, slice_get, strike_by, strike_of, strike_on, strikes_of, subst, suc, sym, true, zero, ℕ, ◌&&◌, ◌+◌, ◌-◌, ◌==◌, ◌∙◌, ◌∷◌, ◌≡◌}
 use Rattle.np_janitor.proofs.Nodes.{IsOf, is-of}
 
 -- ## whether a fault of such a kind is due
 
 module _ (such : FaultKind → Bool) (c : Configuration) (s : State) where
   due-by : (o : Option Fault) (due : Fault → Bool) → option_map_or (λ f. such f.kind && due f) o false ≡ option_map_or such (option_and_then (λ f. if due f then Some f.kind else None) o) false
-  due-by None due = refl
-  due-by (Some f) due = by_bool (λ u. (such f.kind && u) ≡ option_map_or such (if u then Some f.kind else None) false) (due f) (λ is. and_true (such f.kind)) (λ is. and_right (such f.kind) false refl)
+  due-by o due = grind (arith, nat_tests)
 
   due-such : (role : Role) → has_due such c role s ≡ option_map_or such (due_kind c role s) false
   due-such role = due-by (next_fault c role s) (is_due role s)
@@ -41,19 +40,17 @@ module _ (c : Configuration) (s : State) where
 
     on-useful : (kind : FaultKind) → due_kind c role s ≡ Some kind → IsUseful c s Reaper (strike_on kind session)
     on-useful FaultKind.Expire due = expires (due-is is_expire FaultKind.Expire due refl)
-    on-useful FaultKind.Crash due = crashes (due-is (λ kind. not (is_expire kind)) FaultKind.Crash due refl)
-    on-useful FaultKind.Stop due = crashes (due-is (λ kind. not (is_expire kind)) FaultKind.Stop due refl)
+    on-useful kind due = crashes (due-is (λ kind. not (is_expire kind)) kind due refl)
 
   current-is : (role : Role) (session : SessionId) → current_of role s ≡ Some session → is_current role session s ≡ true
   current-is role session is = subst (NamesCurrent role s) is (current-names role s)
 
   strike-by : (role : Role) (e : Event) (due : Option FaultKind) (current : Option SessionId) → due_kind c role s ≡ due → current_of role s ≡ current → option_and_then (λ kind. option_map (λ session. strike_on kind session) current) due ≡ Some e → IsUseful c s Reaper e
-  strike-by role e None current due names is = absurd cc
-  strike-by role e (Some kind) None due names is = absurd cc
   strike-by role e (Some kind) (Some session) due names is =
       let same : strike_on kind session ≡ e = cc in
       let current = current-is role session names in
       subst (λ (x : Event). IsUseful c s Reaper x) same (on-useful role session current (is-of s role session current) kind due)
+  strike-by role e _ _ due names is = absurd cc
 
   -- what the role's next fault does is useful
   pub strike-useful : (role : Role) (e : Event) → strike_of c s role ≡ Some e → IsUseful c s Reaper e
@@ -92,8 +89,7 @@ module _ (c : Configuration) (s : State) where
 
 module _ (c : Configuration) (s : State) (none : (role : Role) → strike_of c s role ≡ None) where
   absent-by : (o : Option SessionId) (kind : FaultKind) → option_map (λ session. strike_on kind session) o ≡ None → o ≡ None
-  absent-by None kind is = refl
-  absent-by (Some session) kind is = absurd cc
+  absent-by o kind is = grind arith
 
   absent : (role : Role) (kind : FaultKind) → due_kind c role s ≡ Some kind → current_of role s ≡ None
   absent role kind due =
@@ -141,16 +137,10 @@ mute-at : (number : ℕ) (sessions : List SessionFacts) (x : SessionId) → mute
 mute-at number [] x is = absurd cc
 mute-at number (facts ∷ sessions) x is = mute-by number facts sessions x (facts.live && facts.mute) refl (mute-at (suc number) sessions x) is
 
-none-by : (number : ℕ) (facts : SessionFacts) (sessions : List SessionFacts) (b : Bool) → (facts.live && facts.mute) ≡ b → (if b then Some (record { 0 = number }) else mute_from (suc number) sessions) ≡ None → ((facts.live && facts.mute) ≡ false) × (mute_from (suc number) sessions ≡ None)
-none-by number facts sessions true mute is = absurd cc
-none-by number facts sessions false mute is = (mute, is)
-
 none-mute : (number : ℕ) (sessions : List SessionFacts) (i : ℕ) (facts : SessionFacts) → mute_from number sessions ≡ None → slice_get sessions i ≡ Some facts → (facts.live && facts.mute) ≡ false
 none-mute number [] i facts none there = absurd cc
-none-mute number (first ∷ sessions) zero facts none there =
-    let same : first ≡ facts = cc in
-    ap (λ (x : SessionFacts). x.live && x.mute) (sym same) ∙ (none-by number first sessions (first.live && first.mute) refl none).0
-none-mute number (first ∷ sessions) (suc i) facts none there = none-mute (suc number) sessions i facts (none-by number first sessions (first.live && first.mute) refl none).1 there
+none-mute number (first ∷ sessions) zero facts none there = grind (arith, nat_tests, none, there)
+none-mute number (first ∷ sessions) (suc i) facts none there = none-mute (suc number) sessions i facts (grind (arith, nat_tests, none)) there
 
 module _ (c : Configuration) (s : State) where
   -- its expiry is useful
@@ -170,22 +160,15 @@ module _ (c : Configuration) (s : State) where
   -- ## the choice
 
   module _ (none_mute : first_mute s ≡ None) (none_struck : (role : Role) → strike_of c s role ≡ None) where
-    live : (session : SessionId) (what : Done) → judge c s (Event.Expire session) ≡ Ok what → (facts : SessionFacts) × ((session_of session s ≡ Some facts) × (facts.live ≡ true))
-    live session what is =
-        on-found (session_of session s) _ _ what is (λ facts known rest.
-        on-need facts.live _ _ what rest (λ live rest. (facts, (known, live))))
-
-    not-mute : (session : SessionId) (facts : SessionFacts) → session_of session s ≡ Some facts → facts.live ≡ true → is_mute session s ≡ false
-    not-mute session facts known live =
-        let other : (facts.live && facts.mute) ≡ false = none-mute 1 s.sessions (session.0 - 1) facts none_mute (session-at s session.0 facts known) in
-        let told : (facts.live && facts.mute) ≡ facts.mute = rw live refl in
-        rw known (sym told ∙ other)
-
+    -- a session that is live is not mute, and no fault expires it
     no-expire : (session : SessionId) → IsUseful c s Reaper (Event.Expire session) → ⊥
     no-expire session useful =
         let answer = ok-is (judge c s (Event.Expire session)) useful.accepted in
-        let found = live session answer.0 answer.1 in
-        unstruck c s none_struck is_expire session (rw (not-mute session found.0 found.1.0 found.1.1) at useful.row)
+        on-found (session_of session s) _ _ answer.0 answer.1 (λ facts known rest.
+        on-need facts.live _ _ answer.0 rest (λ live _.
+        let other : (facts.live && facts.mute) ≡ false = none-mute 1 s.sessions (session.0 - 1) facts none_mute (session-at s session.0 facts known) in
+        let quiet : is_mute session s ≡ false = rw known (grind (arith, live, other)) in
+        unstruck c s none_struck is_expire session (rw quiet at useful.row)))
 
     useless : (e : Event) → IsUseful c s Reaper e → ⊥
     useless (Event.Expire session) useful = no-expire session useful

@@ -1,5 +1,6 @@
 -- each request that has not failed has a pool left that has not declined it, as each pool has one registration
-use Rattle.np_janitor.proofs.Prelude.{AllByRecursion, Bool, CameBy, Changes, Configuration, Declined, Done, EditPremise, Entry, Event, EventKind, Growth, GrowthPremise, Invariant, IsLauncher, IsReached, Janitor, Launcher, List, Maker, MayDecline, None, NoneOf, Ok, Option, PoolId, Premises, Reason, Registration, RequestEdit, RequestId, RequestKind, RequestRecord, RequestState, Rises, Role, SessionFacts, SessionId, SessionsChange, Some, State, [], all-at, all-change_at, all-push, all-weaker, and_parts, ap, arith, by_bool, came, changed, cond, cond-true, count_by, declined_with, edit-premise, edited, ended, eqb-true, false, grown, if◌then◌else◌, inl, inr, invariant-changed, invariant-start, is_declined_by, is_failed, is_last_pool, is_ok, is_pending, is_pool, is_requested, is_role, is_some, janitor, judge, lacks_registration, left, length, list_all, list_any-append, muted, nat_lt, nat_tests, next, not, not-below, ok-is, on-found, on-given, on-need, on-not, or_parts, pending-open, plan, plan-next, premises, refl, request_in, requested-open, same_Some, same_pool, session-at, session_of, sessions_changed, slice_get, slice_get_within, some-of, start, state_after, subst, suc, sum_by-cons, sym, true, true_from_ne_false, true≢false, undeclined, ℕ, ◌&&◌, ◌+◌, ◌-◌, ◌<◌, ◌==◌, ◌||◌, ◌∙◌, ◌∷◌, ◌≡◌, ◌≤◌}
+use Rattle.np_janitor.proofs.Prelude.{AllByRecursion, Bool, CameBy, Changes, Configuration, Declined, EditPremise, Entry, Event, EventKind, Growth, GrowthPremise, Invariant, IsLauncher, IsReached, Janitor, Launcher, List, Maker, MayDecline, None, NoneOf, Option, PoolId, Premises, Reason, Registration, RequestEdit, RequestId, RequestKind, RequestRecord, RequestState, Rises, Role, SessionFacts, SessionId, SessionsChange, Some, State, [], all-at, all-change_at, all-push, all-weaker, and_parts, ap, arith, by_bool, came, changed, cond, cond-true, count_by, declined_with, edit-premise, edited, ended, eqb-true, false, grown, if◌then◌else◌, inl, inr, invariant-changed, invariant-start, is_declined_by, is_failed, is_last_pool, is_ok, is_pending, is_pool, is_requested, is_role, is_some, judge, lacks_registration, length, list_all, list_any-append, muted, nat_lt, nat_tests, next, not, not-below, ok-is, or_parts, pending-open, plan, plan-next, premises, refl, request_in, requested-open, same_Some, same_pool, session-at, session_of, sessions_changed, slice_get, slice_get_within, some-of, start, state_after, subst, suc, sum_by-cons, sym, true, true_from_ne_false, true≢false, undeclined, ℕ, ◌&&◌, ◌+◌, ◌-◌, ◌<◌, ◌==◌, ◌||◌, ◌∙◌, ◌∷◌, ◌≡◌, ◌≤◌}
+use Rattle.np_janitor.proofs.Janitors.{fail-is}
 
 -- # if as many registrations stand as there are pools, each pool has one
 
@@ -106,8 +107,7 @@ sessions-settled c (SessionsChange.End over) rows old = all-change_at (λ (f : S
 -- ## one edit
 
 goes-on : (b : Bool) → is_failed (if b then RequestState.Failed else RequestState.Requested) ≡ false → b ≡ false
-goes-on true alive = absurd cc
-goes-on false alive = refl
+goes-on b alive = grind arith
 
 -- the pool is not the one that declines
 undeclined-still : (p l : PoolId) (why : Reason) (request : RequestRecord) → is_declined_by l request.declined ≡ false → (p.0 == l.0) ≡ false → is_declined_by l (declined_with request p why) ≡ false
@@ -197,17 +197,9 @@ module _ (c : Configuration) (s : State) (reached : IsReached c s) (none_missing
       (all-pass (λ (g : Registration). is_declined_by g.pool request.declined) s.registrations none) left.pool left.of_site in
       true≢false (sym declined ∙ left.undeclined)
 
-  refused : (session : SessionId) (r : RequestId) (what : Done) → judge c s (Event.FailDeclined session r) ≡ Ok what → ⊥
-  refused session r what is =
-      on-given (janitor s session) _ what is (λ p made rest.
-      on-found (request_in r s.requests) _ _ what rest (λ request there rest.
-      on-need (is_requested request.state) _ _ what rest (λ requested rest.
-      on-not (length s.registrations == 0) _ _ what rest (λ some rest.
-      on-need (undeclined s.registrations request == 0) _ _ what rest (λ none rest.
-      never r request there requested some (eqb-true (undeclined s.registrations request) 0 none))))))
-
   -- while each pool has a registration, no janitor fails a request
   pub none-fails : (p : PoolId) → NoneOf c s (Janitor p) (EventKind.Request RequestKind.FailDeclined)
   none-fails p session r useful =
       let answer = ok-is (judge c s (Event.FailDeclined session r)) useful.accepted in
-      refused session r answer.0 answer.1
+      let is = fail-is c s session r answer.0 answer.1 in
+      never r is.request is.there is.requested is.some (eqb-true (undeclined s.registrations is.request) 0 is.none)

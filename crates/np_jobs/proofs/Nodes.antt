@@ -1,5 +1,5 @@
 -- the nodes that are for a requester: how they are found, and when a lock, an end or an unlock of one is useful
-use Rattle.np_jobs.proofs.Prelude.{AllByRecursion, Bool, ChoosesOf, ChoosesToLeave, Configuration, Done, EndAs, Event, EventKind, Invariant, IsGiven, IsReached, IsUseful, Job, JobId, JobRecord, List, NoLeave, NodeEntry, NodeId, NodeKind, NodeRecord, NodeState, None, NoneOf, Ok, Option, OwnsItsLabels, PassesAt, RequestEntry, RequestId, RequestState, Requester, RequesterId, SessionId, Some, StandsIn, State, [], all-at, and-first, and-second, and_false, and_true, any-place, ap, arith, asker, both-ways, by_node_holder, each-node, false, false_from_ne_true, filter, find, find-passes, find-place, from-map_some, fulfilled-Runs, handed_to, if◌then◌else◌, invariant-Runs, is_asked, is_asked_by, is_current, is_for, is_from_node_queue, is_fulfilled, is_given_to, is_handed_over, is_in_use, is_listed, is_queued, is_ready, is_request, is_some, is_to_leave, is_to_lock, judge, leaving, length, length-filter_at_most, length-map, list_any-there, made-by, maker-is, map, member-there, named-place, node-maker, node-place, node-queued, node_entry, node_event, node_in, node_is, node_queue, node_to_leave, node_to_lock, none-find, not, ok-is, on-check, on-found, on-given, on-need, option_and_then, option_map, option_map_or, passes, passes-useful, refl, request-equal, request_entry, request_in, requester, row-there, same_node, same_node-is, same_request, slice_get, slice_get_within, subst, sym, true, useful-passes, ℕ, ◌&&◌, ◌<◌, ◌==◌, ◌∙◌, ◌≡◌}
+use Rattle.np_jobs.proofs.Prelude.{AllByRecursion, Bool, ChoosesOf, Configuration, Done, EndAs, Event, EventKind, Invariant, IsGiven, IsReached, IsUseful, Job, JobId, JobRecord, List, NoLeave, NodeEntry, NodeId, NodeKind, NodeRecord, NodeState, None, NoneOf, Ok, Option, OwnsItsLabels, PassesAt, RequestEntry, RequestId, RequestState, Requester, RequesterId, SessionId, Some, StandsIn, State, [], all-at, and-first, and-second, any-place, ap, arith, asker, both-ways, by_node_holder, each-node, false, false_from_ne_true, filter, find, find-passes, find-place, from-map_some, fulfilled-Runs, handed_to, if◌then◌else◌, invariant-Runs, is_asked, is_asked_by, is_current, is_for, is_from_node_queue, is_fulfilled, is_given_to, is_handed_over, is_in_use, is_listed, is_queued, is_ready, is_to_leave, is_to_lock, judge, leaving, length, length-filter_at_most, length-map, list_any-there, made-by, maker-is, map, member-there, named, named-place, nat_tests, node-maker, node-place, node-queued, node_entry, node_event, node_in, node_is, node_queue, node_to_leave, node_to_lock, none-find, not, ok-is, on-check, on-found, on-given, on-need, option_and_then, option_map, option_map_or, passes, passes-useful, refl, request_entry, request_in, requester, row-there, same_node, same_node-is, same_request, slice_get, slice_get_within, subst, sym, true, useful-passes, ℕ, ◌&&◌, ◌<◌, ◌==◌, ◌∙◌, ◌≡◌}
 
 -- # the nodes that are for a requester are those that were given to it, as their allocations say
 
@@ -10,15 +10,8 @@ module _ (q : RequesterId) where
   abbrev is_requester : Option RequesterId → Bool
   is_requester o = option_map_or (λ p. p.0 == q.0) o false
 
-  asked_by : (row : Option Job) (b : Bool) → (option_map_or (λ (job : Job). job.requester.0 == q.0) row false && b) ≡ is_requester (if b then option_map (λ (job : Job). job.requester) row else None)
-  asked_by None true = refl
-  asked_by None false = refl
-  asked_by (Some job) true = and_true (job.requester.0 == q.0)
-  asked_by (Some job) false = and_false (job.requester.0 == q.0)
-
   asked_of : (row : Option Job) (kept : Option JobRecord) → (option_map_or (λ (job : Job). job.requester.0 == q.0) row false && option_map_or (λ (k : JobRecord). is_asked k.phase) kept false) ≡ is_requester (option_and_then (λ (k : JobRecord). if is_asked k.phase then option_map (λ (job : Job). job.requester) row else None) kept)
-  asked_of row None = asked_by row false
-  asked_of row (Some k) = asked_by row (is_asked k.phase)
+  asked_of row kept = grind (arith, nat_tests)
 
   module _ (c : Configuration) (s : State) where
     asks : (j : JobId) → is_asked_by c s q j ≡ is_requester (asker c s j)
@@ -43,10 +36,6 @@ pub record IsHanded (s : State) (n : NodeId) (e : RequestEntry) : Type 0 where
   pub stands : node_in n s.nodes ≡ Some node
   pub ready : is_ready node.state ≡ true
   pub allocated : node.allocated_to ≡ Some e.id
-
-named : (r : RequestId) (o : Option RequestId) → is_request r o ≡ true → o ≡ Some r
-named r None is = absurd cc
-named r (Some other) is = ap (λ (x : RequestId). Some x) (request-equal other r is)
 
 module _ (c : Configuration) (s : State) (reached : IsReached c s) (q : RequesterId) (n : NodeId) where
   invariant : Invariant c s
@@ -154,8 +143,7 @@ module _ (c : Configuration) (s : State) (reached : IsReached c s) (q : Requeste
       passes-useful c s (Requester q) (Event.LockNode session e.id) passed current
 
   no_entry : (o : Option NodeEntry) → option_map (λ (x : NodeEntry). x.id) o ≡ None → o ≡ None
-  no_entry None is = refl
-  no_entry (Some e) is = absurd cc
+  no_entry o is = grind arith
 
   -- the lock of the node to lock is the choice among locks
   pub lock-chooses : (n : NodeId) → node_to_lock c q session s ≡ Some n → ChoosesOf c s (Requester q) (EventKind.Node NodeKind.Lock) (Some (Event.LockNode session n))
@@ -170,8 +158,7 @@ module _ (c : Configuration) (s : State) (reached : IsReached c s) (q : Requeste
 
 -- what is in use is not ready
 not-ready : (state : NodeState) → is_in_use state ≡ true → is_ready state ≡ true → ⊥
-not-ready NodeState.Ready used ready = cc
-not-ready state used ready = cc
+not-ready state used ready = grind arith
 
 -- ## the nodes to leave
 
@@ -242,8 +229,3 @@ module _ (c : Configuration) (s : State) (reached : IsReached c s) (q : Requeste
         (none_of NodeKind.Unlock refl (λ n what is useful. unlock-apart n useful) (λ n fails. fails.unlock), tt),
       ),
     )
-
--- a node for which nothing was found has no such event
-pub no-leave : (c : Configuration) (s : State) (q : RequesterId) (session : SessionId) (n : NodeId) (o : Option Event) → is_some o ≡ false → ChoosesToLeave c s q session n o → NoLeave c s q session n
-no-leave c s q session n None is none = none
-no-leave c s q session n (Some e) is none = absurd cc

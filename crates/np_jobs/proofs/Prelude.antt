@@ -4,21 +4,21 @@ pub use Rattle.np_changes.proofs.Lookups.{same_node, same_node-is}
 pub use Rattle.np_changes.proofs.RequestStates.{PassesAt, any-place, node-place}
 pub use Rattle.np_changes.proofs.Runs.{fulfilled-Runs, invariant-Runs}
 pub use Rattle.np_changes.specs.Parts.{Invariant}
-pub use Rattle.np_changes.specs.Prelude.{AllByRecursion, Configuration, Done, EndAs, IsReached, IsSound, Janitor, Job, JobId, JobRecord, Launcher, NodeEntry, NodeRecord, NodeState, Phase, REQUESTERS, Reaper, Refusal, RequestEntry, RequestId, RequestRecord, RequestState, Requester, RequesterId, Role, SemId, SessionFacts, SessionId, State, by_node_holder, first_full, has_handle, is_asked, is_failed, is_fulfilled, is_full, is_in_use, is_new, is_over, is_queued, is_ready, is_request, is_role, is_using, judge, list_any, maker, maker_of, missing_handles, node_entry, node_in, node_queue, none_missing, option_map, option_map_or, own_job, request_entry, request_in, requester, same_request, same_role, session_of, ◌>>=◌}
+pub use Rattle.np_changes.specs.Prelude.{AllByRecursion, Configuration, Done, EndAs, IsReached, IsSound, Janitor, Job, JobId, JobRecord, Launcher, NodeEntry, NodeRecord, NodeState, Phase, REQUESTERS, Reaper, Refusal, RequestEntry, RequestId, RequestRecord, RequestState, Requester, RequesterId, Role, SemId, SessionFacts, SessionId, State, by_node_holder, first_full, has_handle, is_asked, is_fulfilled, is_full, is_in_use, is_new, is_over, is_queued, is_ready, is_role, judge, list_any, maker, maker_of, missing_handles, node_entry, node_in, node_queue, none_missing, option_map, option_map_or, own_job, request_entry, request_in, requester, same_request, same_role, session_of, ◌>>=◌}
 pub use Rattle.np_event.specs.declared.event.Event.{Event}
+pub use Rattle.np_janitor.proofs.Janitors.{finishable-by, none-chosen}
 pub use Rattle.np_janitor.proofs.Nodes.{each-node, maker-is}
 pub use Rattle.np_janitor.proofs.Undeclined.{sessions-of_site}
 pub use Rattle.np_jobs.specs.Idle.{ArePoolsIdle, AreRequestersIdle, IsIdle, IsPoolIdle}
 pub use Rattle.np_jobs.specs.Steps.{ChoosesInWindow, ChoosesOfNew, ChoosesToAcquire, ChoosesToFinish, ChoosesToLeave, ChoosesToTake, ChoosesToTakeOne, ChoosesUnderWay, NoLeave, NoNewStep, NoTake, NoneUnderWay, leaving, phase_is, requester_kinds}
-pub use Rattle.np_launch.proofs.Finds.{count-cons, one, row-there}
+pub use Rattle.np_launch.proofs.Finds.{count-cons, named, one, row-there, such-one}
 pub use Rattle.np_lists.proofs.Changes.{all-at, find-passes, length-filter_at_most, list_any-there}
-pub use Rattle.np_lists.proofs.Plain.{and-first, and-second, and_false, and_true, both-ways, by_bool, false-apart, from-map_some, member-there, none-is, some-within, then-ok}
+pub use Rattle.np_lists.proofs.Plain.{and-first, and-second, both-ways, by_bool, false-apart, from-map_some, member-there, none-is, some-within, then-ok}
 pub use Rattle.np_lists.proofs.Searches.{none-find}
 pub use Rattle.np_look.proofs.Looks.{session-at}
 pub use Rattle.np_look.specs.Given.{asker, handed_to, is_given_to, is_to_leave, is_to_lock, node_to_leave, node_to_lock}
 pub use Rattle.np_look.specs.Jobs.{is_job_to_acquire, is_job_to_begin, is_job_to_finish, is_job_to_take, is_own, is_supplied, job_to_acquire, job_to_begin, job_to_finish, job_to_take, may_acquire, may_begin, was_given}
 pub use Rattle.np_look.specs.Readers.{is_unfinished_job, jobs_from, request_state_of, unfinished_from}
-pub use Rattle.np_machine.proofs.Ids.{request-equal}
 pub use Rattle.np_machine.specs.Safe.{IsGiven, OwnsItsLabels}
 pub use Rattle.np_machine.specs.Semaphore.{is_finishable, may_finish, may_release, may_take, requester_or_janitor, unheld}
 pub use Rattle.np_text.specs.declared.id.NodeId.{NodeId}
@@ -43,4 +43,4 @@ pub use Rattle.std.proofs.lemmas.Bool.Decides.{nat_tests}
 pub use Rattle.std.proofs.lemmas.List.{length-map}
 pub use Rattle.std.proofs.lemmas.Option.{slice_get_within}
 pub use Rattle.std.specs.List.{zip}
-pub use Rattle.std.specs.Prelude.{count_by, filter, find, if◌then◌else◌, is_ok, is_some, map, nat_le, nat_lt, not, option_and_then, slice_get, ◌&&◌, ◌-◌, ◌==◌, ◌||◌, ◌↔◌}
+pub use Rattle.std.specs.Prelude.{count_by, filter, find, if◌then◌else◌, is_ok, is_some, map, is_none, nat_le, nat_lt, not, option_and_then, slice_get, ◌&&◌, ◌-◌, ◌==◌, ◌||◌, ◌↔◌}

@@ -1,5 +1,5 @@
 -- when no event is useful: the kinds that are tried for a requester, and the roles that have nothing to do
-use Rattle.np_jobs.proofs.Prelude.{AllByRecursion, ArePoolsIdle, AreRequestersIdle, Bool, Chooses, ChoosesInWindow, ChoosesOf, ChoosesOfAny, ChoosesOfNew, ChoosesRelease, ChoosesToAcquire, ChoosesToFinish, ChoosesToTake, ChoosesToTakeOne, ChoosesUnderWay, Configuration, Done, EndAs, Event, EventKind, IsIdle, IsReached, IsSettled, IsSound, IsUseful, Janitor, JobId, JobKind, JobRecord, Launcher, NoNewStep, NoTake, NodeKind, None, NoneOf, NoneOpens, NoneReleased, NoneUnderWay, Ok, Option, Phase, Reaper, Requester, RequesterId, Role, SessionFacts, SessionId, Some, State, all-at, among, and-first, and-parts, ap, arith, before-end, by_bool, current-speaks, false, false-apart, false_from_ne_true, first_full, has_fulfilled_request, is_asked, is_current, is_in_window, is_job_to_acquire, is_job_to_begin, is_job_to_finish, is_job_to_take, is_maker_of, is_new, is_ok, is_over, is_role, is_some, is_supplied, job-maker, job_event, job_to_acquire, job_to_begin, job_to_finish, job_to_take, jobs_from, judge, kinds-choose, leaving, length, made-by, maker, maker-is, maker_of, missing_handles, nat_tests, none-is, not, ok-is, option_map_or, or_right, passes, passes-useful, phase_is, refl, requester_kinds, row_holds, same-role, same_role, session-at, session_of, sessions-of_site, slice_get, some-within, subst, sym, takes_part, true, true_from_ne_false, useful-passes, waits_for_handles, ℕ, ◌&&◌, ◌+◌, ◌-◌, ◌<◌, ◌==◌, ◌||◌, ◌↔◌, ◌∙◌, ◌≡◌, ◌≤◌}
+use Rattle.np_jobs.proofs.Prelude.{AllByRecursion, ArePoolsIdle, AreRequestersIdle, Bool, Chooses, ChoosesInWindow, ChoosesOf, ChoosesOfAny, ChoosesOfNew, ChoosesRelease, ChoosesToAcquire, ChoosesToTake, ChoosesUnderWay, Configuration, Done, EndAs, Event, EventKind, IsIdle, IsReached, IsSettled, IsSound, IsUseful, Janitor, JobId, JobKind, JobRecord, Launcher, NoNewStep, NoTake, NodeKind, None, NoneOf, NoneOpens, NoneReleased, NoneUnderWay, Ok, Option, Phase, Reaper, Requester, RequesterId, Role, SessionFacts, SessionId, Some, State, all-at, among, and-first, and-parts, ap, arith, before-end, by_bool, current-speaks, false, false-apart, false_from_ne_true, first_full, has_fulfilled_request, is_asked, is_current, is_in_window, is_job_to_acquire, is_job_to_begin, is_job_to_finish, is_job_to_take, is_maker_of, is_new, is_ok, is_over, is_role, is_some, is_supplied, job-maker, job_event, job_to_acquire, job_to_begin, job_to_finish, job_to_take, jobs_from, judge, kinds-choose, leaving, length, made-by, maker, maker-is, maker_of, missing_handles, nat_tests, none-is, not, ok-is, option_map_or, or_right, passes, passes-useful, phase_is, refl, requester_kinds, row_holds, same-role, same_role, session-at, session_of, sessions-of_site, slice_get, some-within, subst, sym, takes_part, true, true_from_ne_false, useful-passes, waits_for_handles, ℕ, ◌&&◌, ◌+◌, ◌-◌, ◌<◌, ◌==◌, ◌||◌, ◌↔◌, ◌∙◌, ◌≡◌, ◌≤◌}
 use Rattle.np_jobs.proofs.Windows.{IsListed, IsNewInWindow, IsOpen, IsToAcquire, IsToBegin, WasGiven, acquire-begins, acquire-either, acquire-listed, all-supplied, apart, begins-listed, earlier-within, finish-listed, listed, listed-acquire, listed-begins, new-open, release-own, submit-begins, submit-new, take-given, take-listed, unsupplied-missing}
 
 -- # if the first job that is to begin has no acquire and submit, no new job in the window has one
@@ -97,12 +97,8 @@ module _ (c : Configuration) (s : State) (q : RequesterId) (session : SessionId)
 asked-open : (p : Phase) → is_asked p ≡ true → not (is_over p) ≡ true
 asked-open p is = grind (arith, nat_tests)
 
-asked-old : (p : Phase) → is_asked p ≡ true → is_new p ≡ true → ⊥
-asked-old p asked new = grind (arith, nat_tests)
-
 not-both : (o : Option JobRecord) → option_map_or (λ (kept : JobRecord). is_asked kept.phase) o false ≡ true → option_map_or (λ (kept : JobRecord). is_new kept.phase) o false ≡ true → ⊥
-not-both None asked new = cc
-not-both (Some kept) asked new = asked-old kept.phase asked new
+not-both o asked new = grind (arith, nat_tests)
 
 module _ (c : Configuration) (s : State) (q : RequesterId) (session : SessionId) (current : is_current (Requester q) session s ≡ true) where
   made : maker s session ≡ Ok (Requester q)
@@ -200,52 +196,31 @@ module _ (c : Configuration) (s : State) (q : RequesterId) (session : SessionId)
     pub submits-none : NoneOf c s (Requester q) (EventKind.Job JobKind.Submit)
     submits-none = none_of JobKind.Submit (λ j what is holds. (no_new_step j (submit-new c s session q made j what is holds)).submit)
 
--- ## the walks over jobs
-
--- a job on which nothing was found has no such event
-pub no-finish : (c : Configuration) (s : State) (q : RequesterId) (session : SessionId) (j : JobId) (o : Option Event) → is_some o ≡ false → ChoosesToFinish c s q session j o → passes c s (Requester q) (Event.Finish session j) ≡ false
-no-finish c s q session j None is none = none
-no-finish c s q session j (Some e) is none = absurd cc
-
-pub no-take : (c : Configuration) (s : State) (q : RequesterId) (session : SessionId) (j : JobId) (o : Option Event) → is_some o ≡ false → ChoosesToTakeOne c s q session j o → NoTake c s q session j
-no-take c s q session j None is none = none
-no-take c s q session j (Some e) is none = absurd cc
-
 -- # a requester's useful events are of the kinds that are tried
 
-module _ (c : Configuration) (s : State) (q : RequesterId) (opens : NoneOpens c s (Requester q)) (all : AllByRecursion (NoneOf c s (Requester q)) requester_kinds) where
-  useless : (e : Event) → IsUseful c s (Requester q) e → ⊥
-  useless (Event.OpenSession role) useful = opens role useful
-  useless (Event.Finish session j) useful = all.0 session j useful
-  useless (Event.LockNode session n) useful = all.1.0 session n useful
-  useless (Event.Take session j) useful = all.1.1.0 session j useful
-  useless (Event.Acquire session j) useful = all.1.1.1.0 session j useful
-  useless (Event.Release session j) useful = all.1.1.1.1.0 session j useful
-  useless (Event.Submit session j) useful = all.1.1.1.1.1.0 session j useful
-  useless (Event.EndNode session n EndAs.Used) useful = all.1.1.1.1.1.1.0 session n useful
-  useless (Event.EndNode session n EndAs.Hold) useful = all.1.1.1.1.1.1.1.0 session n useful
-  useless (Event.UnlockNode session n) useful = all.1.1.1.1.1.1.1.1.0 session n useful
-  useless _ useful = false-apart useful.row
-
 pub requester-law : (c : Configuration) (s : State) (q : RequesterId) → NoneOpens c s (Requester q) → AllByRecursion (NoneOf c s (Requester q)) requester_kinds → (e : Event) → IsUseful c s (Requester q) e → ⊥
-requester-law c s q opens all e useful = useless c s q opens all e useful
+requester-law c s q opens all (Event.OpenSession role) useful = opens role useful
+requester-law c s q opens all (Event.Finish session j) useful = all.0 session j useful
+requester-law c s q opens all (Event.LockNode session n) useful = all.1.0 session n useful
+requester-law c s q opens all (Event.Take session j) useful = all.1.1.0 session j useful
+requester-law c s q opens all (Event.Acquire session j) useful = all.1.1.1.0 session j useful
+requester-law c s q opens all (Event.Release session j) useful = all.1.1.1.1.0 session j useful
+requester-law c s q opens all (Event.Submit session j) useful = all.1.1.1.1.1.0 session j useful
+requester-law c s q opens all (Event.EndNode session n EndAs.Used) useful = all.1.1.1.1.1.1.0 session n useful
+requester-law c s q opens all (Event.EndNode session n EndAs.Hold) useful = all.1.1.1.1.1.1.1.0 session n useful
+requester-law c s q opens all (Event.UnlockNode session n) useful = all.1.1.1.1.1.1.1.1.0 session n useful
+requester-law c s q opens all _ useful = false-apart useful.row
 
 -- ## all passes
 
 module _ (c : Configuration) (s : State) (q : RequesterId) (session : SessionId) (current : is_current (Requester q) session s ≡ true) where
-  -- if no event of each kind is useful, false-apart is
-  none-useful : NoneUnderWay c s q session → NoneReleased c s (Requester q) q → ChoosesInWindow c s q session None → AllByRecursion (NoneOf c s (Requester q)) leaving → AllByRecursion (NoneOf c s (Requester q)) requester_kinds
-  none-useful under releases begins leaves = (
-    under.finish,
-    (under.lock, (under.take, (acquires-none c s q session current under begins, (releases-none c s q session current releases, (submits-none c s q session current under begins, leaves))))),
-  )
-
   -- if nothing is useful on a job under way, no release, and nothing on a new job in the window, what is
   -- left decides
   pub all-choose : (found : Option Event) → ChoosesUnderWay c s q session found → is_some found ≡ false → (release : Option Event) → ChoosesRelease c s (Requester q) q release → is_some release ≡ false
       → (begun : Option Event) → ChoosesInWindow c s q session begun → is_some begun ≡ false → (o : Option Event) → ChoosesOfAny c s (Requester q) leaving o → Chooses c s (Requester q) o
   all-choose None under is None releases fails None begins stays None leaves =
-      kinds-choose c s (Requester q) requester_kinds (requester-law c s q) session current None (none-useful under releases begins leaves)
+      kinds-choose c s (Requester q) requester_kinds (requester-law c s q) session current None
+      (under.finish, (under.lock, (under.take, (acquires-none c s q session current under begins, (releases-none c s q session current releases, (submits-none c s q session current under begins, leaves))))))
   all-choose None under is None releases fails None begins stays (Some e) leaves = leaves
   all-choose found under is release releases fails begun begins stays o leaves = absurd cc
 
@@ -295,10 +270,8 @@ module _ (c : Configuration) (s : State) where
   open-of other accepted = true_from_ne_false (is_role c other) (λ is. let refused : is_ok (judge c s (Event.OpenSession other)) ≡ false = rw is refl in cc)
 
   opened : (role other : Role) → takes_part c role ≡ false → row_holds c s role (Event.OpenSession other) ≡ true → other ≡ role
-  opened (Launcher p) other outside is = same-role other (Launcher p) (and-first _ _ is)
-  opened (Janitor p) other outside is = same-role other (Janitor p) (and-first _ _ is)
-  opened (Requester q) other outside is = same-role other (Requester q) (and-first _ _ is)
   opened Reaper other outside is = absurd cc
+  opened role other outside is = same-role other role (and-first _ _ is)
 
   opens : (role other : Role) → takes_part c role ≡ false → IsUseful c s role (Event.OpenSession other) → ⊥
   opens role other outside useful =
@@ -306,22 +279,11 @@ module _ (c : Configuration) (s : State) where
       no-role role outside (subst (λ (r : Role). is_role c r ≡ true) same (open-of other useful.accepted))
 
   -- only the reaper ticks or ends sessions
-  ticks : (role : Role) → takes_part c role ≡ false → row_holds c s role Event.Tick ≡ true → ⊥
-  ticks role outside is = grind (arith, nat_tests)
-
-  crashes : (role : Role) (session : SessionId) → takes_part c role ≡ false → row_holds c s role (Event.Crash session) ≡ true → ⊥
-  crashes Reaper session outside is = absurd cc
-  crashes role session outside is = absurd cc
-
-  expires : (role : Role) (session : SessionId) → takes_part c role ≡ false → row_holds c s role (Event.Expire session) ≡ true → ⊥
-  expires Reaper session outside is = absurd cc
-  expires role session outside is = absurd cc
-
   pub outside-idle : (role : Role) → IsReached c s → takes_part c role ≡ false → IsIdle c s role
-  outside-idle role reached outside Event.Tick useful = ticks role outside useful.row
+  outside-idle role reached outside Event.Tick useful = grind (arith, nat_tests, outside, useful.row)
   outside-idle role reached outside (Event.OpenSession other) useful = opens role other outside useful
-  outside-idle role reached outside (Event.Crash session) useful = crashes role session outside useful.row
-  outside-idle role reached outside (Event.Expire session) useful = expires role session outside useful.row
+  outside-idle role reached outside (Event.Crash session) useful = grind (arith, nat_tests, outside, useful.row)
+  outside-idle role reached outside (Event.Expire session) useful = grind (arith, nat_tests, outside, useful.row)
   outside-idle role reached outside e useful = outside-made-by role reached outside (maker_of e) refl useful.maker
 
 -- # when no role has a useful event
@@ -330,9 +292,8 @@ module _ (c : Configuration) (s : State) where
   -- a choice returns none if and only if the role is idle
   pub none-idle : (role : Role) (o : Option Event) (none : Bool) → Chooses c s role o → is_some o ≡ not none → (none ≡ true) ↔ IsIdle c s role
   none-idle role None true chosen is = (λ yes. chosen, λ idle. refl)
-  none-idle role None false chosen is = absurd cc
-  none-idle role (Some e) true chosen is = absurd cc
   none-idle role (Some e) false chosen is = (λ no. absurd cc, λ idle. absurd (idle e chosen))
+  none-idle role _ _ chosen is = absurd cc
 
   pub all-idle : IsSound c → ArePoolsIdle c s → AreRequestersIdle c s → IsIdle c s Reaper → IsSettled c s
   all-idle sound pools requesters reaper (Launcher p) e part useful =

@@ -1,5 +1,5 @@
 -- the jobs of a requester by their place in its window: which are to begin, which were given their nodes, and which an accepted event can be of
-use Rattle.np_jobs.proofs.Prelude.{Bool, Configuration, Done, Err, Event, IsAmong, Job, JobId, JobRecord, List, None, Ok, Option, Phase, Refusal, RequestRecord, Requester, RequesterId, Result, SemId, SessionId, Some, State, [], among, and-first, and-second, ap, arith, before-end, by_bool, count-cons, count_by, drop, eqb-true, false, find, first_full, has_fulfilled_request, has_handle, if◌then◌else◌, is_asked, is_failed, is_finishable, is_fulfilled, is_full, is_in_window, is_job_to_acquire, is_job_to_begin, is_job_to_finish, is_job_to_take, is_new, is_over, is_own, is_supplied, is_unfinished, is_unfinished_job, is_using, job_is, jobs_from, jobs_of, judge, length, list_any, maker, may_acquire, may_begin, may_finish, may_release, may_take, missing_handles, nat_le, nat_lt, nat_tests, needed, none-is, none_missing, not, not-true, on-check, on-found, on-given, on-need, on-vacant, one, option_and_then, option_map, option_map_or, or_right, own_job, phase_is, refl, request_in, request_state_of, requester_or_janitor, row_holds, slice_get, subst, suc, sym, take, then-ok, true, unfinished_from, unheld, waits_for_handles, was_given, window_of, zero, zip, ℕ, ◌&&◌, ◌+◌, ◌<◌, ◌==◌, ◌>>=◌, ◌||◌, ◌∙◌, ◌∷◌, ◌≡◌, ◌≤◌}
+use Rattle.np_jobs.proofs.Prelude.{Bool, Configuration, Done, Err, Event, IsAmong, Job, JobId, JobRecord, List, None, Ok, Option, Phase, Refusal, RequestRecord, Requester, RequesterId, Result, SemId, SessionId, Some, State, [], among, and-first, and-second, ap, arith, before-end, by_bool, count-cons, count_by, drop, eqb-true, false, false_from_ne_true, find, finishable-by, first_full, has_fulfilled_request, has_handle, if◌then◌else◌, is_asked, is_finishable, is_fulfilled, is_full, is_in_window, is_job_to_acquire, is_job_to_begin, is_job_to_finish, is_job_to_take, is_new, is_none, is_over, is_own, is_supplied, is_unfinished, is_unfinished_job, job_is, jobs_from, jobs_of, judge, length, list_any, maker, may_acquire, may_begin, may_finish, may_release, may_take, missing_handles, nat_le, nat_lt, nat_tests, needed, none-is, none_missing, not, not-true, on-check, on-found, on-given, on-need, on-vacant, one, option_and_then, option_map, option_map_or, or_right, own_job, phase_is, refl, request_in, request_state_of, requester_or_janitor, row_holds, slice_get, subst, suc, such-one, sym, take, then-ok, true, unfinished_from, unheld, waits_for_handles, was_given, window_of, zero, zip, ℕ, ◌&&◌, ◌+◌, ◌<◌, ◌==◌, ◌>>=◌, ◌||◌, ◌∙◌, ◌∷◌, ◌≡◌, ◌≤◌}
 
 -- # the jobs that pass a test: each is one of the jobs, and their numbers rise
 
@@ -33,70 +33,37 @@ module _ (passes : JobId → JobRecord → Bool) where
 
   -- ## two jobs that are listed
 
-  far-by : (number at : ℕ) (first : JobRecord) (jobs : List JobRecord) (j : JobId) (b : Bool) → passes (record { 0 = number }) first ≡ b → ((k : ℕ) → slice_get (jobs_from passes (suc number) jobs) k ≡ Some j → suc number + k ≤ j.0) → slice_get (jobs_from passes number (first ∷ jobs)) at ≡ Some j → number + at ≤ j.0
-  far-by number zero first jobs j true in-it rest found =
-      let told : Some (record { 0 = number }) ≡ Some j = rw in-it at found in
-      let here : number ≡ j.0 = cc in
-      omega (arith, here)
-  far-by number (suc at) first jobs j true in-it rest found = omega (arith, rest at (rw in-it at found))
-  far-by number at first jobs j false out-of-it rest found = omega (arith, rest at (rw out-of-it at found))
-
   -- each place further on adds one at least to the number
   far : (number : ℕ) (jobs : List JobRecord) (at : ℕ) (j : JobId) → slice_get (jobs_from passes number jobs) at ≡ Some j → number + at ≤ j.0
   far number [] at j found = absurd cc
-  far number (first ∷ jobs) at j found = far-by number at first jobs j (passes (record { 0 = number }) first) refl (λ k is. far (suc number) jobs k j is) found
-
-  apart-by : (number one other : ℕ) (first : JobRecord) (jobs : List JobRecord) (x y : JobId) (b : Bool) → passes (record { 0 = number }) first ≡ b
-      → ((k l : ℕ) → k ≤ l → slice_get (jobs_from passes (suc number) jobs) k ≡ Some x → slice_get (jobs_from passes (suc number) jobs) l ≡ Some y → x.0 + l ≤ y.0 + k)
-      → one ≤ other → slice_get (jobs_from passes number (first ∷ jobs)) one ≡ Some x → slice_get (jobs_from passes number (first ∷ jobs)) other ≡ Some y → x.0 + other ≤ y.0 + one
-  apart-by number zero other first jobs x y true in-it rest order left right =
-      let told : Some (record { 0 = number }) ≡ Some x = rw in-it at left in
-      let here : number ≡ x.0 = cc in
-      omega (arith, here, far number (first ∷ jobs) other y right)
-  apart-by number (suc one) zero first jobs x y true in-it rest order left right = absurd (omega (arith, order))
-  apart-by number (suc one) (suc other) first jobs x y true in-it rest order left right = omega (arith, rest one other (omega (arith, order)) (rw in-it at left) (rw in-it at right))
-  apart-by number one other first jobs x y false out-of-it rest order left right = rest one other order (rw out-of-it at left) (rw out-of-it at right)
+  far number (first ∷ jobs) zero j found = grind (arith, nat_tests, found, far (suc number) jobs zero j)
+  far number (first ∷ jobs) (suc at) j found = grind (arith, nat_tests, found, far (suc number) jobs at j, far (suc number) jobs (suc at) j)
 
   -- of two of them the one at the later place has the larger number, by as much at least
   pub apart : (number : ℕ) (jobs : List JobRecord) (one other : ℕ) (x y : JobId) → one ≤ other → slice_get (jobs_from passes number jobs) one ≡ Some x → slice_get (jobs_from passes number jobs) other ≡ Some y → x.0 + other ≤ y.0 + one
   apart number [] one other x y order left right = absurd cc
-  apart number (first ∷ jobs) one other x y order left right =
-      apart-by number one other first jobs x y (passes (record { 0 = number }) first) refl (λ k l low. apart (suc number) jobs k l x y low) order left right
+  apart number (first ∷ jobs) zero other x y order left right = grind (arith, nat_tests, left, right, far number (first ∷ jobs) other y right, apart (suc number) jobs zero other x y)
+  apart number (first ∷ jobs) (suc one) zero x y order left right = absurd (omega (arith, order))
+  apart number (first ∷ jobs) (suc one) (suc other) x y order left right =
+      let low : one ≤ other = omega (arith, order) in
+      grind (arith, nat_tests, left, right, order, low, apart (suc number) jobs one other x y low, apart (suc number) jobs (suc one) (suc other) x y order)
 
   -- of two of them the one with the larger number is at the later place
   pub in-order : (number : ℕ) (jobs : List JobRecord) (one other : ℕ) (x y : JobId) → slice_get (jobs_from passes number jobs) one ≡ Some x → slice_get (jobs_from passes number jobs) other ≡ Some y → x.0 ≤ y.0 → one ≤ other
-  in-order number jobs one other x y left right order = by (nat_le one other) refl where
-    by : (b : Bool) → nat_le one other ≡ b → one ≤ other
-    by true test = grind (arith, nat_tests)
-    by false test =
-        let past : other < one = grind (arith, nat_tests) in
-        absurd (omega (arith, order, past, apart number jobs other one y x (omega (arith, past)) right left))
+  in-order number jobs one other x y left right order = by_bool (λ b. one ≤ other) (nat_le one other) (λ test. grind (arith, nat_tests, test)) (λ test.
+      let past : other < one = grind (arith, nat_tests, test) in
+      absurd (omega (arith, order, past, apart number jobs other one y x (omega (arith, past)) right left)))
 
 -- # the jobs of a requester that are not over, by their place among them
 
 -- ## the configuration's rows from a number on
 
-some_at : {X : Type 0} (xs : List X) (i : ℕ) (x : X) (rest : List X) → drop i xs ≡ x ∷ rest → slice_get xs i ≡ Some x
-some_at [] zero x rest is = absurd cc
-some_at [] (suc i) x rest is = absurd cc
-some_at (y ∷ xs) zero x rest is = let same : y ≡ x = cc in rw same refl
-some_at (y ∷ xs) (suc i) x rest is = some_at xs i x rest is
-
-next_some : {X : Type 0} (xs : List X) (i : ℕ) (x : X) (rest : List X) → drop i xs ≡ x ∷ rest → drop (suc i) xs ≡ rest
-next_some [] zero x rest is = absurd cc
-next_some [] (suc i) x rest is = absurd cc
-next_some (y ∷ xs) zero x rest is = cc
-next_some (y ∷ xs) (suc i) x rest is = next_some xs i x rest is
-
-none_at : {X : Type 0} (xs : List X) (i : ℕ) → drop i xs ≡ [] → slice_get xs i ≡ None
-none_at [] i is = refl
-none_at (y ∷ xs) zero is = absurd cc
-none_at (y ∷ xs) (suc i) is = none_at xs i is
-
-next_none : {X : Type 0} (xs : List X) (i : ℕ) → drop i xs ≡ [] → drop (suc i) xs ≡ []
-next_none [] i is = refl
-next_none (y ∷ xs) zero is = absurd cc
-next_none (y ∷ xs) (suc i) is = next_none xs i is
+-- the row at a number, and the rows after it
+from_number : {X : Type 0} (xs : List X) (i : ℕ) → (slice_get xs i ≡ slice_get (drop i xs) 0) × (drop (suc i) xs ≡ drop 1 (drop i xs))
+from_number [] zero = (refl, refl)
+from_number [] (suc i) = (refl, refl)
+from_number (x ∷ xs) zero = (refl, refl)
+from_number (x ∷ xs) (suc i) = from_number xs i
 
 -- ## the place of a job
 
@@ -111,28 +78,17 @@ pub record IsFrom (q : RequesterId) (number : ℕ) (rows : List Job) (jobs : Lis
   pub number_is : j.0 ≡ number + place
   pub placed : IsPlaced q (zip rows jobs) place at
 
-nothing_placed : {X : Type 0} (q : RequesterId) (i at : ℕ) → IsPlaced q [] i at → X
-nothing_placed q zero at is = absurd (let no : false ≡ true = is.passes in cc)
-nothing_placed q (suc i) at is = absurd (let no : false ≡ true = is.passes in cc)
-
 -- a list counts one more than what follows its first member, if that one passes
 pub counted : {X : Type 0} (p : X → Bool) (x : X) (xs : List X) (b : Bool) → p x ≡ b → count_by p (x ∷ xs) ≡ (if b then suc (count_by p xs) else count_by p xs)
 counted p x xs true is = let more : count_by p (x ∷ xs) ≡ suc (count_by p xs) = omega (arith, count-cons p x xs, ap one is) in more
 counted p x xs false is = let same : count_by p (x ∷ xs) ≡ count_by p xs = omega (arith, count-cons p x xs, ap one is) in same
 
 -- one place further
-one_on : (q : RequesterId) (number : ℕ) (job : Job) (rows : List Job) (kept : JobRecord) (jobs : List JobRecord) (at : ℕ) (j : JobId) → is_unfinished q (job, kept) ≡ false → IsFrom q (suc number) rows jobs at j → IsFrom q number (job ∷ rows) (kept ∷ jobs) at j
-one_on q number job rows kept jobs at j fails later = record {
+one_on : (q : RequesterId) (number : ℕ) (job : Job) (rows : List Job) (kept : JobRecord) (jobs : List JobRecord) (at : ℕ) (j : JobId) (b : Bool) → is_unfinished q (job, kept) ≡ b → IsFrom q (suc number) rows jobs at j → IsFrom q number (job ∷ rows) (kept ∷ jobs) (if b then suc at else at) j
+one_on q number job rows kept jobs at j b is later = record {
   place = suc later.place;
   number_is = omega (arith, later.number_is);
-  placed = record { passes = later.placed.passes; count = counted (is_unfinished q) (job, kept) (take later.place (zip rows jobs)) false fails ∙ later.placed.count };
-}
-
-one_more : (q : RequesterId) (number : ℕ) (job : Job) (rows : List Job) (kept : JobRecord) (jobs : List JobRecord) (at : ℕ) (j : JobId) → is_unfinished q (job, kept) ≡ true → IsFrom q (suc number) rows jobs at j → IsFrom q number (job ∷ rows) (kept ∷ jobs) (suc at) j
-one_more q number job rows kept jobs at j passes later = record {
-  place = suc later.place;
-  number_is = omega (arith, later.number_is);
-  placed = record { passes = later.placed.passes; count = counted (is_unfinished q) (job, kept) (take later.place (zip rows jobs)) true passes ∙ ap (λ (n : ℕ). suc n) later.placed.count };
+  placed = record { passes = later.placed.passes; count = counted (is_unfinished q) (job, kept) (take later.place (zip rows jobs)) b is ∙ ap (λ (n : ℕ). if b then suc n else n) later.placed.count };
 }
 
 module _ (c : Configuration) (q : RequesterId) where
@@ -149,17 +105,19 @@ module _ (c : Configuration) (q : RequesterId) where
         let first : Some (record { 0 = number }) ≡ Some j = rw (by_row number job kept row, passes) at found in
         let here : number ≡ j.0 = cc in
         record { place = 0; number_is = omega (arith, here); placed = record { passes = passes; count = refl } }
-    from_here true (suc at) passes found = one_more q number job rows kept jobs at j passes (rest at (rw (by_row number job kept row, passes) at found))
-    from_here false at fails found = one_on q number job rows kept jobs at j fails (rest at (rw (by_row number job kept row, fails) at found))
+    from_here true (suc at) passes found = one_on q number job rows kept jobs at j true passes (rest at (rw (by_row number job kept row, passes) at found))
+    from_here false at fails found = one_on q number job rows kept jobs at j false fails (rest at (rw (by_row number job kept row, fails) at found))
 
   -- the job at a place among them is such a job, and the place is the number of such jobs before it
   pub from : (number : ℕ) (rows : List Job) (jobs : List JobRecord) (at : ℕ) (j : JobId) → drop number c.jobs ≡ rows → slice_get (unfinished_from c q number jobs) at ≡ Some j → IsFrom q number rows jobs at j
   from number rows [] at j is found = absurd cc
   from number [] (kept ∷ jobs) at j is found =
-      let later = from (suc number) [] jobs at j (next_none c.jobs number is) (rw (without_row number kept (none_at c.jobs number is)) at found) in
-      nothing_placed q later.place at later.placed
+      let row = from_number c.jobs number in
+      let later = from (suc number) [] jobs at j (row.1 ∙ ap (drop 1) is) (rw (without_row number kept (row.0 ∙ ap (λ (xs : List Job). slice_get xs 0) is)) at found) in
+      absurd (let no : false ≡ true = later.placed.passes in cc)
   from number (job ∷ rows) (kept ∷ jobs) at j is found =
-      from_here number job rows kept jobs j (some_at c.jobs number job rows is) (λ later told. from (suc number) rows jobs later j (next_some c.jobs number job rows is) told) (is_unfinished q (job, kept)) at refl found
+      let row = from_number c.jobs number in
+      from_here number job rows kept jobs j (row.0 ∙ ap (λ (xs : List Job). slice_get xs 0) is) (λ later told. from (suc number) rows jobs later j (row.1 ∙ ap (drop 1) is) told) (is_unfinished q (job, kept)) at refl found
 
 -- ## the window
 
@@ -202,12 +160,10 @@ module _ (c : Configuration) (s : State) (q : RequesterId) where
 
   -- a job that is over, or of another requester, is in no window
   pub over-outside : (j : JobId) → option_map_or (is_unfinished_job c q j) (slice_get s.jobs j.0) false ≡ false → is_in_window c s q j ≡ false
-  over-outside j is = by (is_in_window c s q j) refl where
-    by : (b : Bool) → is_in_window c s q j ≡ b → is_in_window c s q j ≡ false
-    by false outside = outside
-    by true within =
-        let row = window_row j (slice_get (jobs_of c s) j.0) refl within in
-        absurd (let no : true ≡ false = sym row.1.1 ∙ rw row.1.0 at is in cc)
+  over-outside j is = false_from_ne_true (is_in_window c s q j) (λ within.
+      let row = window_row j (slice_get (jobs_of c s) j.0) refl within in
+      let no : true ≡ false = sym row.1.1 ∙ rw row.1.0 at is in
+      cc)
 
   module _ (j : JobId) (own : IsOpen j) (last : ℕ) (width : last + 1 ≡ window_of c q) where
     -- if the window's last place is past the end, each job that is not over is in the window
@@ -222,15 +178,11 @@ module _ (c : Configuration) (s : State) (q : RequesterId) where
     by_place end found at there true test =
         let low : at ≤ last = grind (arith, nat_tests) in
         let order : j.0 + last ≤ end.0 + at = apart (is_unfinished_job c q) 0 s.jobs at last j end low there found in
-        let first : j.0 ≤ end.0 = omega (arith, low, order) in
-        let up_to : nat_le j.0 end.0 ≡ true = grind (arith, nat_tests) in
-        test ∙ sym up_to
+        grind (arith, nat_tests, test, low, order)
     by_place end found at there false test =
         let past : last < at = grind (arith, nat_tests) in
         let order : end.0 + at ≤ j.0 + last = apart (is_unfinished_job c q) 0 s.jobs last at end j (omega (arith, past)) found there in
-        let later : end.0 < j.0 = omega (arith, past, order) in
-        let beyond : nat_le j.0 end.0 ≡ false = grind (arith, nat_tests) in
-        test ∙ sym beyond
+        grind (arith, nat_tests, test, past, order)
 
     -- if there is a job at the last place, just those up to it are in the window
     pub last-some : (end : JobId) → slice_get (unfinished_from c q 0 s.jobs) last ≡ Some end → is_in_window c s q j ≡ nat_le j.0 end.0
@@ -278,10 +230,7 @@ module _ (c : Configuration) (s : State) (j : JobId) (row : Job) where
 
   -- nor need a job that lacks no full semaphore
   pub room-may : first_full c s j row ≡ None → may_begin c s j row ≡ true
-  room-may room = by row.resources_first refl where
-    by : (b : Bool) → row.resources_first ≡ b → may_begin c s j row ≡ true
-    by true first = rw first refl
-    by false first = rw (first, room) refl
+  room-may room = by_bool (λ b. (b || is_none (first_full c s j row)) ≡ true) row.resources_first (λ first. refl) (λ first. rw room refl)
 
 -- ## the job
 
@@ -301,17 +250,9 @@ module _ (c : Configuration) (s : State) (q : RequesterId) (j : JobId) where
   begins-listed is = rw (is.stands, is.own, is.may, is.new) refl
 
   pub listed-begins : (kept : JobRecord) → slice_get s.jobs j.0 ≡ Some kept → is_job_to_begin c s q j kept ≡ true → IsToBegin c s q j
-  listed-begins kept there is = by (slice_get c.jobs j.0) refl own where
-    own : is_own c q j (may_begin c s j) ≡ true
-    own = and-first (is_own c q j (may_begin c s j)) (is_new kept.phase) is
-
-    new : is_new kept.phase ≡ true
-    new = and-second (is_own c q j (may_begin c s j)) (is_new kept.phase) is
-
-    by : (o : Option Job) → slice_get c.jobs j.0 ≡ o → option_map_or (λ (row : Job). (row.requester.0 == q.0) && may_begin c s j row) o false ≡ true → IsToBegin c s q j
-    by None stands both = absurd cc
-    by (Some row) stands both =
-        record { row = row; stands = stands; own = and-first (row.requester.0 == q.0) _ both; may = and-second (row.requester.0 == q.0) _ both; kept = kept; there = there; new = new }
+  listed-begins kept there is =
+      let own = such-one (λ (row : Job). (row.requester.0 == q.0) && may_begin c s j row) (slice_get c.jobs j.0) (and-first (is_own c q j (may_begin c s j)) _ is) in
+      record { row = own.0; stands = own.1.0; own = and-first (own.0.requester.0 == q.0) _ own.1.1; may = and-second (own.0.requester.0 == q.0) _ own.1.1; kept = kept; there = there; new = and-second (is_own c q j (may_begin c s j)) _ is }
 
 -- # a job that was given its nodes is to take them if it need not wait for handles, and else to acquire handles if its semaphores have room
 
@@ -331,10 +272,7 @@ module _ (s : State) (j : JobId) (row : Job) where
 
   -- so one that waits for handles lacks some
   pub unsupplied-missing : is_supplied s j row ≡ false → (missing_handles s j row == 0) ≡ false
-  unsupplied-missing waits = by (missing_handles s j row == 0) refl where
-    by : (b : Bool) → (missing_handles s j row == 0) ≡ b → (missing_handles s j row == 0) ≡ false
-    by false some = some
-    by true none = absurd (let no : true ≡ false = sym (all-supplied (eqb-true (missing_handles s j row) 0 none)) ∙ waits in cc)
+  unsupplied-missing waits = false_from_ne_true (missing_handles s j row == 0) (λ none. let no : true ≡ false = sym (all-supplied (eqb-true (missing_handles s j row) 0 none)) ∙ waits in cc)
 
 -- ## the job
 
@@ -349,8 +287,7 @@ pub record WasGiven (c : Configuration) (s : State) (q : RequesterId) (j : JobId
   pub given : has_fulfilled_request s kept ≡ true
 
 state-same : (o : Option RequestRecord) → option_map_or is_fulfilled (option_map (λ (request : RequestRecord). request.state) o) false ≡ option_map_or (λ (request : RequestRecord). is_fulfilled request.state) o false
-state-same None = refl
-state-same (Some request) = refl
+state-same o = grind arith
 
 module _ (s : State) (kept : JobRecord) where
   same_state : option_map_or is_fulfilled (request_state_of kept.request s) false ≡ has_fulfilled_request s kept
@@ -376,19 +313,15 @@ module _ (c : Configuration) (s : State) (q : RequesterId) (j : JobId) where
     pub room : first_full c s j job.row ≡ None
 
   pub listed-acquire : (kept : JobRecord) → slice_get s.jobs j.0 ≡ Some kept → is_job_to_acquire c s q j kept ≡ true → IsToAcquire
-  listed-acquire kept there is = by (slice_get c.jobs j.0) refl (and-first (is_own c q j (may_acquire c s j)) _ is) where
-    was : was_given kept.phase (request_state_of kept.request s) ≡ true
-    was = and-second (is_own c q j (may_acquire c s j)) _ is
-
-    by : (o : Option Job) → slice_get c.jobs j.0 ≡ o → option_map_or (λ (row : Job). (row.requester.0 == q.0) && may_acquire c s j row) o false ≡ true → IsToAcquire
-    by None stands both = absurd cc
-    by (Some row) stands both =
-        let may : may_acquire c s j row ≡ true = and-second (row.requester.0 == q.0) _ both in
-        record {
-          job = record { row = row; stands = stands; own = and-first (row.requester.0 == q.0) _ both; kept = kept; there = there; asked = and-first (is_asked kept.phase) _ was; given = listed-given s kept was };
-          waits = not-true (is_supplied s j row) (and-first (not (is_supplied s j row)) _ may);
-          room = none-is (first_full c s j row) (and-second (not (is_supplied s j row)) _ may);
-        }
+  listed-acquire kept there is =
+      let own = such-one (λ (row : Job). (row.requester.0 == q.0) && may_acquire c s j row) (slice_get c.jobs j.0) (and-first (is_own c q j (may_acquire c s j)) _ is) in
+      let was : was_given kept.phase (request_state_of kept.request s) ≡ true = and-second (is_own c q j (may_acquire c s j)) _ is in
+      let may : may_acquire c s j own.0 ≡ true = and-second (own.0.requester.0 == q.0) _ own.1.1 in
+      record {
+        job = record { row = own.0; stands = own.1.0; own = and-first (own.0.requester.0 == q.0) _ own.1.1; kept = kept; there = there; asked = and-first (is_asked kept.phase) _ was; given = listed-given s kept was };
+        waits = not-true (is_supplied s j own.0) (and-first (not (is_supplied s j own.0)) _ may);
+        room = none-is (first_full c s j own.0) (and-second (not (is_supplied s j own.0)) _ may);
+      }
 
 -- # an accepted event of a requester's session on a job: which jobs it can be of
 
@@ -399,11 +332,6 @@ waits true true true asked given is begins goes_on = begins refl refl
 waits true true false asked given is begins goes_on = goes_on (and-first asked given is) (and-second asked given is)
 waits true false within asked given is begins goes_on = goes_on (and-first asked given is) (and-second asked given is)
 waits false first within asked given is begins goes_on = goes_on (and-first asked given is) (and-second asked given is)
-
--- a job that can be finished uses its nodes, or has asked for them and its request failed
-finishable-by : (p : Phase) (o : Option RequestRecord) (busy : Bool) → ((is_asked p && option_map_or (λ (request : RequestRecord). is_failed request.state) o false) || (is_using p && busy)) ≡ true
-    → (is_using p || (is_asked p && option_map_or is_failed (option_map (λ (request : RequestRecord). request.state) o) false)) ≡ true
-finishable-by p o busy is = grind (arith, nat_tests)
 
 -- new, and in the window
 pub record IsNewInWindow (c : Configuration) (s : State) (q : RequesterId) (j : JobId) : Type 0 where

@@ -1,5 +1,16 @@
 -- what is found and counted in lists: the first spare node, the request that lists a node, and a request in hand
-use Rattle.np_launch.proofs.Prelude.{AllByRecursion, Bool, Configuration, Done, Err, Event, Invariant, IsReached, IsServed, LabelId, List, NodeEntry, NodeId, NodeRecord, None, Ok, Option, PoolId, Refusal, RequestEntry, RequestId, RequestRecord, RequestState, Result, Rises, SessionId, Some, StandsIn, State, [], add-one, all-at, all-from_at, and_parts, any-here, any-place, ap, arith, both_true, both_ways, by_bool, cond, contrapositive, count_by, drop, drop-past, false, false_from_ne_true, filter, find, find-none, find-place, first_free, first_takable, free_ready_of, has_failed_node, holder, holder-queued, if◌then◌else◌, invariant-Runs, is_declined_by, is_id_before, is_in_hand, is_in_hand_at, is_kind, is_listed, is_none, is_ok, is_pending, is_pending_by, is_pool, is_queued, is_ready, is_request, is_requested, is_session_of, is_some, is_spare, is_takable, is_to_launch, is_wanted_by, judge, launcher, launcher-heard, length, list_any, list_any-there, map, map-some, may_take_ready, member-there, nat_lt, nat_tests, need, next_label, node-apart, node-itself, node-place, node_entry, node_in, node_is, none-find, not, ok-is, option_and_then, option_map, option_map_or, pool_of, pool_of_role, queued_requests, refl, registered, request-apart, request-equal, request-itself, request_entry, request_holder, request_in, same_request, served_request, slice_get, slice_get_within, some-unless, suc, sum_by-cons, sym, true, true≢false, vacant, wrong_node, wrong_request, zero, ℕ, ◌&&◌, ◌+◌, ◌<◌, ◌==◌, ◌>>◌, ◌||◌, ◌∙◌, ◌∷◌, ◌≡◌, ◌≤◌}
+use Rattle.np_launch.proofs.Prelude.{AllByRecursion, Bool, Configuration, Done, Err, Invariant, IsReached, IsServed, LabelId, List, NodeEntry, NodeId, NodeRecord, None, Ok, Option, PoolId, Refusal, RequestEntry, RequestId, RequestRecord, RequestState, Result, Rises, SessionId, Some, StandsIn, State, [], all-at, all-from_at, and_parts, any-place, ap, arith, both_true, both_ways, by_bool, cond, count_by, false, filter, find, find-none, find-place, first_free, first_takable, free_ready_of, from-map_some, has_failed_node, holder, holder-queued, if◌then◌else◌, invariant-Runs, is_declined_by, is_id_before, is_in_hand, is_in_hand_at, is_kind, is_listed, is_none, is_ok, is_pending, is_pending_by, is_pool, is_queued, is_ready, is_request, is_requested, is_session_of, is_some, is_spare, is_takable, is_to_launch, is_wanted_by, launcher, launcher-heard, length, list_any, list_any-there, map, map-some, may_take_ready, member-there, nat_lt, nat_tests, need, next_label, node-apart, node-itself, node-place, node_entry, node_in, node_is, none-find, not, option_and_then, option_and_then_some, option_map, option_map_or, pool_of, pool_of_role, queued_requests, refl, registered, request-apart, request-equal, request-itself, request_entry, request_holder, request_in, same_request, served_request, slice_get, slice_get_within, some-unless, suc, sum_by-cons, sym, true, true≢false, vacant, wrong_node, wrong_request, zero, ℕ, ◌&&◌, ◌+◌, ◌<◌, ◌==◌, ◌>>◌, ◌||◌, ◌∙◌, ◌∷◌, ◌≡◌}
+
+-- # what an option has
+
+-- what passes is there
+pub such-one : {X : Type 0} (such : X → Bool) (o : Option X) → option_map_or such o false ≡ true → (x : X) × ((o ≡ Some x) × (such x ≡ true))
+such-one such None is = absurd cc
+such-one such (Some x) is = (x, (refl, is))
+
+if-some : {X : Type 0} (b : Bool) (x y : X) → (if b then Some x else None) ≡ Some y → (b ≡ true) × (x ≡ y)
+if-some true x y is = (refl, cc)
+if-some false x y is = absurd cc
 
 -- # the first member that passes a test
 
@@ -15,24 +26,7 @@ find-some q xs i x there passes = some-unless (find q xs) (λ none. true≢false
 -- by names: one of the members that are kept passes if some member does, as each that passes is kept
 pub any-named : {X I : Type 0} (name : X → I) (keep q : X → Bool) (t : I → Bool) (xs : List X) → AllByRecursion (λ x. keep x ≡ true → t (name x) ≡ q x) xs → ((x : X) → q x ≡ true → keep x ≡ true) → list_any t (map name (filter keep xs)) ≡ list_any q xs
 any-named name keep q t [] all kept = refl
-any-named name keep q t (x ∷ xs) all kept =
-    let later : list_any t (map name (filter keep xs)) ≡ list_any q xs = any-named name keep q t xs all.1 kept in
-    by_bool (λ b. list_any t (map name (cond b (x ∷ filter keep xs) (filter keep xs))) ≡ (q x || list_any q xs)) (keep x)
-    (λ is. rw (all.0 is) (ap (λ (b : Bool). q x || b) later)) (λ is. rw (contrapositive (q x) (keep x) (kept x) is) later)
-
--- ## a walk
-
--- a member that passes, from its place on
-pub any-found : {X : Type 0} (p : X → Bool) (xs : List X) (i : ℕ) (x : X) → slice_get xs i ≡ Some x → p x ≡ true → list_any p (drop i xs) ≡ true
-any-found p xs i x there passes = any-here p xs i x there ∙ rw passes refl
-
--- past a member that does not pass
-pub any-later : {X : Type 0} (p : X → Bool) (xs : List X) (i : ℕ) (x : X) → slice_get xs i ≡ Some x → p x ≡ false → list_any p (drop (i + 1) xs) ≡ list_any p (drop i xs)
-any-later p xs i x there fails = rw add-one (sym (any-here p xs i x there ∙ ap (λ (b : Bool). b || list_any p (drop (suc i) xs)) fails))
-
--- past the end none passes
-pub any-past : {X : Type 0} (p : X → Bool) (xs : List X) (i : ℕ) → length xs ≤ i → list_any p (drop i xs) ≡ false
-any-past p xs i past = rw (drop-past xs i past) refl
+any-named name keep q t (x ∷ xs) all kept = grind (arith, all.0, kept x, any-named name keep q t xs all.1 kept)
 
 -- ## by an order
 
@@ -51,25 +45,15 @@ module _ {X I : Type 0} (name : X → I) (q : I → Bool) (p : X → Bool) where
   abbrev tested : Option I → Option I
   tested o = option_and_then (λ i. if q i then Some i else None) o
 
-  none-passes : (xs : List X) → AllByRecursion (λ x. q (name x) ≡ false) xs → option_map name (find (λ x. q (name x)) xs) ≡ None
-  none-passes [] all = refl
-  none-passes (x ∷ xs) all = rw all.0 (none-passes xs all.1)
-
   none-tested : (xs : List X) → AllByRecursion (λ x. q (name x) ≡ false) xs → tested (option_map name (slice_get (filter p xs) 0)) ≡ None
   none-tested [] all = refl
-  none-tested (x ∷ xs) all =
-      by_bool (λ b. tested (option_map name (slice_get (cond b (x ∷ filter p xs) (filter p xs)) 0)) ≡ None) (p x) (λ is. rw all.0 refl) (λ is. none-tested xs all.1)
-
-  first-same : (xs : List X) → AllByRecursion (λ x. q (name x) ≡ p x) xs → option_map name (find (λ x. q (name x)) xs) ≡ tested (option_map name (slice_get (filter p xs) 0))
-  first-same [] all = refl
-  first-same (x ∷ xs) all =
-      by_bool (λ b. option_map name (find (λ y. q (name y)) (x ∷ xs)) ≡ tested (option_map name (slice_get (cond b (x ∷ filter p xs) (filter p xs)) 0))) (p x)
-      (λ is. rw (all.0 ∙ is) refl) (λ is. rw (all.0 ∙ is) (first-same xs all.1))
+  none-tested (x ∷ xs) all = grind (arith, all.0, none-tested xs all.1)
 
   -- the first that passes both is the first that passes the second, if that passes
   pub first-tested : (t : Bool) (xs : List X) → AllByRecursion (λ x. q (name x) ≡ (t && p x)) xs → option_map name (find (λ x. q (name x)) xs) ≡ option_and_then (λ i. if q i then Some i else None) (option_map name (slice_get (filter p xs) 0))
-  first-tested true xs all = first-same xs all
-  first-tested false xs all = none-passes xs all ∙ sym (none-tested xs all)
+  first-tested false xs all = ap (option_map name) (find-none (λ x. q (name x)) xs all) ∙ sym (none-tested xs all)
+  first-tested true [] all = refl
+  first-tested true (x ∷ xs) all = grind (arith, all.0, first-tested true xs all.1)
 
 -- # how many members of a list pass a test
 
@@ -85,29 +69,18 @@ pub count-same : {X : Type 0} (p q : X → Bool) (xs : List X) → AllByRecursio
 count-same p q [] all = refl
 count-same p q (x ∷ xs) all = omega (arith, count-cons p x xs, count-cons q x xs, ap one all.0, count-same p q xs all.1)
 
-pub count-none : {X : Type 0} (p : X → Bool) (xs : List X) → ((x : X) → p x ≡ false) → count_by p xs ≡ 0
-count-none p [] none = refl
-count-none p (x ∷ xs) none = omega (arith, count-cons p x xs, ap one (none x), count-none p xs none)
-
 -- what passes is what passes one of two other tests, none both of them
 pub count-either : {X : Type 0} (p q either : X → Bool) (xs : List X) → ((x : X) → one (either x) ≡ one (p x) + one (q x)) → count_by either xs ≡ count_by p xs + count_by q xs
 count-either p q either [] each = refl
 count-either p q either (x ∷ xs) each = omega (arith, count-cons p x xs, count-cons q x xs, count-cons either x xs, each x, count-either p q either xs each)
 
-count-named-by : {X I : Type 0} (name : X → I) (keep q : X → Bool) (t : I → Bool) (x : X) (xs : List X) (b : Bool) → keep x ≡ b → (keep x ≡ true → t (name x) ≡ q x) → count_by t (map name (filter keep xs)) ≡ count_by (λ x. keep x && q x) xs → count_by t (map name (filter keep (x ∷ xs))) ≡ count_by (λ x. keep x && q x) (x ∷ xs)
-count-named-by {X = X} name keep q t x xs true is same later =
-    let own : one (keep x && q x) ≡ one (q x) = ap (λ (b : Bool). one (b && q x)) is in
-    let first : count_by t (map name (filter keep (x ∷ xs))) ≡ one (t (name x)) + count_by t (map name (filter keep xs)) = rw is (count-cons t (name x) (map name (filter keep xs))) in
-    omega (arith, first, count-cons (λ (y : X). keep y && q y) x xs, ap one (same is), own, later)
-count-named-by {X = X} name keep q t x xs false is same later =
-    let own : one (keep x && q x) ≡ 0 = ap (λ (b : Bool). one (b && q x)) is in
-    let first : count_by t (map name (filter keep (x ∷ xs))) ≡ count_by t (map name (filter keep xs)) = rw is refl in
-    omega (arith, first, count-cons (λ (y : X). keep y && q y) x xs, own, later)
+pub count-none : {X : Type 0} (p : X → Bool) (xs : List X) → ((x : X) → p x ≡ false) → count_by p xs ≡ 0
+count-none p xs none = omega (arith, count-either p p p xs (λ x. rw (none x) refl))
 
 -- by names: of the members that are kept, as many names pass as members
 pub count-named : {X I : Type 0} (name : X → I) (keep q : X → Bool) (t : I → Bool) (xs : List X) → AllByRecursion (λ x. keep x ≡ true → t (name x) ≡ q x) xs → count_by t (map name (filter keep xs)) ≡ count_by (λ x. keep x && q x) xs
 count-named name keep q t [] all = refl
-count-named name keep q t (x ∷ xs) all = count-named-by name keep q t x xs (keep x) refl all.0 (count-named name keep q t xs all.1)
+count-named name keep q t (x ∷ xs) all = grind (arith, nat_tests, all.0, count-named name keep q t xs all.1, count-cons (λ y. keep y && q y) x xs, count-cons t (name x) (map name (filter keep xs)))
 
 -- # the first node that may be allocated to a request is the first spare one of its next label, if that one may be
 
@@ -124,16 +97,7 @@ node-there rows i e rise there =
 tests : (known held pending free ready kind : Bool) (o : Option RequestId) (h : Option SessionId) (wrong late : Refusal) (label : Refusal) →
     is_ok (need known Refusal.NotRegistered >> (need held Refusal.NotHeld >> (need pending wrong >> (need free Refusal.NotOwner >> (need ready late >> (vacant o Refusal.Allocated >> (need kind label >> (vacant h Refusal.Busy >> Ok Done.Held))))))))
     ≡ ((known && (held && (pending && free))) && (((ready && is_none o) && is_none h) && kind))
-tests false held pending free ready kind o h wrong late label = refl
-tests true false pending free ready kind o h wrong late label = refl
-tests true true false free ready kind o h wrong late label = refl
-tests true true true false ready kind o h wrong late label = refl
-tests true true true true false kind o h wrong late label = refl
-tests true true true true true kind (Some r) h wrong late label = refl
-tests true true true true true false None None wrong late label = refl
-tests true true true true true false None (Some x) wrong late label = refl
-tests true true true true true true None None wrong late label = refl
-tests true true true true true true None (Some x) wrong late label = refl
+tests known held pending free ready kind o h wrong late label = grind arith
 
 -- the pool of the launcher that makes the event is the session's
 pool-is : (s : State) (session : SessionId) (p : PoolId) → launcher s session ≡ Ok p → pool_of s session ≡ Some p
@@ -158,12 +122,6 @@ module _ (c : Configuration) (s : State) (session : SessionId) (r : RequestId) w
       by (Some n) = rw (none n) refl
 
   module _ (p : PoolId) (by : launcher s session ≡ Ok p) where
-    no-label : (n : NodeId) (k : RequestRecord) (what : Done) → request_in r s.requests ≡ Some k → next_label k ≡ None → judge c s (Event.TakeReady session r n) ≡ Ok what → ⊥
-    no-label n k what request none is = grind (arith, nat_tests)
-
-    complete : (n : NodeId) (k : RequestRecord) → request_in r s.requests ≡ Some k → next_label k ≡ None → is_takable c s session r n ≡ true → ⊥
-    complete n k request none is = let answer = ok-is (judge c s (Event.TakeReady session r n)) is in no-label n k answer.0 request none answer.1
-
     module _ (rise : Rises (λ a b. nat_lt a.id.0 b.id.0) s.nodes) where
       -- of the request, whatever the node
       abbrev asked : RequestRecord → Bool
@@ -175,7 +133,7 @@ module _ (c : Configuration) (s : State) (session : SessionId) (r : RequestId) w
           rw (by, request, node, label) (tests (is_session_of session (registered p s.registrations)) (is_session_of session (request_holder r s.requests)) (is_pending_by p k) (is_none k.pinned) (is_ready e.kept.state) (is_kind p l e) e.kept.allocated_to (holder e.queue) (wrong_request k) (wrong_node e.kept) (Refusal.NoLabel l))
 
       by-label : (k : RequestRecord) (o : Option LabelId) → request_in r s.requests ≡ Some k → next_label k ≡ o → first ≡ first_takable c s session r
-      by-label k None request none = refused (λ n. false_from_ne_true (is_takable c s session r n) (complete n k request none)) (option_and_then (first_free s r) (pool_of s session))
+      by-label k None request none = refused (λ n. grind (arith, nat_tests, by, request, none)) (option_and_then (first_free s r) (pool_of s session))
       by-label k (Some l) request label =
           let free : option_and_then (first_free s r) (pool_of s session) ≡ free_ready_of p l 0 s = rw (pool-is s session p by, request, label) refl in
           first-tested (λ (e : NodeEntry). e.id) (is_takable c s session r) (is_spare p l) (asked k) s.nodes (all-from_at (λ (e : NodeEntry). is_takable c s session r e.id ≡ (asked k && is_spare p l e)) s.nodes (split k l request label))
@@ -209,7 +167,7 @@ pub entry-there : (rows : List RequestEntry) (i : ℕ) (e : RequestEntry) → Ri
 entry-there rows i e rise there =
     find-there (λ (a b : RequestEntry). is_id_before a.id b.id) (λ (x : RequestEntry). same_request x.id e.id) rows i e rise there (λ y order. request-apart y.id e.id order) (request-itself e.id)
 
-named : (r : RequestId) (o : Option RequestId) → is_request r o ≡ true → o ≡ Some r
+pub named : (r : RequestId) (o : Option RequestId) → is_request r o ≡ true → o ≡ Some r
 named r None is = absurd cc
 named r (Some other) is = ap (λ (x : RequestId). Some x) (request-equal other r is)
 
@@ -227,10 +185,8 @@ module _ (c : Configuration) (s : State) (holds : Invariant c s) (p : PoolId) (n
         named r k.allocated_to ((served.each place.0 n label.0 k place.1 label.1 stands).allocated)
 
     by : (state : RequestState) → is_pending state ≡ true → StandsIn s r q state → k.allocated_to ≡ Some r
-    by RequestState.Requested is rests = absurd cc
     by RequestState.Pending is served = of_served served
-    by RequestState.Fulfilled is owns = absurd cc
-    by RequestState.Failed is rests = absurd cc
+    by _ is rests = absurd cc
 
   -- a test of pending requests that list the node, and what is left to test of the one it is allocated to
   module _ (wants such : RequestRecord → Bool) (parts : (q : RequestRecord) → wants q ≡ true → ((is_pending_by p q && is_listed n q) ≡ true) × (such q ≡ true)) (whole : (q : RequestRecord) → (is_pending_by p q && is_listed n q) ≡ true → such q ≡ true → wants q ≡ true) where
@@ -242,23 +198,19 @@ module _ (c : Configuration) (s : State) (holds : Invariant c s) (p : PoolId) (n
         let found : request_in at.member.id s.requests ≡ Some at.member.kept = ap (option_map (λ (x : RequestEntry). x.kept)) (entry-there s.requests at.place at.member holds.numbered.requests_rise at.there) in
         rw (allocated at.member.id at.member.kept found of_listed.0 of_listed.1, found, of_listed.0) of_both.1
 
-    back-by : (r : RequestId) → k.allocated_to ≡ Some r → (e : RequestEntry) → request_entry r s.requests ≡ Some e → (b : Bool) → is_pending_by p e.kept ≡ b → option_map_or such (if b then Some e.kept else None) false ≡ true → list_any (λ x. wants x.kept) s.requests ≡ true
-    back-by r some e found false pending is = absurd cc
-    back-by r some e found true pending is =
-        let listed : is_listed n e.kept ≡ true = (holds.owned.allocations n k r stands some).listed e.kept (ap (option_map (λ (x : RequestEntry). x.kept)) found) in
-        let place = find-place (λ (x : RequestEntry). same_request x.id r) s.requests e found in
-        list_any-there (λ (x : RequestEntry). wants x.kept) s.requests place.at e place.there (whole e.kept (both_true pending listed) is)
-
-    back-of : (r : RequestId) → k.allocated_to ≡ Some r → (o : Option RequestEntry) → request_entry r s.requests ≡ o → option_map_or such (option_and_then (λ (q : RequestRecord). if is_pending_by p q then Some q else None) (option_map (λ (x : RequestEntry). x.kept) o)) false ≡ true → list_any (λ x. wants x.kept) s.requests ≡ true
-    back-of r some None found is = absurd cc
-    back-of r some (Some e) found is = back-by r some e found (is_pending_by p e.kept) refl is
-
-    back : (o : Option RequestId) → k.allocated_to ≡ o → option_map_or such (served_request p s k) false ≡ true → list_any (λ x. wants x.kept) s.requests ≡ true
-    back None none is = absurd (let no : false ≡ true = rw none at is in cc)
-    back (Some r) some is = back-of r some (request_entry r s.requests) refl (rw some at is)
+    back : option_map_or such (served_request p s k) false ≡ true → list_any (λ x. wants x.kept) s.requests ≡ true
+    back is =
+        let served = such-one such (served_request p s k) is in
+        option_and_then_some _ k.allocated_to served.0 served.1.0 (λ r some rest.
+        option_and_then_some _ (request_in r s.requests) served.0 rest (λ q found rest.
+        let such_q = if-some (is_pending_by p q) q served.0 rest in
+        let row = from-map_some (λ (x : RequestEntry). x.kept) (request_entry r s.requests) q found in
+        let listed : is_listed n row.0.kept ≡ true = (holds.owned.allocations n k r stands some).listed row.0.kept (ap (option_map (λ (x : RequestEntry). x.kept)) row.1) in
+        let place = find-place (λ (x : RequestEntry). same_request x.id r) s.requests row.0 row.1 in
+        list_any-there (λ (x : RequestEntry). wants x.kept) s.requests place.at row.0 place.there (whole row.0.kept (both_true (rw row.2 such_q.0) listed) (rw (row.2, such_q.1) served.1.1))))
 
     wanted-is : list_any (λ e. wants e.kept) s.requests ≡ option_map_or such (served_request p s k) false
-    wanted-is = both_ways (list_any (λ e. wants e.kept) s.requests) (option_map_or such (served_request p s k) false) there (back k.allocated_to refl)
+    wanted-is = both_ways (list_any (λ e. wants e.kept) s.requests) (option_map_or such (served_request p s k) false) there back
 
 -- none is there if not some is
 pub none-is : (b : Bool) (o : Option RequestRecord) → is_some o ≡ not b → b ≡ is_none o
@@ -271,8 +223,7 @@ module _ (c : Configuration) (s : State) (reached : IsReached c s) (p : PoolId) 
   wanted-by wants such parts whole = wanted-is c s (invariant-Runs c reached.journal s reached.runs) p n k stands wants such parts whole
 
   some-request-by : (o : Option RequestRecord) → not (option_map_or (λ q. true) o false) ≡ is_none o
-  some-request-by None = refl
-  some-request-by (Some q) = refl
+  some-request-by o = grind arith
 
   -- the launcher is done with a node without a launch if the pool serves no request of the node's
   pub done-is : k.in_flight ≡ false → (node_is n s (λ m. not m.in_flight) && not (is_wanted_by p s n)) ≡ is_none (served_request p s k)
@@ -296,13 +247,8 @@ module _ (c : Configuration) (s : State) (reached : IsReached c s) where
   -- ## in hand
 
   module _ (p : PoolId) (session : SessionId) where
-    hand-there : (i : ℕ) (e : RequestEntry) → slice_get s.requests i ≡ Some e → is_queued session e.queue ≡ true → is_in_hand_at p session s e.id ≡ is_in_hand p session e
-    hand-there i e there queued = rw (row-there i e there) refl
-
-    hand-queued : (e : RequestEntry) → is_in_hand p session e ≡ true → is_queued session e.queue ≡ true
-    hand-queued e is = holder-queued session e.queue ((and_parts (is_requested e.kept.state && not (is_declined_by p e.kept.declined)) (is_session_of session (holder e.queue)) is).1)
-
     pub any-in_hand : list_any (is_in_hand_at p session s) (queued_requests session s) ≡ list_any (is_in_hand p session) s.requests
     any-in_hand =
         any-named (λ (e : RequestEntry). e.id) (λ (e : RequestEntry). is_queued session e.queue) (is_in_hand p session) (is_in_hand_at p session s) s.requests
-        (all-from_at (λ (e : RequestEntry). is_queued session e.queue ≡ true → is_in_hand_at p session s e.id ≡ is_in_hand p session e) s.requests hand-there) hand-queued
+        (all-from_at (λ (e : RequestEntry). is_queued session e.queue ≡ true → is_in_hand_at p session s e.id ≡ is_in_hand p session e) s.requests (λ i e there queued. rw (row-there i e there) refl))
+        (λ e is. holder-queued session e.queue (and_parts (is_requested e.kept.state && not (is_declined_by p e.kept.declined)) _ is).1)

@@ -1,7 +1,7 @@
 -- the useful events of a launcher: how they are computed, planned and ordered, and which request it locks
-use Rattle.np_launch.proofs.Prelude.{AllByRecursion, Asked, Bool, Chooses, ChoosesComputed, ChoosesLaunched, ChoosesOf, ChoosesOfAnyKind, ChoosesOpening, ChoosesPlanned, ChoosesPlannedOf, ChoosesPlannedOfAny, ComputedKind, Configuration, Done, Event, IsFirst, IsFirstThatPasses, IsReached, IsUseful, Label, LabelId, LaunchKind, Launcher, List, Lock, Node, NodeEntry, NodeId, NodeKind, NodeRecord, None, NoneComputed, NoneLaunched, NoneOf, NoneOpens, NonePlanned, Ok, Option, Outcome, Plain, PlannedKind, PoolId, Reason, Refusal, Request, RequestEntry, RequestId, RequestKind, RequestRecord, Result, Role, SessionId, Some, State, [], and_parts, ap, arith, as_launcher, asked_of, blocking, by_bool, comes_before, computed_at, computed_places, cond, current-has, current-opens, current-speaks, decline_at, done_at, earlier, equal-numbers, false, false-apart, filter, find, find-passes, find-place, first-chooses, first_of, first_reason, first_takable, first_unoffered, fold, found, has_current, holder, holder-queued, if◌then◌else◌, is_as_planned, is_by_registrant, is_candidate, is_current, is_declined_by, is_first_reason, is_maker_of, is_node, is_none, is_ok, is_pending_by, is_pinned_away, is_planned, is_reason, is_requested, is_session_of, is_some, is_spent, is_takable, judge, launcher, launcher_order, least, lock_request_as, made-by, maker, maker_of, map, map-some, named-place, nat_tests, never_fits, new_record, node_entry, node_holder, node_in, node_is, node_queue, not, not-zero, ok-is, on-found, on-need, on-not, on-vacant, option_and_then, option_and_then_some, option_map, option_map_or, other_than, outcome_of, passes, passes-useful, passing, passing-is, passing-none, planned_at, planned_order, planned_places, queued-node, queued-request, queued_nodes, queued_requests, reason_of, refl, registered, request-equal, request_entry, request_holder, request_in, request_is, request_queue, same-role, same_node-is, same_outcome, same_reason, same_request, same_role, slice_get, slice_get_within, some-unless, subst, sym, take_ready_at, tenant_never_fits, true, true_from_ne_false, useful-passes, wrong_request, ℕ, ◌&&◌, ◌<◌, ◌==◌, ◌>>=◌, ◌∙◌, ◌∷◌, ◌≡◌}
+use Rattle.np_launch.proofs.Prelude.{AllByRecursion, Asked, Bool, Chooses, ChoosesComputed, ChoosesLaunched, ChoosesOf, ChoosesOfAnyKind, ChoosesOpening, ChoosesPlanned, ChoosesPlannedOf, ChoosesPlannedOfAny, ComputedKind, Configuration, Done, Event, IsFirst, IsFirstThatPasses, IsReached, IsUseful, Label, LabelId, LaunchKind, Launcher, List, Lock, Node, NodeEntry, NodeId, NodeKind, NodeRecord, None, NoneComputed, NoneLaunched, NoneOf, NoneOpens, NonePlanned, Ok, Option, Outcome, Plain, PlannedKind, PoolId, Reason, Refusal, Request, RequestEntry, RequestId, RequestKind, RequestRecord, Result, Role, SessionId, Some, State, [], and_parts, ap, arith, as_launcher, asked_of, blocking, computed_at, computed_places, current-has, current-opens, current-speaks, decline_at, earlier, equal-numbers, false, false-apart, filter, find, find-passes, find-place, first-chooses, first_of, first_reason, first_takable, first_unoffered, fold, has_current, holder, holder-queued, if◌then◌else◌, is_as_planned, is_by_registrant, is_candidate, is_current, is_declined_by, is_first_reason, is_maker_of, is_node, is_none, is_ok, is_pending_by, is_pinned_away, is_planned, is_reason, is_requested, is_session_of, is_some, is_spent, is_takable, judge, launcher, launcher_order, least, lock_request_as, made-by, maker, maker_of, map, map-some, named-place, nat_tests, never_fits, new_record, node_entry, node_holder, node_in, node_is, node_queue, not, not-zero, ok-is, on-found, on-need, on-not, on-vacant, option_and_then, option_and_then_some, option_map, option_map_or, other_than, outcome_of, passes, passes-useful, passing, passing-is, passing-none, planned_at, planned_order, planned_places, queued-node, queued-request, queued_nodes, queued_requests, reason_of, refl, registered, request-equal, request_entry, request_holder, request_in, request_is, request_queue, same-role, same_node-is, same_outcome, same_reason, same_request, same_role, slice_get, slice_get_within, some-unless, subst, sym, take_ready_at, tenant_never_fits, true, true_from_ne_false, useful-passes, wrong_request, ℕ, ◌&&◌, ◌<◌, ◌==◌, ◌>>=◌, ◌∙◌, ◌∷◌, ◌≡◌}
 use Rattle.np_useful.proofs.Useful.{StandsIn}
-use Rattle.np_launch.proofs.Finds.{find-some, first-is}
+use Rattle.np_launch.proofs.Finds.{find-some, first-is, such-one}
 
 -- # the first reason is the one that is computed
 
@@ -26,63 +26,25 @@ module _ (c : Configuration) (s : State) (p : PoolId) (k : RequestRecord) where
 -- ## reasons that are the same are equal-numbers
 
 pub same-reason : (one other : Reason) → same_reason one other ≡ true → other ≡ one
-same-reason (Reason.NoLabel l) (Reason.NoLabel of) is = ap (λ (n : ℕ). Reason.NoLabel (record { 0 = n })) (equal-numbers of.0 l.0 is)
-same-reason Reason.NeverFits Reason.NeverFits is = refl
-same-reason Reason.TenantNeverFits Reason.TenantNeverFits is = refl
-same-reason (Reason.Spent m) (Reason.Spent of) is = ap (λ (n : ℕ). Reason.Spent (record { 0 = n })) (equal-numbers of.0 m.0 is)
-same-reason one other is = absurd cc
+same-reason one other is = grind (arith, nat_tests)
 
 pub reason-found : (why : Reason) (o : Option Reason) → is_reason why o ≡ true → o ≡ Some why
 reason-found why None is = absurd cc
 reason-found why (Some other) is = ap Some (same-reason why other is)
 
 module _ (c : Configuration) (s : State) (p : PoolId) (why : Reason) where
-  found-by : (k : RequestRecord) (asked : Asked) (o : Option Reason) → asked_of k ≡ asked → o ≡ first_reason c s p (new_record asked) → is_reason why o ≡ is_first_reason c s p k why
-  found-by k asked o same is =
-      let first : o ≡ first_reason c s p k = is ∙ ap (λ (a : Asked). first_reason c s p (new_record a)) (sym same) in
-      ap (λ (x : Option Reason). is_reason why x) first ∙ sym (reason-is c s p k why)
-
   pub found-reason : (o : Option RequestRecord) (asked : Asked) (first : Option Reason) → option_map asked_of o ≡ Some asked → first ≡ first_reason c s p (new_record asked) → is_reason why first ≡ option_map_or (λ k. is_first_reason c s p k why) o false
   found-reason None asked first there is = absurd cc
-  found-reason (Some k) asked first there is = let same : asked_of k ≡ asked = cc in found-by k asked first same is
+  found-reason (Some k) asked first there is =
+      let same : asked_of k ≡ asked = cc in
+      ap (is_reason why) (is ∙ ap (λ (a : Asked). first_reason c s p (new_record a)) (sym same)) ∙ sym (reason-is c s p k why)
 
 -- # the events of a launcher that are computed: what passes is useful, and each useful event is among them
 
 -- ## parts
 
-such-one : {X : Type 0} (such : X → Bool) (o : Option X) → option_map_or such o false ≡ true → (x : X) × ((o ≡ Some x) × (such x ≡ true))
-such-one such None is = absurd cc
-such-one such (Some x) is = (x, (refl, is))
-
 same-result : (one other : Outcome) → same_outcome one other ≡ true → one ≡ other
-same-result (Outcome.Launched x) (Outcome.Launched y) is = ap (λ (n : ℕ). Outcome.Launched n) (equal-numbers x y is)
-same-result Outcome.Failed Outcome.Failed is = refl
-same-result one other is = absurd cc
-
--- ## what an accepted event says
-
-module _ (c : Configuration) (s : State) (session : SessionId) (what : Done) where
-  module _ (p : PoolId) (by : launcher s session ≡ Ok p) where
-    no-request : (r : RequestId) (n : NodeId) → judge c s (Event.TakeReady session r n) ≡ Ok what → request_in r s.requests ≡ None → ⊥
-    no-request r n is none = grind (arith, nat_tests)
-
-    no-node : (r : RequestId) (n : NodeId) → judge c s (Event.TakeReady session r n) ≡ Ok what → node_entry n s.nodes ≡ None → ⊥
-    no-node r n is none = grind (arith, nat_tests)
-
-    not-pending : (r : RequestId) (n : NodeId) (k : RequestRecord) → judge c s (Event.TakeReady session r n) ≡ Ok what → request_in r s.requests ≡ Some k → is_pending_by p k ≡ false → ⊥
-    not-pending r n k is there other = grind (arith, nat_tests)
-
-  not-taken : (r : RequestId) (n : NodeId) → judge c s (Event.TakeReady session r n) ≡ Ok what → is_session_of session (request_holder r s.requests) ≡ false → ⊥
-  not-taken r n is other = grind (arith, nat_tests)
-
-  not-reported : (n : NodeId) (attempt : ℕ) (o : Outcome) → judge c s (Event.Done session n attempt o) ≡ Ok what → is_session_of session (node_holder n s.nodes) ≡ false → ⊥
-  not-reported n attempt o is other = grind (arith, nat_tests)
-
-  not-declined : (r : RequestId) (why : Reason) → judge c s (Event.Decline session r why) ≡ Ok what → is_session_of session (request_holder r s.requests) ≡ false → ⊥
-  not-declined r why is other = grind (arith, nat_tests)
-
-  no-label : (l : LabelId) → judge c s (Event.MinReady session l) ≡ Ok what → slice_get c.labels l.0 ≡ None → ⊥
-  no-label l is none = grind (arith, nat_tests)
+same-result one other is = grind (arith, nat_tests)
 
 -- ## the current launcher
 
@@ -159,27 +121,16 @@ module _ (c : Configuration) (s : State) (p : PoolId) (session : SessionId) wher
   node-place : (n : NodeId) → (is_session_of session (node_holder n s.nodes) ≡ false → ⊥) → StandsIn n (queued_nodes session s)
   node-place n held = queued-node s session n (holder-queued session (node_queue n s.nodes) (true_from_ne_false (is_session_of session (node_holder n s.nodes)) held))
 
-  done-there : (n : NodeId) (k : NodeRecord) (attempt : ℕ) (o : Outcome) (at : ℕ) → slice_get (queued_nodes session s) at ≡ Some n → node_in n s.nodes ≡ Some k → is_as_planned c p attempt o k ≡ true → done_at c s p session at ≡ Some (Event.Done session n attempt o)
-  done-there n k attempt o at there kept planned =
-      let parts = and_parts (k.attempts == attempt) (same_outcome (outcome_of c p k.start) o) planned in
-      let first : k.attempts ≡ attempt = equal-numbers k.attempts attempt parts.0 in
-      let second : outcome_of c p k.start ≡ o = same-result (outcome_of c p k.start) o parts.1 in
-      ap (λ (x : Option NodeId). option_and_then (λ m. option_map (λ v. Event.Done session m v.attempts (outcome_of c p v.start)) (node_in m s.nodes)) x) there
-      ∙ ap (λ (x : Option NodeRecord). option_map (λ v. Event.Done session n v.attempts (outcome_of c p v.start)) x) kept
-      ∙ ap (λ (x : ℕ). Some (Event.Done session n x (outcome_of c p k.start))) first
-      ∙ ap (λ (x : Outcome). Some (Event.Done session n attempt x)) second
-
   done-stands : (n : NodeId) (attempt : ℕ) (o : Outcome) → IsUseful c s (Launcher p) (Event.Done session n attempt o) → Stands ComputedKind.Done
   done-stands n attempt o useful =
-      let answer = ok-is (judge c s (Event.Done session n attempt o)) useful.accepted in
-      let row : node_is n s (is_as_planned c p attempt o) ≡ true = row-of (Event.Done session n attempt o) (node_is n s (is_as_planned c p attempt o)) useful.row in
-      let known = such-one (is_as_planned c p attempt o) (node_in n s.nodes) row in
-      let place = node-place n (not-reported c s session answer.0 n attempt o answer.1) in
+      let known = such-one (is_as_planned c p attempt o) (node_in n s.nodes) (row-of (Event.Done session n attempt o) (node_is n s (is_as_planned c p attempt o)) useful.row) in
+      let parts = and_parts (known.0.attempts == attempt) (same_outcome (outcome_of c p known.0.start) o) known.1.1 in
+      let place = node-place n (λ other. grind (arith, nat_tests, other, useful.accepted)) in
       record {
         at = place.at;
         low = place.within;
         event = Event.Done session n attempt o;
-        there = done-there n known.0 attempt o place.at place.there known.1.0 known.1.1;
+        there = rw (place.there, known.1.0, equal-numbers known.0.attempts attempt parts.0, same-result (outcome_of c p known.0.start) o parts.1) refl;
         useful = useful;
       }
 
@@ -190,25 +141,21 @@ module _ (c : Configuration) (s : State) (p : PoolId) (session : SessionId) wher
       ∙ ap (λ (b : Bool). if b then option_map (λ m. Event.TakeReady session r m) (first_takable c s session r) else None) pending
       ∙ ap (λ (x : Option NodeId). option_map (λ m. Event.TakeReady session r m) x) first
 
-  first-there : IsReached c s → (r : RequestId) (e : NodeEntry) → find (λ (x : NodeEntry). is_takable c s session r x.id) s.nodes ≡ Some e → first_takable c s session r ≡ Some e.id
-  first-there reached r e found = sym (first-is c s session r reached) ∙ ap (λ (o : Option NodeEntry). option_map (λ (x : NodeEntry). x.id) o) found
-
   take-stands : IsReached c s → launcher s session ≡ Ok p → (r : RequestId) (n : NodeId) → IsUseful c s (Launcher p) (Event.TakeReady session r n) → Stands ComputedKind.TakeReady
   take-stands reached by r n useful =
-      let answer = ok-is (judge c s (Event.TakeReady session r n)) useful.accepted in
-      let request = some-unless (request_in r s.requests) (no-request c s session answer.0 p by r n answer.1) in
-      let node = some-unless (node_entry n s.nodes) (no-node c s session answer.0 p by r n answer.1) in
-      let pending = true_from_ne_false (is_pending_by p request.0) (not-pending c s session answer.0 p by r n request.0 answer.1 request.1) in
+      let request = some-unless (request_in r s.requests) (λ none. grind (arith, nat_tests, by, none, useful.accepted)) in
+      let node = some-unless (node_entry n s.nodes) (λ none. grind (arith, nat_tests, by, none, useful.accepted)) in
+      let pending : is_pending_by p request.0 ≡ true = true_from_ne_false (is_pending_by p request.0) (λ other. grind (arith, nat_tests, by, request.1, other, useful.accepted)) in
       let among = find-place (λ (e : NodeEntry). e.id.0 == n.0) s.nodes node.0 node.1 in
       let same : node.0.id ≡ n = same_node-is node.0.id n (find-passes (λ (e : NodeEntry). e.id.0 == n.0) s.nodes node.0 node.1) in
       let takable : is_takable c s session r node.0.id ≡ true = ap (is_takable c s session r) same ∙ useful.accepted in
       let first = find-some (λ (e : NodeEntry). is_takable c s session r e.id) s.nodes among.at node.0 among.there takable in
-      let place = request-place r (not-taken c s session answer.0 r n answer.1) in
+      let place = request-place r (λ other. grind (arith, nat_tests, other, useful.accepted)) in
       record {
         at = place.at;
         low = place.within;
         event = Event.TakeReady session r first.0.id;
-        there = take-there r request.0 first.0.id place.at place.there request.1 pending (first-there reached r first.0 first.1);
+        there = take-there r request.0 first.0.id place.at place.there request.1 pending (sym (first-is c s session r reached) ∙ ap (option_map (λ (x : NodeEntry). x.id)) first.1);
         useful = record {
           accepted = find-passes (λ (e : NodeEntry). is_takable c s session r e.id) s.nodes first.0 first.1;
           maker = useful.maker;
@@ -216,36 +163,28 @@ module _ (c : Configuration) (s : State) (p : PoolId) (session : SessionId) wher
         };
       }
 
-  decline-there : (r : RequestId) (k : RequestRecord) (why : Reason) (at : ℕ) → slice_get (queued_requests session s) at ≡ Some r → request_in r s.requests ≡ Some k → first_reason c s p k ≡ Some why → decline_at c s p session at ≡ Some (Event.Decline session r why)
-  decline-there r k why at there kept first =
-      ap (λ (x : Option RequestId). option_and_then (λ q. option_and_then (λ v. option_map (λ w. Event.Decline session q w) (first_reason c s p v)) (request_in q s.requests)) x) there
-      ∙ ap (λ (x : Option RequestRecord). option_and_then (λ v. option_map (λ w. Event.Decline session r w) (first_reason c s p v)) x) kept
-      ∙ ap (λ (x : Option Reason). option_map (λ w. Event.Decline session r w) x) first
-
   decline-stands : (r : RequestId) (why : Reason) → IsUseful c s (Launcher p) (Event.Decline session r why) → Stands ComputedKind.Decline
   decline-stands r why useful =
-      let answer = ok-is (judge c s (Event.Decline session r why)) useful.accepted in
       let row : request_is r s (λ k. is_first_reason c s p k why) ≡ true = row-of (Event.Decline session r why) (request_is r s (λ k. is_first_reason c s p k why)) useful.row in
       let known = such-one (λ (k : RequestRecord). is_first_reason c s p k why) (request_in r s.requests) row in
-      let place = request-place r (not-declined c s session answer.0 r why answer.1) in
+      let place = request-place r (λ other. grind (arith, nat_tests, other, useful.accepted)) in
       let first : first_reason c s p known.0 ≡ Some why = reason-found why (first_reason c s p known.0) (sym (reason-is c s p known.0 why) ∙ known.1.1) in
       record {
         at = place.at;
         low = place.within;
         event = Event.Decline session r why;
-        there = decline-there r known.0 why place.at place.there known.1.0 first;
+        there = rw (place.there, known.1.0, first) refl;
         useful = useful;
       }
 
   min-ready-stands : (l : LabelId) → IsUseful c s (Launcher p) (Event.MinReady session l) → Stands ComputedKind.MinReady
   min-ready-stands l useful =
-      let answer = ok-is (judge c s (Event.MinReady session l)) useful.accepted in
-      let label = some-unless (slice_get c.labels l.0) (no-label c s session answer.0 l answer.1) in
+      let label = some-unless (slice_get c.labels l.0) (λ none. grind (arith, nat_tests, none, useful.accepted)) in
       record {
         at = l.0;
         low = slice_get_within c.labels l.0 label.0 label.1;
         event = Event.MinReady session l;
-        there = ap (λ (o : Option Label). option_map (λ _. Event.MinReady session l) o) label.1;
+        there = rw label.1 refl;
         useful = useful;
       }
 
@@ -257,26 +196,19 @@ module _ (c : Configuration) (s : State) (reached : IsReached c s) (p : PoolId) 
       let parts = passing-is c s (Launcher p) (computed_at c s p session kind first.at) e first.there in
       passes-useful c s (Launcher p) e parts.1 (ap (is_maker_of (Launcher p) s) (computed-maker c s p session kind first.at e parts.0) ∙ current)
 
-  none-stands : (kind : ComputedKind) → ((at : ℕ) → at < computed_places c s session kind → passing c s (Launcher p) (computed_at c s p session kind at) ≡ None) → Stands c s p session kind → ⊥
-  none-stands kind none stands =
+  -- if none passes at a place, no event of the kind is useful, whoever makes it
+  none-by : (kind : ComputedKind) → ((at : ℕ) → at < computed_places c s session kind → passing c s (Launcher p) (computed_at c s p session kind at) ≡ None) → (event : SessionId → Event) → ((by : SessionId) → maker_of (event by) ≡ Some by) → (IsUseful c s (Launcher p) (event session) → Stands c s p session kind) → (other : SessionId) → IsUseful c s (Launcher p) (event other) → ⊥
+  none-by kind none event makes place other useful =
+      let same : other ≡ session = made-by c s (Launcher p) session current other (event other) (makes other) useful in
+      let stands = place (subst (λ (x : SessionId). IsUseful c s (Launcher p) (event x)) same useful) in
       passing-none c s (Launcher p) (computed_at c s p session kind stands.at) stands.event stands.there (useful-passes c s (Launcher p) stands.event stands.useful) (none stands.at stands.low)
 
   none-computed : (kind : ComputedKind) → ((at : ℕ) → at < computed_places c s session kind → passing c s (Launcher p) (computed_at c s p session kind at) ≡ None) → NoneComputed c s p kind
-  none-computed ComputedKind.Register none = λ other useful.
-      let same : other ≡ session = made-by c s (Launcher p) session current other (Event.Register other) refl useful in
-      none-stands ComputedKind.Register none (register-stands c s p session (subst (λ (x : SessionId). IsUseful c s (Launcher p) (Event.Register x)) same useful))
-  none-computed ComputedKind.Done none = λ other n attempt o useful.
-      let same : other ≡ session = made-by c s (Launcher p) session current other (Event.Done other n attempt o) refl useful in
-      none-stands ComputedKind.Done none (done-stands c s p session n attempt o (subst (λ (x : SessionId). IsUseful c s (Launcher p) (Event.Done x n attempt o)) same useful))
-  none-computed ComputedKind.TakeReady none = λ other r n useful.
-      let same : other ≡ session = made-by c s (Launcher p) session current other (Event.TakeReady other r n) refl useful in
-      none-stands ComputedKind.TakeReady none (take-stands c s p session reached (launcher-is s p session current) r n (subst (λ (x : SessionId). IsUseful c s (Launcher p) (Event.TakeReady x r n)) same useful))
-  none-computed ComputedKind.Decline none = λ other r why useful.
-      let same : other ≡ session = made-by c s (Launcher p) session current other (Event.Decline other r why) refl useful in
-      none-stands ComputedKind.Decline none (decline-stands c s p session r why (subst (λ (x : SessionId). IsUseful c s (Launcher p) (Event.Decline x r why)) same useful))
-  none-computed ComputedKind.MinReady none = λ other l useful.
-      let same : other ≡ session = made-by c s (Launcher p) session current other (Event.MinReady other l) refl useful in
-      none-stands ComputedKind.MinReady none (min-ready-stands c s p session l (subst (λ (x : SessionId). IsUseful c s (Launcher p) (Event.MinReady x l)) same useful))
+  none-computed ComputedKind.Register none = none-by _ none (λ by. Event.Register by) (λ by. refl) (register-stands c s p session)
+  none-computed ComputedKind.Done none = λ other n attempt o. none-by _ none (λ by. Event.Done by n attempt o) (λ by. refl) (done-stands c s p session n attempt o) other
+  none-computed ComputedKind.TakeReady none = λ other r n. none-by _ none (λ by. Event.TakeReady by r n) (λ by. refl) (take-stands c s p session reached (launcher-is s p session current) r n) other
+  none-computed ComputedKind.Decline none = λ other r why. none-by _ none (λ by. Event.Decline by r why) (λ by. refl) (decline-stands c s p session r why) other
+  none-computed ComputedKind.MinReady none = λ other l. none-by _ none (λ by. Event.MinReady by l) (λ by. refl) (min-ready-stands c s p session l) other
 
   pub computed-chooses : (kind : ComputedKind) (o : Option Event) → IsFirstThatPasses c s (Launcher p) (computed_places c s session kind) (computed_at c s p session kind) o → ChoosesComputed c s p kind o
   computed-chooses kind None none = none-computed kind none
@@ -284,31 +216,23 @@ module _ (c : Configuration) (s : State) (reached : IsReached c s) (p : PoolId) 
 
 -- # a launcher's useful events that can be planned are of the kinds that are searched
 
--- ## a candidate can be planned
+-- ## a candidate can be planned, and the session makes it
 
-abbrev CanBePlanned : Event → Type 0
-CanBePlanned e = is_planned e ≡ true
+abbrev IsPlannedBy : SessionId → Event → Type 0
+IsPlannedBy session e = (maker_of e ≡ Some session) × (is_planned e ≡ true)
 
-candidate-planned : (c : Configuration) (s : State) (p : PoolId) (session : SessionId) (kind : PlannedKind) (at : ℕ) (e : Event) → planned_at c s p session kind at ≡ Some e → CanBePlanned e
-candidate-planned c s p session PlannedKind.Fulfil at e is = mapped CanBePlanned (λ (r : RequestId). Event.Fulfil session r) (λ r. refl) (slice_get (queued_requests session s) at) e is
-candidate-planned c s p session PlannedKind.UnlockNode at e is = mapped CanBePlanned (λ (n : NodeId). Event.UnlockNode session n) (λ n. refl) (slice_get (queued_nodes session s) at) e is
-candidate-planned c s p session PlannedKind.UnlockRequest at e is = mapped CanBePlanned (λ (r : RequestId). Event.UnlockRequest session r) (λ r. refl) (slice_get (queued_requests session s) at) e is
-candidate-planned c s p session PlannedKind.Start at e is = mapped CanBePlanned (λ (n : NodeId). Event.Start session n) (λ n. refl) (slice_get (queued_nodes session s) at) e is
-candidate-planned c s p session PlannedKind.TakeReady at e is = take-is CanBePlanned c s p session (λ r n. refl) at e is
-candidate-planned c s p session PlannedKind.Decline at e is = decline-is CanBePlanned c s p session (λ r why. refl) at e is
+candidate-planned : (c : Configuration) (s : State) (p : PoolId) (session : SessionId) (kind : PlannedKind) (at : ℕ) (e : Event) → planned_at c s p session kind at ≡ Some e → IsPlannedBy session e
+candidate-planned c s p session PlannedKind.Fulfil at e is = mapped (IsPlannedBy session) (λ (r : RequestId). Event.Fulfil session r) (λ r. (refl, refl)) (slice_get (queued_requests session s) at) e is
+candidate-planned c s p session PlannedKind.UnlockNode at e is = mapped (IsPlannedBy session) (λ (n : NodeId). Event.UnlockNode session n) (λ n. (refl, refl)) (slice_get (queued_nodes session s) at) e is
+candidate-planned c s p session PlannedKind.UnlockRequest at e is = mapped (IsPlannedBy session) (λ (r : RequestId). Event.UnlockRequest session r) (λ r. (refl, refl)) (slice_get (queued_requests session s) at) e is
+candidate-planned c s p session PlannedKind.Start at e is = mapped (IsPlannedBy session) (λ (n : NodeId). Event.Start session n) (λ n. (refl, refl)) (slice_get (queued_nodes session s) at) e is
+candidate-planned c s p session PlannedKind.TakeReady at e is = take-is (IsPlannedBy session) c s p session (λ r n. (refl, refl)) at e is
+candidate-planned c s p session PlannedKind.Decline at e is = decline-is (IsPlannedBy session) c s p session (λ r why. (refl, refl)) at e is
 
 -- ## the search
 
 module _ (c : Configuration) (s : State) (reached : IsReached c s) (p : PoolId) (session : SessionId) (current : is_current (Launcher p) session s ≡ true) where
   -- what its search returns is useful, or no event of the kind is
-  useful-of : (kind : PlannedKind) (e : Event) → IsFirst c s (Launcher p) (planned_places c s session kind) (planned_at c s p session kind) e → IsUseful c s (Launcher p) e
-  useful-of PlannedKind.Fulfil e first = first-chooses c s (Launcher p) session current (Request RequestKind.Fulfil) (Some e) first
-  useful-of PlannedKind.UnlockNode e first = first-chooses c s (Launcher p) session current (Node NodeKind.Unlock) (Some e) first
-  useful-of PlannedKind.UnlockRequest e first = first-chooses c s (Launcher p) session current (Request RequestKind.Unlock) (Some e) first
-  useful-of PlannedKind.Start e first = first-chooses c s (Launcher p) session current (Node NodeKind.Start) (Some e) first
-  useful-of PlannedKind.TakeReady e first = computed-chooses c s reached p session current ComputedKind.TakeReady (Some e) first
-  useful-of PlannedKind.Decline e first = computed-chooses c s reached p session current ComputedKind.Decline (Some e) first
-
   none-of : (kind : PlannedKind) → IsFirstThatPasses c s (Launcher p) (planned_places c s session kind) (planned_at c s p session kind) None → NonePlanned c s p kind
   none-of PlannedKind.Fulfil none = first-chooses c s (Launcher p) session current (Request RequestKind.Fulfil) None none
   none-of PlannedKind.UnlockNode none = first-chooses c s (Launcher p) session current (Node NodeKind.Unlock) None none
@@ -321,7 +245,8 @@ module _ (c : Configuration) (s : State) (reached : IsReached c s) (p : PoolId) 
   planned-chooses kind None none = none-of kind none
   planned-chooses kind (Some e) first =
       let there = passing-is c s (Launcher p) (planned_at c s p session kind first.at) e first.there in
-      (useful-of kind e first, candidate-planned c s p session kind first.at e there.0)
+      let by = candidate-planned c s p session kind first.at e there.0 in
+      (passes-useful c s (Launcher p) e there.1 (ap (is_maker_of (Launcher p) s) by.0 ∙ current), by.1)
 
 -- ## the choice
 
@@ -344,23 +269,20 @@ module _ (c : Configuration) (s : State) (p : PoolId) where
     useless (Event.Decline session r why) planned useful = all.1.1.1.1.1.0 session r why useful
     useless _ planned useful = absurd cc
 
+  -- what can be planned is made by a session
+  planned-made : (e : Event) → is_planned e ≡ true → is_some (maker_of e) ≡ true
+  planned-made e planned = grind (arith, nat_tests)
+
   -- without a session there is none
   pub none-without : has_current (Launcher p) s ≡ false → ChoosesPlanned c s p None
-  none-without none = useless where
-    useless : (e : Event) → is_planned e ≡ true → IsUseful c s (Launcher p) e → ⊥
-    useless Event.Tick planned useful = false-apart planned
-    useless (Event.OpenSession role) planned useful = false-apart planned
-    useless (Event.Crash session) planned useful = false-apart planned
-    useless (Event.Expire session) planned useful = false-apart planned
-    useless e planned useful = unmade none (maker_of e) refl useful.maker
+  none-without none e planned useful = unmade none (maker_of e) (planned-made e planned) useful.maker
 
 -- # a launcher locks only the first request that its pool may take up
 
 -- ## of some candidates, one is the first
 
 earlier-some : (o : Option RequestEntry) (e : RequestEntry) → is_some (earlier o e) ≡ true
-earlier-some None e = refl
-earlier-some (Some best) e = by_bool (λ b. is_some (cond b (Some e) (Some best)) ≡ true) (comes_before e best) (λ is. refl) (λ is. refl)
+earlier-some o e = grind arith
 
 stays-some : (rows : List RequestEntry) (o : Option RequestEntry) → is_some o ≡ true → is_some (fold earlier o rows) ≡ true
 stays-some [] o some = some
@@ -376,11 +298,7 @@ module _ (c : Configuration) (s : State) (p : PoolId) (r : RequestId) where
   -- what is there and is not another than the request is the request
   first-other-is : (o : Option RequestId) → is_some o ≡ true → other_than r o ≡ None → o ≡ Some r
   first-other-is None some none = absurd cc
-  first-other-is (Some first) some none =
-      by_bool (λ b. cond b None (Some first) ≡ None → Some first ≡ Some r) (same_request first r) (λ same is. ap Some (request-equal first r same)) (λ same is. absurd cc) none
-
-  candidate-is : (e : RequestEntry) (request : RequestRecord) → e.kept ≡ request → is_requested request.state ≡ true → is_declined_by p request.declined ≡ false → is_pinned_away p request ≡ false → holder e.queue ≡ None → blocking c s p request ≡ None → is_candidate c s p e ≡ true
-  candidate-is e request kept requested undeclined unpinned free unblocked = rw (kept, requested, undeclined, unpinned, free, unblocked) refl
+  first-other-is (Some first) some none = ap Some (request-equal first r (grind (arith, none)))
 
   candidate-by : (o : Option RequestEntry) (request : RequestRecord) → request_entry r s.requests ≡ o → option_map (λ (e : RequestEntry). e.kept) o ≡ Some request → is_requested request.state ≡ true → is_declined_by p request.declined ≡ false → is_pinned_away p request ≡ false → holder (option_map_or (λ (e : RequestEntry). e.queue) o []) ≡ None → blocking c s p request ≡ None → is_some (first_of c s p) ≡ true
   candidate-by None request there kept requested undeclined unpinned free unblocked = absurd cc
@@ -388,7 +306,7 @@ module _ (c : Configuration) (s : State) (p : PoolId) (r : RequestId) where
       let same : e.kept ≡ request = cc in
       map-some (λ (x : RequestEntry). x.id) (least (filter (is_candidate c s p) s.requests))
       ∙ some-least (filter (is_candidate c s p) s.requests) e
-      (named-place (λ (x : RequestEntry). x) (λ (x : RequestEntry). same_request x.id r) (is_candidate c s p) s.requests e there (candidate-is e request same requested undeclined unpinned free unblocked))
+      (named-place (λ (x : RequestEntry). x) (λ (x : RequestEntry). same_request x.id r) (is_candidate c s p) s.requests e there (rw (same, requested, undeclined, unpinned, free, unblocked) refl))
 
   module _ (session : SessionId) (what : Done) where
     locked-first : lock_request_as c s session r (Launcher p) ≡ Ok what → first_of c s p ≡ Some r
@@ -418,22 +336,13 @@ module _ (c : Configuration) (s : State) (p : PoolId) (session : SessionId) (cur
       let mine : IsUseful c s (Launcher p) (Event.LockRequest session r) = subst (λ (x : SessionId). IsUseful c s (Launcher p) (Event.LockRequest x r)) same useful in
       (mine, accepted-first r mine.accepted)
 
-  -- without a first request, no lock is useful
-  pub none-locks : first_of c s p ≡ None → NoneOf c s (Launcher p) (Request Lock)
-  none-locks none = λ other r useful. let found : first_of c s p ≡ Some r = (useful-first other r useful).1 in cc
-
-  -- if the lock of the first request is not useful, no lock is
-  pub first-useless : (r : RequestId) → first_of c s p ≡ Some r → passes c s (Launcher p) (Event.LockRequest session r) ≡ false → NoneOf c s (Launcher p) (Request Lock)
-  first-useless r first fails = λ other q useful.
+  -- without a first request, or if its lock is not useful, no lock is
+  pub first-useless : (o : Option RequestId) → first_of c s p ≡ o → option_map_or (λ r. passes c s (Launcher p) (Event.LockRequest session r)) o false ≡ false → NoneOf c s (Launcher p) (Request Lock)
+  first-useless o first fails other q useful =
       let mine = useful-first other q useful in
-      let found : first_of c s p ≡ Some q = mine.1 in
-      let same : r ≡ q = cc in
       let holds : passes c s (Launcher p) (Event.LockRequest session q) ≡ true = useful-passes c s (Launcher p) (Event.LockRequest session q) mine.0 in
-      let again : passes c s (Launcher p) (Event.LockRequest session r) ≡ true = ap (λ (x : RequestId). passes c s (Launcher p) (Event.LockRequest session x)) same ∙ holds in
+      let no : passes c s (Launcher p) (Event.LockRequest session q) ≡ false = rw (sym first ∙ mine.1) at fails in
       cc
-
-  pub first-locks : (r : RequestId) → passes c s (Launcher p) (Event.LockRequest session r) ≡ true → IsUseful c s (Launcher p) (Event.LockRequest session r)
-  first-locks r holds = passes-useful c s (Launcher p) (Event.LockRequest session r) holds current
 
 module _ (c : Configuration) (s : State) (p : PoolId) where
   pub lock-launched : (kind : LaunchKind) (o : Option Event) → kind ≡ Plain (Request Lock) → ChoosesOf c s (Launcher p) (Request Lock) o → ChoosesLaunched c s p kind o

@@ -161,15 +161,12 @@ module _ (c : Configuration) (s : State) (p : PoolId) where
   sister-below : (q : PoolId) → is_sister c p q ≡ true → true ≡ nat_lt q.0 (length c.pools)
   sister-below q sister = by (provider_of c p) (slice_get c.pools q.0) refl sister where
     by : (own : Option ℕ) (o : Option Pool) → slice_get c.pools q.0 ≡ o → option_map_or (λ a. option_map_or (λ b. b == a) (option_map (λ pool. pool.provider) o) false) own false ≡ true → true ≡ nat_lt q.0 (length c.pools)
-    by None o there is = absurd cc
-    by (Some a) None there is = absurd cc
     by (Some a) (Some pool) there is = let below = slice_get_within c.pools q.0 pool there in grind (arith, nat_tests)
+    by _ _ there is = absurd cc
 
   -- a launcher of the provider has a pool
   unheld-by : (o : Option Role) → option_map_or (is_sister_launcher c p) o false ≡ true → option_and_then pool_of_role o ≡ None → ⊥
-  unheld-by None held none = absurd cc
-  unheld-by (Some (Launcher q)) held none = absurd cc
-  unheld-by (Some role) held none = absurd cc
+  unheld-by o held none = grind (arith, nat_tests)
 
   -- ## one request
 
@@ -258,25 +255,17 @@ unserved-few c s p session =
 
 module _ (c : Configuration) (s : State) (p : PoolId) where
   counts-apart : (q : PoolId) → is_sister c p q ≡ true → (e : RequestEntry) → one (counts_at c s p q e) ≡ one (is_pending_by q e.kept) + one (is_registrants c s p q e && not (is_served_near c p e))
-  counts-apart q sister e = by (is_pending_by q e.kept) refl where
-    by : (b : Bool) → is_pending_by q e.kept ≡ b → one (b || (is_registrants c s p q e && not (is_served_near c p e))) ≡ one b + one (is_registrants c s p q e && not (is_served_near c p e))
-    by true pending = rw (served-sister c s p q e sister pending) (by-registrant (is_registrants c s p q e)) where
-      by-registrant : (d : Bool) → 1 ≡ 1 + one (d && false)
-      by-registrant true = refl
-      by-registrant false = refl
-    by false other = omega arith
+  counts-apart q sister e = grind (arith, nat_tests, served-sister c s p q e sister)
 
   pub none-counts : count_by (is_near_below c s p 0) s.requests ≡ 0
   none-counts = count-none (is_near_below c s p 0) s.requests (λ e. by (near_pool c s p e)) where
     by : (o : Option PoolId) → option_map_or (λ q. nat_lt q.0 0) o false ≡ false
-    by None = refl
-    by (Some q) = grind (arith, nat_tests)
+    by o = grind (arith, nat_tests)
 
   more-by : (q : PoolId) (e : RequestEntry) → one (is_near_below c s p (suc q.0) e) ≡ one (is_near_below c s p q.0 e) + one (is_pool q (near_pool c s p e))
   more-by q e = by (near_pool c s p e) where
     by : (o : Option PoolId) → one (option_map_or (λ other. nat_lt other.0 (suc q.0)) o false) ≡ one (option_map_or (λ other. nat_lt other.0 q.0) o false) + one (is_pool q o)
-    by None = refl
-    by (Some other) = grind (arith, nat_tests)
+    by o = grind (arith, nat_tests)
 
   -- one more pool of the configuration
   more-counts : (q : PoolId) → count_by (is_near_below c s p (suc q.0)) s.requests ≡ count_by (is_near_below c s p q.0) s.requests + count_by (λ e. is_pool q (near_pool c s p e)) s.requests
@@ -318,11 +307,7 @@ module _ (c : Configuration) (s : State) (reached : IsReached c s) (p : PoolId) 
       count-same (λ (e : RequestEntry). is_pool q (near_pool c s p e)) (λ e. is_sister c p q && counts_at c s p q e) s.requests
       (all-from_at (λ (e : RequestEntry). is_pool q (near_pool c s p e) ≡ (is_sister c p q && counts_at c s p q e)) s.requests (λ i e there.
       near-at c s p holds.registered.of_launcher e (few-there i e there) (registrants-there i e there) q))
-      ∙ by (is_sister c p q) refl
-    where
-      by : (b : Bool) → is_sister c p q ≡ b → count_by (λ e. b && counts_at c s p q e) s.requests ≡ cond b (launcher_requests c s p q) 0
-      by true sister = launcher-counts q sister
-      by false other = count-none (λ (e : RequestEntry). false) s.requests (λ e. refl)
+      ∙ by_bool (λ b. count_by (λ e. b && counts_at c s p q e) s.requests ≡ cond b (launcher_requests c s p q) 0) (is_sister c p q) (launcher-counts q) (λ other. count-none (λ (e : RequestEntry). false) s.requests (λ e. refl))
 
   -- up to a pool, and to the next one
   pub pool-adds : (q : PoolId) → count_by (is_near_below c s p (suc q.0)) s.requests ≡ count_by (is_near_below c s p q.0) s.requests + sister_requests c s p q

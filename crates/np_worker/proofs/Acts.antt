@@ -1,9 +1,9 @@
 -- what is known of a pool's nodes after a journal, and what each turn of the pool's worker leaves of it
-use Rattle.np_worker.proofs.Prelude.{Answer, AreAloneSound, ArePresent, Ask, Bool, Configuration, Contains, DistinctNumbers, Done, Entry, Event, FailAfter, Invariant, IsAskOf, IsCutOff, IsOfServer, IsReplied, IsServerOf, IsSoundAlone, IsUseful, Janitor, Launch, Launcher, List, MayAsk, NodeEntry, NodeId, NodeRecord, None, Ok, Option, Outcome, Phase, PoolId, Role, Server, SessionId, Some, Start, State, Turn, WasLaunchedFor, WereLaunched, acting, acts, after, all-push, answers, answers_sweep, ap, append-nil, append_assoc, arith, cond, ended, eq-eqb, false, false≢true, inl, inr, is_deleting, is_idle, is_ok, is_unwanted, is_wanted, judge, judge_done, judge_start, launcher, launcher-role, length, length-append, looks, maker_of, nat_tests, next, next-keeps, node_in, none-some, number_in, numbers_in, of_pool, ok-is, owes_due, owes_launch, owes_report, owes_swept, recorded, refl, report_of, reported, reports_of, role_of, same_pool, start, start_made, start_of, subst, suc, sweeps, sym, true, turns, ℕ, [], ⊎_elim, ◌++◌, ◌+◌, ◌∙◌, ◌∷◌, ◌≡◌, ◌≤◌, ◌⊎◌}
-use Rattle.np_worker.proofs.Records.{MayReport, current-role, holds-after, quiet-report, reports-next, state_after-append, useful-done, useful-start_role, was-of}
+use Rattle.np_worker.proofs.Prelude.{AreAloneSound, ArePresent, Ask, Bool, Configuration, Contains, DistinctNumbers, Done, Entry, Event, FailAfter, Invariant, IsAskOf, IsCutOff, IsOfServer, IsReplied, IsServerOf, IsSoundAlone, IsUseful, Janitor, Launch, Launcher, List, MayAsk, NodeEntry, NodeId, NodeRecord, None, Ok, Option, Outcome, Phase, PoolId, Role, Server, SessionId, Some, Start, State, Turn, WasLaunchedFor, WereLaunched, acting, acts, after, after_entry, after_start, after_turn, all-push, answers, answers_sweep, ap, append-nil, append_assoc, arith, by_bool, cond, ended, eq-eqb, false, false≢true, inl, inr, is_deleting, is_ok, is_remove, is_wanted, judge, judge_done, judge_start, launcher, launcher-role, length, length-append, looks, maker_of, nat_tests, next, next-keeps, node_in, none-some, number_in, numbers_in, of_pool, ok-is, owes_due, owes_launch, owes_report, owes_swept, recorded, refl, report_of, reported, reports_of, role_of, same_pool, start, start_made, start_of, subst, suc, sweeps, sym, true, turns, ℕ, [], ⊎_elim, ◌++◌, ◌+◌, ◌∙◌, ◌∷◌, ◌≡◌, ◌≤◌, ◌⊎◌}
+use Rattle.np_worker.proofs.Records.{MayReport, current-role, holds-after, if-accepted, quiet-report, reports-next, state_after-append, useful-done, useful-start_role, was-of}
 use Rattle.np_worker.proofs.Reports.{IsOfStart, IsPolite, IsReportedBy, KeptServer, NoLauncherWaits, chosen-start, may-before, may-before_done, may-before_lock, may-before_start, may-report, report-accepted, server-before}
 use Rattle.np_worker.proofs.Journals.{SomePlace, numbers-append, outcomes, place-more, start-parts}
-use Rattle.np_worker.proofs.Steps.{TurnCases, goes_on, role_goes}
+use Rattle.np_worker.proofs.Steps.{goes_on}
 
 -- # what is known of a pool's nodes after a journal, and how one entry more changes it
 
@@ -20,30 +20,19 @@ module _ (c : Configuration) (s : State) (whole : Invariant c s) (waits : NoLaun
   abbrev Was : Event → Type 0
   Was f = MayReport s p session n k ⊎ Begun s f p session n k
 
-  same-state : (f : Event) → is_ok (judge c s f) ≡ false → MayReport (next c s f) p session n k → MayReport s p session n k
-  same-state f out may = let same : next c s f ≡ s = rw out refl in subst (λ (t : State). MayReport t p session n k) same may
-
   of-start : (by : SessionId) (m : NodeId) (what : Done) (ok : judge_start s by m ≡ Ok what) → IsOfStart c s by m what ok p session n k → Begun s (Event.Start by m) p session n k
-  of-start by m what ok is =
-      let maker : session ≡ by = is.by_maker in
-      let node : n ≡ m = is.of_node in
-      let here : judge_start s session n ≡ Ok what = ap (λ (x : SessionId). judge_start s x n) maker ∙ (ap (λ (y : NodeId). judge_start s by y) node ∙ ok) in
-      record { event = cc; first = is.first; ok = here ∙ ap (λ (x : Done). let a : Answer = Ok x in a) is.attempt; who = is.who }
+  of-start by m what ok is = grind (arith, nat_tests)
 
-  started-by : (by : SessionId) (m : NodeId) (b : Bool) → is_ok (judge_start s by m) ≡ b → MayReport (next c s (Event.Start by m)) p session n k → Was (Event.Start by m)
-  started-by by m true ok may =
-      let was : (what : Done) × (judge_start s by m ≡ Ok what) = ok-is (judge_start s by m) ok in
-      ⊎_elim (λ old. inl old) (λ new. inr (of-start by m was.0 was.1 new)) (may-before_start c s by m was.0 was.1 p session n k may)
-  started-by by m false out may = inl (same-state (Event.Start by m) out may)
-
-  done-by : (by : SessionId) (m : NodeId) (a : ℕ) (o : Outcome) (b : Bool) → is_ok (judge_done s by m a) ≡ b → MayReport (next c s (Event.Done by m a o)) p session n k → MayReport s p session n k
-  done-by by m a o true ok may = (may-before_done c s by m a o ok p session n k may).0
-  done-by by m a o false out may = same-state (Event.Done by m a o) out may
+  -- where the event is refused, a report that may be made after it might be before
+  accepted-next : (f : Event) → (is_ok (judge c s f) ≡ true → MayReport (next c s f) p session n k → Was f) → MayReport (next c s f) p session n k → Was f
+  accepted-next f = if-accepted (λ t. MayReport t p session n k → Was f) c s f (λ may. inl may)
 
   -- a report that may be made after an event might be before, or the event began its launch
   pub may-next : (e : Event) → IsPolite s e → MayReport (next c s e) p session n k → Was e
-  may-next (Event.Start by m) polite may = started-by by m (is_ok (judge_start s by m)) refl may
-  may-next (Event.Done by m a o) polite may = inl (done-by by m a o (is_ok (judge_done s by m a)) refl may)
+  may-next (Event.Start by m) polite may = accepted-next (Event.Start by m) (λ ok may.
+      let was : (what : Done) × (judge_start s by m ≡ Ok what) = ok-is (judge_start s by m) ok in
+      ⊎_elim (λ old. inl old) (λ new. inr (of-start by m was.0 was.1 new)) (may-before_start c s by m was.0 was.1 p session n k may)) may
+  may-next (Event.Done by m a o) polite may = accepted-next (Event.Done by m a o) (λ ok may. inl (may-before_done c s by m a o ok p session n k may).0) may
   may-next (Event.LockNode by m) polite may = inl (may-before_lock c s by m (polite.locks by m refl) p session n k may)
   may-next e polite may = inl (may-before c s e whole waits refl p session n k may)
 
@@ -72,10 +61,7 @@ module _ (c : Configuration) (p : PoolId) (never : Type 0) where
     may-last waits polite session n k may = may-next c now (holds-after c journal) waits p session n k e.event polite (subst (λ (t : State). MayReport t p session n k) after-next may)
 
     -- where a server of the pool comes from
-    abbrev Came : NodeId → NodeRecord → ℕ → Type 0
-    Came n k x = KeptServer now n k ⊎ IsReportedBy now e.event n k x
-
-    came : (n : NodeId) (k : NodeRecord) (x : ℕ) → node_in n (after c (journal ++ e ∷ [])).nodes ≡ Some k → k.server ≡ Some x → Came n k x
+    came : (n : NodeId) (k : NodeRecord) (x : ℕ) → node_in n (after c (journal ++ e ∷ [])).nodes ≡ Some k → k.server ≡ Some x → KeptServer now n k ⊎ IsReportedBy now e.event n k x
     came n k x is has = server-before c now e.event (holds-after c journal) n k x (subst (λ (t : State). node_in n t.nodes ≡ Some k) after-next is) has
 
     module _ (launches : List Launch) (servers : List Server) where
@@ -137,11 +123,6 @@ module _ (c : Configuration) (p : PoolId) (never : Type 0) where
 
 -- ## what is known of a pool's journal, nodes and driver in each phase of the round of its worker
 
--- ## lists of outcomes
-
-pub numbers-push : (os : List Outcome) (o : Outcome) → numbers_in (os ++ o ∷ []) ≡ numbers_in os ++ number_in o
-numbers-push os o = numbers-append os (o ∷ []) ∙ ap (λ (l : List ℕ). numbers_in os ++ l) (append-nil (number_in o))
-
 -- a failure has this many launched servers before it
 abbrev pub IsLate : ℕ → Outcome → ℕ → Type 0
 IsLate room (Outcome.Launched x) n = Unit {0}
@@ -154,11 +135,6 @@ fail-push_from room n (Outcome.Launched x ∷ os) o fails late =
     let same : n + length (numbers_in (Outcome.Launched x ∷ os)) ≡ suc n + length (numbers_in os) = omega arith in
     fail-push_from room (suc n) os o fails (subst (IsLate room o) same late)
 fail-push_from room n (Outcome.Failed ∷ os) o fails late = (fails.0, fail-push_from room n os o fails.1 late)
-
-pub fail-push : (room : ℕ) (os : List Outcome) (o : Outcome) → FailAfter room 0 os → IsLate room o (length (numbers_in os)) → FailAfter room 0 (os ++ o ∷ [])
-fail-push room os o fails late =
-    let same : length (numbers_in os) ≡ 0 + length (numbers_in os) = omega arith in
-    fail-push_from room 0 os o fails (subst (IsLate room o) same late)
 
 -- ## reports
 
@@ -292,16 +268,13 @@ module _ (c : Configuration) (p : PoolId) (sound : List ℕ → Bool) (room earl
       late = λ none. subst (λ (os : List Outcome). IsLate room o (length (numbers_in os))) (sym same-reports) (r.late none);
     }
 
-    rest-gap : (ph : Phase) (a : Ask) (launches : List Launch) (servers : List Server) → MayAsk ph a → Rest ph journal launches servers → Rest ph (journal ++ more) launches servers
+    -- before a turn
+    pub rest-gap : (ph : Phase) (a : Ask) (launches : List Launch) (servers : List Server) → MayAsk ph a → Rest ph journal launches servers → Rest ph (journal ++ more) launches servers
     rest-gap (acts r m) a launches servers may rest = held-gap nobody 0 0 launches servers rest
     rest-gap (owes_report pool m s o) a launches servers may rest = reporting-gap s o launches servers rest
     rest-gap (looks pool m) a launches servers may rest = held-gap nobody 0 0 launches servers rest
     rest-gap (sweeps pool) a launches servers may rest = held-gap nobody 0 0 launches servers rest
     rest-gap _ a launches servers may rest = absurd may
-
-    -- before a turn
-    pub stands-gap : (ph : Phase) (a : Ask) (launches : List Launch) (servers : List Server) → MayAsk ph a → Stands ph journal launches servers → Stands ph (journal ++ more) launches servers
-    stands-gap ph a launches servers may stands = record { tells = tells-gap stands.tells; rest = rest-gap ph a launches servers may stands.rest }
 
     pub leaves-later : (ph : Phase) (launches : List Launch) (servers : List Server) → Leaves ph journal launches servers → Leaves ph (journal ++ more) launches servers
     leaves-later ph launches servers leaves uncut = held-gap nobody 0 0 launches servers (leaves uncut)
@@ -409,21 +382,20 @@ module _ (c : Configuration) (p : PoolId) (sound : List ℕ → Bool) (room earl
 
     -- it is not acceptable any more, and no other was
     done-idle : (session : SessionId) (n : NodeId) (k : ℕ) → MayReport (after c (before ++ e ∷ [])) p session n k → ⊥
-    done-idle session n k may = by (is_ok (judge_done s st.session st.tag.node st.tag.attempt)) refl where
-      now : MayReport (next c s (report_of st o)) p session n k
-      now = subst (λ (f : Event). MayReport (next c s f) p session n k) is (subst (λ (t : State). MayReport t p session n k) (after-next c p never before e) may)
-
-      by : (b : Bool) → is_ok (judge_done s st.session st.tag.node st.tag.attempt) ≡ b → ⊥
-      by true ok =
-          let was = may-before_done c s st.session st.tag.node st.tag.attempt o ok p session n k now in
-          let report = r.held.at.idle session n k was.0 in
-          false≢true (sym was.1 ∙ eq-eqb st.tag.node.0 n.0 (ap (λ (m : NodeId). m.0) (sym report.node)))
-      by false out =
-          let same : next c s (report_of st o) ≡ s = rw out refl in
-          let was : MayReport s p session n k = subst (λ (t : State). MayReport t p session n k) same now in
-          let report = r.held.at.idle session n k was in
-          let accepted : is_ok (judge_done s session n k) ≡ true = report-accepted s p session n k was in
-          cc (accepted, out, report.by, report.node, report.attempt)
+    done-idle session n k may = by_bool (λ _. ⊥) (is_ok (judge_done s st.session st.tag.node st.tag.attempt))
+        (λ ok.
+        let was = may-before_done c s st.session st.tag.node st.tag.attempt o ok p session n k now in
+        let report = r.held.at.idle session n k was.0 in
+        false≢true (sym was.1 ∙ eq-eqb st.tag.node.0 n.0 (ap (λ (m : NodeId). m.0) (sym report.node))))
+        (λ out.
+        let same : next c s (report_of st o) ≡ s = rw out refl in
+        let was : MayReport s p session n k = subst (λ (t : State). MayReport t p session n k) same now in
+        let report = r.held.at.idle session n k was in
+        let accepted : is_ok (judge_done s session n k) ≡ true = report-accepted s p session n k was in
+        cc (accepted, out, report.by, report.node, report.attempt))
+      where
+        now : MayReport (next c s (report_of st o)) p session n k
+        now = subst (λ (f : Event). MayReport (next c s f) p session n k) is (subst (λ (t : State). MayReport t p session n k) (after-next c p never before e) may)
 
     covers : (n : NodeId) (k : NodeRecord) (x : ℕ) → IsReportedBy s e.event n k x → k.pool.0 ≡ p.0 → WasLaunchedFor launches n x × (never → IsServerOf servers n x)
     covers n k x new mine =
@@ -444,7 +416,7 @@ module _ (c : Configuration) (p : PoolId) (sound : List ℕ → Bool) (room earl
       at = at-step c p never before e launches servers (IsReportOf st) nobody r.held.at waits polite (λ session n k may old. done-idle session n k may) covers;
       few = subst (λ (os : List Outcome). length launches ≤ earlier + (length os + 0)) (sym reports-are) (omega (arith, r.held.few, length-append (reports_of c p before) (o ∷ [])));
       fits = subst (λ (os : List Outcome). length servers ≤ length (numbers_in os) + 0) (sym reports-are)
-          (omega (arith, r.held.fits, ap length (numbers-push (reports_of c p before) o), length-append (numbers_in (reports_of c p before)) (number_in o)));
+          (omega (arith, r.held.fits, ap length (numbers-append (reports_of c p before) (o ∷ []) ∙ ap (λ (l : List ℕ). numbers_in (reports_of c p before) ++ l) (append-nil (number_in o))), length-append (numbers_in (reports_of c p before)) (number_in o)));
       made = r.held.made;
       among = r.held.among;
     }
@@ -452,7 +424,7 @@ module _ (c : Configuration) (p : PoolId) (sound : List ℕ → Bool) (room earl
     pub tells-report : Tells c p sound room earlier final before → Tells c p sound room earlier final (before ++ e ∷ [])
     tells-report tells = record {
       alone = subst (AreAloneSound sound) (sym reports-are) (all-push (IsSoundAlone sound) (reports_of c p before) o tells.alone r.alone);
-      failed = λ none. subst (FailAfter room 0) (sym reports-are) (fail-push room (reports_of c p before) o (tells.failed none) (r.late none));
+      failed = λ none. subst (FailAfter room 0) (sym reports-are) (let same : length (numbers_in (reports_of c p before)) ≡ 0 + length (numbers_in (reports_of c p before)) = omega arith in fail-push_from room 0 (reports_of c p before) o (tells.failed none) (subst (IsLate room o) same (r.late none)));
     }
 
 -- ## each turn of a pool's worker, by the phase that it leads to
@@ -478,75 +450,69 @@ module _ (c : Configuration) (p : PoolId) (sound : List ℕ → Bool) (room earl
   tells journal = Tells c p sound room earlier final journal
 
   -- what stands before a turn stands after it, in the phase that it leads to
-  abbrev pub Turned : Phase → Ask → Turn → Phase → Type 0
-  Turned ph a t to = (before seen : List Entry) → IsAskOf (of_pool p) a → IsOfServer a servers → answers c before a t → Sees (recorded a t) before seen
-      → (t ≡ Turn.Full → to ≡ ended) → ((e : Entry) → t ≡ Turn.Did e → IsReady c before e) → At' ph before → At' to seen
+  abbrev pub Turned : Phase → Turn → Ask → Type 0
+  Turned ph t a = (before seen : List Entry) → IsAskOf (of_pool p) a → IsOfServer a servers → answers c before a t → Sees (recorded a t) before seen → ((e : Entry) → t ≡ Turn.Did e → IsReady c before e) → At' ph before → At' (after_turn ph a t) seen
 
   here : (ph : Phase) (before seen : List Entry) → seen ≡ before → At' ph before → At' ph seen
   here ph before seen same stands = subst (λ (j : List Entry). At' ph j) (sym same) stands
+
+  -- the journal has no room
+  ends : (ph : Phase) (before seen : List Entry) → seen ≡ before → At' ph before → At' ended seen
+  ends ph before seen same stands = here ended before seen same (record { tells = stands.tells; rest = tt })
 
   goes : (r : Role) (m : ℕ) (journal : List Entry) → tells journal → calm-at journal → At' (acting r m) journal
   goes r m journal told held = record { tells = told; rest = goes_on (λ ph. Rest c p sound room earlier final ph journal launches servers) (λ q k. held) (λ pool k. held) (λ pool. held) held r m }
 
   -- ## turns in which a role acts
 
-  acted : (r : Role) (m : ℕ) (e : Entry) → start_made (Ask.Act r) (Turn.Did e) ≡ None → Turned (acts r m) (Ask.Act r) (Turn.Did e) (acting r m)
-  acted r m e none before seen own of answer sees full ready stands =
-      let it = ready e refl in
-      subst (λ (j : List Entry). At' (acting r m) j) (sym sees)
-      (goes r m (before ++ e ∷ [])
-      (tells-act c p sound room earlier final before e it.waits it.polite launches servers r own answer.0 answer.1 stands.rest stands.tells)
-      (calm-act c p sound room earlier final before e it.waits it.polite launches servers r own answer.0 answer.1 none stands.rest))
+  module _ (before : List Entry) (e : Entry) (ready : IsReady c before e) where
+    acted : (r : Role) (m : ℕ) → start_made (Ask.Act r) (Turn.Did e) ≡ None → IsOwn p r → IsUseful c (after c before) r e.event × IsReplied c before e → At' (acts r m) before → At' (acting r m) (before ++ e ∷ [])
+    acted r m none own answer stands = goes r m (before ++ e ∷ [])
+        (tells-act c p sound room earlier final before e ready.waits ready.polite launches servers r own answer.0 answer.1 stands.rest stands.tells)
+        (calm-act c p sound room earlier final before e ready.waits ready.polite launches servers r own answer.0 answer.1 none stands.rest)
 
-  started : (pool : PoolId) (m : ℕ) (e : Entry) (s : Start) → start_of pool e ≡ Some s → Turned (acts (Launcher pool) m) (Ask.Act (Launcher pool)) (Turn.Did e) (owes_launch pool m s)
-  started pool m e s is before seen own of answer sees full ready stands =
-      let it = ready e refl in
-      let same : pool ≡ p = own-launcher p pool (Launcher pool) own refl in
-      let mine : start_of p e ≡ Some s = ap (λ (q : PoolId). start_of q e) (sym same) ∙ is in
-      subst (λ (j : List Entry). At' (owes_launch pool m s) j) (sym sees) (record {
-        tells = tells-act c p sound room earlier final before e it.waits it.polite launches servers (Launcher pool) own answer.0 answer.1 stands.rest stands.tells;
-        rest = held-start c p sound room earlier final before e it.waits it.polite launches servers (Launcher pool) own answer.0 answer.1 s mine (ap Launcher same) stands.rest;
-      })
+    started : (pool : PoolId) (m : ℕ) (o : Option Start) → start_of pool e ≡ o → IsOwn p (Launcher pool) → IsUseful c (after c before) (Launcher pool) e.event × IsReplied c before e → At' (acts (Launcher pool) m) before → At' (after_start pool m o) (before ++ e ∷ [])
+    started pool m None is own answer stands = acted (Launcher pool) m is own answer stands
+    started pool m (Some s) is own answer stands =
+        let same : pool ≡ p = own-launcher p pool (Launcher pool) own refl in
+        let mine : start_of p e ≡ Some s = ap (λ (q : PoolId). start_of q e) (sym same) ∙ is in
+        record {
+          tells = tells-act c p sound room earlier final before e ready.waits ready.polite launches servers (Launcher pool) own answer.0 answer.1 stands.rest stands.tells;
+          rest = held-start c p sound room earlier final before e ready.waits ready.polite launches servers (Launcher pool) own answer.0 answer.1 s mine (ap Launcher same) stands.rest;
+        }
 
-  rested : (r : Role) (m : ℕ) (t : Turn) → is_idle t ≡ true → Turned (acts r m) (Ask.Act r) t (acting r 0)
-  rested r m (Turn.Did e) i before seen own of answer sees full ready stands = absurd (false≢true i)
-  rested r m Turn.Full i before seen own of answer sees full ready stands = absurd (false≢true i)
-  rested r m _ i before seen own of answer sees full ready stands = here (acting r 0) before seen sees (goes r 0 before stands.tells stands.rest)
+    entered : (r : Role) (m : ℕ) → IsOwn p r → IsUseful c (after c before) r e.event × IsReplied c before e → At' (acts r m) before → At' (after_entry r m e) (before ++ e ∷ [])
+    entered (Launcher pool) m own answer stands = started pool m (start_of pool e) refl own answer stands
+    entered r m own answer stands = acted r m refl own answer stands
+
+  act-turn : (r : Role) (m : ℕ) (t : Turn) → Turned (acts r m) t (Ask.Act r)
+  act-turn r m (Turn.Did e) before seen own of answer sees ready stands = subst (λ (j : List Entry). At' (after_entry r m e) j) (sym sees) (entered before e (ready e refl) r m own answer stands)
+  act-turn r m Turn.Full before seen own of answer sees ready stands = ends (acts r m) before seen sees stands
+  act-turn r m Turn.Idle before seen own of answer sees ready stands = here (acting r 0) before seen sees (goes r 0 before stands.tells stands.rest)
+  act-turn r m _ before seen own of answer sees ready stands = absurd answer
 
   -- ## reports
 
-  told : (pool : PoolId) (m : ℕ) (s : Start) (o : Outcome) (t : Turn) → Turned (owes_report pool m s o) (Ask.Do (report_of s o)) t (acting (Launcher pool) m)
-  told pool m s o (Turn.Did e) before seen own of answer sees full ready stands =
+  report-turn : (pool : PoolId) (m : ℕ) (s : Start) (o : Outcome) (t : Turn) → Turned (owes_report pool m s o) t (Ask.Do (report_of s o))
+  report-turn pool m s o (Turn.Did e) before seen own of answer sees ready stands =
       let it = ready e refl in
       subst (λ (j : List Entry). At' (acting (Launcher pool) m) j) (sym sees)
       (goes (Launcher pool) m (before ++ e ∷ [])
       (tells-report c p sound room earlier final before e it.waits it.polite launches servers s o answer.0 stands.rest stands.tells)
       (calm-report c p sound room earlier final before e it.waits it.polite launches servers s o answer.0 stands.rest))
-  told pool m s o Turn.Full before seen own of answer sees full ready stands = absurd (role_goes (Launcher pool) m (full refl))
-  told pool m s o _ before seen own of answer sees full ready stands = absurd answer
+  report-turn pool m s o Turn.Full before seen own of answer sees ready stands = ends (owes_report pool m s o) before seen sees stands
+  report-turn pool m s o _ before seen own of answer sees ready stands = absurd answer
 
   -- ## due nodes
 
-  found-due : (pool : PoolId) (m : ℕ) (n : NodeId) (x : ℕ) → Turned (looks pool m) (Ask.Due pool) (Turn.DueNode n (Some x)) (owes_due pool m x)
-  found-due pool m n x before seen own of answer sees full ready stands = here (owes_due pool m x) before seen sees (record {
+  look-turn : (pool : PoolId) (m : ℕ) (t : Turn) → Turned (looks pool m) t (Ask.Due pool)
+  look-turn pool m (Turn.DueNode n (Some x)) before seen own of answer sees ready stands = here (owes_due pool m x) before seen sees (record {
     tells = stands.tells;
-    rest = (
-      stands.rest,
-      record {
-        number = n;
-        node = answer.node;
-        stands = answer.stands;
-        own = answer.of_pool ∙ ap (λ (q : PoolId). q.0) own;
-        deleting = answer.deleting;
-        server = answer.server;
-      },
-    );
+    rest = (stands.rest, record { number = n; node = answer.node; stands = answer.stands; own = answer.of_pool ∙ ap (λ (q : PoolId). q.0) own; deleting = answer.deleting; server = answer.server });
   })
-
-  looked : (pool : PoolId) (m : ℕ) (t : Turn) → Turned (looks pool m) (Ask.Due pool) t (acts (Janitor pool) m)
-  looked pool m (Turn.DueNode n x) before seen own of answer sees full ready stands = here (acts (Janitor pool) m) before seen sees (record { tells = stands.tells; rest = stands.rest })
-  looked pool m Turn.Idle before seen own of answer sees full ready stands = here (acts (Janitor pool) m) before seen sees (record { tells = stands.tells; rest = stands.rest })
-  looked pool m _ before seen own of answer sees full ready stands = absurd answer
+  look-turn pool m (Turn.DueNode n None) before seen own of answer sees ready stands = here (acts (Janitor pool) m) before seen sees (record { tells = stands.tells; rest = stands.rest })
+  look-turn pool m Turn.Idle before seen own of answer sees ready stands = here (acts (Janitor pool) m) before seen sees (record { tells = stands.tells; rest = stands.rest })
+  look-turn pool m _ before seen own of answer sees ready stands = absurd answer
 
   -- ## sweeps
 
@@ -572,14 +538,11 @@ module _ (c : Configuration) (p : PoolId) (sound : List ℕ → Bool) (room earl
       )
 
   -- a sweep changes no node
-  same-nodes : (s : State) (session : SessionId) (n : NodeId) (x : ℕ) → (next c s (Event.Sweep session n x)).nodes ≡ s.nodes
-  same-nodes s session n x = next-keeps (λ t. t.nodes ≡ s.nodes) c s (Event.Sweep session n x) refl (λ what _. refl)
-
   still-unwanted : (pool : PoolId) (before : List Entry) (e : Entry) (n : NodeId) (x : ℕ) → answers_sweep c before pool n x (Turn.Did e) → is_wanted (after c (before ++ e ∷ [])) n x ≡ false
   still-unwanted pool before e n x answer =
       subst (λ (s : State). is_wanted s n x ≡ false) (sym (after-next c p (Never c p sound room earlier final) before e))
       (subst (λ (f : Event). is_wanted (next c (after c before) f) n x ≡ false) (sym answer.2.event)
-      (ap (λ (rows : List NodeEntry). wanted_in rows) (same-nodes (after c before) answer.2.session n x) ∙ answer.0.unwanted))
+      (ap (λ (rows : List NodeEntry). wanted_in rows) (next-keeps (λ t. t.nodes ≡ (after c before).nodes) c (after c before) (Event.Sweep answer.2.session n x) refl (λ what _. refl)) ∙ answer.0.unwanted))
     where
       wanted_in : List NodeEntry → Bool
       wanted_in rows = is_wanted (record (after c before) { nodes = rows }) n x
@@ -592,31 +555,21 @@ module _ (c : Configuration) (p : PoolId) (sound : List ℕ → Bool) (room earl
     unwanted = subst (λ (m : NodeId). is_wanted (after c journal) m x ≡ false) (sym there.2) unwanted;
   }
 
-  unwanted-found : (pool : PoolId) (n : NodeId) (x : ℕ) (t : Turn) → is_unwanted t ≡ true → Turned (sweeps pool) (Ask.Sweep pool n x) t (owes_swept pool x)
-  unwanted-found pool n x (Turn.Did e) u before seen own of answer sees full ready stands =
+  sweep-turn : (pool : PoolId) (n : NodeId) (x : ℕ) (t : Turn) → Turned (sweeps pool) t (Ask.Sweep pool n x)
+  sweep-turn pool n x (Turn.Did e) before seen own of answer sees ready stands =
       let it = swept-stands pool before e n x answer (ready e refl) stands in
-      subst (λ (j : List Entry). At' (owes_swept pool x) j) (sym sees)
-      (record { tells = it.0; rest = (it.1, left-server (before ++ e ∷ []) n x of (still-unwanted pool before e n x answer)) })
-  unwanted-found pool n x (Turn.DueNode m y) u before seen own of answer sees full ready stands = absurd answer
-  unwanted-found pool n x Turn.Swept u before seen own of answer sees full ready stands = here (owes_swept pool x) before seen sees (record { tells = stands.tells; rest = (stands.rest, left-server before n x of answer.0.unwanted) })
-  unwanted-found pool n x _ u before seen own of answer sees full ready stands = absurd (false≢true u)
+      subst (λ (j : List Entry). At' (cond (is_remove e.reply) (owes_swept pool x) (sweeps pool)) j) (sym sees)
+      (by_bool (λ b. At' (cond b (owes_swept pool x) (sweeps pool)) (before ++ e ∷ [])) (is_remove e.reply)
+      (λ _. record { tells = it.0; rest = (it.1, left-server (before ++ e ∷ []) n x of (still-unwanted pool before e n x answer)) })
+      (λ _. record { tells = it.0; rest = it.1 }))
+  sweep-turn pool n x Turn.Swept before seen own of answer sees ready stands = here (owes_swept pool x) before seen sees (record { tells = stands.tells; rest = (stands.rest, left-server before n x of answer.0.unwanted) })
+  sweep-turn pool n x Turn.Idle before seen own of answer sees ready stands = here (sweeps pool) before seen sees stands
+  sweep-turn pool n x Turn.Full before seen own of answer sees ready stands = ends (sweeps pool) before seen sees stands
+  sweep-turn pool n x _ before seen own of answer sees ready stands = absurd answer
 
-  kept-found : (pool : PoolId) (n : NodeId) (x : ℕ) (t : Turn) → Turned (sweeps pool) (Ask.Sweep pool n x) t (sweeps pool)
-  kept-found pool n x (Turn.Did e) before seen own of answer sees full ready stands =
-      let it = swept-stands pool before e n x answer (ready e refl) stands in
-      subst (λ (j : List Entry). At' (sweeps pool) j) (sym sees) (record { tells = it.0; rest = it.1 })
-  kept-found pool n x (Turn.DueNode m y) before seen own of answer sees full ready stands = absurd answer
-  kept-found pool n x _ before seen own of answer sees full ready stands = here (sweeps pool) before seen sees stands
-
-  pub turns-stand : TurnCases Turned
-  turns-stand = record {
-    full = λ ph a may before seen own of answer sees full ready stands. subst (λ (j : List Entry). At' ended j) (sym sees) (record { tells = stands.tells; rest = tt });
-    entry = acted;
-    start = started;
-    idle = rested;
-    report = told;
-    due_server = found-due;
-    look = looked;
-    swept_server = unwanted-found;
-    sweep = kept-found;
-  }
+  pub turn-stands : (ph : Phase) (a : Ask) (t : Turn) → MayAsk ph a → Turned ph t a
+  turn-stands (acts r m) a t may = subst (Turned (acts r m) t) (sym may) (act-turn r m t)
+  turn-stands (owes_report pool m s o) a t may = subst (Turned (owes_report pool m s o) t) (sym may) (report-turn pool m s o t)
+  turn-stands (looks pool m) a t may = subst (Turned (looks pool m) t) (sym may) (look-turn pool m t)
+  turn-stands (sweeps pool) a t may = subst (Turned (sweeps pool) t) (sym may.2) (sweep-turn pool may.0 may.1 t)
+  turn-stands _ a t may = absurd may

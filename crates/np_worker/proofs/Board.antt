@@ -1,10 +1,11 @@
 -- a round at a board: a server that no record wants any more is gone after it
-use Rattle.np_worker.proofs.Prelude.{All, All-contains, AnswersAsBoard, AreAsksOf, AreKept, AreSweptSo, Ask, BeginsLaunch, Bool, CameFar, CameToEnd, Changes, Configuration, Contains, DrivenAs, Driving, EndsAs, Entry, Err, Event, HadNothing, HasRoundAtBoard, HasServers, IfOk, IfSome, IsAskOf, IsDrivenTurn, IsKept, IsOfUse, IsPastJanitor, IsPastLauncher, IsReportOfLaunch, IsRoundAtBoard, IsSweepOfServer, IsSweptSo, IsTickBetween, IsTurnAs, IsUseful, Janitor, KeepsJanitor, Launcher, List, MatchBool, Move, NamesServer, NoMemory, NodeId, NodeRecord, None, Ok, Option, Outcome, OwesRemoval, Part, Phase, Player, PlayerEnd, PlaysFrom, PoolId, Reaper, Records, RemovalFailed, Requester, Rests, Result, Role, RolesCameFar, RolesTook, RoundEnd, Says, Server, ServersGo, ServersLeave, ServersStay, Sight, Some, StandAt, StartsWith, State, StaysKept, TookAll, Turn, Walk, WasAnswered, WasIdle, WasKept, WasNamed, WasOfUse, WasUnwanted, Way, Work, acts_as, after, answers_of, ap, append-nil, append_assoc, arith, asked, ended, entries_of, false, false≢true, first_phase, inl, inr, is_building, is_idle, is_ok, is_server, is_wanted, judge, length, length-append, nat_tests, node_in, node_in-below, not-second, of_pool, of_reaper, of_requester, option_map_or, recorded, refl, start, starts_on, starts_same, subst, sym, true, turns, ℕ, [], ⊎_elim, ◌++◌, ◌+◌, ◌<◌, ◌||◌, ◌∙◌, ◌∷◌, ◌≡◌, ◌≤◌}
+use Rattle.np_worker.proofs.Prelude.{All, All-contains, AnswersAsBoard, AreAsksOf, AreKept, AreSweptSo, Ask, BeginsLaunch, Bool, CameFar, CameToEnd, Configuration, Contains, DrivenAs, Driving, EndsAs, Entry, Err, Event, HadNothing, HasRoundAtBoard, HasServers, IfOk, IfSome, IsAskOf, IsDrivenTurn, IsKept, IsOfUse, IsPastJanitor, IsPastLauncher, IsReportOfLaunch, IsRoundAtBoard, IsSweepOfServer, IsSweptSo, IsTickBetween, IsTurnAs, IsUseful, Janitor, KeepsJanitor, Launcher, List, MatchBool, Move, NamesServer, NoMemory, NodeId, NodeRecord, None, Ok, Option, Outcome, OwesRemoval, Part, Phase, Player, PlayerEnd, PlaysFrom, PoolId, Reaper, Records, RemovalFailed, Requester, Rests, Result, Role, RolesCameFar, RolesTook, RoundEnd, Says, Server, ServersGo, ServersLeave, ServersStay, Sight, Some, StandAt, StartsWith, StaysKept, TookAll, Turn, Walk, WasAnswered, WasIdle, WasKept, WasNamed, WasOfUse, WasUnwanted, Work, acts_as, after, answers_of, ap, append-nil, append_assoc, arith, asked, ended, entries_of, false, false≢true, first_phase, inl, inr, is_building, is_idle, is_ok, is_server, is_wanted, judge, length, length-append, nat_tests, node_in, node_in-below, not-second, of_pool, of_reaper, of_requester, option_map_or, recorded, refl, start, starts_on, starts_same, subst, sym, true, turns, ℕ, [], ⊎_elim, ◌++◌, ◌+◌, ◌<◌, ◌||◌, ◌∙◌, ◌∷◌, ◌≡◌, ◌≤◌}
 use Rattle.np_worker.proofs.Records.{IsSteady, IsGiven, attempts-steady, given-stays, holds-after, done-spends}
 use Rattle.np_worker.proofs.Journals.{turn_after, some-place, driven-at}
-use Rattle.np_worker.proofs.Leaving.{kept-stay, left-with_cause, own-node, own-pair, sweep-removes}
+use Rattle.np_worker.proofs.Reports.{walk_as}
+use Rattle.np_worker.proofs.Leaving.{kept_stay, left_with_cause, own_node, own_pair, sweep_removes}
 use Rattle.np_worker.proofs.Walks.{orderly, turn_seen, walk_gains, walk_seen}
-use Rattle.np_worker.proofs.Made.{entry-of_worker, rises}
+use Rattle.np_worker.proofs.Made.{entry_of_worker, rises}
 use Rattle.np_worker.proofs.Steps.{ends_full, is_at_end}
 
 -- # a server that no record wants any more is never wanted again, and so is gone after a whole round
@@ -15,15 +16,12 @@ use Rattle.np_worker.proofs.Steps.{ends_full, is_at_end}
 abbrev Leaves : ℕ → NodeRecord → Type 0
 Leaves x node = (is_building node.state || is_server x node.server) ≡ false
 
-put-leaves : (x : ℕ) (c : Configuration) (s : State) (ch : Changes) (n : NodeId) (node kept : NodeRecord) → (node.in_flight ≡ true → is_building node.state ≡ true) → Way c s ch n node kept → Leaves x node → Leaves x kept
-put-leaves x c s ch n node kept runs way old = grind (arith, nat_tests)
-
 leaves-steady : (x : ℕ) → IsSteady (Leaves x)
 leaves-steady x = record {
   allocated = λ r tenant node old. old;
   given_back = λ node old. old;
   taken_over = λ tick node old. not-second (is_building node.state) (is_server x node.server) old;
-  put = λ c s ch n node kept runs way old. put-leaves x c s ch n node kept runs way old;
+  put = λ c s ch n node kept runs way old. grind (arith, nat_tests);
 }
 
 -- ## numbers that were given
@@ -31,9 +29,6 @@ leaves-steady x = record {
 module _ (c : Configuration) where
   given-later : (n : NodeId) (journal more : List Entry) → n.0 < (after c journal).next_node → n.0 < (after c (journal ++ more)).next_node
   given-later n journal more given = (given-stays n (λ (node : NodeRecord). 0 ≤ node.attempts) (attempts-steady 0) c journal more (record { given = given; holds = λ node is. omega arith })).given
-
-  stood-given : (n : NodeId) (node : NodeRecord) (journal : List Entry) → node_in n (after c journal).nodes ≡ Some node → n.0 < (after c journal).next_node
-  stood-given n node journal is = node_in-below n (after c journal).next_node node (after c journal).nodes (holds-after c journal).numbered.nodes_below is
 
   module _ (says : Says) (n : NodeId) (x : ℕ) (b : List Entry) (u : Entry) (names : NamesServer n x (turn_after c b u)) where
     accepted-given : is_ok (judge c (after c b) u.event) ≡ true → n.0 < (after c b).next_node
@@ -48,7 +43,7 @@ module _ (c : Configuration) where
         let found = some-place c (BeginsLaunch r.session r.number r.attempt r.start r.pool) (start c) b r.begun in
         let stood : node_in n (after c found.before).nodes ≡ Some found.holds.node = subst (λ (m : NodeId). node_in m (after c found.before).nodes ≡ Some found.holds.node) number found.holds.stood in
         subst (λ (j : List Entry). n.0 < (after c j).next_node) (sym found.stands)
-        (given-later n found.before (found.entry ∷ found.rest) (stood-given n found.holds.node found.before stood))
+        (given-later n found.before (found.entry ∷ found.rest) (node_in-below n (after c found.before).next_node found.holds.node (after c found.before).nodes (holds-after c found.before).numbered.nodes_below stood))
 
     named-turn_given : IsDrivenTurn says c (turns c b) (turn_after c b u) → n.0 < (after c b).next_node
     named-turn_given h = ⊎_elim (λ (t : IsOfUse c (turn_after c b u)). accepted-given t.useful.accepted)
@@ -71,16 +66,12 @@ module _ (c : Configuration) where
 
   -- ## unwanted for good
 
-  leaves-of : (s : State) (n : NodeId) (x : ℕ) (node : NodeRecord) → is_wanted s n x ≡ false → node_in n s.nodes ≡ Some node → Leaves x node
-  leaves-of s n x node unwanted is =
-      subst (λ (o : Option NodeRecord). option_map_or (λ (k : NodeRecord). is_building k.state || is_server x k.server) o false ≡ false) is unwanted
-
   unwanted-by : (x : ℕ) (o : Option NodeRecord) → ((node : NodeRecord) → o ≡ Some node → Leaves x node) → option_map_or (λ (k : NodeRecord). is_building k.state || is_server x k.server) o false ≡ false
   unwanted-by x o each = grind (arith, nat_tests)
 
   unwanted-stays : (journal more : List Entry) (n : NodeId) (x : ℕ) → n.0 < (after c journal).next_node → is_wanted (after c journal) n x ≡ false → is_wanted (after c (journal ++ more)) n x ≡ false
   unwanted-stays journal more n x given unwanted =
-      let old : IsGiven n (Leaves x) (after c journal) = record { given = given; holds = λ node is. leaves-of (after c journal) n x node unwanted is } in
+      let old : IsGiven n (Leaves x) (after c journal) = record { given = given; holds = λ node is. subst (λ (o : Option NodeRecord). option_map_or (λ (k : NodeRecord). is_building k.state || is_server x k.server) o false ≡ false) is unwanted } in
       let new : IsGiven n (Leaves x) (after c (journal ++ more)) = given-stays n (Leaves x) (leaves-steady x) c journal more old in
       unwanted-by x (node_in n (after c (journal ++ more)).nodes) new.holds
 
@@ -101,9 +92,9 @@ module _ (c : Configuration) where
       stays = subst (λ (j : List Entry). is_wanted (after c j) server.tag.node server.number ≡ false) (sym later.1)
           (unwanted-stays was.before later.0 server.tag.node server.number given was.unwanted)
 
-  pub unwanted-gone : (plans : Bool) (says : Says) (history : List Entry) (player : Player) (end : PlayerEnd) (pool : PoolId) (servers : List Server) (plays : PlaysFrom plans c history player end) → DrivenAs says plans c history → (end.phase ≡ ended → ⊥) → All (WasKept pool plays.trace) servers → KeepsJanitor c history end.sight.seen pool → (server : Server) → WasUnwanted c history server → Contains servers server → ⊥
-  unwanted-gone plans says history player end pool servers plays driven room kept keeps server was there =
-      let stay = All-contains (StaysKept c history end.sight pool) servers server (kept-stay plans c history player end pool servers plays room kept) there in
+  pub unwanted_gone : (plans : Bool) (says : Says) (history : List Entry) (player : Player) (end : PlayerEnd) (pool : PoolId) (servers : List Server) (plays : PlaysFrom plans c history player end) → DrivenAs says plans c history → (end.phase ≡ ended → ⊥) → All (WasKept pool plays.trace) servers → KeepsJanitor c history end.sight.seen pool → (server : Server) → WasUnwanted c history server → Contains servers server → ⊥
+  unwanted_gone plans says history player end pool servers plays driven room kept keeps server was there =
+      let stay = All-contains (StaysKept c history end.sight pool) servers server (kept_stay plans c history player end pool servers plays room kept) there in
       not-kept plans says history stay.before end.sight.seen pool server driven stay.of_round stay.of_seen keeps was stay.kept
 
 -- # A worker's round at a board.
@@ -127,24 +118,10 @@ module _ {F : Type 0} (answers : F → List Entry → Ask → Turn → Type 0) (
       (rest.0, rest.1, (sight h.0.seen turned.0, (h.1.0, h.1.1, h.1.2, turned.2), rest.2))
   shift_walk (move ∷ ms) pre m v w is h = shift_walk ms pre m v w is h
 
--- the answers of a board
-walk_as : {F : Type 0} (answers : F → List Entry → Ask → Turn → Type 0) (plans : Bool) (site : F → Configuration) → AnswersAsBoard plans site answers → (f : F) (ms : List Move) (v w : Sight Entry) → Walk answers f ms v w → Walk (answers_of plans) (site f) ms v w
-walk_as answers plans site told f [] v w h = h
-walk_as answers plans site told f (asked a t ∷ ms) v w h = (h.0, (h.1.0, h.1.1, told f h.1.0 a t h.1.2, h.1.3), walk_as answers plans site told f ms h.0 w h.2)
-walk_as answers plans site told f (move ∷ ms) v w h = walk_as answers plans site told f ms v w h
-
--- ## where the entries stand
-
--- of a player that had made nothing
-stands : (plans : Bool) (c : Configuration) (history : List Entry) (player : Player) (end : PlayerEnd) (plays : PlaysFrom plans c history player end) → StandAt end.sight.seen end.sight.mine (entries_of plays.trace)
-stands plans c history player end plays =
-    let gains = walk_gains (answers_of plans) c plays.trace (sight history []) end.sight plays.walked in
-    subst (λ (l : List ℕ). StandAt end.sight.seen l (entries_of plays.trace)) (sym gains.1) gains.2
-
 -- ## sweeps
 
 swept_so : (plans : Bool) (c : Configuration) (before : List Entry) (a : Ask) (t : Turn) → answers_of plans c before a t → IsSweptSo a t
-swept_so plans c before (Ask.Sweep p n x) (Turn.Did e) h = sweep-removes c before p n x e h
+swept_so plans c before (Ask.Sweep p n x) (Turn.Did e) h = sweep_removes c before p n x e h
 swept_so plans c before a t h = tt
 
 are_swept_so : (plans : Bool) (c : Configuration) (ms : List Move) (v w : Sight Entry) → Walk (answers_of plans) c ms v w → AreSweptSo ms
@@ -205,21 +182,14 @@ roles_came_far plans c of_reaper history ms to w before now h asks took rested =
 
 -- ## how a round ends
 
-if_full : (full : Bool) (P Q : Type 0) → MatchBool full P Q → full ≡ true → P
-if_full full P Q h is = grind (arith, nat_tests)
-
-if_room : (full : Bool) (P Q : Type 0) → MatchBool full P Q → full ≡ false → Q
-if_room full P Q h is = grind (arith, nat_tests)
+by_full : (full : Bool) (P Q : Type 0) → MatchBool full P Q → (full ≡ true → P) × (full ≡ false → Q)
+by_full full P Q h = ((λ is. grind (arith, nat_tests)), (λ is. grind (arith, nat_tests)))
 
 first_goes_on : (work : Work) → first_phase work ≡ ended → ⊥
 first_goes_on work x1 = grind (arith, nat_tests)
 
 rests_before_end : (work : Work) (before now : Option Driving) (ms : List Move) (to : Phase) → Rests work before now ms to → to ≡ ended → ⊥
 rests_before_end work before now ms to x1 x2 = grind (arith, nat_tests)
-
--- no removal failed, so all servers were asked about
-all_kept : (pool : PoolId) (before now : Option Driving) (ms : List Move) (to : Phase) → Rests (of_pool pool) before now ms to → (RemovalFailed before now → ⊥) → AreKept pool ms now
-all_kept pool before now ms to rested none = ⊎_elim (λ done. done.1) (λ failed. absurd (none failed.1)) rested
 
 servers_kept : (pool : PoolId) (ms : List Move) (player : Player) (servers : List Server) → AreKept pool ms player.driving → HasServers player servers → All (WasKept pool ms) servers
 servers_kept pool ms player servers kept has =
@@ -238,29 +208,29 @@ module _ (plans : Bool) (c : Configuration) (history : List Entry) (player : Pla
 
   kept : (pool : PoolId) (now : List Server) → player.work ≡ of_pool pool → HasServers end.player now → Rested → (Failed → ⊥) → All (WasKept pool plays.trace) now
   kept pool now work has rested none = servers_kept pool plays.trace end.player now
-      (all_kept pool player.driving end.player.driving plays.trace end.phase (subst (λ (w : Work). Rests w player.driving end.player.driving plays.trace end.phase) work rested) none) has
+      (⊎_elim (λ done. done.1) (λ failed. absurd (none failed.1)) (subst (λ (w : Work). Rests w player.driving end.player.driving plays.trace end.phase) work rested)) has
 
   leave : ServersLeave plans c history player end plays
   leave pool before now work had has server own gone = record {
-    cause = left-with_cause plans c history player end pool before now plays work had has server own gone;
-    own_pair = own-pair c history end.sight.seen pool plays.trace before server (left-with_cause plans c history player end pool before now plays work had has server own gone);
-    own_node = own-node c history end.sight.seen pool server;
+    cause = left_with_cause plans c history player end pool before now plays work had has server own gone;
+    own_pair = own_pair c history end.sight.seen pool plays.trace before server (left_with_cause plans c history player end pool before now plays work had has server own gone);
+    own_node = own_node c history end.sight.seen pool server;
   }
 
   stay : Rested → (Failed → ⊥) → ServersStay plans c history player end
-  stay rested none pool now work has = kept-stay plans c history player end pool now plays (before_end rested) (kept pool now work has rested none)
+  stay rested none pool now work has = kept_stay plans c history player end pool now plays (before_end rested) (kept pool now work has rested none)
 
   go : Rested → (Failed → ⊥) → ServersGo plans c history player end
   go rested none drivings pool now work has driven keeps server was there =
-      unwanted-gone c plans (WasAnswered drivings) history player end pool now plays driven (before_end rested) (kept pool now work has rested none) keeps server was there
+      unwanted_gone c plans (WasAnswered drivings) history player end pool now plays driven (before_end rested) (kept pool now work has rested none) keeps server was there
 
   came_to_end : (result : Result RoundEnd NoMemory) → EndsAs player.work player.driving end.player.driving result plays.trace end.phase → IfOk result (λ is. is.entries ≡ length end.sight.mine) → IfOk result (CameToEnd plans c history player end plays)
   came_to_end (Err fault) ends entries = tt
   came_to_end (Ok is) ends entries =
-      let rested : is.full ≡ false → Rested = if_room is.full (end.phase ≡ ended) Rested ends in
+      let rested : is.full ≡ false → Rested = (by_full is.full (end.phase ≡ ended) Rested ends).1 in
       let ordered = orderly player.work plays.trace end.phase plays.led in record {
         entries = entries;
-        full = λ full. ends_full (first_phase player.work) end.phase plays.trace (first_goes_on player.work) plays.led (if_full is.full (end.phase ≡ ended) Rested ends full);
+        full = λ full. ends_full (first_phase player.work) end.phase plays.trace (first_goes_on player.work) plays.led ((by_full is.full (end.phase ≡ ended) Rested ends).0 full);
         room = λ room full. before_end (rested room) (is_at_end (first_phase player.work) end.phase plays.trace plays.led full);
         roles = λ room. roles_came_far plans c player.work history plays.trace end.phase end.sight player.driving end.player.driving plays.walked ordered.asks ordered.took (rested room);
         stay = λ room. stay (rested room);
@@ -268,12 +238,12 @@ module _ (plans : Bool) (c : Configuration) (history : List Entry) (player : Pla
       }
 
   pub at_board : (result : Result RoundEnd NoMemory) → EndsAs player.work player.driving end.player.driving result plays.trace end.phase → IfOk result (λ is. is.entries ≡ length end.sight.mine) → IsRoundAtBoard plans c history player end result
-  at_board result ends entries = record {
+  at_board result ends entries = let gains = walk_gains (answers_of plans) c plays.trace (sight history []) end.sight plays.walked in record {
     plays = plays;
     orderly = orderly player.work plays.trace end.phase plays.led;
-    stand = stands plans c history player end plays;
+    stand = subst (λ (l : List ℕ). StandAt end.sight.seen l (entries_of plays.trace)) (sym gains.1) gains.2;
     rising = (rises c history player end plays).1;
-    makers = entry-of_worker {plans = plans} c history player end plays;
+    makers = entry_of_worker {plans = plans} c history player end plays;
     swept = are_swept_so plans c plays.trace (sight history []) end.sight plays.walked;
     leave = leave;
     ended = came_to_end result ends entries;

@@ -1,5 +1,5 @@
 -- a pool with its driver: launches, removals, a round, a tick and the start
-use Rattle.np_worker.proofs.Prelude.{All, All-contains, AreAloneSound, AreAsksOf, AreCarried, AreNumbered, AreSoundAlone, Ask, BeginAfter, BeginsEmpty, BeginsNew, Bool, Carries, Configuration, Contains, Contains-append_left, Contains-push, Contains-push_cases, DistinctNumbers, DrivenBy, Drives, Driving, Drove, EachPlaysFrom, Earlier, Entry, Event, FailAfter, FailFull, FailOnlyFull, FailsFull, HaveDriven, HaveHosted, HaveSoundness, Hosts, IfSome, IsCutOff, IsHosted, IsNumbered, IsRound, IsServerOf, IsSoundAlone, IsTrue, Janitor, Launch, Leads, List, MOST_LAUNCHES, MayAsk, MayLaunch, MayRemove, Move, NeverRepeats, NodeEntry, NodeId, NodeRecord, NodeState, None, Option, Outcome, Phase, Player, PlayerEnd, PlaysFrom, PoolId, Records, Runs, Says, Server, Sight, Some, Soundness, Start, StartsWith, SweepsServers, Tag, Turn, Walk, WasAnswered, Work, acts, after, after_launch, after_removal, after_turn, all-weaker, answers_of, ap, append-nil, append_assoc, arith, asked, cases_lt, driving_in, drivings_of, eq-eqb, false, false_from_ne_true, false≢true, first_phase, fresh_sight, inl, inr, is_building, is_deleting, is_number, is_server, is_some, is_tick, is_up, is_wanted, launched, launcher-role, launches_of, length, length-append, length-filter_at_most, maker_of, map, nat_tests, next_number, node_in, none-some, not, number_in, numbers_in, numbers_of, of_pool, option_map, option_map_or, or_left, or_right, owes_due, owes_launch, owes_report, owes_swept, recorded, refl, removed, reported, reports_of, same_Some, servers_after, servers_up, slice_get, starts_on, subst, suc, sweeps, sym, true, turns, with_launch, with_launched, without_number, zero, ℕ, [], ⊎_elim, ◌++◌, ◌+◌, ◌<◌, ◌==◌, ◌||◌, ◌∙◌, ◌∷◌, ◌≡◌, ◌≤◌, ◌⊎◌}
+use Rattle.np_worker.proofs.Prelude.{All, All-contains, AreAloneSound, AreAsksOf, AreCarried, AreSoundAlone, Ask, BeginAfter, BeginsEmpty, BeginsNew, Bool, Carries, Configuration, Contains, Contains-append_left, Contains-push, Contains-push_cases, DistinctNumbers, DrivenBy, Driving, Earlier, Entry, Event, FailAfter, FailFull, FailOnlyFull, FailsFull, HaveDriven, HaveHosted, HaveSoundness, Hosts, IfSome, IsCutOff, IsHosted, IsRound, IsServerOf, IsSoundAlone, IsTrue, Janitor, Launch, Leads, List, MOST_LAUNCHES, MayAsk, MayLaunch, MayRemove, Move, NeverRepeats, NodeEntry, NodeId, NodeRecord, NodeState, None, Option, Outcome, Phase, Player, PlayerEnd, PoolId, Records, Runs, Says, Server, Sight, Some, Soundness, Start, StartsWith, SweepsServers, Tag, Turn, Walk, WasAnswered, Work, acts, after, after_launch, after_removal, after_turn, all-weaker, answers_of, ap, append-nil, append_assoc, arith, asked, cases_lt, drivings_of, eq-eqb, false, false_from_ne_true, false≢true, first_phase, fresh_sight, inl, inr, is_building, is_deleting, is_number, is_server, is_some, is_tick, is_up, is_wanted, launched, launcher-role, launches_of, length, length-append, length-filter_at_most, maker_of, map, nat_tests, node_in, none-some, not, number_in, numbers_in, numbers_of, of_pool, option_map, option_map_or, or_left, or_right, owes_due, owes_launch, owes_report, owes_swept, recorded, refl, removed, reported, reports_of, same_Some, servers_after, servers_up, slice_get, starts_on, subst, suc, sweeps, sym, true, turns, with_launch, with_launched, without_number, ℕ, [], ⊎_elim, ◌++◌, ◌+◌, ◌<◌, ◌==◌, ◌||◌, ◌∙◌, ◌∷◌, ◌≡◌, ◌≤◌, ◌⊎◌}
 use Rattle.std.proofs.lemmas.List.{map-append}
 use Rattle.std.proofs.lemmas.List.Elements.{All-get_or}
 use Rattle.std.proofs.lemmas.List.Folds.{list_any-append}
@@ -9,9 +9,9 @@ use Rattle.np_worker.proofs.Records.{few-reports, holds-after}
 use Rattle.np_worker.proofs.Leaving.{AreBelow, below-turn, filtered-member, launched_stay, leaves_one}
 use Rattle.np_worker.proofs.Reports.{may-report, plain-answer, polite-at, report-accepted, waits-after}
 use Rattle.np_worker.proofs.Walks.{no-member, same-split, split-within, starts_length, turn_seen, walk_seen}
-use Rattle.np_worker.proofs.Steps.{asks_of, full_ends, of_turn}
-use Rattle.np_worker.proofs.Acts.{AreForeign, Calm, Held, IsForeign, IsGoing, IsLate, IsLeft, IsReady, IsReportOf, IsThere, Leaves, Never, Reporting, Rest, Sees, Stands, Tells, Turned, WasStarted, held-gap, leaves-later, leaves-of, nobody, stands-gap, tells-gap, turns-stand}
-use Rattle.np_worker.proofs.Made.{player_of, told}
+use Rattle.np_worker.proofs.Steps.{asks_of}
+use Rattle.np_worker.proofs.Acts.{AreForeign, Calm, Held, IsForeign, IsGoing, IsLate, IsLeft, IsReady, IsReportOf, IsThere, Leaves, Never, Reporting, Rest, Sees, Stands, Tells, WasStarted, held-gap, leaves-later, leaves-of, nobody, tells-gap, turn-stands, rest-gap}
+use Rattle.np_worker.proofs.Made.{PoolRound, at-place, player_of, told}
 use Rattle.np_worker.proofs.Rounds.{is-foreign, old-entry, round-driven, round-have-driven, round-no-tick}
 
 -- # launches and removals of a pool's worker: what each leaves of what is known
@@ -28,9 +28,6 @@ module _ (c : Configuration) (p : PoolId) (sound : List ℕ → Bool) (room earl
   module _ (s : Start) (o : Outcome) (short : length journal ≤ 262144) (held : Held c p sound room earlier final (IsReportOf s) 0 0 journal launches servers) (started : WasStarted c p sound room earlier final journal s.tag.node) where
     abbrev more : List Launch
     more = with_launch s.tag o launches
-
-    abbrev there_now : List Server
-    there_now = with_launched s.tag o servers
 
     made-now : (q : Outcome) (x : Server) → Contains (with_launched s.tag q servers) x → Contains (with_launch s.tag q launches) (record { tag = x.tag; outcome = Outcome.Launched x.number })
     made-now (Outcome.Launched y) x h = ⊎_elim
@@ -51,7 +48,7 @@ module _ (c : Configuration) (p : PoolId) (sound : List ℕ → Bool) (room earl
         (λ (most : MOST_LAUNCHES ≤ length launches). absurd (omega (arith, most, held.few, none, few-reports c p journal, short)))
         full
 
-    pub launched-held : IsSoundAlone sound o → FailsFull room o (Some launches) (Some servers) → ((l : Launch) → Contains more l → Contains final l) → Reporting c p sound room earlier final s o journal more there_now
+    pub launched-held : IsSoundAlone sound o → FailsFull room o (Some launches) (Some servers) → ((l : Launch) → Contains more l → Contains final l) → Reporting c p sound room earlier final s o journal more (with_launched s.tag o servers)
     launched-held alone full among = record {
       held = record {
         at = record {
@@ -126,8 +123,6 @@ module _ (c : Configuration) (p : PoolId) (sound : List ℕ → Bool) (room earl
 
 -- ## the whole round of a pool's worker
 
--- ## places of one's own
-
 -- what was seen before a turn begins what is seen after it
 before-seen : (r : Option Entry) (before : List Entry) (v u : Sight Entry) → Records r before v u → StartsWith u.seen before
 before-seen None before v u records = ([], records.0 ∙ sym (append-nil before))
@@ -198,9 +193,9 @@ module _ (c : Configuration) (p : PoolId) (sound : List ℕ → Bool) (room earl
 
     -- ## turns
 
-    turn-stands : (ph : Phase) (a : Ask) (t : Turn) (ms : List Move) (v w : Sight Entry) (launches : List Launch) (servers : List Server) (walk : Walk (answers_of false) c (asked a t ∷ ms) v w) → w.mine ≡ mine → StartsWith whole w.seen → least ≤ length v.seen → AreBelow v → MayAsk ph a → AreAsksOf (of_pool p) (asked a t ∷ ms) → SweepsServers (asked a t ∷ ms) servers → At' ph v.seen launches servers
+    asked-stands : (ph : Phase) (a : Ask) (t : Turn) (ms : List Move) (v w : Sight Entry) (launches : List Launch) (servers : List Server) (walk : Walk (answers_of false) c (asked a t ∷ ms) v w) → w.mine ≡ mine → StartsWith whole w.seen → least ≤ length v.seen → AreBelow v → MayAsk ph a → AreAsksOf (of_pool p) (asked a t ∷ ms) → SweepsServers (asked a t ∷ ms) servers → At' ph v.seen launches servers
         → At' (after_turn ph a t) walk.0.seen launches servers
-    turn-stands ph a t ms v w launches servers walk own all low early may asks swept stands =
+    asked-stands ph a t ms v w launches servers walk own all low early may asks swept stands =
         let before : List Entry = walk.1.0 in
         let upto : StartsWith walk.0.seen before = before-seen (recorded a t) before v walk.0 walk.1.3 in
         let later : StartsWith whole walk.0.seen = starts_on whole w.seen walk.0.seen all (walk_seen (answers_of false) c ms walk.0 w walk.2) in
@@ -208,9 +203,8 @@ module _ (c : Configuration) (p : PoolId) (sound : List ℕ → Bool) (room earl
         let gap : before ≡ v.seen ++ walk.1.1.0 = walk.1.1.1 in
         let foreign : AreForeign c p never v.seen walk.1.1.0 = part-foreign v.seen walk.1.1.0 (subst (λ (l : List Entry). StartsWith whole l) gap there) low
         (λ y from below is. none-between (answers_of false) c a t ms v w walk early y from (omega (arith, below, ap length gap)) (subst (λ (l : List ℕ). Contains l y) (sym own) is)) in
-        let now : At' ph before launches servers = subst (λ (l : List Entry). At' ph l launches servers) (sym gap) (stands-gap c p sound room earlier final v.seen walk.1.1.0 foreign ph a launches servers may stands) in
-        of_turn (Turned c p sound room earlier final launches servers) (turns-stand c p sound room earlier final launches servers) ph a t may before walk.0.seen asks.0 swept.0 (plain-answer c before a t walk.1.2) (sees-of (recorded a t) before v walk.0 walk.1.3)
-        (λ full. ap (λ (x : Turn). after_turn ph a x) full ∙ full_ends ph a may)
+        let now : At' ph before launches servers = subst (λ (l : List Entry). At' ph l launches servers) (sym gap) (record { tells = tells-gap c p sound room earlier final v.seen walk.1.1.0 foreign stands.tells; rest = rest-gap c p sound room earlier final v.seen walk.1.1.0 foreign ph a launches servers may stands.rest }) in
+        turn-stands c p sound room earlier final launches servers ph a t may before walk.0.seen asks.0 swept.0 (plain-answer c before a t walk.1.2) (sees-of (recorded a t) before v walk.0 walk.1.3)
         (λ e is. around.ready before e (starts_on whole walk.0.seen (before ++ e ∷ []) later
         (let seen : Sees (recorded a (Turn.Did e)) before walk.0.seen = subst (λ (x : Turn). Sees (recorded a x) before walk.0.seen) is (sees-of (recorded a t) before v walk.0 walk.1.3) in ([], seen ∙ sym (append-nil (before ++ e ∷ []))))))
         now
@@ -260,7 +254,7 @@ module _ (c : Configuration) (p : PoolId) (sound : List ℕ → Bool) (room earl
               (subst (λ (l : List Launch). Leaves c p sound room earlier final ph (v.seen ++ walk.0.0) l servers) same (leaves-later c p sound room earlier final v.seen walk.0.0 foreign ph launches servers (leaves-of c p sound room earlier final ph v.seen launches servers stands.rest)));
         })
     walk-stands (asked a t ∷ ms) ph q v w launches servers stands walk leads own all low early asks swept alone full is =
-        walk-stands ms (after_turn ph a t) q walk.0 w launches servers (turn-stands ph a t ms v w launches servers walk own all low early leads.0 asks swept stands) walk.2 leads.1 own all
+        walk-stands ms (after_turn ph a t) q walk.0 w launches servers (asked-stands ph a t ms v w launches servers walk own all low early leads.0 asks swept stands) walk.2 leads.1 own all
         (omega (arith, low, starts_length walk.0.seen v.seen (turn_seen (answers_of false) c a t v walk.0 walk.1))) (below-turn (recorded a t) walk.1.0 v walk.0 walk.1.1 walk.1.3 early) asks.1 swept.1 alone full is
     walk-stands (launched tag o ∷ ms) ph q v w launches servers stands walk leads own all low early asks swept alone full is =
         let more : with_launch tag o launches ++ launches_of ms ≡ final = append_assoc launches (record { tag = tag; outcome = o } ∷ []) (launches_of ms) ∙ is in
@@ -273,84 +267,14 @@ module _ (c : Configuration) (p : PoolId) (sound : List ℕ → Bool) (room earl
 
 -- # a round, a tick and the start, for each pool with its driver
 
--- ## which driver is a pool's
-
--- a pool's driver after a round, with the round of its worker and the driver before
-pub record PoolRound (c : Configuration) (history : List Entry) (players : List Player) (ends : List PlayerEnd) (i : ℕ) (pool_at : ℕ) (d' : Driving) : Type 0 where
-  pub player : Player
-  pub end : PlayerEnd
-  pub plays : PlaysFrom false c history player end
-  pub there : Contains ends end
-  pub pool : PoolId
-  pub number : pool.0 ≡ pool_at
-  pub work : player.work ≡ of_pool pool
-  pub d : Driving
-  pub had : player.driving ≡ Some d
-  pub has : end.player.driving ≡ Some d'
-  pub stood : slice_get (drivings_of players) i ≡ Some d
-
-pool-later : (c : Configuration) (history : List Entry) (player : Player) (players : List Player) (end : PlayerEnd) (ends : List PlayerEnd) (i j n : ℕ) (d' : Driving)
-    → ((d : Driving) → slice_get (drivings_of players) i ≡ Some d → slice_get (drivings_of (player ∷ players)) j ≡ Some d) → PoolRound c history players ends i n d' → PoolRound c history (player ∷ players) (end ∷ ends) j n d'
-pool-later c history player players end ends i j n d' further r = record {
-  player = r.player;
-  end = r.end;
-  plays = r.plays;
-  there = (suc r.there.0, omega (arith, r.there.1), r.there.2);
-  pool = r.pool;
-  number = r.number;
-  work = r.work;
-  d = r.d;
-  had = r.had;
-  has = r.has;
-  stood = further r.d r.stood;
-}
-
-pool-same : (c : Configuration) (history : List Entry) (players : List Player) (ends : List PlayerEnd) (i n m : ℕ) (d' : Driving) → n ≡ m → PoolRound c history players ends i n d' → PoolRound c history players ends i m d'
-pool-same c history players ends i n m d' same r = subst (λ (k : ℕ). PoolRound c history players ends i k d') same r
-
-module _ (c : Configuration) (history : List Entry) where
-  -- the first player is a pool's worker
-  pool-first : (n : ℕ) (player : Player) (end : PlayerEnd) (players : List Player) (ends : List PlayerEnd) (plays : PlaysFrom false c history player end) (work : Work) → player.work ≡ work → (before now : Option Driving) → player.driving ≡ before → end.player.driving ≡ now → Drove plays.trace before now → IsNumbered n work before
-      → ((i : ℕ) (d' : Driving) → slice_get (drivings_of (map player_of ends)) i ≡ Some d' → PoolRound c history players ends i (next_number n work + i) d')
-      → (i : ℕ) (d' : Driving) → slice_get (driving_in now ++ drivings_of (map player_of ends)) i ≡ Some d' → slice_get (driving_in before ++ drivings_of players) ≡ slice_get (drivings_of (player ∷ players)) → PoolRound c history (player ∷ players) (end ∷ ends) i (n + i) d'
-  pool-first n player end players ends plays (of_pool pool) own (Some a) (Some b) had has drove is rest zero d' at same =
-      let it : b ≡ d' = same_Some b d' at in
-      record {
-        player = player;
-        end = end;
-        plays = plays;
-        there = (0, omega arith, refl);
-        pool = pool;
-        number = omega (arith, is);
-        work = own;
-        d = a;
-        had = had;
-        has = has ∙ ap (λ (x : Driving). Some x) it;
-        stood = ap (λ (f : ℕ → Option Driving). f 0) (sym same);
-      }
-  pool-first n player end players ends plays (of_pool pool) own (Some a) (Some b) had has drove is rest (suc i) d' at same =
-      pool-same c history (player ∷ players) (end ∷ ends) (suc i) (suc n + i) (n + suc i) d' (omega arith)
-      (pool-later c history player players end ends i (suc i) (suc n + i) d' (λ d stood. ap (λ (f : ℕ → Option Driving). f (suc i)) (sym same) ∙ stood) (rest i d' at))
-  pool-first n player end players ends plays (of_pool pool) own None now had has drove is rest i d' at same = absurd is
-  pool-first n player end players ends plays _ own None None had has drove is rest i d' at same = pool-later c history player players end ends i i (n + i) d' (λ d stood. ap (λ (f : ℕ → Option Driving). f i) (sym same) ∙ stood) (rest i d' at)
-  pool-first n player end players ends plays (of_pool pool) own (Some a) None had has drove is rest i d' at same = absurd drove
-  pool-first n player end players ends plays _ own None (Some b) had has drove is rest i d' at same = absurd drove
-  pool-first n player end players ends plays _ own _ now had has drove is rest i d' at same = absurd is
-
-  pool-round : (n : ℕ) (players : List Player) (ends : List PlayerEnd) → EachPlaysFrom false c history players ends → AreNumbered n players → (i : ℕ) (d' : Driving) → slice_get (drivings_of (map player_of ends)) i ≡ Some d' → PoolRound c history players ends i (n + i) d'
-  pool-round n [] [] each are i d' at = absurd (none-some d' at)
-  pool-round n (player ∷ players) (end ∷ ends) each are i d' at =
-      pool-first n player end players ends each.0 player.work refl player.driving end.player.driving refl refl each.0.drove are.0 (pool-round (next_number n player.work) players ends each.1 are.1) i d' at refl
-  pool-round n _ _ each are i d' at = absurd each
-
 -- ## numbers of launches
-
-fewer-numbers : (z : ℕ) (us vs : List ℕ) → is_number z (us ++ vs) ≡ false → is_number z us ≡ false
-fewer-numbers z us vs out = false_from_ne_true (is_number z us) (λ there. false≢true (sym out ∙ (list_any-append (λ (y : ℕ). y == z) us vs ∙ or_left (is_number z us) (is_number z vs) there)))
 
 distinct-first : (first rest : List ℕ) → DistinctNumbers (first ++ rest) → DistinctNumbers first
 distinct-first [] rest distinct = tt
-distinct-first (x ∷ first) rest distinct = (fewer-numbers x first rest distinct.0, distinct-first first rest distinct.1)
+distinct-first (x ∷ first) rest distinct = (
+  false_from_ne_true (is_number x first) (λ there. false≢true (sym distinct.0 ∙ (list_any-append (λ (y : ℕ). y == x) first rest ∙ or_left (is_number x first) (is_number x rest) there))),
+  distinct-first first rest distinct.1,
+)
 
 -- fewer launches repeat no number either
 fewer-distinct : (first rest : List Launch) → DistinctNumbers (numbers_in (outcomes (first ++ rest))) → DistinctNumbers (numbers_in (outcomes first))
@@ -382,10 +306,6 @@ module _ (c : Configuration) (p : PoolId) (earlier : ℕ) (journal : List Entry)
 
   tells-of : (h : Hosts earlier c journal p d) (final : List Launch) → Tells c p d.sound d.room earlier final journal
   tells-of h final = record { alone = h.carries.reports; failed = h.carries.failed }
-
-  carries-of : (final : List Launch) → Tells c p d.sound d.room earlier final journal
-      → (NeverRepeats d → (before rest : List Entry) (e : Entry) → journal ≡ before ++ e ∷ rest → e.event ≡ Event.Tick → IsTrue (d.sound (servers_up p (after c (before ++ e ∷ [])).nodes))) → Carries earlier c journal p d
-  carries-of final tells nodes = record { nodes = nodes; reports = tells.alone; failed = tells.failed }
 
   hosts-of : (sound : List ℕ → Bool) (room : ℕ) (launches : List Launch) (servers : List Server) → d.facts.answered ≡ Some launches → d.facts.servers ≡ Some servers → Carries earlier c journal p d → Calm c p sound room earlier launches journal launches servers → Hosts earlier c journal p d
   hosts-of sound room launches servers answered told carries calm = record {
@@ -419,15 +339,9 @@ module _ (c : Configuration) (history later : List Entry) (players now : List Pl
   driven-now : DrivenBy (WasAnswered (drivings_of now)) c later
   driven-now = round-driven c history later players now is_cut round runs have
 
-  module _ (p : PoolId) (earlier : ℕ) (d' : Driving) (r : PoolRound c history players round.ends p.0 p.0 d') (h : Hosts earlier c history p r.d) where
-    pool-is : r.pool ≡ p
-    pool-is = ap (λ (k : ℕ). let q : PoolId = record { 0 = k } in q) r.number
-
+  module _ (p : PoolId) (earlier : ℕ) (d d' : Driving) (r : PoolRound false c history round.ends p.0 d d') (h : Hosts earlier c history p d) where
     work-is : r.player.work ≡ of_pool p
-    work-is = r.work ∙ ap of_pool pool-is
-
-    drives : Drives r.plays.trace r.d d'
-    drives = subst (λ (o : Option Driving). Drove r.plays.trace (Some r.d) o) r.has (subst (λ (o : Option Driving). Drove r.plays.trace o r.end.player.driving) r.had r.plays.drove)
+    work-is = r.work ∙ ap (λ (k : ℕ). let q : PoolId = record { 0 = k } in of_pool q) r.is_number
 
     abbrev final : List Launch
     final = h.launches ++ launches_of r.plays.trace
@@ -436,17 +350,14 @@ module _ (c : Configuration) (history later : List Entry) (players now : List Pl
     left = servers_after r.plays.trace h.servers
 
     answered-now : d'.facts.answered ≡ Some final
-    answered-now = drives.answered ∙ ap (option_map (λ (ls : List Launch). ls ++ launches_of r.plays.trace)) h.answered
-
-    told-now : d'.facts.servers ≡ Some left
-    told-now = drives.servers ∙ ap (option_map (servers_after r.plays.trace)) h.told
+    answered-now = r.drives.answered ∙ ap (option_map (λ (ls : List Launch). ls ++ launches_of r.plays.trace)) h.answered
 
     seen-all : StartsWith later r.end.sight.seen
     seen-all = All-contains (λ (end : PlayerEnd). StartsWith later end.sight.seen) round.ends r.end round.seen r.there
 
-    around : Surroundings c p r.d.sound r.d.room earlier final (length history) later r.end.sight.mine
+    around : Surroundings c p d.sound d.room earlier final (length history) later r.end.sight.mine
     around = record {
-      foreign = λ x e starts low other. is-foreign c history later players now is_cut round have driven-now p r.end r.there (r.plays.work ∙ work-is) x e starts.0 (starts.1 ∙ append_assoc x (e ∷ []) starts.0) low other (Never c p r.d.sound r.d.room earlier final);
+      foreign = λ x e starts low other. is-foreign c history later players now is_cut round have driven-now p r.end r.there (r.plays.work ∙ work-is) x e starts.0 (starts.1 ∙ append_assoc x (e ∷ []) starts.0) low other (Never c p d.sound d.room earlier final);
       ready = λ x e starts. record {
         waits = waits-after (WasAnswered (drivings_of now)) c later x (e ∷ starts.0) driven-now (starts.1 ∙ append_assoc x (e ∷ []) starts.0);
         polite = polite-at (WasAnswered (drivings_of now)) c later x e starts.0 driven-now (starts.1 ∙ append_assoc x (e ∷ []) starts.0);
@@ -454,17 +365,17 @@ module _ (c : Configuration) (history later : List Entry) (players now : List Pl
       short = runs.short;
     }
 
-    begins : Stands c p r.d.sound r.d.room earlier final (first_phase (of_pool p)) history h.launches h.servers
-    begins = record { tells = tells-of c p earlier history r.d h final; rest = calm-of c p earlier history r.d r.d.sound r.d.room h (launches_of r.plays.trace) }
+    begins : Stands c p d.sound d.room earlier final (first_phase (of_pool p)) history h.launches h.servers
+    begins = record { tells = tells-of c p earlier history d h final; rest = calm-of c p earlier history d d.sound d.room h (launches_of r.plays.trace) }
 
-    walked : Left c p r.d.sound r.d.room earlier final (length history) later r.end.sight.mine around r.end.phase r.end.sight.seen final left
+    walked : Left c p d.sound d.room earlier final (length history) later r.end.sight.mine around r.end.phase r.end.sight.seen final left
     walked =
         let leads : Leads (first_phase (of_pool p)) r.plays.trace r.end.phase = subst (λ (w : Work). Leads (first_phase w) r.plays.trace r.end.phase) work-is r.plays.led in
-        walk-stands c p r.d.sound r.d.room earlier final (length history) later r.end.sight.mine around r.plays.trace (first_phase (of_pool p)) r.end.phase (fresh_sight history) r.end.sight h.launches h.servers begins r.plays.walked leads refl seen-all (omega arith) (λ y there. no-member y there)
+        walk-stands c p d.sound d.room earlier final (length history) later r.end.sight.mine around r.plays.trace (first_phase (of_pool p)) r.end.phase (fresh_sight history) r.end.sight h.launches h.servers begins r.plays.walked leads refl seen-all (omega arith) (λ y there. no-member y there)
         (asks_of (of_pool p) r.end.phase r.plays.trace leads)
-        (told (SweepsServers r.plays.trace) r.d.facts.servers h.servers h.told drives.swept)
-        (told (λ servers. AreSoundAlone r.d.sound r.plays.trace) r.d.facts.servers h.servers h.told drives.alone)
-        (subst (λ (o : Option (List Server)). FailFull r.d.room r.plays.trace (Some h.launches) o) h.told (subst (λ (o : Option (List Launch)). FailFull r.d.room r.plays.trace o r.d.facts.servers) h.answered drives.full))
+        (told (SweepsServers r.plays.trace) d.facts.servers h.servers h.told r.drives.swept)
+        (told (λ servers. AreSoundAlone d.sound r.plays.trace) d.facts.servers h.servers h.told r.drives.alone)
+        (subst (λ (o : Option (List Server)). FailFull d.room r.plays.trace (Some h.launches) o) h.told (subst (λ (o : Option (List Launch)). FailFull d.room r.plays.trace o d.facts.servers) h.answered r.drives.full))
         refl
 
     -- nothing of one's own comes after what was seen
@@ -474,50 +385,50 @@ module _ (c : Configuration) (history later : List Entry) (players now : List Pl
     long : length history ≤ length r.end.sight.seen
     long = let seen = walk_seen (answers_of false) c r.plays.trace (fresh_sight history) r.end.sight r.plays.walked in omega (arith, ap length seen.1, length-append history seen.0)
 
-    rest-foreign : AreForeign c p (Never c p r.d.sound r.d.room earlier final) r.end.sight.seen seen-all.0
-    rest-foreign = part-foreign c p r.d.sound r.d.room earlier final (length history) later r.end.sight.mine around r.end.sight.seen seen-all.0 ([], seen-all.1 ∙ sym (append-nil (r.end.sight.seen ++ seen-all.0))) long
+    rest-foreign : AreForeign c p (Never c p d.sound d.room earlier final) r.end.sight.seen seen-all.0
+    rest-foreign = part-foreign c p d.sound d.room earlier final (length history) later r.end.sight.mine around r.end.sight.seen seen-all.0 ([], seen-all.1 ∙ sym (append-nil (r.end.sight.seen ++ seen-all.0))) long
         (λ y from below there. omega (arith, from, early y there))
 
-    tells-now : Tells c p r.d.sound r.d.room earlier final later
-    tells-now = subst (Tells c p r.d.sound r.d.room earlier final) (sym seen-all.1) (tells-gap c p r.d.sound r.d.room earlier final r.end.sight.seen seen-all.0 rest-foreign walked.tells)
-
-    leaves-now : Leaves c p r.d.sound r.d.room earlier final r.end.phase later final left
-    leaves-now = subst (λ (j : List Entry). Leaves c p r.d.sound r.d.room earlier final r.end.phase j final left) (sym seen-all.1) (leaves-later c p r.d.sound r.d.room earlier final r.end.sight.seen seen-all.0 rest-foreign r.end.phase final left walked.leaves)
-
-    never-before : NeverRepeats d' → NeverRepeats r.d
-    never-before never = never-of r.d h.launches h.answered (fewer-distinct h.launches (launches_of r.plays.trace) (never-is d' final answered-now never))
+    tells-now : Tells c p d.sound d.room earlier final later
+    tells-now = subst (Tells c p d.sound d.room earlier final) (sym seen-all.1) (tells-gap c p d.sound d.room earlier final r.end.sight.seen seen-all.0 rest-foreign walked.tells)
 
     -- no tick is new
     nodes-now : NeverRepeats d' → (before rest : List Entry) (e : Entry) → later ≡ before ++ e ∷ rest → e.event ≡ Event.Tick → IsTrue (d'.sound (servers_up p (after c (before ++ e ∷ [])).nodes))
     nodes-now never before rest e is tick = ⊎_elim
         (λ (old : length before < length history).
         let z = old-entry c history later players now is_cut round have before e rest is old in
-        subst (λ (f : List ℕ → Bool). IsTrue (f (servers_up p (after c (before ++ e ∷ [])).nodes))) (sym drives.sound) (h.carries.nodes (never-before never) before z.0 e z.1 tick))
+        subst (λ (f : List ℕ → Bool). IsTrue (f (servers_up p (after c (before ++ e ∷ [])).nodes))) (sym r.drives.sound) (h.carries.nodes (never-of d h.launches h.answered (fewer-distinct h.launches (launches_of r.plays.trace) (never-is d' final answered-now never))) before z.0 e z.1 tick))
         (λ (young : length history ≤ length before). absurd (false≢true (sym (round-no-tick c history later players now is_cut round runs have before e rest is young) ∙ ap is_tick tick)))
         (cases_lt (length before) (length history))
 
     pub round-carries : Carries earlier c later p d'
     round-carries = record {
       nodes = nodes-now;
-      reports = subst (λ (f : List ℕ → Bool). AreAloneSound f (reports_of c p later)) (sym drives.sound) tells-now.alone;
-      failed = λ none. subst (λ (k : ℕ). FailAfter k 0 (reports_of c p later)) (sym drives.room) (tells-now.failed none);
+      reports = subst (λ (f : List ℕ → Bool). AreAloneSound f (reports_of c p later)) (sym r.drives.sound) tells-now.alone;
+      failed = λ none. subst (λ (k : ℕ). FailAfter k 0 (reports_of c p later)) (sym r.drives.room) (tells-now.failed none);
     }
 
     round-hosts : (IsCutOff r.end.phase → ⊥) → Hosts earlier c later p d'
-    round-hosts uncut = hosts-of c p earlier later d' r.d.sound r.d.room final left answered-now told-now round-carries (leaves-now uncut)
+    round-hosts uncut = hosts-of c p earlier later d' d.sound d.room final left answered-now (r.drives.servers ∙ ap (option_map (servers_after r.plays.trace)) h.told) round-carries
+        (subst (λ (j : List Entry). Leaves c p d.sound d.room earlier final r.end.phase j final left) (sym seen-all.1) (leaves-later c p d.sound d.room earlier final r.end.sight.seen seen-all.0 rest-foreign r.end.phase final left walked.leaves) uncut)
 
-  -- the pool's round
-  round-at : (p : PoolId) (d' : Driving) → slice_get (drivings_of now) p.0 ≡ Some d' → PoolRound c history players round.ends p.0 p.0 d'
-  round-at p d' at = pool-same c history players round.ends p.0 (0 + p.0) p.0 d' (omega arith)
-      (pool-round c history 0 players round.ends round.plays have.numbered p.0 d' (subst (λ (ps : List Player). slice_get (drivings_of ps) p.0 ≡ Some d') (sym round.players_now) at))
+  -- the pool's round, and its driver before
+  round-at : (p : PoolId) (d' : Driving) → slice_get (drivings_of now) p.0 ≡ Some d' → (d : Driving) × (slice_get (drivings_of players) p.0 ≡ Some d) × PoolRound false c history round.ends p.0 d d'
+  round-at p d' at = ⊎_elim
+      (λ none. absurd (none-some d' (sym none.1 ∙ there)))
+      (λ h. let same : 0 + p.0 ≡ p.0 = omega arith in (h.0, h.2, subst (λ (n : ℕ). PoolRound false c history round.ends n h.0 d') same (subst (PoolRound false c history round.ends (0 + p.0) h.0) (same_Some h.1 d' (sym h.3 ∙ there)) h.4)))
+      (at-place false c history round.ends 0 players round.ends (λ end is. is) round.plays have.numbered p.0)
+    where
+      there : slice_get (drivings_of (map player_of round.ends)) p.0 ≡ Some d'
+      there = subst (λ (ps : List Player). slice_get (drivings_of ps) p.0 ≡ Some d') (sym round.players_now) at
 
   carries-at : (earlier : Earlier) → HaveHosted earlier c history players → (p : PoolId) (d' : Driving) → slice_get (drivings_of now) p.0 ≡ Some d' → Carries (earlier p) c later p d'
-  carries-at earlier hosted p d' at = let r = round-at p d' at in round-carries p (earlier p) d' r (hosted.hosts p r.d r.stood)
+  carries-at earlier hosted p d' at = let r = round-at p d' at in round-carries p (earlier p) r.0 d' r.2 (hosted.hosts p r.0 r.1)
 
   hosts-at : is_cut ≡ false → (earlier : Earlier) → HaveHosted earlier c history players → (p : PoolId) (d' : Driving) → slice_get (drivings_of now) p.0 ≡ Some d' → Hosts (earlier p) c later p d'
   hosts-at is earlier hosted p d' at =
       let r = round-at p d' at in
-      round-hosts p (earlier p) d' r (hosted.hosts p r.d r.stood) (All-contains (λ (end : PlayerEnd). IsCutOff end.phase → ⊥) round.ends r.end (round.uncut is) r.there)
+      round-hosts p (earlier p) r.0 d' r.2 (hosted.hosts p r.0 r.1) (All-contains (λ (end : PlayerEnd). IsCutOff end.phase → ⊥) round.ends r.2.end (round.uncut is) r.2.there)
 
 -- after a round
 pub round-hosted : (earlier : Earlier) (c : Configuration) (history later : List Entry) (players now : List Player) (is_cut : Bool) → IsRound false c history later players now is_cut → Runs c later (after c later) → HaveHosted earlier c history players → IsHosted earlier c is_cut later now
@@ -546,12 +457,9 @@ module _ (c : Configuration) (journal : List Entry) (e : Entry) (tick : e.event 
     abbrev next-journal : List Entry
     next-journal = journal ++ e ∷ []
 
-    all-launches : h.launches ++ [] ≡ h.launches
-    all-launches = append-nil h.launches
-
     tick-calm : Calm c p d.sound d.room earlier h.launches next-journal h.launches h.servers
     tick-calm = held-gap c p d.sound d.room earlier h.launches journal (e ∷ []) (tick-foreign p (Never c p d.sound d.room earlier h.launches), tt) nobody 0 0 h.launches h.servers
-        (subst (λ (l : List Launch). Calm c p d.sound d.room earlier l journal h.launches h.servers) all-launches (calm-of c p earlier journal d d.sound d.room h []))
+        (subst (λ (l : List Launch). Calm c p d.sound d.room earlier l journal h.launches h.servers) (append-nil h.launches) (calm-of c p earlier journal d d.sound d.room h []))
 
     tick-tells : Tells c p d.sound d.room earlier h.launches next-journal
     tick-tells = tells-gap c p d.sound d.room earlier h.launches journal (e ∷ []) (tick-foreign p (Never c p d.sound d.room earlier h.launches), tt) (tells-of c p earlier journal d h h.launches)
@@ -567,7 +475,7 @@ module _ (c : Configuration) (journal : List Entry) (e : Entry) (tick : e.event 
         (cases_lt (length before) (length journal))
 
     tick-hosts : Hosts earlier c next-journal p d
-    tick-hosts = hosts-of c p earlier next-journal d d.sound d.room h.launches h.servers h.answered h.told (carries-of c p earlier next-journal d h.launches tick-tells tick-nodes) tick-calm
+    tick-hosts = hosts-of c p earlier next-journal d d.sound d.room h.launches h.servers h.answered h.told (record { nodes = tick-nodes; reports = tick-tells.alone; failed = tick-tells.failed }) tick-calm
 
   tick-at : (earlier : Earlier) (drivings : List Driving) → HaveSoundness drivings → ((p : PoolId) (d : Driving) → slice_get drivings p.0 ≡ Some d → Hosts (earlier p) c journal p d) → (p : PoolId) (d : Driving) → slice_get drivings p.0 ≡ Some d → Hosts (earlier p) c (journal ++ e ∷ []) p d
   tick-at earlier drivings sound hosts p d at = tick-hosts p (earlier p) d (driver-at (λ (x : Driving). Soundness x.facts x.sound) drivings sound p.0 d at) (hosts p d at)
@@ -585,34 +493,25 @@ stop-hosted earlier c journal players hosted = λ p d at. (hosted.hosts p d at).
 
 -- ## the start and the end
 
--- before the first launch a driver has no servers, and answered no more launches than are counted
-pub record Begins (earlier : ℕ) (d : Driving) : Type 0 where
-  pub launches : List Launch
-  pub answered : d.facts.answered ≡ Some launches
-  pub few : length launches ≤ earlier
-  pub none : d.facts.servers ≡ Some []
-
 no-node : {P : Type 0} (c : Configuration) (n : NodeId) (k : NodeRecord) → node_in n (after c []).nodes ≡ Some k → P
 no-node c n k is = absurd (none-some k is)
 
-begin-hosts : (c : Configuration) (p : PoolId) (earlier : ℕ) (d : Driving) → Begins earlier d → Hosts earlier c [] p d
-begin-hosts c p earlier d b = record {
-  carries = record { nodes = λ never before rest e is tick. absurd (omega (arith, ap length is, length-append before (e ∷ rest))); reports = tt; failed = λ none. tt };
-  launches = b.launches;
+-- before the first launch a driver has no servers, and answered no more launches than are counted
+begin-hosts : (c : Configuration) (p : PoolId) (earlier : ℕ) (d : Driving) (o : Option (List Launch)) → d.facts.answered ≡ o → IfSome o (λ launches. length launches ≤ earlier) → BeginsEmpty d.facts → Hosts earlier c [] p d
+begin-hosts c p earlier d None is few b = absurd (false≢true (ap is_some (sym is) ∙ b.answered))
+begin-hosts c p earlier d (Some launches) is few b = record {
+  carries = record { nodes = λ never before rest e ends tick. absurd (omega (arith, ap length ends, length-append before (e ∷ rest))); reports = tt; failed = λ none. tt };
+  launches = launches;
   servers = [];
-  answered = b.answered;
-  told = b.none;
+  answered = is;
+  told = b.servers;
   made = λ s there. no-member s there;
   idle = λ session n k o role accepted. let may = may-report (after c []) p session n k accepted role in no-node c n may.node may.stands;
-  launched = λ n k x is own has. no-node c n k is;
-  present = λ never n k x is own up has. no-node c n k is;
-  few = omega (arith, b.few);
+  launched = λ n k x found own has. no-node c n k found;
+  present = λ never n k x found own up has. no-node c n k found;
+  few = omega (arith, few);
   fits = omega arith;
 }
-
-begins-as : (earlier : ℕ) (d : Driving) (o : Option (List Launch)) → d.facts.answered ≡ o → IfSome o (λ launches. length launches ≤ earlier) → BeginsEmpty d.facts → Begins earlier d
-begins-as earlier d None is few b = absurd (false≢true (ap is_some (sym is) ∙ b.answered))
-begins-as earlier d (Some launches) is few b = record { launches = launches; answered = is; few = few; none = b.servers }
 
 -- how many launches each driver has answered
 abbrev pub count_answered : Option (List Launch) → ℕ
@@ -642,7 +541,7 @@ begin-new drivings all p d at =
 pub begin-hosted : (earlier : Earlier) (c : Configuration) (players : List Player) → HaveDriven c [] players → BeginAfter earlier (drivings_of players) → HaveHosted earlier c [] players
 begin-hosted earlier c players driven begin = record {
   driven = driven;
-  hosts = λ p d at. let b = begin p d at in begin-hosts c p (earlier p) d (begins-as (earlier p) d d.facts.answered refl b.0 b.1);
+  hosts = λ p d at. let b = begin p d at in begin-hosts c p (earlier p) d d.facts.answered refl b.0 b.1;
 }
 
 hosted-carries : (earlier : Earlier) (c : Configuration) (full : Bool) (journal : List Entry) (players : List Player) → IsHosted earlier c full journal players → (p : PoolId) (d : Driving) → slice_get (drivings_of players) p.0 ≡ Some d → Carries (earlier p) c journal p d
@@ -658,3 +557,6 @@ are-carried earlier c full journal players hosted = record {
 
 pub fail-only-full : (c : Configuration) (full : Bool) (journal : List Entry) (players : List Player) → IsHosted (λ p. 0) c full journal players → FailOnlyFull c journal (drivings_of players)
 fail-only-full c full journal players hosted = record { failed = λ p d at. (hosted-carries (λ q. 0) c full journal players hosted p d at).failed refl }
+
+-- what the laws state, under a name that an attribute can give
+pub ruleset hosted_laws = (are-carried, fail-only-full)

@@ -1,5 +1,5 @@
 -- journals that are driven, place by place: what their entries and replies say, and the numbers of servers in them
-use Rattle.np_worker.proofs.Prelude.{All, All-contains, All-from_recursion, All-nil, All-push, All-weaker, AllByRecursion, AreNamed, AreNumbered, ArePlanned, Ask, Bool, Configuration, Contains, DistinctNumbers, Done, Driven, DrivenAs, DrivenBy, DrivenFrom, Driving, EachAfter, EachAfter-push, EachAfter-weaker, EachTurn, Entry, Event, HaveDrivenAs, IfSome, IsAskOf, IsDrivenTurn, IsPlannedTurn, IsReplied, IsReportOfLaunch, IsServerOf, IsTrue, IsTurnAs, Launch, List, NamesServer, NodeEntry, NodeId, NodeRecord, None, Option, Outcome, PlannedBy, PlannedDriven, Player, PoolId, Reply, Rises, Role, Runs, Runs-next, Runs-prefix, Says, Server, SessionId, Some, SomeTurn, Start, StartsWith, State, Tag, WasAnswered, WasLaunchedFor, WasNamed, Work, after, and_from, and_parts, ap, append-nil, append_assoc, arith, as_planned, bytes_eq-Decides, cond, drivings_of, drop, drop-there, eq-eqb, eqb-true, equal-numbers, false, false_from_ne_true, false≢true, has_replies, head-reply, inl, inr, is-at_most, is_legal, is_node, is_number, is_report_of, is_same_reply, is_session, is_tick, is_up, judge, launch_of, length, length-append, listed, map, nat_le, nat_lt, nat_tests, next, node_in, number_in, numbers_in, numbers_of, of_pool, or_left, or_right, outcome_of, refl, replayed, replied-at, reply_numbers, reply_of, report_of, server_up, servers_up, session-equal, slice_get, start, start_in, state_after, subst, suc, sym, tail-replies, take, true, turns, turns_from, with_launched, zero, ℕ, [], ⊎_elim, ◌&&◌, ◌++◌, ◌+◌, ◌<◌, ◌==◌, ◌∙◌, ◌∷◌, ◌≡◌, ◌≤◌, ◌⊎◌}
+use Rattle.np_worker.proofs.Prelude.{All, All-contains, All-from_recursion, All-nil, All-push, All-weaker, AllByRecursion, AreNamed, AreNumbered, ArePlanned, Ask, Bool, Configuration, Contains, DistinctNumbers, Done, Driven, DrivenAs, DrivenBy, DrivenFrom, Driving, EachAfter, EachAfter-push, EachAfter-weaker, EachTurn, Entry, Event, HaveDrivenAs, IfSome, IsAskOf, IsDrivenTurn, IsPlannedTurn, IsReplied, IsReportOfLaunch, IsServerOf, IsTrue, IsTurnAs, Launch, List, NamesServer, NodeEntry, NodeId, NodeRecord, None, Option, Outcome, PlannedBy, PlannedDriven, Player, PoolId, Reply, Rises, Role, Runs, Runs-next, Runs-prefix, Says, Server, SessionId, Some, SomeTurn, Start, StartsWith, State, Tag, WasAnswered, WasLaunchedFor, WasNamed, Work, after, and_from, and_parts, ap, append-nil, append_assoc, arith, as_planned, bytes_eq-Decides, cond, drivings_of, drop, drop-there, eq-eqb, eqb-true, equal-numbers, false, false_from_ne_true, false≢true, has_replies, head-reply, inl, inr, is-at_most, is_legal, is_node, is_number, is_report_of, is_same_reply, is_session, is_tick, is_up, judge, launch_of, length, length-append, listed, map, nat_le, nat_lt, nat_tests, next, node_in, number_in, numbers_in, numbers_of, of_pool, or_left, or_right, outcome_of, refl, replayed, replied-at, reply_numbers, reply_of, report_of, server_up, servers_up, session-equal, slice_get, start, start_in, state_after, subst, suc, sym, tail-replies, take, true, turns, turns_from, with_launched, zero, ℕ, [], ⊎_elim, ◌&&◌, ◌++◌, ◌+◌, ◌==◌, ◌∙◌, ◌∷◌, ◌≡◌, ◌≤◌, ◌⊎◌}
 use Rattle.np_changes.specs.Prelude.{Turn}
 use Rattle.std.proofs.lemmas.List.{take-append-drop}
 use Rattle.np_worker.proofs.Walks.{member-cases, no-member}
@@ -69,7 +69,7 @@ module _ (c : Configuration) where
         subst (λ (p : List Turn). test p (turn_of c (state_after c (next c s d.event) before) e)) (append_assoc past (turn_of c s d ∷ []) (turns_from c (next c s d.event) before))
         (part-passes (past ++ turn_of c s d ∷ []) (next c s d.event) before e rest h.1)
 
-    each-passes : (past : List Turn) (s : State) (journal : List Entry)
+    pub each-passes : (past : List Turn) (s : State) (journal : List Entry)
         → ((before : List Entry) (e : Entry) (rest : List Entry) → journal ≡ before ++ e ∷ rest → test (past ++ turns_from c s before) (turn_of c (state_after c s before) e))
         → EachAfter test past (turns_from c s journal)
     each-passes past s [] h = tt
@@ -99,9 +99,6 @@ module _ (c : Configuration) where
 
     pub driven-at : (plans : Bool) (journal before : List Entry) (e : Entry) (rest : List Entry) → DrivenAs says plans c journal → journal ≡ before ++ e ∷ rest → IsTurnAs says plans c (turns c before) (turn_after c before e)
     driven-at plans journal before e rest h is = part-passes (IsTurnAs says plans c) [] (start c) before e rest (as-each plans (before ++ e ∷ rest) (subst (λ (j : List Entry). DrivenAs says plans c j) is h))
-
-    pub driven-from : (plans : Bool) (journal : List Entry) → ((before : List Entry) (e : Entry) (rest : List Entry) → journal ≡ before ++ e ∷ rest → IsTurnAs says plans c (turns c before) (turn_after c before e)) → DrivenAs says plans c journal
-    driven-from plans journal h = each-as plans journal (each-passes (IsTurnAs says plans c) [] (start c) journal h)
 
     -- what passes the stricter test passes
     pub turn-as : (plans : Bool) (past : List Turn) (t : Turn) → IsDrivenTurn says c past t → IsTurnAs says plans c past t
@@ -178,16 +175,13 @@ start-parts pool (Event.Start session n) (Reply.Done (Done.Started k m)) s is =
     }
 start-parts pool _ _ s is = absurd cc
 
-equal-nodes : (n m : NodeId) → is_node n m ≡ true → m ≡ n
-equal-nodes n m is = ap (λ (k : ℕ). record { 0 = k }) (equal-numbers m.0 n.0 is)
-
 -- a report of the attempt is one, with some outcome
 pub report-event : (session : SessionId) (n : NodeId) (attempt : ℕ) (e : Event) → is_report_of session n attempt e ≡ true → (o : Outcome) × (e ≡ Event.Done session n attempt o)
 report-event session n attempt (Event.Done by m k o) is =
     let parts = and_parts (is_session by session && is_node n m) (k == attempt) is in
     let both = and_parts (is_session by session) (is_node n m) parts.0 in
     let one : by ≡ session = session-equal by session both.0 in
-    let two : m ≡ n = equal-nodes n m both.1 in
+    let two : m ≡ n = ap (λ (k : ℕ). let it : NodeId = record { 0 = k } in it) (equal-numbers m.0 n.0 both.1) in
     let three : k ≡ attempt = equal-numbers k attempt parts.1 in
     (o, cc)
 report-event session n attempt _ is = absurd cc
@@ -218,18 +212,13 @@ module _ (c : Configuration) where
   pub all_named_later : (journal later : List Entry) (servers : List Server) → StartsWith later journal → All (WasNamed c journal) servers → All (WasNamed c later) servers
   all_named_later journal later servers s h = All-weaker (WasNamed c journal) (WasNamed c later) (λ server k. named_later journal later server s k) servers h
 
-  pub named_next : (journal : List Entry) (e : Entry) (session : SessionId) (attempt : ℕ) (server : Server) → e.event ≡ Event.Done session server.tag.node attempt (Outcome.Launched server.number) → WasNamed c (journal ++ e ∷ []) server
-  named_next journal e session attempt server is = some-from c (NamesServer server.tag.node server.number) (start c) journal e [] (record { session = session; attempt = attempt; event = is })
-
   -- the report of a launch names the server that it made, if it made one
   pub report_names : (journal : List Entry) (e : Entry) (s : Start) (o : Outcome) (servers : List Server) → e.event ≡ report_of s o → All (WasNamed c journal) servers → All (WasNamed c (journal ++ e ∷ [])) (with_launched s.tag o servers)
   report_names journal e s Outcome.Failed servers is h = all_named_later journal (journal ++ e ∷ []) servers (e ∷ [], refl) h
   report_names journal e s (Outcome.Launched x) servers is h = All-push (WasNamed c (journal ++ e ∷ [])) servers (record { tag = s.tag; number = x }) (all_named_later journal (journal ++ e ∷ []) servers (e ∷ [], refl) h)
-      (named_next journal e s.session s.tag.attempt (record { tag = s.tag; number = x }) is)
+      (some-from c (NamesServer s.tag.node x) (start c) journal e [] (record { session = s.session; attempt = s.tag.attempt; event = is }))
 
 -- ## journals that players drove: where they begin, and a tick more
-
--- ## what was named
 
 module _ (c : Configuration) where
   pub names-later : (journal more : List Entry) (driving : Driving) → AreNamed c journal driving → AreNamed c (journal ++ more) driving
@@ -242,20 +231,18 @@ module _ (c : Configuration) where
   -- ## one entry more
 
   module _ (says : Says) (plans : Bool) where
-    driven-next : (journal : List Entry) (e : Entry) → DrivenAs says plans c journal → IsTurnAs says plans c (turns c journal) (turn_after c journal e) → DrivenAs says plans c (journal ++ e ∷ [])
-    driven-next journal e h k = each-as c says plans (journal ++ e ∷ [])
-        (subst (EachAfter (IsTurnAs says plans c) []) (sym (turns-append c (start c) journal (e ∷ [])))
-        (EachAfter-push (IsTurnAs says plans c) [] (turns c journal) (turn_after c journal e) (as-each c says plans journal h) k))
-
     -- a tick after an entry that is not a tick
     tick-driven : (journal : List Entry) (d e : Entry) → DrivenAs says plans c (journal ++ d ∷ []) → is_tick d.event ≡ false → e.event ≡ Event.Tick → DrivenAs says plans c ((journal ++ d ∷ []) ++ e ∷ [])
-    tick-driven journal d e h other is = driven-next (journal ++ d ∷ []) e h (turn-as c says plans (turns c (journal ++ d ∷ [])) (turn_after c (journal ++ d ∷ []) e) (inr (inl (record {
-      event = is;
-      earlier = turns c journal;
-      previous = turn_after c journal d;
-      follows = turns-append c (start c) journal (d ∷ []);
-      other = other;
-    }))))
+    tick-driven journal d e h other is = each-as c says plans ((journal ++ d ∷ []) ++ e ∷ [])
+        (subst (EachAfter (IsTurnAs says plans c) []) (sym (turns-append c (start c) (journal ++ d ∷ []) (e ∷ [])))
+        (EachAfter-push (IsTurnAs says plans c) [] (turns c (journal ++ d ∷ [])) (turn_after c (journal ++ d ∷ []) e) (as-each c says plans (journal ++ d ∷ []) h)
+        (turn-as c says plans (turns c (journal ++ d ∷ [])) (turn_after c (journal ++ d ∷ []) e) (inr (inl (record {
+          event = is;
+          earlier = turns c journal;
+          previous = turn_after c journal d;
+          follows = turns-append c (start c) journal (d ∷ []);
+          other = other;
+        }))))))
 
   pub tick-have-driven : (plans : Bool) (journal : List Entry) (players : List Player) (d e : Entry) → HaveDrivenAs plans c (journal ++ d ∷ []) players → is_tick d.event ≡ false → e.event ≡ Event.Tick → HaveDrivenAs plans c ((journal ++ d ∷ []) ++ e ∷ []) players
   tick-have-driven plans journal players d e have other is = record {
@@ -266,14 +253,11 @@ module _ (c : Configuration) where
 
   -- ## the start
 
-  no-servers : (driving : Driving) → driving.facts.servers ≡ Some [] → AreNamed c [] driving
-  no-servers driving is = record { servers = []; told = is; named = All-nil (WasNamed c []) }
-
   -- players whose drivers have no servers yet have driven the empty journal
   pub start-have-driven : (plans : Bool) (players : List Player) → AreNumbered 0 players → All (λ (driving : Driving). driving.facts.servers ≡ Some []) (drivings_of players) → HaveDrivenAs plans c [] players
   start-have-driven plans players numbered empty = record {
     driven = each-as c (WasAnswered (drivings_of players)) plans [] tt;
-    named = All-weaker (λ (driving : Driving). driving.facts.servers ≡ Some []) (AreNamed c []) no-servers (drivings_of players) empty;
+    named = All-weaker (λ (driving : Driving). driving.facts.servers ≡ Some []) (AreNamed c []) (λ driving is. record { servers = []; told = is; named = All-nil (WasNamed c []) }) (drivings_of players) empty;
     numbered = numbered;
   }
 
@@ -333,9 +317,6 @@ server-number (t ∷ servers) s there = ⊎_elim
     (λ (here : t ≡ s). or_left (t.number == s.number) (is_number s.number (numbers_of servers)) (eq-eqb t.number s.number (ap (λ (y : Server). y.number) here)))
     (λ later. or_right (t.number == s.number) (is_number s.number (numbers_of servers)) (server-number servers s later))
     (member-cases t servers s there)
-
-pub is-number_of : (servers : List Server) (n : NodeId) (x : ℕ) → IsServerOf servers n x → is_number x (numbers_of servers) ≡ true
-is-number_of servers n x is = subst (λ (y : ℕ). is_number y (numbers_of servers) ≡ true) is.number (server-number servers is.server is.there)
 
 -- ## rows
 
@@ -421,7 +402,7 @@ module _ (p : PoolId) (launches : List Launch) (servers : List Server) (distinct
   up-within [] all = tt
   up-within (e ∷ rows) all =
       let rest = up-within rows all.1 in
-      server-by (λ l. Within (l ++ servers_up p rows)) e.kept rest (λ x own up has. (is-number_of servers e.id x (all.0.present x own up has), rest))
+      server-by (λ l. Within (l ++ servers_up p rows)) e.kept rest (λ x own up has. let is = all.0.present x own up has in (subst (λ (y : ℕ). is_number y (numbers_of servers) ≡ true) is.number (server-number servers is.server is.there), rest))
 
   -- the servers of the nodes that are up are sound
   pub up-sound : (sound : List ℕ → Bool) (rows : List NodeEntry) → Rises (λ a b. nat_lt a.id.0 b.id.0) rows → AllByRecursion IsKnown rows
@@ -430,17 +411,10 @@ module _ (p : PoolId) (launches : List Launch) (servers : List Server) (distinct
 
 -- # the numbers of a reply determine it
 
--- ## what the numbers determine
-
--- ## each is read back
-
 -- ## the test
 
 pub same-reply : (a b : Reply) → is_same_reply a b ≡ true → a ≡ b
 same-reply a b x1 = grind (arith, nat_tests)
-
-pub reply-same : (a : Reply) → is_same_reply a a ≡ true
-reply-same a = (bytes_eq-Decides (reply_numbers a) (reply_numbers a)).1 refl
 
 -- # a legal journal is one that runs
 
@@ -459,7 +433,7 @@ by-replies : (c : Configuration) (s : State) (journal : List Entry) → replayed
 by-replies c s [] is = refl
 by-replies c s (e ∷ journal) is =
     let says : is_same_reply e.reply (reply_of (judge c s e.event)) ≡ true =
-    subst (λ (r : Reply). is_same_reply e.reply r ≡ true) (sym (head-reply c s e journal is)) (reply-same e.reply) in
+    subst (λ (r : Reply). is_same_reply e.reply r ≡ true) (sym (head-reply c s e journal is)) ((bytes_eq-Decides (reply_numbers e.reply) (reply_numbers e.reply)).1 refl) in
     and_from (is_same_reply e.reply (reply_of (judge c s e.event))) (has_replies c (next c s e.event) journal) says (by-replies c (next c s e.event) journal (tail-replies c s e journal is))
 
 -- ## the journal
@@ -488,15 +462,20 @@ legal-next c journal e is replied =
 
 -- ## its entries
 
-pub legal-between : (c : Configuration) (before : List Entry) (e : Entry) (rest : List Entry) → is_legal c (before ++ e ∷ rest) ≡ true → IsReplied c before e
-legal-between c before e rest is =
+pub legal_between : (c : Configuration) (before : List Entry) (e : Entry) (rest : List Entry) → is_legal c (before ++ e ∷ rest) ≡ true → IsReplied c before e
+legal_between c before e rest is =
     let runs = legal-Runs c (before ++ e ∷ rest) is in
     record {
       room = omega (arith, length-append before (e ∷ rest), runs.short);
       reply = replied-at c (start c) before e rest runs.replies;
     }
 
-pub legal-at : (c : Configuration) (journal : List Entry) (at : ℕ) (e : Entry) → is_legal c journal ≡ true → slice_get journal at ≡ Some e → IsReplied c (take at journal) e
-legal-at c journal at e is there =
+pub legal_at : (c : Configuration) (journal : List Entry) (at : ℕ) (e : Entry) → is_legal c journal ≡ true → slice_get journal at ≡ Some e → IsReplied c (take at journal) e
+legal_at c journal at e is there =
     let splits : journal ≡ take at journal ++ e ∷ drop (suc at) journal = sym (take-append-drop at journal) ∙ ap (λ (l : List Entry). take at journal ++ l) (drop-there journal at e there) in
-    legal-between c (take at journal) e (drop (suc at) journal) (subst (λ (j : List Entry). is_legal c j ≡ true) splits is)
+    legal_between c (take at journal) e (drop (suc at) journal) (subst (λ (j : List Entry). is_legal c j ≡ true) splits is)
+
+-- what the laws state, under names that an attribute can give
+pub ruleset legal_laws = (legal-Runs, Runs-legal, legal-beginning, legal-next)
+
+pub ruleset driven_laws = (start-have-driven, planned-driven, planned-planned)

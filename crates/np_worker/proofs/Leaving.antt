@@ -1,7 +1,7 @@
 -- how and why servers leave: sweeps, and removals that come right after a turn that named the server
-use Rattle.np_worker.proofs.Prelude.{All, All-contains, All-contains_itself, All-filter, All-weaker, Answer, Answered, AreAsksOf, AreInOrder, Ask, Bool, Configuration, Contains, Contains-append_left, Contains-push, Contains-push_cases, Done, Drives, Driving, Drove, Entry, Err, Event, Growth, HasServers, IsAskOf, IsDue, IsOfRound, IsOfServer, IsOnlyNodeOfItsNumber, IsOnlyOfItsNumber, IsSweepAt, IsSweptAfter, Janitor, Launch, Leads, LeftWithCause, List, Maker, Move, NodeId, None, Ok, Option, Outcome, Phase, Player, PlayerEnd, PlaysFrom, PoolId, Records, Reply, Role, Server, SessionId, Sight, Some, StartsWith, State, StaysKept, SweepsServers, Swept, Tag, Turn, Walk, WasDue, WasFull, WasKept, WasLaunched, WasRemoved, WasSwept, Work, after, answers_of, answers_sweep, ap, arith, asked, by_bool, cond, effect, ended, eq-eqb, eqb-true, false, filter, first_phase, fresh_sight, get_or, grown, if◌then◌else◌, inl, inr, insert_before, is_current, is_ok, is_pair, is_pair_after, is_remove, is_swept, is_unwanted, is_wanted, janitor, judge, launched, launches_of, length, length-append, list_any-insert_before, nat_tests, next, not, of_pool, or_left, or_right, plan, plan-next, recorded, refl, removed, reply_of, servers_after, slice_get, stage_of, start, starts_on, starts_same, state_after, subst, suc, sym, true, with_act, with_launched, with_pair, without_number, zero, ℕ, [], ⊎_elim, ◌++◌, ◌+◌, ◌-◌, ◌<◌, ◌==◌, ◌∙◌, ◌∷◌, ◌≡◌, ◌⊎◌}
+use Rattle.np_worker.proofs.Prelude.{All, All-contains, All-contains_itself, All-filter, All-weaker, Answer, Answered, AreAsksOf, AreInOrder, Ask, Bool, Configuration, Contains, Contains-append_left, Contains-push, Contains-push_cases, Done, Drives, Driving, Drove, Entry, Err, Event, Growth, HasServers, IsAskOf, IsDue, IsOfRound, IsOfServer, IsOnlyNodeOfItsNumber, IsOnlyOfItsNumber, IsSweepAt, IsSweptAfter, Janitor, Launch, Leads, LeftWithCause, List, Maker, Move, NodeId, None, Ok, Option, Outcome, Player, PlayerEnd, PlaysFrom, PoolId, Records, Reply, Role, Server, SessionId, Sight, Some, StartsWith, State, StaysKept, SweepsServers, Swept, Tag, Turn, Walk, WasDue, WasFull, WasKept, WasLaunched, WasRemoved, WasSwept, Work, after, answers_of, answers_sweep, ap, arith, asked, by_bool, cond, effect, ended, eq-eqb, eqb-true, false, filter, first_phase, fresh_sight, get_or, grown, if◌then◌else◌, inl, inr, insert_before, is_current, is_pair, is_pair_after, is_remove, is_swept, is_unwanted, is_wanted, janitor, judge, launched, launches_of, length, length-append, list_any-insert_before, nat_tests, next, not, of_pool, or_left, or_right, plan, plan-next, recorded, refl, removed, reply_of, servers_after, slice_get, stage_of, start, starts_on, starts_same, state_after, subst, suc, sym, true, with_act, with_launched, with_pair, without_number, zero, ℕ, [], ⊎_elim, ◌++◌, ◌+◌, ◌<◌, ◌==◌, ◌∙◌, ◌∷◌, ◌≡◌, ◌⊎◌}
 use Rattle.np_changes.specs.Prelude.{acting}
-use Rattle.np_worker.proofs.Records.{state_after-append}
+use Rattle.np_worker.proofs.Records.{if-accepted, state_after-append}
 use Rattle.np_worker.specs.Trace.{NamesServer, AreNamed}
 use Rattle.np_worker.proofs.Walks.{get_last, member-cases, starts_length, turn_seen, walk_seen}
 use Rattle.np_worker.proofs.Steps.{are_named, asks_of, in_order, is_at_end}
@@ -13,14 +13,14 @@ module _ (s : State) (p : PoolId) (session : SessionId) where
   pub janitor-is : is_current (Janitor p) session s ≡ true → janitor s session ≡ Ok p
   janitor-is x1 = grind (arith, nat_tests)
 
-  pub sweep-judged : (c : Configuration) (n : NodeId) (x : ℕ) → is_current (Janitor p) session s ≡ true → judge c s (Event.Sweep session n x) ≡ Ok (if is_wanted s n x then Done.Keep else Done.Remove)
-  sweep-judged c n x current = rw (janitor-is current) refl
+  pub sweep_judged : (c : Configuration) (n : NodeId) (x : ℕ) → is_current (Janitor p) session s ≡ true → judge c s (Event.Sweep session n x) ≡ Ok (if is_wanted s n x then Done.Keep else Done.Remove)
+  sweep_judged c n x current = rw (janitor-is current) refl
 
-pub sweep-removes : (c : Configuration) (journal : List Entry) (p : PoolId) (n : NodeId) (x : ℕ) (e : Entry) → answers_sweep c journal p n x (Turn.Did e) → e.reply ≡ Reply.Done Done.Remove
-sweep-removes c journal p n x e answer =
+pub sweep_removes : (c : Configuration) (journal : List Entry) (p : PoolId) (n : NodeId) (x : ℕ) (e : Entry) → answers_sweep c journal p n x (Turn.Did e) → e.reply ≡ Reply.Done Done.Remove
+sweep_removes c journal p n x e answer =
     let by = answer.2 in
     let says : judge c (after c journal) (Event.Sweep by.session n x) ≡ Ok Done.Remove =
-    sweep-judged (after c journal) p by.session c n x by.current ∙ ap (λ (b : Bool). Ok (if b then Done.Keep else Done.Remove)) answer.0.unwanted in
+    sweep_judged (after c journal) p by.session c n x by.current ∙ ap (λ (b : Bool). Ok (if b then Done.Keep else Done.Remove)) answer.0.unwanted in
     answer.3.reply ∙ ap (λ (f : Event). reply_of (judge c (after c journal) f)) by.event ∙ ap reply_of says
 
 -- # Swept pairs: what a sweep adds, and that none goes.
@@ -30,15 +30,9 @@ sweep-removes c journal p n x e answer =
 abbrev pair : NodeId → ℕ → Swept
 pair n x = record { node = n; server = x }
 
-itself : (n : NodeId) (x : ℕ) → is_pair n x (pair n x) ≡ true
-itself n x = rw (eq-eqb n.0 n.0 refl, eq-eqb x x refl) refl
-
-inserted : (n : NodeId) (x : ℕ) (swept : List Swept) → is_swept n x (insert_before (is_pair_after n x) (pair n x) swept) ≡ true
-inserted n x swept = list_any-insert_before (is_pair n x) (is_pair_after n x) (pair n x) swept ∙ or_left (is_pair n x (pair n x)) (is_swept n x swept) (itself n x)
-
 -- the pair that joined is there
 pair-there : (n : NodeId) (x : ℕ) (swept : List Swept) → is_swept n x (with_pair n x swept) ≡ true
-pair-there n x swept = by_bool (λ b. is_swept n x (cond b swept (insert_before (is_pair_after n x) (pair n x) swept)) ≡ true) (is_swept n x swept) (λ t. t) (λ f. inserted n x swept)
+pair-there n x swept = by_bool (λ b. is_swept n x (cond b swept (insert_before (is_pair_after n x) (pair n x) swept)) ≡ true) (is_swept n x swept) (λ t. t) (λ f. list_any-insert_before (is_pair n x) (is_pair_after n x) (pair n x) swept ∙ or_left (is_pair n x (pair n x)) (is_swept n x swept) (rw (eq-eqb n.0 n.0 refl, eq-eqb x x refl) refl))
 
 pair-keeps_by : (n m : NodeId) (x y : ℕ) (swept : List Swept) (b : Bool) → is_swept m y swept ≡ true → is_swept m y (cond b swept (insert_before (is_pair_after n x) (pair n x) swept)) ≡ true
 pair-keeps_by n m x y swept true is = is
@@ -55,18 +49,13 @@ grown-keeps c maker (Growth.Swept n x) s m y is = pair-keeps_by n m x y s.swept 
 grown-keeps c None (Growth.Registration p) s m y is = is
 grown-keeps c maker _ s m y is = is
 
--- no event takes a swept pair away
-next-keeps_swept : (c : Configuration) (s : State) (e : Event) → KeepsSwept s (next c s e)
-next-keeps_swept c s e = by (is_ok (judge c s e)) refl where
-  by : (b : Bool) → is_ok (judge c s e) ≡ b → KeepsSwept s (next c s e)
-  by true ok = λ n x is. subst (λ (t : State). is_swept n x t.swept ≡ true) (plan-next c s e ok) (grown-keeps c (plan c s e).maker (plan c s e).grows s n x is)
-  by false refused = let same : next c s e ≡ s = rw refused refl in λ n x is. subst (λ (t : State). is_swept n x t.swept ≡ true) (sym same) is
-
 -- ## over journals
 
+-- no event takes a swept pair away
 later-keeps : (c : Configuration) (s : State) (journal : List Entry) → KeepsSwept s (state_after c s journal)
 later-keeps c s [] n x is = is
-later-keeps c s (e ∷ journal) n x is = later-keeps c (next c s e.event) journal n x (next-keeps_swept c s e.event n x is)
+later-keeps c s (e ∷ journal) n x is = later-keeps c (next c s e.event) journal n x
+    (if-accepted (λ t. is_swept n x t.swept ≡ true) c s e.event is (λ ok. subst (λ (t : State). is_swept n x t.swept ≡ true) (plan-next c s e.event ok) (grown-keeps c (plan c s e.event).maker (plan c s e.event).grows s n x is)))
 
 -- what is swept after a history is swept after each that continues it
 pub swept-stays : (c : Configuration) (seen before : List Entry) → StartsWith seen before → KeepsSwept (after c before) (after c seen)
@@ -83,16 +72,12 @@ accepted-next_by P c s e (Err why) is removes new = absurd cc
 added-by : (s : State) (n : NodeId) (x : ℕ) (b : Bool) → b ≡ false → is_swept n x (cond b s.swept (with_pair n x s.swept)) ≡ true
 added-by s n x b unwanted = grind (arith, nat_tests, pair-there)
 
-sweep-adds : (c : Configuration) (s : State) (e : Event) (session : SessionId) (n : NodeId) (x : ℕ) → e ≡ Event.Sweep session n x → is_wanted s n x ≡ false → is_swept n x (with_act (acting s e) (effect c s e)).swept ≡ true
-sweep-adds c s e session n x is unwanted =
-    subst (λ (f : Event). is_swept n x (with_act (acting s f) (effect c s f)).swept ≡ true) (sym is) (added-by s n x (is_wanted s n x) unwanted)
-
 -- a sweep that is answered `Remove` leaves its pair swept
 pub swept-after : (c : Configuration) (journal : List Entry) (e : Entry) (session : SessionId) (n : NodeId) (x : ℕ) → e.event ≡ Event.Sweep session n x → is_wanted (after c journal) n x ≡ false → e.reply ≡ reply_of (judge c (after c journal) e.event) → is_remove e.reply ≡ true → is_swept n x (after c (journal ++ e ∷ [])).swept ≡ true
 swept-after c journal e session n x is unwanted reply removes =
     subst (λ (s : State). is_swept n x s.swept ≡ true) (sym (state_after-append c (start c) journal (e ∷ [])))
     (accepted-next_by (λ (s : State). is_swept n x s.swept ≡ true) c (after c journal) e.event (judge c (after c journal) e.event) refl
-    (sym (ap is_remove reply) ∙ removes) (sweep-adds c (after c journal) e.event session n x is unwanted))
+    (sym (ap is_remove reply) ∙ removes) (subst (λ (f : Event). is_swept n x (with_act (acting (after c journal) f) (effect c (after c journal) f)).swept ≡ true) (sym is) (added-by (after c journal) n x (is_wanted (after c journal) n x) unwanted)))
 
 -- # How servers leave a driver.
 
@@ -121,9 +106,6 @@ stays_or_goes (removed x ∷ ms) servers s h = elim (leaves_one x servers s h) [
 
 -- ## members of lists
 
-later-member : {X : Type 0} (x : X) (xs : List X) (s : X) → Contains xs s → Contains (x ∷ xs) s
-later-member x xs s h = (suc h.0, omega (arith, h.1), h.2)
-
 -- a member that a filter keeps was there
 pub filtered-member : {X : Type 0} (f : X → Bool) (xs : List X) (s : X) → Contains (filter f xs) s → Contains xs s
 filtered-member f xs s h = All-contains (Contains xs) (filter f xs) s (All-filter f (Contains xs) xs (All-contains_itself xs)) h
@@ -139,11 +121,6 @@ launched-stays (launched tag o ∷ ms) now s h = ⊎_elim
     (λ later. launched-stays ms (with_launched tag o now) s later)
     (member-cases (record { tag = tag; outcome = o }) (launches_of ms) (record { tag = s.tag; outcome = Outcome.Launched s.number }) h)
 launched-stays (removed x ∷ ms) now s h = elim (launched-stays ms (without_number x now) s h) [ inl k ↦ inl k | inr k ↦ inr (inr k) ]
-
--- the same for each server of the round
-pub round-server_leaves : (ms : List Move) (now : List Server) (s : Server) → IsOfRound ms now s → (Contains (servers_after ms now) s) ⊎ WasRemoved s.number ms
-round-server_leaves ms now s (inl h) = stays_or_goes ms now s h
-round-server_leaves ms now s (inr h) = launched-stays ms now s h
 
 -- ## causes
 
@@ -165,12 +142,6 @@ module _ (plans : Bool) (c : Configuration) (pool : PoolId) (history : List Entr
       ]
   more-of_round tag Outcome.Failed ms now own launches = own
 
-  later-launches : (tag : Tag) (o : Outcome) (ms : List Move) → LaunchesAreOfRound (launched tag o ∷ ms) → LaunchesAreOfRound ms
-  later-launches tag o ms launches = λ s h. launches s (later-member (record { tag = tag; outcome = o }) (launches_of ms) (record { tag = s.tag; outcome = Outcome.Launched s.number }) h)
-
-  fewer-of_round : (x : ℕ) (now : List Server) → AreOfRound now → AreOfRound (without_number x now)
-  fewer-of_round x now own = λ s h. own s (filtered-member (λ (server : Server). not (server.number == x)) now s h)
-
   -- after the answer that nobody wants the server, it is swept
   unwanted-swept : (before : List Entry) (p : PoolId) (n : NodeId) (x : ℕ) (t : Turn) (v u : Sight Entry) → answers_sweep c before p n x t → is_unwanted t ≡ true → Records (recorded (Ask.Sweep p n x) t) before v u → is_swept n x (after c u.seen).swept ≡ true
   unwanted-swept before p n x (Turn.Did e) v u h unwanted r =
@@ -178,9 +149,6 @@ module _ (plans : Bool) (c : Configuration) (pool : PoolId) (history : List Entr
   unwanted-swept before p n x (Turn.DueNode m y) v u h unwanted r = absurd h
   unwanted-swept before p n x Turn.Swept v u h unwanted r = subst (λ (l : List Entry). is_swept n x (after c l).swept ≡ true) (sym r.0) h.1
   unwanted-swept before p n x _ v u h unwanted r = absurd cc
-
-  stays-swept : (u : Sight Entry) → StartsWith w.seen u.seen → (n : NodeId) (x : ℕ) → is_swept n x (after c u.seen).swept ≡ true → is_swept n x (after c w.seen).swept ≡ true
-  stays-swept u to = swept-stays c w.seen u.seen to
 
   server-swept : (now : List Server) → AreOfRound now → (p : PoolId) (n : NodeId) (x : ℕ) → IsOfServer (Ask.Sweep p n x) now → is_swept n x (after c w.seen).swept ≡ true → WasSwept c w.seen trace servers x
   server-swept now own p n x there swept = record {
@@ -206,7 +174,7 @@ module _ (plans : Bool) (c : Configuration) (pool : PoolId) (history : List Entr
       inl (node-due h.0 p n x y mine names (starts_on h.0 v.seen history h.1 from) (subst (λ (l : List Entry). StartsWith w.seen l) h.3.0 to) h.2)
   named-cause now own (Ask.Sweep p n x) t y v u mine there names from to h =
       inr (subst (WasSwept c w.seen trace servers) names.0
-      (server-swept now own p n x there (stays-swept u to n x (unwanted-swept h.0 p n x t v u h.2 names.1 h.3))))
+      (server-swept now own p n x there (swept-stays c w.seen u.seen to n x (unwanted-swept h.0 p n x t v u h.2 names.1 h.3))))
   named-cause now own _ _ y v u mine there names from to h = absurd names
 
   pub removed-cause : (ms : List Move) (now : List Server) (v : Sight Entry) (x : ℕ) → StartsWith v.seen history → Walk (answers_of plans) c ms v w → AreNamed ms → AreAsksOf (of_pool pool) ms → SweepsServers ms now → AreOfRound now → LaunchesAreOfRound ms → WasRemoved x ms → HasCause x
@@ -217,15 +185,13 @@ module _ (plans : Bool) (c : Configuration) (pool : PoolId) (history : List Entr
   removed-cause (asked a t ∷ removed y ∷ ms) now v x from walk named mine swept own launches (inl is) =
       subst HasCause is (named-cause now own a t y v walk.0 mine.0 swept.0 named.0 from (walk_seen (answers_of plans) c ms walk.0 w walk.2) walk.1)
   removed-cause (asked a t ∷ removed y ∷ ms) now v x from walk named mine swept own launches (inr gone) =
-      removed-cause ms (without_number y now) walk.0 x (starts_on walk.0.seen v.seen history (turn_seen (answers_of plans) c a t v walk.0 walk.1) from) walk.2 named.1 mine.1 swept.1 (fewer-of_round y now own) launches gone
+      removed-cause ms (without_number y now) walk.0 x (starts_on walk.0.seen v.seen history (turn_seen (answers_of plans) c a t v walk.0 walk.1) from) walk.2 named.1 mine.1 swept.1 (λ s h. own s (filtered-member (λ (server : Server). not (server.number == y)) now s h)) launches gone
   removed-cause (launched tag o ∷ ms) now v x from walk named mine swept own launches gone =
-      removed-cause ms (with_launched tag o now) v x from walk named mine swept (more-of_round tag o ms now own launches) (later-launches tag o ms launches) gone
+      removed-cause ms (with_launched tag o now) v x from walk named mine swept (more-of_round tag o ms now own launches) (λ s h. launches s (suc h.0, omega (arith, h.1), h.2)) gone
   removed-cause (removed y ∷ ms) now v x from walk named mine swept own launches gone = absurd named
   removed-cause _ now v x from walk named mine swept own launches gone = absurd gone
 
 -- ## Where servers stay: each was kept at its sweep, and from the first sweep on a round only sweeps.
-
--- ## one's own places
 
 -- each of one's own places is one of what was seen
 abbrev pub AreBelow : Sight Entry → Type 0
@@ -319,50 +285,35 @@ module _ (plans : Bool) (c : Configuration) where
 
 -- ## What became of a driver's servers in a player's round.
 
--- ## leaving
-
-drives-between : (trace : List Move) (a b : Option Driving) (d e : Driving) → a ≡ Some d → b ≡ Some e → Drove trace a b → Drives trace d e
-drives-between trace a b d e is to h = subst (λ (o : Option Driving). Drove trace (Some d) o) to (subst (λ (o : Option Driving). Drove trace o b) is h)
-
 servers-left : (trace : List Move) (d e : Driving) (before now : List Server) → Drives trace d e → d.facts.servers ≡ Some before → e.facts.servers ≡ Some now → now ≡ servers_after trace before
 servers-left trace d e before now x1 x2 x3 = grind (arith, nat_tests)
 
-trace-cause : (plans : Bool) (c : Configuration) (history : List Entry) (w : Sight Entry) (pool : PoolId) (q : Phase) (trace : List Move) (before : List Server) (server : Server) → Walk (answers_of plans) c trace (fresh_sight history) w → Leads (first_phase (of_pool pool)) trace q → SweepsServers trace before → IsOfRound trace before server → (Contains (servers_after trace before) server → ⊥) → LeftWithCause c history w.seen pool trace before server
-trace-cause plans c history w pool q trace before server walked led swept own gone =
-    elim (round-server_leaves trace before server own) [
-      | inl there ↦ absurd (gone there)
-      | inr was ↦
-          removed-cause plans c pool history w trace before trace before (fresh_sight history) server.number (starts_same history) walked
-          (are_named (first_phase (of_pool pool)) q trace (λ owes. owes) led) (asks_of (of_pool pool) q trace led) swept
-          (λ s h. inl h) (λ s h. inr h) was
-    ]
-
-pub left-with_cause : (plans : Bool) (c : Configuration) (history : List Entry) (player : Player) (end : PlayerEnd) (pool : PoolId) (before now : List Server) (plays : PlaysFrom plans c history player end) → player.work ≡ of_pool pool → HasServers player before → HasServers end.player now → (server : Server) → IsOfRound plays.trace before server → (Contains now server → ⊥) → LeftWithCause c history end.sight.seen pool plays.trace before server
-left-with_cause plans c history player end pool before now plays work had has server own gone =
-    let drives : Drives plays.trace had.driving has.driving = drives-between plays.trace player.driving end.player.driving had.driving has.driving had.drives has.drives plays.drove in
+pub left_with_cause : (plans : Bool) (c : Configuration) (history : List Entry) (player : Player) (end : PlayerEnd) (pool : PoolId) (before now : List Server) (plays : PlaysFrom plans c history player end) → player.work ≡ of_pool pool → HasServers player before → HasServers end.player now → (server : Server) → IsOfRound plays.trace before server → (Contains now server → ⊥) → LeftWithCause c history end.sight.seen pool plays.trace before server
+left_with_cause plans c history player end pool before now plays work had has server own gone =
+    let drives : Drives plays.trace had.driving has.driving =
+    subst (λ (o : Option Driving). Drove plays.trace (Some had.driving) o) has.drives (subst (λ (o : Option Driving). Drove plays.trace o end.player.driving) had.drives plays.drove) in
     let left : now ≡ servers_after plays.trace before = servers-left plays.trace had.driving has.driving before now drives had.told has.told in
-    trace-cause plans c history end.sight pool end.phase plays.trace before server plays.walked
-    (subst (λ (k : Work). Leads (first_phase k) plays.trace end.phase) work plays.led)
-    (told (SweepsServers plays.trace) had.driving.facts.servers before had.told drives.swept) own
-    (λ there. gone (subst (λ (l : List Server). Contains l server) (sym left) there))
+    let led : Leads (first_phase (of_pool pool)) plays.trace end.phase = subst (λ (k : Work). Leads (first_phase k) plays.trace end.phase) work plays.led in
+    ⊎_elim
+    (λ (there : Contains (servers_after plays.trace before) server). absurd (gone (subst (λ (l : List Server). Contains l server) (sym left) there)))
+    (λ (was : WasRemoved server.number plays.trace). removed-cause plans c pool history end.sight plays.trace before plays.trace before (fresh_sight history) server.number (starts_same history) plays.walked
+    (are_named (first_phase (of_pool pool)) end.phase plays.trace (λ owes. owes) led) (asks_of (of_pool pool) end.phase plays.trace led)
+    (told (SweepsServers plays.trace) had.driving.facts.servers before had.told drives.swept) (λ s h. inl h) (λ s h. inr h) was)
+    (⊎_elim (stays_or_goes plays.trace before server) (launched-stays plays.trace before server) own)
 
 -- with no other server of its number, it is itself that is swept
-pub own-pair : (c : Configuration) (history seen : List Entry) (pool : PoolId) (trace : List Move) (servers : List Server) (server : Server) → LeftWithCause c history seen pool trace servers server → IsOnlyOfItsNumber trace servers server → WasDue c history seen pool server.number ⊎ IsSweptAfter c seen server
-own-pair c history seen pool trace servers server (inl due) only = inl due
-own-pair c history seen pool trace servers server (inr swept) only = inr (subst (IsSweptAfter c seen) (only swept.server swept.of_round swept.number) swept.swept)
+pub own_pair : (c : Configuration) (history seen : List Entry) (pool : PoolId) (trace : List Move) (servers : List Server) (server : Server) → LeftWithCause c history seen pool trace servers server → IsOnlyOfItsNumber trace servers server → WasDue c history seen pool server.number ⊎ IsSweptAfter c seen server
+own_pair c history seen pool trace servers server (inl due) only = inl due
+own_pair c history seen pool trace servers server (inr swept) only = inr (subst (IsSweptAfter c seen) (only swept.server swept.of_round swept.number) swept.swept)
 
 -- with no other node of its number, the due one is its own
-pub own-node : (c : Configuration) (history seen : List Entry) (pool : PoolId) (server : Server) → IsOnlyNodeOfItsNumber c history seen pool server → (due : WasDue c history seen pool server.number) → due.node ≡ server.tag.node
-own-node c history seen pool server only due = only due.before due.of_round due.of_seen due.node due.due.node due.due.stands due.due.of_pool due.due.server
+pub own_node : (c : Configuration) (history seen : List Entry) (pool : PoolId) (server : Server) → IsOnlyNodeOfItsNumber c history seen pool server → (due : WasDue c history seen pool server.number) → due.node ≡ server.tag.node
+own_node c history seen pool server only due = only due.before due.of_round due.of_seen due.node due.due.node due.due.stands due.due.of_pool due.due.server
 
 -- ## staying
 
-kept-one : (plans : Bool) (c : Configuration) (history : List Entry) (w : Sight Entry) (pool : PoolId) (p q : Phase) (trace : List Move) (server : Server) → Walk (answers_of plans) c trace (fresh_sight history) w → Leads p trace q → (q ≡ ended → ⊥) → WasKept pool trace server → StaysKept c history w pool server
-kept-one plans c history w pool p q trace server walked led room kept =
-    kept-stays plans c (sweep-removes c) history w pool server kept.0 trace (fresh_sight history) 0 kept.1.0 kept.2 kept.1.1 kept.1.2
-    (λ full. room (is_at_end p q trace led full)) (in_order p q trace led) (starts_same history) (λ x there. absurd (omega (arith, there.1))) walked
-
-pub kept-stay : (plans : Bool) (c : Configuration) (history : List Entry) (player : Player) (end : PlayerEnd) (pool : PoolId) (servers : List Server) (plays : PlaysFrom plans c history player end) → (end.phase ≡ ended → ⊥) → All (WasKept pool plays.trace) servers → All (StaysKept c history end.sight pool) servers
-kept-stay plans c history player end pool servers plays room kept =
+pub kept_stay : (plans : Bool) (c : Configuration) (history : List Entry) (player : Player) (end : PlayerEnd) (pool : PoolId) (servers : List Server) (plays : PlaysFrom plans c history player end) → (end.phase ≡ ended → ⊥) → All (WasKept pool plays.trace) servers → All (StaysKept c history end.sight pool) servers
+kept_stay plans c history player end pool servers plays room kept =
     All-weaker (WasKept pool plays.trace) (StaysKept c history end.sight pool)
-    (λ server was. kept-one plans c history end.sight pool (first_phase player.work) end.phase plays.trace server plays.walked plays.led room was) servers kept
+    (λ server was. kept-stays plans c (sweep_removes c) history end.sight pool server was.0 plays.trace (fresh_sight history) 0 was.1.0 was.2 was.1.1 was.1.2
+    (λ full. room (is_at_end (first_phase player.work) end.phase plays.trace plays.led full)) (in_order (first_phase player.work) end.phase plays.trace plays.led) (starts_same history) (λ x there. absurd (omega (arith, there.1))) plays.walked) servers kept

@@ -1,6 +1,6 @@
 -- why and by whom an entry of a round was made: the player whose work it is, its role and its servers
-use Rattle.np_worker.proofs.Prelude.{All, All-cons, All-contains, All-filter, All-head, All-nil, Answered, AreAsksOf, AreNamed, AreNumbered, AreRising, Ask, Bool, Configuration, Contains, Contains-append_left, Contains-append_right, Contains-push, Contains-push_cases, Drives, Driving, Drove, EachPlaysFrom, Entry, Event, FollowsPlan, IfSome, IsAskOf, IsChosen, IsCutOff, IsFull, IsNumbered, IsOfRole, IsOfServer, IsOfWorker, IsReplied, IsRound, Janitor, Launch, Launcher, Leads, List, MayAsk, MayLaunch, MayRemove, Move, NamesServer, NodeId, None, Option, Outcome, Phase, Player, PlayerEnd, PlaysFrom, PoolId, Role, Server, SessionId, Sight, Some, SomeTurn, Start, StartsWith, State, SweepsServers, Tag, Turn, Unturned, Walk, WasAnswered, WasNamed, Work, acting, acts, after, after_entry, after_launch, after_removal, after_role, after_start, after_turn, answers_of, answers_sweep, ap, append-nil, append_assoc, arith, asked, cond, driving_in, drivings_of, ended, false, first_phase, fresh_sight, inl, inr, is_remove, launch_of, launched, launches_of, length, looks, maker_of, map, nat_tests, next_number, none-some, not, of_pool, option_map, owes_due, owes_launch, owes_report, owes_swept, recorded, refl, removed, report_of, role_of, same_Some, servers_after, slice_get, start_of, starts_more, starts_on, starts_same, subst, suc, sweeps, sym, true, turns, with_launched, without_number, zero, ℕ, [], ⊎_elim, ◌++◌, ◌+◌, ◌==◌, ◌∙◌, ◌∷◌, ◌≡◌, ◌≤◌, ◌⊎◌}
-use Rattle.np_worker.proofs.Walks.{starts_equal, contains_later, starts_length, Rises, walk_rises, rising_lower, rising_least, member-cases, no-member, All-left, All-right}
+use Rattle.np_worker.proofs.Prelude.{All, All-cons, All-contains, All-filter, All-head, All-nil, Answered, AreAsksOf, AreNamed, AreNumbered, Ask, Bool, Configuration, Contains, Contains-append_left, Contains-append_right, Contains-push, Contains-push_cases, Drives, Driving, Drove, EachPlaysFrom, Entry, Event, FollowsPlan, IfSome, IsAskOf, IsChosen, IsCutOff, IsFull, IsNumbered, IsOfRole, IsOfServer, IsOfWorker, IsReplied, IsRound, Janitor, Launch, Launcher, Leads, List, MayAsk, MayLaunch, MayRemove, Move, NamesServer, NodeId, None, Option, Outcome, Phase, Player, PlayerEnd, PlaysFrom, PoolId, Role, Server, SessionId, Sight, Some, SomeTurn, Start, StartsWith, State, SweepsServers, Tag, Turn, Unturned, Walk, WasAnswered, WasNamed, Work, acting, acts, after, after_entry, after_launch, after_removal, after_role, after_start, after_turn, answers_of, answers_sweep, ap, append-nil, append_assoc, arith, asked, cond, driving_in, drivings_of, ended, first_phase, fresh_sight, inl, inr, is_remove, launch_of, launched, launches_of, length, looks, maker_of, map, nat_tests, next_number, none-some, not, of_pool, option_map, owes_due, owes_launch, owes_report, owes_swept, recorded, refl, removed, report_of, role_of, same_Some, servers_after, slice_get, start_of, starts_more, starts_on, starts_same, subst, suc, sweeps, sym, turns, with_launched, without_number, zero, ℕ, [], ⊎_elim, ◌++◌, ◌+◌, ◌==◌, ◌∙◌, ◌∷◌, ◌≡◌, ◌≤◌, ◌⊎◌, by_bool}
+use Rattle.np_worker.proofs.Walks.{starts_equal, starts_length, Rises, walk_rises, member-cases, no-member, All-left, All-right}
 use Rattle.np_worker.proofs.Steps.{asks_of, goes_on, of_removal}
 use Rattle.np_worker.proofs.Journals.{act-work, all_named_later, named_later, report_names, start-parts, sweep-work}
 use Rattle.np_worker.proofs.Reports.{chosen-of_role}
@@ -79,7 +79,7 @@ module _ (plans : Bool) (c : Configuration) (before : List Entry) (entry : Entry
   cause_later work knew mine places launches more ps ls (inl acted) = inl acted
   cause_later work knew mine places launches more ps ls (inr (inl swept)) = inr (inl swept)
   cause_later work knew mine places launches more ps ls (inr (inr (r, next, there))) =
-      inr (inr (r, follows_later mine places (length r.earlier) (length before) ps next, contains_later more launches (record { tag = r.start.tag; outcome = r.outcome }) ls there))
+      inr (inr (r, follows_later mine places (length r.earlier) (length before) ps next, subst (λ (l : List Launch). Contains l (record { tag = r.start.tag; outcome = r.outcome })) (sym ls.1) (Contains-append_left launches ls.0 (record { tag = r.start.tag; outcome = r.outcome }) there)))
 
 -- ## the entries that a round made so far
 
@@ -150,10 +150,6 @@ module _ (plans : Bool) (c : Configuration) (work : Work) (knew : Type 0) where
 
   acting_fits : (r : Role) (n : ℕ) (v : Sight Entry) (launches : List Launch) (servers : List Server) → Named v.seen servers → Fits (acting r n) v launches servers
   acting_fits r n v launches servers k = goes_on (λ p. Fits p v launches servers) (λ q m. k) (λ pool m. k) (λ pool. k) k r n
-
-  swept_fits : (b : Bool) (pool : PoolId) (x : ℕ) (v : Sight Entry) (launches : List Launch) (servers : List Server) → Named v.seen servers → Fits (cond b (owes_swept pool x) (sweeps pool)) v launches servers
-  swept_fits true pool x v launches servers k = k
-  swept_fits false pool x v launches servers k = k
 
   -- the worker came to the phase, with this sight and these launches and servers
   pub record Stands (p : Phase) (v : Sight Entry) (launches : List Launch) (servers : List Server) : Type 0 where
@@ -263,7 +259,7 @@ module _ (plans : Bool) (c : Configuration) (work : Work) (knew : Type 0) where
         let is : work ≡ of_pool pool = sweep-work work pool n x own in
         let swept : IsSwept plans c a.0 e work knew = record { pool = pool; own = is; node = n; server = x; answer = a.2; named = λ known. sweep_named a.0 n x a.1 (there known pool is) (k known) } in
         did (cond (is_remove e.reply) (owes_swept pool x) (sweeps pool)) a.0 e m (inr (inl swept))
-        (swept_fits (is_remove e.reply) pool x u launches servers (named_more v.seen u.seen servers (adds_seen a.0 e v u m) k))
+        (let now = named_more v.seen u.seen servers (adds_seen a.0 e v u m) k in by_bool (λ b. Fits (cond b (owes_swept pool x) (sweeps pool)) u launches servers) (is_remove e.reply) (λ _. now) (λ _. now))
     sweep_step pool n x Turn.Swept k own there a = quiet (owes_swept pool x) a.0 a.1 a.3 (λ m. named_more v.seen u.seen servers m.0 k)
     sweep_step pool n x Turn.Idle k own there a = quiet (sweeps pool) a.0 a.1 a.3 (λ m. named_more v.seen u.seen servers m.0 k)
     sweep_step pool n x Turn.Full k own there a = quiet ended a.0 a.1 a.3 (λ m. full a.0 a.3 a.2.2)
@@ -332,8 +328,7 @@ HasDriver _ _ = Unit {0}
 
 -- a worker with its number among the pools' has one
 pub numbered_driver : (n : ℕ) (work : Work) (driving : Option Driving) → IsNumbered n work driving → HasDriver work driving
-numbered_driver n (of_pool pool) None h = h
-numbered_driver n _ _ h = tt
+numbered_driver n work driving x1 = grind (arith, nat_tests)
 
 -- the servers that a worker's driver had before a round, each of them named, and what the round did with them
 pub record Serves (c : Configuration) (history : List Entry) (work : Work) (moves : List Move) (now : Option Driving) : Type 0 where
@@ -346,24 +341,17 @@ pub record Serves (c : Configuration) (history : List Entry) (work : Work) (move
 pub told : {A : Type 0} (P : A → Type 0) (o : Option A) (a : A) → o ≡ Some a → IfSome o P → P a
 told {A} P o a is h = subst (λ (x : Option A). IfSome x P) is h
 
-serves_none : (c : Configuration) (history : List Entry) (work : Work) (moves : List Move) → HasDriver work None → Serves c history work moves None
-serves_none c history (of_pool pool) moves h = absurd h
-serves_none c history _ moves h = record { servers = []; named = All-nil (WasNamed c history); swept = λ pool e. absurd cc; left = λ journal k. All-nil (AreNamed c journal) }
-
-left_named : (c : Configuration) (journal : List Entry) (moves : List Move) (before now : Driving) (servers : List Server) → before.facts.servers ≡ Some servers → Drives moves before now → All (WasNamed c journal) (servers_after moves servers) → AreNamed c journal now
-left_named c journal moves before now servers told d h = record { servers = servers_after moves servers; told = d.servers ∙ ap (option_map (servers_after moves)) told; named = h }
-
-serves_some : (c : Configuration) (history : List Entry) (work : Work) (moves : List Move) (before now : Driving) → AreNamed c history before → Drives moves before now → Serves c history work moves (Some now)
-serves_some c history work moves before now h d = record {
-  servers = h.servers;
-  named = h.named;
-  swept = λ pool e. told (SweepsServers moves) before.facts.servers h.servers h.told d.swept;
-  left = λ journal k. All-cons (AreNamed c journal) now [] (left_named c journal moves before now h.servers h.told d k) (All-nil (AreNamed c journal));
-}
-
 pub serves : (c : Configuration) (history : List Entry) (work : Work) (moves : List Move) (before now : Option Driving) → HasDriver work before → All (AreNamed c history) (driving_in before) → Drove moves before now → Serves c history work moves now
-serves c history work moves None None h k d = serves_none c history work moves h
-serves c history work moves (Some before) (Some now) h k d = serves_some c history work moves before now (All-head (AreNamed c history) before [] k) d
+serves c history (of_pool pool) moves None now h k d = absurd h
+serves c history _ moves None None h k d = record { servers = []; named = All-nil (WasNamed c history); swept = λ pool e. absurd cc; left = λ journal k. All-nil (AreNamed c journal) }
+serves c history work moves (Some before) (Some now) h k d =
+    let are = All-head (AreNamed c history) before [] k in
+    record {
+      servers = are.servers;
+      named = are.named;
+      swept = λ pool e. told (SweepsServers moves) before.facts.servers are.servers are.told d.swept;
+      left = λ journal k. All-cons (AreNamed c journal) now [] (record { servers = servers_after moves are.servers; told = d.servers ∙ ap (option_map (servers_after moves)) are.told; named = k }) (All-nil (AreNamed c journal));
+    }
 serves c history work moves _ _ h k d = absurd d
 
 -- ## What a player's round made, and which servers it leaves named
@@ -379,15 +367,9 @@ fits_named plans c work _ v launches servers o h = h tt
 module _ {plans : Bool} (c : Configuration) (history : List Entry) (player : Player) (end : PlayerEnd) (p : PlaysFrom plans c history player end) where
   -- ## the history
 
+  -- the places of what it made rise, and come after the history
   pub rises : Rises (length history) end.sight
   rises = walk_rises (answers_of plans) c (length history) p.trace (fresh_sight history) end.sight p.walked (omega arith, tt)
-
-  -- the places of what it made rise, and come after the history
-  pub places_rise : AreRising 0 end.sight.mine (length end.sight.seen)
-  places_rise = rising_lower (length history) 0 (length end.sight.seen) end.sight.mine (omega arith) (rises).1
-
-  pub places_new : (x : ℕ) → Contains end.sight.mine x → length history ≤ x
-  places_new x h = rising_least (length history) (length end.sight.seen) end.sight.mine (rises).1 x h
 
   -- ## entries and servers
 
@@ -454,10 +436,7 @@ module _ {plans : Bool} (c : Configuration) (history : List Entry) where
 -- ## numbers
 
 number-kept : (n : ℕ) (work : Work) (before now : Option Driving) (moves : List Move) → Drove moves before now → IsNumbered n work before → IsNumbered n work now
-number-kept n work None None moves drove is = is
-number-kept n (of_pool pool) (Some a) (Some b) moves drove is = is
-number-kept n _ (Some a) (Some b) moves drove is = absurd is
-number-kept n work _ _ moves drove is = absurd drove
+number-kept n work before now moves x1 x2 = grind (arith, nat_tests)
 
 module _ (plans : Bool) (c : Configuration) (history : List Entry) where
   pub numbered-now : (n : ℕ) (players : List Player) (ends : List PlayerEnd) → EachPlaysFrom plans c history players ends → AreNumbered n players → AreNumbered n (map player_of ends)
@@ -522,67 +501,69 @@ grown_some : (more : List Launch) (l : Launch) (o : Option (List Launch)) → ((
 grown_some more l None each = tt
 grown_some more l (Some launches) each = each launches refl
 
--- what a driver once answered stays answered
-pub answer_stays : (moves : List Move) (before now : Driving) → Drives moves before now → (l : Launch) → HasAnswered before l → HasAnswered now l
-answer_stays moves before now d l h = subst (λ (o : Option (List Launch)). IfSome o (λ launches. Contains launches l)) (sym d.answered)
-    (grown_some (launches_of moves) l before.facts.answered (λ launches is. Contains-append_left launches (launches_of moves) l (told (λ (all : List Launch). Contains all l) before.facts.answered launches is h)))
-
--- the launches of a round are among the answers
-pub answers_launches : (moves : List Move) (before now : Driving) → Drives moves before now → (l : Launch) → Contains (launches_of moves) l → HasAnswered now l
-answers_launches moves before now d l h = subst (λ (o : Option (List Launch)). IfSome o (λ launches. Contains launches l)) (sym d.answered) (grown_some (launches_of moves) l before.facts.answered (λ launches is. Contains-append_right launches (launches_of moves) l h))
+-- the driver answered what it had answered before, and the launches of the round
+answered_now : (moves : List Move) (before now : Driving) → Drives moves before now → (l : Launch) → ((launches : List Launch) → before.facts.answered ≡ Some launches → Contains (launches ++ launches_of moves) l) → HasAnswered now l
+answered_now moves before now d l each = subst (λ (o : Option (List Launch)). IfSome o (λ launches. Contains launches l)) (sym d.answered) (grown_some (launches_of moves) l before.facts.answered each)
 
 all_planned : (plan : Tag → Option Outcome) (moves : List Move) → FollowsPlan plan moves → All (IsPlanned plan) (launches_of moves)
 all_planned plan [] h = All-nil (IsPlanned plan)
 all_planned plan (launched tag o ∷ moves) h = All-cons (IsPlanned plan) (record { tag = tag; outcome = o }) (launches_of moves) h.0 (all_planned plan moves h.1)
 all_planned plan (move ∷ moves) h = all_planned plan moves h
 
--- each launch of a round went as it was planned
-pub launches_planned : (moves : List Move) (before now : Driving) → Drives moves before now → (l : Launch) → Contains (launches_of moves) l → IsPlanned before.plan l
-launches_planned moves before now d l h = All-contains (IsPlanned before.plan) (launches_of moves) l (all_planned before.plan moves d.planned) h
+-- ## each pool's worker, with its driver before and after the round
 
-pub launches_planned_now : (moves : List Move) (before now : Driving) → Drives moves before now → (l : Launch) → Contains (launches_of moves) l → IsPlanned now.plan l
-launches_planned_now moves before now d l h = subst (λ (plan : Tag → Option Outcome). IsPlanned plan l) (sym d.plan) (launches_planned moves before now d l h)
+-- the round of the worker of the pool of this number, and what it did with the driver
+pub record PoolRound (plans : Bool) (c : Configuration) (history : List Entry) (all : List PlayerEnd) (number : ℕ) (d d' : Driving) : Type 0 where
+  pub player : Player
+  pub end : PlayerEnd
+  pub plays : PlaysFrom plans c history player end
+  pub there : Contains all end
+  pub pool : PoolId
+  pub is_number : pool.0 ≡ number
+  pub work : player.work ≡ of_pool pool
+  pub drives : Drives plays.trace d d'
 
--- ## drivers after a round: what they had answered before, and what they answered in it
+module _ (plans : Bool) (c : Configuration) (history : List Entry) (all : List PlayerEnd) where
+  -- at a place there is no driver before and after the round, or that of a pool's worker
+  abbrev pub AtPlace : ℕ → Option Driving → Option Driving → Type 0
+  AtPlace number before now = ((before ≡ None) × (now ≡ None)) ⊎ ((d : Driving) × (d' : Driving) × (before ≡ Some d) × (now ≡ Some d') × PoolRound plans c history all number d d')
 
--- ## what was answered before
+  first-place : (player : Player) (end : PlayerEnd) (plays : PlaysFrom plans c history player end) → Contains all end → (before now : List Driving) (n : ℕ) (work : Work) → player.work ≡ work → (a b : Option Driving) → Drove plays.trace a b → IsNumbered n work a
+      → ((k : ℕ) → AtPlace (next_number n work + k) (slice_get before k) (slice_get now k)) → (k : ℕ) → AtPlace (n + k) (slice_get (driving_in a ++ before) k) (slice_get (driving_in b ++ now) k)
+  first-place player end plays there before now n (of_pool pool) own (Some a) (Some b) drove is rest zero =
+      inr (a, b, refl, refl, record { player = player; end = end; plays = plays; there = there; pool = pool; is_number = omega (arith, is); work = own; drives = drove })
+  first-place player end plays there before now n (of_pool pool) own (Some a) (Some b) drove is rest (suc k) =
+      let next : suc n + k ≡ n + suc k = omega arith in subst (λ (m : ℕ). AtPlace m (slice_get before k) (slice_get now k)) next (rest k)
+  first-place player end plays there before now n (of_pool pool) own None b drove is rest k = absurd is
+  first-place player end plays there before now n (of_pool pool) own (Some a) None drove is rest k = absurd drove
+  first-place player end plays there before now n _ own None None drove is rest k = rest k
+  first-place player end plays there before now n _ own None (Some b) drove is rest k = absurd drove
+  first-place player end plays there before now n _ own (Some a) b drove is rest k = absurd is
 
--- the driver that is at the place now was this before
-record DrivesOn (drivings : List Driving) (k : ℕ) (before : Driving) : Type 0 where
-  now : Driving
-  stands : slice_get drivings k ≡ Some now
-  moves : List Move
-  drives : Drives moves before now
-
-module _ (rest later : List Driving) (d : Driving) (tail : (k : ℕ) → slice_get rest k ≡ Some d → DrivesOn later k d) where
-  kept-first : (before now : Option Driving) (moves : List Move) → Drove moves before now → (k : ℕ) → slice_get (driving_in before ++ rest) k ≡ Some d → DrivesOn (driving_in now ++ later) k d
-  kept-first None None moves drove k is = tail k is
-  kept-first (Some a) (Some b) moves drove zero is =
-      let same : a ≡ d = cc in
-      record { now = b; stands = refl; moves = moves; drives = subst (λ (x : Driving). Drives moves x b) same drove }
-  kept-first (Some a) (Some b) moves drove (suc k) is =
-      let h = tail k is in
-      record { now = h.now; stands = h.stands; moves = h.moves; drives = h.drives }
-  kept-first _ _ moves drove k is = absurd drove
+  pub at-place : (n : ℕ) (players : List Player) (ends : List PlayerEnd) → ((end : PlayerEnd) → Contains ends end → Contains all end) → EachPlaysFrom plans c history players ends → AreNumbered n players
+      → (k : ℕ) → AtPlace (n + k) (slice_get (drivings_of players) k) (slice_get (drivings_of (map player_of ends)) k)
+  at-place n [] [] among each are k = inl (refl, refl)
+  at-place n (player ∷ players) (end ∷ ends) among each are k =
+      first-place player end each.0 (among end (0, omega arith, refl)) (drivings_of players) (drivings_of (map player_of ends)) n player.work refl player.driving end.player.driving each.0.drove are.0
+      (at-place (next_number n player.work) players ends (λ e h. among e (suc h.0, omega (arith, h.1), h.2)) each.1 are.1) k
+  at-place n _ _ among each are k = absurd each
 
 module _ (plans : Bool) (c : Configuration) (history : List Entry) where
-  kept-at : (players : List Player) (ends : List PlayerEnd) → EachPlaysFrom plans c history players ends → (k : ℕ) (d : Driving) → slice_get (drivings_of players) k ≡ Some d → DrivesOn (drivings_of (map player_of ends)) k d
-  kept-at [] [] each k d is = absurd cc
-  kept-at (player ∷ players) (end ∷ ends) each k d is =
-      kept-first (drivings_of players) (drivings_of (map player_of ends)) d (λ j there. kept-at players ends each.1 j d there)
-      player.driving end.player.driving each.0.trace each.0.drove k is
-  kept-at _ _ each k d is = absurd each
-
   -- what the pool's driver had answered before the round, it has answered after it
-  pub answer-kept : (players : List Player) (ends : List PlayerEnd) → EachPlaysFrom plans c history players ends → (pool : PoolId) (n : NodeId) (attempt first : ℕ) (o : Outcome) → WasAnswered (drivings_of players) pool n attempt first o → WasAnswered (drivings_of (map player_of ends)) pool n attempt first o
-  answer-kept players ends each pool n attempt first o was =
-      let kept = kept-at players ends each pool.0 was.driving was.of_pool in
+  pub answer-kept : (players : List Player) (ends : List PlayerEnd) → EachPlaysFrom plans c history players ends → AreNumbered 0 players → (pool : PoolId) (n : NodeId) (attempt first : ℕ) (o : Outcome) → WasAnswered (drivings_of players) pool n attempt first o → WasAnswered (drivings_of (map player_of ends)) pool n attempt first o
+  answer-kept players ends each are pool n attempt first o was = ⊎_elim
+      (λ none. absurd (none-some was.driving (sym none.0 ∙ was.of_pool)))
+      (λ at.
+      let r = at.4 in
+      let same : at.0 ≡ was.driving = same_Some at.0 was.driving (sym at.2 ∙ was.of_pool) in
       record {
-        driving = kept.now;
-        of_pool = kept.stands;
-        answered = answer_stays kept.moves was.driving kept.now kept.drives (launch_of pool n attempt first o) was.answered;
-        planned = subst (λ (plan : Tag → Option Outcome). IfSome (plan (launch_of pool n attempt first o).tag) (λ planned. planned ≡ o)) (sym kept.drives.plan) was.planned;
-      }
+        driving = at.1;
+        of_pool = at.3;
+        answered = answered_now r.plays.trace at.0 at.1 r.drives (launch_of pool n attempt first o) (λ launches is. Contains-append_left launches (launches_of r.plays.trace) (launch_of pool n attempt first o)
+            (told (λ (all : List Launch). Contains all (launch_of pool n attempt first o)) at.0.facts.answered launches is (subst (λ (d : Driving). HasAnswered d (launch_of pool n attempt first o)) (sym same) was.answered)));
+        planned = subst (λ (plan : Tag → Option Outcome). IsPlanned plan (launch_of pool n attempt first o)) (ap (λ (d : Driving). d.plan) (sym same) ∙ sym r.drives.plan) was.planned;
+      })
+      (at-place plans c history ends 0 players ends (λ end there. there) each are pool.0)
 
 -- ## what is answered in the round
 
@@ -639,8 +620,9 @@ module _ {plans : Bool} where
       record {
         driving = h.driving;
         of_pool = subst (λ (k : ℕ). slice_get (drivings_of now) k ≡ Some h.driving) place h.stands;
-        answered = answers_launches plays.trace drive.0 h.driving drive.1 (launch_of pool n attempt first o) made;
-        planned = launches_planned_now plays.trace drive.0 h.driving drive.1 (launch_of pool n attempt first o) made;
+        answered = answered_now plays.trace drive.0 h.driving drive.1 (launch_of pool n attempt first o) (λ launches _. Contains-append_right launches (launches_of plays.trace) (launch_of pool n attempt first o) made);
+        planned = subst (λ (plan : Tag → Option Outcome). IsPlanned plan (launch_of pool n attempt first o)) (sym drive.1.plan)
+            (All-contains (IsPlanned drive.0.plan) (launches_of plays.trace) (launch_of pool n attempt first o) (all_planned drive.0.plan plays.trace drive.1.planned) made);
       }
 
 -- # each entry of a worker's round is of a role that the worker acts for
@@ -684,14 +666,14 @@ of-cause plans c before e work knew mine launches (inr (inr (r, next, there))) =
     }
 
 module _ {plans : Bool} where
-  pub entry-of_worker : (c : Configuration) (history : List Entry) (player : Player) (end : PlayerEnd) → PlaysFrom plans c history player end → (x : ℕ) → Contains end.sight.mine x → IsOfWorker c end.sight.seen player.work x
-  entry-of_worker c history player end plays x mine =
+  pub entry_of_worker : (c : Configuration) (history : List Entry) (player : Player) (end : PlayerEnd) → PlaysFrom plans c history player end → (x : ℕ) → Contains end.sight.mine x → IsOfWorker c end.sight.seen player.work x
+  entry_of_worker c history player end plays x mine =
       let made = each_caused c history player end plays x mine in
       let of = of-cause plans c made.before made.entry player.work ⊥ _ _ made.cause in
       record { before = made.before; entry = made.entry; place = made.place; stands = made.stands; role = of.role; own = of.own; of_role = of.of_role }
 
-  pub entry-of_player : (c : Configuration) (history later : List Entry) (players now : List Player) (is_cut : Bool) (round : IsRound plans c history later players now is_cut)
+  pub entry_of_player : (c : Configuration) (history later : List Entry) (players now : List Player) (is_cut : Bool) (round : IsRound plans c history later players now is_cut)
       → (end : PlayerEnd) → Contains round.ends end → (x : ℕ) → Contains end.sight.mine x → IsOfWorker c end.sight.seen end.player.work x
-  entry-of_player c history later players now is_cut round end there x mine =
+  entry_of_player c history later players now is_cut round end there x mine =
       let p = end-plays c history players round.ends round.plays end there in
-      subst (λ (w : Work). IsOfWorker c end.sight.seen w x) (sym p.1.work) (entry-of_worker c history p.0 end p.1 x mine)
+      subst (λ (w : Work). IsOfWorker c end.sight.seen w x) (sym p.1.work) (entry_of_worker c history p.0 end p.1 x mine)

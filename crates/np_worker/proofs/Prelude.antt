@@ -8,7 +8,7 @@ pub use Rattle.np_changes.proofs.Queues.{facts-grown, facts_in}
 pub use Rattle.np_changes.proofs.RequestStates.{Way, owned-node, owns-if}
 pub use Rattle.np_changes.proofs.Runs.{Runs-next, invariant-after, invariant-next, invariant-start}
 pub use Rattle.np_changes.specs.Parts.{Invariant, IsLive, IsLiveQueue, RunsWhileBuilding}
-pub use Rattle.np_changes.specs.Prelude.{AllByRecursion, Answer, Configuration, Done, EachAfter, EachTurn, EndAs, Entry, Event, Janitor, JobId, JobRecord, LabelId, Launcher, NoMemory, NodeEntry, NodeId, NodeRecord, NodeState, NodesPremise, Outcome, PoolId, Premises, PutsNode, Reaper, Refusal, RequestId, RequestRecord, Requester, RequesterId, Rises, Role, Runs, SessionFacts, SessionId, SomeTurn, State, Swept, TenantId, after, all_freed, all_in_use, allocated, as_launcher, change_first, change_session, changed, create_by, create_for, created, decline_by, declined, effect, ended_as, expired, found, freed, fulfilled, given_back, given_up, grown, holder, insert_before, is_building, is_deleting, is_fulfilled, is_in_use, is_node, is_pair, is_pair_after, is_pending_by, is_ready, is_request, is_server, is_session, is_session_of, is_swept, is_wanted, janitor, joined, judge, judge_done, judge_end_node, judge_start, judge_take, judge_take_ready, launcher, left, list_any, made, maker_of, muted, need, next, next_label, node_ended, node_entry, node_freed, node_holder, node_in, node_left, node_queue, nodes_changed, nodes_left, option_map, option_map_or, outcome_of, plan, put_node, put_node_queue, registered, remove_node, replayed, reply_of, request_holder, request_in, retries_of, role_of, same_role, session_of, sessions_changed, start, start_by, started, starts_of, state_after, take_for, take_from, taken, tenant_of_request, took_ready, turns, turns_from, with_act, with_pair, ◌>>=◌, ◌>>◌}
+pub use Rattle.np_changes.specs.Prelude.{AllByRecursion, Answer, Configuration, Done, EachAfter, EachTurn, EndAs, Entry, Event, Janitor, JobId, JobRecord, LabelId, Launcher, NoMemory, NodeEntry, NodeId, NodeRecord, NodeState, NodesPremise, Outcome, PoolId, Premises, PutsNode, Reaper, Refusal, RequestId, RequestRecord, Requester, RequesterId, Rises, Role, Runs, SessionFacts, SessionId, SomeTurn, State, Swept, TenantId, after, all_freed, all_in_use, allocated, as_launcher, change_first, change_session, changed, create_by, create_for, created, decline_by, declined, effect, ended_as, expired, found, freed, fulfilled, given_back, given_up, grown, holder, insert_before, is_building, is_deleting, is_fulfilled, is_in_use, is_node, is_pair, is_pair_after, is_pending_by, is_ready, is_request, is_server, is_session, is_session_of, is_swept, is_wanted, janitor, joined, judge, judge_done, judge_end_node, judge_start, judge_take, judge_take_ready, launcher, left, list_any, made, maker_of, muted, need, next, next_label, node_ended, node_freed, node_holder, node_in, node_left, node_queue, nodes_changed, nodes_left, option_map, option_map_or, outcome_of, plan, put_node, put_node_queue, registered, remove_node, replayed, reply_of, request_holder, request_in, retries_of, role_of, same_role, session_of, sessions_changed, start, start_by, started, starts_of, state_after, take_for, take_from, taken, tenant_of_request, took_ready, turns, turns_from, with_act, with_pair, ◌>>=◌, ◌>>◌}
 pub use Rattle.np_changes.specs.declared.changes.Changes.{Changes}
 pub use Rattle.np_changes.specs.declared.changes.Growth.{Growth}
 pub use Rattle.np_changes.specs.declared.changes.Maker.{Maker}
@@ -19,10 +19,9 @@ pub use Rattle.np_cloud.specs.Clouds.{ArePlanned}
 pub use Rattle.np_cloud.specs.Sound.{is_number, numbers_of}
 pub use Rattle.np_cloud.specs.declared.driver.LaunchFault.{LaunchFault}
 pub use Rattle.np_cloud.specs.declared.driver.TheConstants.{MOST_LAUNCHES}
-pub use Rattle.np_desk.proofs.HistoryLemmas.{rising_more, starts_more, starts_on, starts_same}
+pub use Rattle.np_desk.proofs.HistoryLemmas.{rising_more, starts_more, starts_on, starts_same, unturned-same as unturned_same, unturned_on}
 pub use Rattle.np_desk.specs.Series.{Asked, Heard, IsOver, Took, Walked}
 pub use Rattle.np_event.specs.declared.reply.Reply.{Reply}
-pub use Rattle.np_io.specs.Counts.{Rose}
 pub use Rattle.np_lists.proofs.Changes.{EachAfter-push, EachAfter-weaker, all-filter, all-filter_to, all-find, all-push, all-weaker, kept-change_at, length-filter_at_most, list_any-insert_before, slice_get-change_at, slice_get-change_at_other}
 pub use Rattle.np_lists.proofs.Plain.{above-apart, by_bool, drop-past, drop-there, equal-numbers, is-at_most, not-second}
 pub use Rattle.np_machine.proofs.Ids.{session-equal}
@@ -34,7 +33,7 @@ pub use Rattle.np_machine.specs.Tests.{incomplete}
 pub use Rattle.np_useful.specs.Driven.{DrivenFrom, IsDrivenTurn, IsOfUse, IsReportOfLaunch, IsSweepOfServer, IsTickBetween, as_planned, is_report_of}
 pub use Rattle.np_useful.specs.Launcher.{is_by_registrant}
 pub use Rattle.np_useful.specs.Sessions.{is_current}
-pub use Rattle.np_useful.specs.Useful.{is_maker_of, row_holds}
+pub use Rattle.np_useful.specs.Useful.{is_maker_of}
 pub use Rattle.np_worker.specs.Answers.{IsKept}
 pub use Rattle.np_worker.specs.Board.{AnswersAsBoard, AreSweptSo, CameFar, CameToEnd, HadNothing, HasRoundAtBoard, IsRoundAtBoard, IsSweptSo, RolesCameFar, ServersGo, ServersLeave, ServersStay, acts_as}
 pub use Rattle.np_worker.specs.Carried.{AreCarried, BeginsEmpty, BeginsNew, FailOnlyFull, NeverRepeats}
@@ -56,7 +55,7 @@ pub use Rattle.np_worker.specs.Replies.{is_same_reply, reply_numbers}
 pub use Rattle.np_worker.specs.Reports.{AreAloneSound, FailAfter, is_node_of, number_in, numbers_in, reported, reports_from, reports_of, was_node_of}
 pub use Rattle.np_worker.specs.Round.{EndsAs, Rests, driving_of, work_of}
 pub use Rattle.np_worker.specs.Servers.{HasServers, IsOfRound, IsOnlyNodeOfItsNumber, IsOnlyOfItsNumber, IsSweepAt, IsSweptAfter, KeepsJanitor, LeftWithCause, StaysKept, WasDue, WasLaunched, WasSwept, WasUnwanted}
-pub use Rattle.np_worker.specs.Stage.{Hears, IsLone, IsOfWork, IsPlayed, Reaches, WentFar, WentOn, ask_of, asks, phase_of, player, steps_act, steps_acting, steps_left}
+pub use Rattle.np_worker.specs.Stage.{Hears, IsLone, IsOfWork, IsPlayed, Reaches, WentFar, WentOn, ask_of, asks, phase_of, player, steps_left}
 pub use Rattle.np_worker.specs.Trace.{AreInOrder, AreReported, EndsWhereFull, Gains, IsPastJanitor, IsPastLauncher, IsReported, Reports, StandAt, TookAll, WasFull, WasIdle, WasRemoved, did_count, is_did, is_idle, is_janitor_act, is_launcher_act, is_lone_act, owed_tags, stage_of, start_made, tags_launched, tags_of}
 pub use Rattle.np_worker.specs.declared.ask.Ask.{Ask}
 pub use Rattle.np_worker.specs.declared.ask.Turn.{Turn}

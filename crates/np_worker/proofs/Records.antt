@@ -1,9 +1,13 @@
 -- the records of nodes and the roles of sessions over a run: what stays, where a record comes from, and of which pool a node is
-use Rattle.np_worker.proofs.Prelude.{AllByRecursion, BeginsLaunch, Bool, Changes, Configuration, Done, EndAs, Entry, Event, Growth, Invariant, IsUseful, JobId, JobRecord, LabelId, Launcher, List, Maker, NodeEntry, NodeId, NodeRecord, NodeState, NodesChange, NodesPremise, None, Ok, Option, Outcome, PoolId, Premises, PutsNode, Reply, RequestId, RequestRecord, Rises, Role, Runs, RunsWhileBuilding, SessionFacts, SessionId, SessionsChange, Some, SomeTurn, StartsWith, State, TenantId, Way, above-apart, after, after_found-keeps, after_given-keeps, all-filter, all_freed, all_in_use, allocated, ap, append-nil, append_assoc, arith, by_bool, cases_lt, change_first, change_session, changed, cond, create_by, create_for, created, decline_by, declined, drop, effect, ended_as, eq-eqb, eqb-true, expired, facts-grown, facts_in, false, false≢true, freed, fulfilled, given_back, given_up, grown, grown-numbered, holder, incomplete, inl, inr, invariant-after, invariant-next, invariant-start, is_building, is_current, is_fulfilled, is_in_use, is_node_of, is_none, is_ok, is_pending_by, is_ready, is_request, is_session, is_session_of, is_some, is_up, joined, judge, judge_done, judge_end_node, judge_start, judge_take, judge_take_ready, kept-change_at, launcher, launcher-role, left, length, length-append, list_any, made, map, muted, nat_lt, nat_tests, next, next-keeps, next-more, next_label, node_ended, node_freed, node_holder, node_in, node_in-allocated, node_in-below, node_in-freed, node_in-in_use, node_in-later, node_in-left, node_in-new, node_in-other, node_in-put, node_in-queue, node_in-remove, node_in-removed, node_left, node_queue, node_queue-allocated, node_queue-freed, node_queue-in_use, node_queue-left, node_queue-new, node_queue-nowhere, node_queue-other, node_queue-put, node_queue-queue, node_queue-remove, nodes_changed, nodes_left, none-some, not, on-found, on-given, on-need, option_map, option_map_or, or_left, or_right, owned-node, owns-if, plan, plan-next, premises, put_node, put_node_queue, refl, registered, remove_node, replied-at, reply_of, reported, reports_from, reports_of, request_holder, request_in, role_of, row-of, same_Some, same_node-is, same_role, session_of, sessions_changed, slice_get, start, started, starts_of, state_after, subst, sym, take_for, take_from, take_ready-stands, taken, tenant_of_request, took_ready, true, turns, turns_from, used_from, was_node_of, with_act, ℕ, [], ⊎_elim, ◌++◌, ◌+◌, ◌-◌, ◌<◌, ◌==◌, ◌||◌, ◌∙◌, ◌∷◌, ◌≡◌, ◌≢◌, ◌≤◌, ◌⊎◌}
+use Rattle.np_worker.proofs.Prelude.{AllByRecursion, BeginsLaunch, Bool, Changes, Configuration, Done, Entry, Event, Growth, Invariant, IsUseful, JobId, JobRecord, Launcher, List, Maker, NodeEntry, NodeId, NodeRecord, NodeState, NodesChange, NodesPremise, None, Ok, Option, Outcome, PoolId, Premises, PutsNode, Reply, RequestId, RequestRecord, Rises, Role, Runs, RunsWhileBuilding, SessionFacts, SessionId, SessionsChange, Some, SomeTurn, StartsWith, State, TenantId, Way, above-apart, after, after_found-keeps, after_given-keeps, all-filter, all_freed, all_in_use, allocated, ap, append-nil, append_assoc, arith, by_bool, cases_lt, change_first, change_session, changed, cond, create_by, create_for, created, decline_by, declined, drop, effect, ended_as, eq-eqb, eqb-true, expired, facts-grown, facts_in, false, false≢true, freed, fulfilled, given_back, given_up, grown, grown-numbered, holder, incomplete, inl, inr, invariant-after, invariant-next, invariant-start, is_building, is_current, is_fulfilled, is_in_use, is_node_of, is_none, is_ok, is_pending_by, is_ready, is_request, is_session, is_session_of, is_some, is_up, joined, judge, judge_done, judge_end_node, judge_start, judge_take, judge_take_ready, kept-change_at, launcher, launcher-role, left, length, length-append, list_any, made, map, muted, nat_lt, nat_tests, next, next-keeps, next-more, next_label, node_ended, node_freed, node_holder, node_in, node_in-allocated, node_in-below, node_in-freed, node_in-in_use, node_in-later, node_in-left, node_in-new, node_in-other, node_in-put, node_in-queue, node_in-remove, node_in-removed, node_left, node_queue, node_queue-allocated, node_queue-freed, node_queue-in_use, node_queue-left, node_queue-new, node_queue-nowhere, node_queue-other, node_queue-put, node_queue-queue, node_queue-remove, nodes_changed, nodes_left, none-some, not, on-found, on-given, on-need, option_map, option_map_or, or_left, or_right, owned-node, owns-if, plan, plan-next, premises, put_node, put_node_queue, refl, registered, remove_node, replied-at, reply_of, reported, reports_from, reports_of, request_holder, request_in, role_of, row-of, same_Some, same_node-is, same_role, session_of, sessions_changed, slice_get, start, started, starts_of, state_after, subst, sym, take_for, take_from, take_ready-stands, taken, tenant_of_request, took_ready, true, turns, turns_from, used_from, was_node_of, with_act, ℕ, [], ⊎_elim, ◌++◌, ◌+◌, ◌-◌, ◌<◌, ◌==◌, ◌||◌, ◌∙◌, ◌∷◌, ◌≡◌, ◌≢◌, ◌≤◌, ◌⊎◌}
 use Rattle.np_changes.specs.Prelude.{acting, ended, Turn}
 use Rattle.np_changes.specs.Parts.{IsNumbered}
 use Rattle.np_worker.proofs.Walks.{same-split, split-within}
 use Rattle.np_worker.proofs.Journals.{turn_of, turn_after, turns-append}
+
+-- what holds of a state holds after an event, if it does where the machine accepts the event
+pub if-accepted : (P : State → Type 0) (c : Configuration) (s : State) (e : Event) → P s → (is_ok (judge c s e) ≡ true → P (next c s e)) → P (next c s e)
+if-accepted P c s e old new = by_bool (λ _. P (next c s e)) (is_ok (judge c s e)) new (λ refused. rw refused old)
 
 -- # what holds of a node's record over whatever follows in a run
 
@@ -85,10 +89,7 @@ module _ (n : NodeId) (P : NodeRecord → Type 0) (steady : IsSteady P) where
 
   -- over one event
   pub given-next : (c : Configuration) (s : State) (e : Event) → Invariant c s → IsGiven n P s → IsGiven n P (next c s e)
-  given-next c s e whole old = by (is_ok (judge c s e)) refl where
-    by : (b : Bool) → is_ok (judge c s e) ≡ b → IsGiven n P (next c s e)
-    by true ok = subst (IsGiven n P) (plan-next c s e ok) (given-changed c s (plan c s e) whole (premises c s e ok) old)
-    by false refused = rw refused old
+  given-next c s e whole old = if-accepted (IsGiven n P) c s e old (λ ok. subst (IsGiven n P) (plan-next c s e ok) (given-changed c s (plan c s e) whole (premises c s e ok) old))
 
   -- over entries
   pub given-over : (c : Configuration) (s : State) (more : List Entry) → Invariant c s → IsGiven n P s → IsGiven n P (state_after c s more)
@@ -116,24 +117,15 @@ given-stays n P steady c journal more old = subst (IsGiven n P) (sym (state_afte
 abbrev pub IsSpent : NodeId → ℕ → State → Type 0
 IsSpent n k s = IsGiven n (λ node. k ≤ node.attempts) s
 
-more-attempts : (k : ℕ) (c : Configuration) (s : State) (ch : Changes) (n : NodeId) (node kept : NodeRecord) → Way c s ch n node kept → k ≤ node.attempts → k ≤ kept.attempts
-more-attempts k c s ch n node kept way old = grind (arith, nat_tests)
-
 pub attempts-steady : (k : ℕ) → IsSteady (λ node. k ≤ node.attempts)
 attempts-steady k = record {
   allocated = λ r tenant node old. old;
   given_back = λ node old. old;
   taken_over = λ tick node old. old;
-  put = λ c s ch n node kept runs way old. more-attempts k c s ch n node kept way old;
+  put = λ c s ch n node kept runs way old. grind (arith, nat_tests);
 }
 
--- over entries
-pub spent-over : (n : NodeId) (k : ℕ) (c : Configuration) (s : State) (more : List Entry) → Invariant c s → IsSpent n k s → IsSpent n k (state_after c s more)
-spent-over n k = given-over n (λ (node : NodeRecord). k ≤ node.attempts) (attempts-steady k)
-
 -- ## which attempt an accepted start begins, and which one an accepted report is of
-
--- ## a start
 
 -- what the machine has tested before it accepts a start, and its reply
 pub record IsStarting (s : State) (by : SessionId) (m : NodeId) (what : Done) : Type 0 where
@@ -148,9 +140,6 @@ pub record IsStarting (s : State) (by : SessionId) (m : NodeId) (what : Done) : 
 pub starting : (s : State) (by : SessionId) (m : NodeId) (what : Done) → judge_start s by m ≡ Ok what → IsStarting s by m what
 starting s by m what x1 = grind (arith, nat_tests)
 
-next-attempt : (s : State) (session : SessionId) (n : NodeId) (k m : ℕ) (b : IsStarting s session n (Done.Started k m)) → b.node.attempts + 1 ≡ k
-next-attempt s session n k m b = let is : Done.Started k m ≡ Done.Started (b.node.attempts + 1) (starts_of b.pool s + 1) = b.says in cc
-
 -- the start as the machine answered it
 start-begins : (c : Configuration) (s : State) (e : Entry) (session : SessionId) (n : NodeId) (k m : ℕ) → e.reply ≡ reply_of (judge c s e.event) → e.event ≡ Event.Start session n → e.reply ≡ Reply.Done (Done.Started k m) → judge_start s session n ≡ Ok (Done.Started k m)
 start-begins c s e session n k m x1 x2 x3 = grind (arith, nat_tests)
@@ -163,19 +152,16 @@ start-leads c s session n what b x1 = grind (arith, nat_tests)
 -- the node's record that is put has had this many attempts
 put-had : (s : State) (session : SessionId) (n : NodeId) (k m first : ℕ) (b : IsStarting s session n (Done.Started k m)) (node : NodeRecord) →
     node_in n (put_node n (record b.node { attempts = b.node.attempts + 1; in_flight = true; start = first }) s.nodes) ≡ Some node → k ≤ node.attempts
-put-had s session n k m first b node is = let put = node_in-put n n (record b.node { attempts = b.node.attempts + 1; in_flight = true; start = first }) s.nodes in let one = next-attempt s session n k m b in grind (arith, nat_tests)
-
-begins-spends : (c : Configuration) (s : State) (session : SessionId) (n : NodeId) (k m : ℕ) → IsNumbered s → judge_start s session n ≡ Ok (Done.Started k m) → IsSpent n k (next c s (Event.Start session n))
-begins-spends c s session n k m numbered ok =
-    let b = starting s session n (Done.Started k m) ok in
-    let low : n.0 < s.next_node = node_in-below n s.next_node b.node s.nodes numbered.nodes_below b.stands in
-    let later : IsSpent n k (with_act (acting s (Event.Start session n)) (started s n b.pool b.node)) = record { given = low; holds = λ node is. put-had s session n k m (starts_of b.pool s + 1) b node is } in
-    subst (IsSpent n k) (sym (start-leads c s session n (Done.Started k m) b ok)) later
+put-had s session n k m first b node is = let put = node_in-put n n (record b.node { attempts = b.node.attempts + 1; in_flight = true; start = first }) s.nodes in let says : Done.Started k m ≡ Done.Started (b.node.attempts + 1) (starts_of b.pool s + 1) = b.says in let one : b.node.attempts + 1 ≡ k = cc in grind (arith, nat_tests)
 
 -- an accepted start spends the attempt that it is answered with
 pub start-spends : (c : Configuration) (s : State) (e : Entry) (session : SessionId) (n : NodeId) (k m : ℕ) → IsNumbered s → e.reply ≡ reply_of (judge c s e.event) → e.event ≡ Event.Start session n → e.reply ≡ Reply.Done (Done.Started k m) → IsSpent n k (next c s e.event)
 start-spends c s e session n k m numbered says event_is reply_is =
-    subst (λ (x : Event). IsSpent n k (next c s x)) (sym event_is) (begins-spends c s session n k m numbered (start-begins c s e session n k m says event_is reply_is))
+    let ok = start-begins c s e session n k m says event_is reply_is in
+    let b = starting s session n (Done.Started k m) ok in
+    let low : n.0 < s.next_node = node_in-below n s.next_node b.node s.nodes numbered.nodes_below b.stands in
+    let later : IsSpent n k (with_act (acting s (Event.Start session n)) (started s n b.pool b.node)) = record { given = low; holds = λ node is. put-had s session n k m (starts_of b.pool s + 1) b node is } in
+    subst (λ (x : Event). IsSpent n k (next c s x)) (sym event_is) (subst (IsSpent n k) (sym (start-leads c s session n (Done.Started k m) b ok)) later)
 
 -- which was not spent before
 pub start-fresh : (c : Configuration) (s : State) (e : Entry) (session : SessionId) (n : NodeId) (k m : ℕ) → e.reply ≡ reply_of (judge c s e.event) → e.event ≡ Event.Start session n → e.reply ≡ Reply.Done (Done.Started k m) → IsSpent n k s → ⊥
@@ -208,12 +194,6 @@ done-spends c s session n k o numbered accepted =
 
 -- ## an attempt of a node is begun once in a run, and reported only later
 
--- ## an entry at its place
-
--- each entry of a run has the machine's reply at its place
-pub reply-at : (c : Configuration) (a : List Entry) (d : Entry) (x : List Entry) (t : State) → Runs c (a ++ d ∷ x) t → d.reply ≡ reply_of (judge c (after c a) d.event)
-reply-at c a d x t runs = replied-at c (start c) a d x runs.replies
-
 -- the first place comes before the second
 abbrev IsBefore : List Entry → Entry → List Entry → Type 0
 IsBefore a d b = (between : List Entry) × (b ≡ a ++ d ∷ between)
@@ -237,11 +217,12 @@ places a d x b e y is = elim (cases_lt (length a) (length b)) [
 begun-stays : (c : Configuration) (a : List Entry) (d : Entry) (more : List Entry) (session : SessionId) (n : NodeId) (k m : ℕ) → d.reply ≡ reply_of (judge c (after c a) d.event) → d.event ≡ Event.Start session n → d.reply ≡ Reply.Done (Done.Started k m) → IsSpent n k (after c (a ++ d ∷ more))
 begun-stays c a d more session n k m says first_event first_reply =
     subst (IsSpent n k) (sym (state_after-append c (start c) a (d ∷ more)))
-    (spent-over n k c (next c (after c a) d.event) more (invariant-next c (after c a) d.event (holds-after c a)) (start-spends c (after c a) d session n k m (holds-after c a).numbered says first_event first_reply))
+    (given-over n (λ (node : NodeRecord). k ≤ node.attempts) (attempts-steady k) c (next c (after c a) d.event) more (invariant-next c (after c a) d.event (holds-after c a)) (start-spends c (after c a) d session n k m (holds-after c a).numbered says first_event first_reply))
 
 module _ (c : Configuration) (journal : List Entry) (t : State) (runs : Runs c journal t) where
+  -- each entry has the machine's reply at its place
   says-at : (a : List Entry) (d : Entry) (x : List Entry) → journal ≡ a ++ d ∷ x → d.reply ≡ reply_of (judge c (after c a) d.event)
-  says-at a d x at = reply-at c a d x t (subst (λ (j : List Entry). Runs c j t) at runs)
+  says-at a d x at = let there : Runs c (a ++ d ∷ x) t = subst (λ (j : List Entry). Runs c j t) at runs in replied-at c (start c) a d x there.replies
 
   -- no other start after it is answered with the same attempt
   not-again : (a : List Entry) (d : Entry) (x b : List Entry) (e : Entry) (y : List Entry) → journal ≡ a ++ d ∷ x → journal ≡ b ++ e ∷ y → (s1 s2 : SessionId) (n : NodeId) (k m1 m2 : ℕ)
@@ -278,7 +259,7 @@ report-later c journal t runs a d x b e y here there s1 s2 n k m o first_event f
   by (inr (inl before)) = subst (λ (j : List Entry). length a < length j) (sym before.1) (omega (arith, length-append a (d ∷ before.0)))
   by (inr (inr before)) =
       let later : IsSpent n k (after c (b ++ e ∷ before.0)) =
-      subst (IsSpent n k) (sym (state_after-append c (start c) b (e ∷ before.0))) (spent-over n k c (after c b) (e ∷ before.0) (holds-after c b) spent) in
+      subst (IsSpent n k) (sym (state_after-append c (start c) b (e ∷ before.0))) (given-over n (λ (node : NodeRecord). k ≤ node.attempts) (attempts-steady k) c (after c b) (e ∷ before.0) (holds-after c b) spent) in
       absurd (fresh (subst (λ (j : List Entry). IsSpent n k (after c j)) (sym before.1) later))
 
 -- # a session keeps its role over a run, and what a useful event says of its role
@@ -290,10 +271,8 @@ abbrev role_among : SessionId → List SessionFacts → Option Role
 role_among session rows = option_map (λ (f : SessionFacts). f.role) (facts_in session rows)
 
 role-changed : (other : SessionId) (f : SessionFacts → SessionFacts) → ((x : SessionFacts) → (f x).role ≡ x.role) → (session : SessionId) (rows : List SessionFacts) → role_among session (change_session other f rows) ≡ role_among session rows
-role-changed other f keeps session rows = by (session.0 == 0) where
-  by : (b : Bool) → option_map (λ (x : SessionFacts). x.role) (cond b None (slice_get (change_session other f rows) (session.0 - 1))) ≡ option_map (λ (x : SessionFacts). x.role) (cond b None (slice_get rows (session.0 - 1)))
-  by true = refl
-  by false = kept-change_at (λ (o : Option SessionFacts). option_map (λ x. x.role) o) (other.0 - 1) (session.0 - 1) f rows (λ x. ap (λ (role : Role). Some role) (keeps x))
+role-changed other f keeps session rows = by_bool (λ b. option_map (λ (x : SessionFacts). x.role) (cond b None (slice_get (change_session other f rows) (session.0 - 1))) ≡ option_map (λ (x : SessionFacts). x.role) (cond b None (slice_get rows (session.0 - 1)))) (session.0 == 0)
+    (λ _. refl) (λ _. kept-change_at (λ (o : Option SessionFacts). option_map (λ x. x.role) o) (other.0 - 1) (session.0 - 1) f rows (λ x. ap (λ (role : Role). Some role) (keeps x)))
 
 roles-settled : (change : SessionsChange) (session : SessionId) (rows : List SessionFacts) → role_among session (sessions_changed change rows) ≡ role_among session rows
 roles-settled SessionsChange.Same session rows = refl
@@ -308,12 +287,9 @@ role-grown c s ch session role is =
     ∙ is
 
 role-next : (c : Configuration) (s : State) (e : Event) (session : SessionId) (role : Role) → role_of session s ≡ Some role → role_of session (next c s e) ≡ Some role
-role-next c s e session role is = by (is_ok (judge c s e)) refl where
-  by : (b : Bool) → is_ok (judge c s e) ≡ b → role_of session (next c s e) ≡ Some role
-  by true ok =
-      let ch : Changes = plan c s e in
-      subst (λ (t : State). role_of session t ≡ Some role) (plan-next c s e ok) (roles-settled ch.sessions session (grown c ch.maker ch.grows s).sessions ∙ role-grown c s ch session role is)
-  by false refused = rw refused is
+role-next c s e session role is = if-accepted (λ t. role_of session t ≡ Some role) c s e is (λ ok.
+    let ch : Changes = plan c s e in
+    subst (λ (t : State). role_of session t ≡ Some role) (plan-next c s e ok) (roles-settled ch.sessions session (grown c ch.maker ch.grows s).sessions ∙ role-grown c s ch session role is))
 
 -- over entries
 pub role-over : (c : Configuration) (s : State) (more : List Entry) (session : SessionId) (role : Role) → role_of session s ≡ Some role → role_of session (state_after c s more) ≡ Some role
@@ -478,14 +454,12 @@ put-one P s t m before kept stands from same = comes P s t
 queue-left : (P : SessionId → Type 0) (s t : State) (m : NodeId) (session : SessionId) → t.nodes ≡ put_node_queue m (left session (node_queue m s.nodes)) s.nodes → Back P s t
 queue-left P s t m session same = comes P s t
     (λ n k is. record { old = k; stood = stood n k is; comes = same-record k })
-    (λ n k is. by n (m.0 == n.0) refl (ap (node_queue n) same ∙ node_queue-queue m n (left session (node_queue m s.nodes)) k s.nodes (stood n k is)))
+    (λ n k is. by_bool (λ b. node_queue n t.nodes ≡ cond b (left session (node_queue m s.nodes)) (node_queue n s.nodes) → IsLess (node_queue n t.nodes) (node_queue n s.nodes)) (m.0 == n.0)
+    (λ here now. inr (session, now ∙ ap (λ (x : NodeId). left session (node_queue x s.nodes)) (same_node-is m n here))) (λ other now. inl now)
+    (ap (node_queue n) same ∙ node_queue-queue m n (left session (node_queue m s.nodes)) k s.nodes (stood n k is)))
   where
     stood : (n : NodeId) (k : NodeRecord) → node_in n t.nodes ≡ Some k → node_in n s.nodes ≡ Some k
     stood n k is = sym (node_in-queue m n (left session (node_queue m s.nodes)) s.nodes) ∙ (ap (node_in n) (sym same) ∙ is)
-
-    by : (n : NodeId) (b : Bool) → (m.0 == n.0) ≡ b → node_queue n t.nodes ≡ cond b (left session (node_queue m s.nodes)) (node_queue n s.nodes) → IsLess (node_queue n t.nodes) (node_queue n s.nodes)
-    by n true here is = inr (session, is ∙ ap (λ (x : NodeId). left session (node_queue x s.nodes)) (same_node-is m n here))
-    by n false other is = inl is
 
 -- one session leaves all queues
 all-left : (P : SessionId → Type 0) (s t : State) (session : SessionId) → t.nodes ≡ map (node_left session) s.nodes → Back P s t
@@ -495,13 +469,11 @@ all-left P s t session same = comes P s t
 
 -- one node goes
 node-gone : (P : SessionId → Type 0) (s t : State) (m : NodeId) → Rises (λ a b. nat_lt a.id.0 b.id.0) s.nodes → t.nodes ≡ remove_node m s.nodes → Back P s t
-node-gone P s t m rises same = comes P s t (λ n k is. (by n k is (m.0 == n.0) refl).0) (λ n k is. (by n k is (m.0 == n.0) refl).1) where
-  by : (n : NodeId) (k : NodeRecord) → node_in n t.nodes ≡ Some k → (b : Bool) → (m.0 == n.0) ≡ b → Had s n k × IsLess (node_queue n t.nodes) (node_queue n s.nodes)
-  by n k is true here = absurd (none-some k (sym (node_in-removed m n s.nodes rises here) ∙ (ap (node_in n) (sym same) ∙ is)))
-  by n k is false other = (
-    record { old = k; stood = sym (node_in-remove m n s.nodes other) ∙ (ap (node_in n) (sym same) ∙ is); comes = same-record k },
-    inl (ap (node_queue n) same ∙ node_queue-remove m n s.nodes other),
-  )
+node-gone P s t m rises same = comes P s t (λ n k is. (by n k is).0) (λ n k is. (by n k is).1) where
+  by : (n : NodeId) (k : NodeRecord) → node_in n t.nodes ≡ Some k → Had s n k × IsLess (node_queue n t.nodes) (node_queue n s.nodes)
+  by n k is = by_bool (λ _. Had s n k × IsLess (node_queue n t.nodes) (node_queue n s.nodes)) (m.0 == n.0)
+      (λ here. absurd (none-some k (sym (node_in-removed m n s.nodes rises here) ∙ (ap (node_in n) (sym same) ∙ is))))
+      (λ other. (record { old = k; stood = sym (node_in-remove m n s.nodes other) ∙ (ap (node_in n) (sym same) ∙ is); comes = same-record k }, inl (ap (node_queue n) same ∙ node_queue-remove m n s.nodes other)))
 
 -- ready nodes are in use from now on
 
@@ -536,9 +508,6 @@ module _ (P : SessionId → Type 0) (s t : State) (m : NodeId) (r : RequestId) (
   taken-had n k is = had-mapped s n (taking n) k (node_in n s.nodes) refl (taken-is n k is) (λ old _. put-comes old (record old { allocated_to = Some r; tenant = tenant }) (m.0 == n.0)
       (λ _. record { of_pool = refl; server = refl; attempts = refl; up = λ u. u; flies = λ f. f }))
 
-  taken-queue : (n : NodeId) (k : NodeRecord) → node_in n t.nodes ≡ Some k → node_queue n t.nodes ≡ cond (m.0 == n.0) (joined session (node_queue n s.nodes)) (node_queue n s.nodes)
-  taken-queue n k is = ap (node_queue n) same ∙ node_queue-allocated m n r tenant session (taken-had n k is).old s.nodes (taken-had n k is).stood
-
   taken-idle : (n : NodeId) (k : NodeRecord) (o : Option NodeRecord) → node_in n s.nodes ≡ o → (m.0 == n.0) ≡ true → option_map (taking n) o ≡ Some k → k.in_flight ≡ false
   taken-idle n k None stood here is = absurd (none-some k is)
   taken-idle n k (Some old) stood here is =
@@ -547,7 +516,7 @@ module _ (P : SessionId → Type 0) (s t : State) (m : NodeId) (r : RequestId) (
       subst (λ (x : NodeRecord). x.in_flight ≡ false) (same_Some (taking n old) k is) (allocated-idle r tenant old (m.0 == n.0) idle)
 
   pub ready-taken : Back P s t
-  ready-taken = each-comes P s t (λ n k is. by n k is (m.0 == n.0) refl (taken-queue n k is)) where
+  ready-taken = each-comes P s t (λ n k is. by n k is (m.0 == n.0) refl (ap (node_queue n) same ∙ node_queue-allocated m n r tenant session (taken-had n k is).old s.nodes (taken-had n k is).stood)) where
     by : (n : NodeId) (k : NodeRecord) → node_in n t.nodes ≡ Some k → (b : Bool) → (m.0 == n.0) ≡ b → node_queue n t.nodes ≡ cond b (joined session (node_queue n s.nodes)) (node_queue n s.nodes) → Stays P s t n k ⊎ IsFresh P s t n k
     by n k is false other queue = inl (taken-had n k is, inl queue)
     by n k is true here queue =
@@ -629,9 +598,6 @@ module _ (P : SessionId → Type 0) (c : Configuration) (s : State) (whole : Inv
     by (Some k) stands = ready-taken P s (took_ready c s session r n request) n r (tenant_of_request c request) session k stands (take_ready-ready c s session what r n k ok stands)
         (take_ready-unheld c s session what r n ok (node_holder n s.nodes) refl) whole.owned.launches refl
 
-  making : (session : SessionId) (r : RequestId) (p : PoolId) (request : RequestRecord) (l : LabelId) → B (created c s session r p request l)
-  making session r p request l = node-made P s (created c s session r p request l) (made c s session r p request l) session refl refl refl refl whole.numbered.nodes_below refl
-
   fulfilling : (r : RequestId) (request : RequestRecord) (b : Bool) → is_some request.pinned ≡ b → B (fulfilled s r request)
   fulfilling r request true is = freed-all P s (fulfilled s r request) r (rw is refl)
   fulfilling r request false is = still P s (fulfilled s r request) (rw is refl)
@@ -640,17 +606,6 @@ module _ (P : SessionId → Type 0) (c : Configuration) (s : State) (whole : Inv
   taking-over session j what ok kept stands r asks request has =
       let own = owns-if s r request request.state (take-fulfilled c s session what j kept r request ok stands asks has) (whole.owned.requests r request has) in
       taken-over P s (taken s j kept r request) s.tick request.nodes (λ n k is listed. (owned-node s r request own n k listed is).0) refl
-
-  ending : (session : SessionId) (n : NodeId) (as_what : EndAs) (what : Done) → judge_end_node c s session n ≡ Ok what → (k : NodeRecord) → node_in n s.nodes ≡ Some k → B (node_ended s n as_what k)
-  ending session n as_what what ok k stands = put (node_ended s n as_what k) n k (record k { since = s.tick; state = ended_as as_what }) stands
-      (record { of_pool = refl; server = refl; attempts = refl; up = λ u. used-up k.state (end_node-used c s session what n k ok stands); flies = λ f. f }) refl
-
-  giving-up : (n : NodeId) (k : NodeRecord) → node_in n s.nodes ≡ Some k → B (given_up s n k)
-  giving-up n k stands = put (given_up s n k) n k (record k { in_flight = false; state = NodeState.Deleting }) stands
-      (record { of_pool = refl; server = refl; attempts = refl; up = λ u. absurd (false≢true u); flies = λ f. absurd (false≢true f) }) refl
-
-  freeing : (n : NodeId) (k : NodeRecord) → node_in n s.nodes ≡ Some k → B (node_freed s n k)
-  freeing n k stands = put (node_freed s n k) n k (freed k) stands (freed-comes k) refl
 
   effect-back : (e : Event) → is_plain e ≡ true → (what : Done) → judge c s e ≡ Ok what → B (effect c s e)
   effect-back (Event.Expire session) plain what ok = after_found-keeps B (session_of session s) s (expired s session) none (λ facts _. all-left P s _ session refl)
@@ -661,7 +616,7 @@ module _ (P : SessionId → Type 0) (c : Configuration) (s : State) (whole : Inv
   effect-back (Event.Create session r) plain what ok =
       after_given-keeps B (launcher s session) s (create_by c s session r) none (λ p _.
       after_found-keeps B (request_in r s.requests) s (create_for c s session r p) none (λ request _.
-      after_found-keeps B (next_label request) s (created c s session r p request) none (λ l _. making session r p request l)))
+      after_found-keeps B (next_label request) s (created c s session r p request) none (λ l _. node-made P s (created c s session r p request l) (made c s session r p request l) session refl refl refl refl whole.numbered.nodes_below refl)))
   effect-back (Event.Start session n) plain what ok = absurd (false≢true plain)
   effect-back (Event.Done session n attempt o) plain what ok = absurd (false≢true plain)
   effect-back (Event.Fulfil session r) plain what ok = after_found-keeps B (request_in r s.requests) s (fulfilled s r) none (λ request _. fulfilling r request (is_some request.pinned) refl)
@@ -671,11 +626,15 @@ module _ (P : SessionId → Type 0) (c : Configuration) (s : State) (whole : Inv
       after_found-keeps B (slice_get s.jobs j.0) s (take_for s j) none (λ kept stands.
       after_found-keeps B kept.request s (take_from s j kept) none (λ r asks.
       after_found-keeps B (request_in r s.requests) s (taken s j kept r) none (λ request has. taking-over session j what ok kept stands r asks request has)))
-  effect-back (Event.EndNode session n as_what) plain what ok = after_found-keeps B (node_in n s.nodes) s (node_ended s n as_what) none (λ k stands. ending session n as_what what ok k stands)
-  effect-back (Event.MarkDeleting session n) plain what ok = after_found-keeps B (node_in n s.nodes) s (given_up s n) none (λ k stands. giving-up n k stands)
+  effect-back (Event.EndNode session n as_what) plain what ok = after_found-keeps B (node_in n s.nodes) s (node_ended s n as_what) none (λ k stands.
+      put (node_ended s n as_what k) n k (record k { since = s.tick; state = ended_as as_what }) stands
+      (record { of_pool = refl; server = refl; attempts = refl; up = λ u. used-up k.state (end_node-used c s session what n k ok stands); flies = λ f. f }) refl)
+  effect-back (Event.MarkDeleting session n) plain what ok = after_found-keeps B (node_in n s.nodes) s (given_up s n) none (λ k stands.
+      put (given_up s n k) n k (record k { in_flight = false; state = NodeState.Deleting }) stands
+      (record { of_pool = refl; server = refl; attempts = refl; up = λ u. absurd (false≢true u); flies = λ f. absurd (false≢true f) }) refl)
   effect-back (Event.Gone session n) plain what ok = node-gone P s _ n whole.numbered.nodes_rise refl
   effect-back (Event.Reset session r) plain what ok = after_found-keeps B (request_in r s.requests) s (given_back s r) none (λ request _. freed-all P s _ r refl)
-  effect-back (Event.FreeNode session n) plain what ok = after_found-keeps B (node_in n s.nodes) s (node_freed s n) none (λ k stands. freeing n k stands)
+  effect-back (Event.FreeNode session n) plain what ok = after_found-keeps B (node_in n s.nodes) s (node_freed s n) none (λ k stands. put (node_freed s n k) n k (freed k) stands (freed-comes k) refl)
   effect-back _ plain what ok = still P s _ (grind (arith, nat_tests))
 
   -- records and queues come from those before a plain event
@@ -692,15 +651,12 @@ quiet-report p past e x1 = grind (arith, nat_tests)
 
 -- ## a node keeps its pool
 
-way-pool : (q : ℕ) (c : Configuration) (s : State) (ch : Changes) (n : NodeId) (node kept : NodeRecord) → Way c s ch n node kept → node.pool.0 ≡ q → kept.pool.0 ≡ q
-way-pool q c s ch n node kept way old = grind (arith, nat_tests)
-
 pool-steady : (q : ℕ) → IsSteady (λ node. node.pool.0 ≡ q)
 pool-steady q = record {
   allocated = λ r tenant node old. old;
   given_back = λ node old. old;
   taken_over = λ tick node old. old;
-  put = λ c s ch n node kept runs way old. way-pool q c s ch n node kept way old;
+  put = λ c s ch n node kept runs way old. grind (arith, nat_tests);
 }
 
 module _ (c : Configuration) where
@@ -739,11 +695,11 @@ module _ (c : Configuration) where
       (any-from (λ (t : Turn). is_node_of p n t.before) (start c) before e rest (is-of p n (after c before) k stands own))
 
   -- a node whose launch was begun for the pool was of it
-  pub begun-of : (session : SessionId) (n : NodeId) (attempt first : ℕ) (p : PoolId) (ts : List Turn) → SomeTurn (BeginsLaunch session n attempt first p) ts → was_node_of p n ts ≡ true
-  begun-of session n attempt first p [] begun = absurd begun
-  begun-of session n attempt first p (t ∷ ts) begun = ⊎_elim
+  pub begun_of : (session : SessionId) (n : NodeId) (attempt first : ℕ) (p : PoolId) (ts : List Turn) → SomeTurn (BeginsLaunch session n attempt first p) ts → was_node_of p n ts ≡ true
+  begun_of session n attempt first p [] begun = absurd begun
+  begun_of session n attempt first p (t ∷ ts) begun = ⊎_elim
       (λ (here : BeginsLaunch session n attempt first p t). or_left (is_node_of p n t.before) (was_node_of p n ts) (is-of p n t.before here.node here.stood here.of_pool))
-      (λ (later : SomeTurn (BeginsLaunch session n attempt first p) ts). or_right (is_node_of p n t.before) (was_node_of p n ts) (begun-of session n attempt first p ts later))
+      (λ (later : SomeTurn (BeginsLaunch session n attempt first p) ts). or_right (is_node_of p n t.before) (was_node_of p n ts) (begun_of session n attempt first p ts later))
       begun
 
   prefix-within : (x b xr br : List Entry) → x ++ xr ≡ b ++ br → length x ≤ length b → (z : List Entry) × (b ≡ x ++ z)

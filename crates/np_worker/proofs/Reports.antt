@@ -1,7 +1,7 @@
 -- which reports of a pool's launcher the machine would accept, that no launcher waits, and what a chosen event says
-use Rattle.np_worker.proofs.Prelude.{AllByRecursion, Ask, Bool, Changes, Configuration, Done, DrivenBy, DrivenFrom, Entry, Event, Invariant, IsChosen, IsDrivenTurn, IsLive, IsLiveQueue, IsOfRole, IsOfUse, IsReportOfLaunch, IsSweepOfServer, IsTickBetween, IsTurnAs, IsUseful, Launcher, List, Move, NodeEntry, NodeId, NodeRecord, None, Ok, Option, Outcome, PoolId, Reaper, Refusal, Result, Role, Says, SessionFacts, SessionId, SessionsChange, Sight, Some, SomeTurn, State, Walk, WasOfUse, WasUseful, after, after_found-keeps, after_given-keeps, all-filter, all-find, all-push, all-weaker, and_parts, answers, answers_of, ap, arith, as_launcher, asked, by_bool, change_session, cond, drop, effect, effect_lock_node, eqb-true, facts-grown, facts_in, false, false≢true, found, grown, holder, inl, inr, invariant-next, invariant-start, is_by_registrant, is_first, is_maker_of, is_ok, is_planned, is_session, is_session_of, is_up, joined, judge, judge_done, judge_start, launcher, launcher-role, left, length, list_any, maker_of, muted, nat_tests, need, next, next-keeps, node_holder, node_in, node_in-put, node_in-queue, node_queue, node_queue-nowhere, node_queue-put, node_queue-queue, not, ok-is, one-named, plan, plan-next, put_node, refl, retries_of, role_of, row_holds, same_Some, same_node-is, session-equal, sessions_changed, slice_get-change_at, slice_get-change_at_other, start, start_by, started, starts_of, state_after, subst, suc, sym, take, take-append-drop, true, turns, turns_from, with_act, zero, ℕ, [], ⊎_elim, ◌++◌, ◌+◌, ◌-◌, ◌==◌, ◌>>=◌, ◌>>◌, ◌∙◌, ◌∷◌, ◌≡◌, ◌≤◌, ◌⊎◌}
+use Rattle.np_worker.proofs.Prelude.{AllByRecursion, Ask, Bool, Changes, Configuration, Done, DrivenBy, DrivenFrom, Entry, Event, Invariant, IsChosen, IsDrivenTurn, IsLive, IsLiveQueue, IsOfRole, IsOfUse, IsReportOfLaunch, IsSweepOfServer, IsTickBetween, IsTurnAs, IsUseful, Launcher, List, Move, NodeEntry, NodeId, NodeRecord, None, Ok, Option, Outcome, PoolId, Refusal, Result, Role, Says, SessionFacts, SessionId, SessionsChange, Sight, Some, SomeTurn, State, Walk, WasOfUse, WasUseful, after, after_found-keeps, after_given-keeps, all-filter, all-find, all-push, all-weaker, and_parts, answers, answers_of, ap, arith, as_launcher, asked, by_bool, change_session, cond, drop, effect, effect_lock_node, eqb-true, facts-grown, facts_in, false, false≢true, found, grown, holder, inl, inr, invariant-next, invariant-start, is_by_registrant, is_first, is_maker_of, is_ok, is_planned, is_session, is_session_of, is_up, joined, judge, judge_done, judge_start, launcher, launcher-role, left, length, list_any, muted, nat_tests, need, next, next-keeps, node_holder, node_in, node_in-put, node_in-queue, node_queue, node_queue-nowhere, node_queue-put, node_queue-queue, not, ok-is, one-named, plan, plan-next, put_node, refl, retries_of, role_of, same_Some, same_node-is, session-equal, sessions_changed, slice_get-change_at, slice_get-change_at_other, start, start_by, started, starts_of, state_after, subst, suc, sym, take, take-append-drop, true, turns, turns_from, with_act, zero, ℕ, [], ⊎_elim, ◌++◌, ◌+◌, ◌==◌, ◌>>=◌, ◌>>◌, ◌∙◌, ◌∷◌, ◌≡◌, ◌≤◌, ◌⊎◌, AnswersAsBoard}
 use Rattle.np_changes.specs.Prelude.{acting, ended, launched, reported, Turn}
-use Rattle.np_worker.proofs.Records.{Back, Had, IsLess, IsStarting, MayReport, back-next, behind, current-role, is_plain, reporting, role-over, role-stays, same_launcher, same_role-is, start-leads, start-of_pool, starting, useful-done, useful-tickless}
+use Rattle.np_worker.proofs.Records.{Back, Had, IsLess, IsStarting, MayReport, back-next, behind, current-role, if-accepted, is_plain, reporting, role-over, role-stays, same_launcher, same_role-is, start-leads, start-of_pool, starting, useful-done, useful-tickless}
 use Rattle.np_worker.proofs.Journals.{turn_of, driven-at, turn_after, some-from, turns-append}
 use Rattle.np_worker.specs.declared.ask.Turn.{Turn as Answer}
 
@@ -30,22 +30,16 @@ settled-heard (SessionsChange.End other) session f p rows is now = ⊎_elim
 
 -- a session that was there, and may make events as a launcher, might before
 heard-before : (c : Configuration) (s : State) (e : Event) (session : SessionId) (p : PoolId) → IsLive s session → launcher (next c s e) session ≡ Ok p → launcher s session ≡ Ok p
-heard-before c s e session p live now = by (is_ok (judge c s e)) refl where
-  by : (b : Bool) → is_ok (judge c s e) ≡ b → launcher s session ≡ Ok p
-  by true ok =
-      let ch : Changes = plan c s e in
-      let later : heard (facts_in session (sessions_changed ch.sessions (grown c ch.maker ch.grows s).sessions)) ≡ Ok p = subst (λ (t : State). launcher t session ≡ Ok p) (sym (plan-next c s e ok)) now in
-      ap heard live.begun ∙ settled-heard ch.sessions session live.facts p (grown c ch.maker ch.grows s).sessions (facts-grown c ch.maker ch.grows s session live.facts live.begun) later
-  by false refused = let same : next c s e ≡ s = rw refused refl in subst (λ (t : State). launcher t session ≡ Ok p) same now
+heard-before c s e session p live = if-accepted (λ t. launcher t session ≡ Ok p → launcher s session ≡ Ok p) c s e (λ now. now) (λ ok now.
+    let ch : Changes = plan c s e in
+    let later : heard (facts_in session (sessions_changed ch.sessions (grown c ch.maker ch.grows s).sessions)) ≡ Ok p = subst (λ (t : State). launcher t session ≡ Ok p) (sym (plan-next c s e ok)) now in
+    ap heard live.begun ∙ settled-heard ch.sessions session live.facts p (grown c ch.maker ch.grows s).sessions (facts-grown c ch.maker ch.grows s session live.facts live.begun) later)
 
 -- ## queues
 
 -- what holds of each queue holds of the one that is found
 queue-all : (Q : List SessionId → Type 0) → Q [] → (n : NodeId) (rows : List NodeEntry) → AllByRecursion (λ e. Q e.queue) rows → Q (node_queue n rows)
 queue-all Q x1 n rows x2 = let found = all-find (λ (x : NodeEntry). Q x.queue) (λ x. x.id.0 == n.0) rows in grind (arith, nat_tests)
-
-queue-live : (c : Configuration) (s : State) (n : NodeId) → Invariant c s → AllByRecursion (IsLive s) (node_queue n s.nodes)
-queue-live c s n whole = (queue-all (IsLiveQueue s) (record { live = tt; once = tt }) n s.nodes whole.queued.at_nodes).live
 
 -- the first of a queue is one of it
 first-all : (P : SessionId → Type 0) (session : SessionId) (queue : List SessionId) → is_first session queue ≡ true → AllByRecursion P queue → P session
@@ -103,7 +97,7 @@ may-before c s e whole waits plain p session n k may =
     let t : State = next c s e in
     let back : Back (IsNoLauncher s) s t = back-next (IsNoLauncher s) c s whole e plain in
     let came : Had s n may.node × IsLess (node_queue n t.nodes) (node_queue n s.nodes) = back.launches n may.node may.stands may.flies in
-    let live : IsLive s session = first-all (IsLive s) session (node_queue n t.nodes) may.holds (less-all (IsLive s) (node_queue n t.nodes) (node_queue n s.nodes) came.1 (queue-live c s n whole)) in
+    let live : IsLive s session = first-all (IsLive s) session (node_queue n t.nodes) may.holds (less-all (IsLive s) (node_queue n t.nodes) (node_queue n s.nodes) came.1 ((queue-all (IsLiveQueue s) (record { live = tt; once = tt }) n s.nodes whole.queued.at_nodes).live)) in
     let who : launcher s session ≡ Ok p = heard-before c s e session p live may.who in
     record {
       who = who;
@@ -158,12 +152,10 @@ module _ (c : Configuration) (s : State) (by : SessionId) (m : NodeId) (such : I
       (λ (none : IsNoLauncher s session). absurd (no-launcher s session p none who))
       (joined-first (IsNoLauncher s) session by (node_queue m s.nodes) first such)
 
-  may-locked : (p : PoolId) (session : SessionId) (n : NodeId) (k : ℕ) → MayReport locking p session n k → MayReport s p session n k
-  may-locked p session n k may = may-same s locking p session n k may refl (lock-stood n (Some may.node) may.stands)
-      (lock-held p session n may.who (m.0 == n.0) refl (subst (λ (queue : List SessionId). is_first session queue ≡ true) (lock-queue n may.node may.stands) may.holds))
-
   pub may-before_lock : (p : PoolId) (session : SessionId) (n : NodeId) (k : ℕ) → MayReport (next c s (Event.LockNode by m)) p session n k → MayReport s p session n k
-  may-before_lock p session n k = next-keeps (λ t. MayReport t p session n k → MayReport s p session n k) c s (Event.LockNode by m) (λ may. may) (λ what _. may-locked p session n k)
+  may-before_lock p session n k = next-keeps (λ t. MayReport t p session n k → MayReport s p session n k) c s (Event.LockNode by m) (λ may. may) (λ what _ may.
+      may-same s locking p session n k may refl (lock-stood n (Some may.node) may.stands)
+      (lock-held p session n may.who (m.0 == n.0) refl (subst (λ (queue : List SessionId). is_first session queue ≡ true) (lock-queue n may.node may.stands) may.holds)))
 
   waits-locked_by : (n : NodeId) (o : Option NodeRecord) → node_in n (locking).nodes ≡ o → NoLauncherWaits s → AllByRecursion (IsNoLauncher s) (behind (node_queue n (locking).nodes))
   waits-locked_by n None is waits = subst (λ (queue : List SessionId). AllByRecursion (IsNoLauncher s) (behind queue)) (sym (node_queue-nowhere n (locking).nodes is)) tt
@@ -177,14 +169,9 @@ module _ (c : Configuration) (s : State) (by : SessionId) (m : NodeId) (such : I
 
 -- ## what a start and a report change: which reports the machine would accept, and which servers nodes have
 
--- ## a record that is put
-
 module _ (s t : State) (m : NodeId) (kept : NodeRecord) (same : t.nodes ≡ put_node m kept s.nodes) where
   -- another node's record is as it was
-  abbrev IsPut : NodeId → NodeRecord → Type 0
-  IsPut n k = (((m.0 == n.0) ≡ false) × (node_in n s.nodes ≡ Some k)) ⊎ (((m.0 == n.0) ≡ true) × (kept ≡ k))
-
-  put-is : (n : NodeId) (k : NodeRecord) → node_in n t.nodes ≡ Some k → IsPut n k
+  put-is : (n : NodeId) (k : NodeRecord) → node_in n t.nodes ≡ Some k → (((m.0 == n.0) ≡ false) × (node_in n s.nodes ≡ Some k)) ⊎ (((m.0 == n.0) ≡ true) × (kept ≡ k))
   put-is n k x1 = let put = node_in-put m n kept s.nodes in grind (arith, nat_tests)
 
   queue-is : (n : NodeId) → node_queue n t.nodes ≡ node_queue n s.nodes
@@ -270,9 +257,6 @@ pub record IsReportedBy (s : State) (e : Event) (n : NodeId) (k : NodeRecord) (x
   pub accepted : is_ok (judge_done s by n attempt) ≡ true
   pub who : launcher s by ≡ Ok k.pool
 
-kept-old : (s : State) (n : NodeId) (k : NodeRecord) → Had s n k → KeptServer s n k
-kept-old s n k had = record { old = had.old; stood = had.stood; of_pool = had.comes.of_pool; server = had.comes.server; up = had.comes.up }
-
 kept-same : (s : State) (n : NodeId) (k : NodeRecord) → node_in n s.nodes ≡ Some k → KeptServer s n k
 kept-same s n k stood = record { old = k; stood = stood; of_pool = refl; server = refl; up = λ u. u }
 
@@ -291,48 +275,34 @@ module _ (c : Configuration) (s : State) (by : SessionId) (m : NodeId) (a : ℕ)
       (put-is s t m (later c s by m a o r.node) refl n k (subst (λ (z : State). node_in n z.nodes ≡ Some k) (done-leads c s by m a o was.0 r accepted) is))
 
 module _ (c : Configuration) (s : State) (by : SessionId) (m : NodeId) (what : Done) (ok : judge_start s by m ≡ Ok what) where
+  start-server : (r : IsStarting s by m what) (n : NodeId) (k : NodeRecord) → m ≡ n → as-begun c s by m what ok r ≡ k → KeptServer s n k
+  start-server r n k x1 x2 = grind (arith, nat_tests)
+
   pub server-before_start : (n : NodeId) (k : NodeRecord) → node_in n (next c s (Event.Start by m)).nodes ≡ Some k → KeptServer s n k
   server-before_start n k is =
       let r = starting s by m what ok in
       let t : State = with_act (acting s (Event.Start by m)) (started s m r.pool r.node) in
       ⊎_elim (λ old. kept-same s n k old.1)
-      (λ (here : ((m.0 == n.0) ≡ true) × (as-begun c s by m what ok r ≡ k)).
-      let node : m ≡ n = same_node-is m n here.0 in
-      record {
-        old = r.node;
-        stood = ap (λ (z : NodeId). node_in z s.nodes) (sym node) ∙ r.stands;
-        of_pool = ap (λ (z : NodeRecord). z.pool.0) (sym here.1);
-        server = ap (λ (z : NodeRecord). z.server) (sym here.1);
-        up = λ u. subst (λ (z : NodeRecord). is_up z.state ≡ true) (sym here.1) u;
-      })
+      (λ (here : ((m.0 == n.0) ≡ true) × (as-begun c s by m what ok r ≡ k)). start-server r n k (same_node-is m n here.0) here.1)
       (put-is s t m (as-begun c s by m what ok r) refl n k (subst (λ (z : State). node_in n z.nodes ≡ Some k) (start-leads c s by m what r ok) is))
 
 -- a node that has a server had it before, or the event is the report of the server
 pub server-before : (c : Configuration) (s : State) (e : Event) → Invariant c s → (n : NodeId) (k : NodeRecord) (x : ℕ) → node_in n (next c s e).nodes ≡ Some k → k.server ≡ Some x → KeptServer s n k ⊎ IsReportedBy s e n k x
 server-before c s e whole n k x is has = of_event e is where
-  refused : (f : Event) → node_in n (next c s f).nodes ≡ Some k → is_ok (judge c s f) ≡ false → KeptServer s n k
-  refused f is out = kept-same s n k (let same : next c s f ≡ s = rw out refl in subst (λ (t : State). node_in n t.nodes ≡ Some k) same is)
-
-  done_by : (by : SessionId) (m : NodeId) (a : ℕ) (o : Outcome) (b : Bool) → is_ok (judge_done s by m a) ≡ b → node_in n (next c s (Event.Done by m a o)).nodes ≡ Some k → KeptServer s n k ⊎ IsReportedBy s (Event.Done by m a o) n k x
-  done_by by m a o true ok is = server-before_done c s by m a ok o n k x is has
-  done_by by m a o false out is = inl (refused (Event.Done by m a o) is out)
-
-  start_by' : (by : SessionId) (m : NodeId) (b : Bool) → is_ok (judge_start s by m) ≡ b → node_in n (next c s (Event.Start by m)).nodes ≡ Some k → KeptServer s n k
-  start_by' by m true ok is = let was : (what : Done) × (judge_start s by m ≡ Ok what) = ok-is (judge_start s by m) ok in server-before_start c s by m was.0 was.1 n k is
-  start_by' by m false out is = refused (Event.Start by m) is out
-
-  locked : (by : SessionId) (m : NodeId) → node_in n (next c s (Event.LockNode by m)).nodes ≡ Some k → KeptServer s n k
-  locked by m is = kept-same s n k (next-keeps (λ t. node_in n t.nodes ≡ Some k → node_in n s.nodes ≡ Some k) c s (Event.LockNode by m) (λ h. h) (λ what _ h. sym (node_in-queue m n (joined by (node_queue m s.nodes)) s.nodes) ∙ h) is)
+  -- the node stands where the event is refused, or what it comes from is known where it is accepted
+  accepted : (f : Event) → (is_ok (judge c s f) ≡ true → node_in n (next c s f).nodes ≡ Some k → KeptServer s n k ⊎ IsReportedBy s f n k x) → node_in n (next c s f).nodes ≡ Some k → KeptServer s n k ⊎ IsReportedBy s f n k x
+  accepted f = if-accepted (λ t. node_in n t.nodes ≡ Some k → KeptServer s n k ⊎ IsReportedBy s f n k x) c s f (λ stood. inl (kept-same s n k stood))
 
   plain : (f : Event) → is_plain f ≡ true → node_in n (next c s f).nodes ≡ Some k → KeptServer s n k
   plain f such is =
       let back : Back (IsNoLauncher s) s (next c s f) = back-next (IsNoLauncher s) c s whole f such in
-      kept-old s n k (back.servers n k x is has)
+      let had : Had s n k = back.servers n k x is has in
+      record { old = had.old; stood = had.stood; of_pool = had.comes.of_pool; server = had.comes.server; up = had.comes.up }
 
   of_event : (f : Event) → node_in n (next c s f).nodes ≡ Some k → KeptServer s n k ⊎ IsReportedBy s f n k x
-  of_event (Event.Start by m) is = inl (start_by' by m (is_ok (judge_start s by m)) refl is)
-  of_event (Event.Done by m a o) is = done_by by m a o (is_ok (judge_done s by m a)) refl is
-  of_event (Event.LockNode by m) is = inl (locked by m is)
+  of_event (Event.Start by m) is = accepted (Event.Start by m) (λ ok is. let was : (what : Done) × (judge_start s by m ≡ Ok what) = ok-is (judge_start s by m) ok in inl (server-before_start c s by m was.0 was.1 n k is)) is
+  of_event (Event.Done by m a o) is = accepted (Event.Done by m a o) (λ ok is. server-before_done c s by m a ok o n k x is has) is
+  of_event (Event.LockNode by m) is = inl (kept-same s n k (next-keeps (λ t. node_in n t.nodes ≡ Some k → node_in n s.nodes ≡ Some k) c s (Event.LockNode by m) (λ h. h) (λ what _ h. sym (node_in-queue m n (joined by (node_queue m s.nodes)) s.nodes) ∙ h) is))
   of_event f is = inl (plain f refl is)
 
 -- ## who waits
@@ -365,12 +335,9 @@ pub record IsPolite (s : State) (e : Event) : Type 0 where
 -- ## one event
 
 module _ (c : Configuration) (s : State) (e : Entry) where
-  stays-other : (session : SessionId) → IsNoLauncher s session → IsNoLauncher (next c s e.event) session
-  stays-other session is = record { role = is.role; begun = role-over c s (e ∷ []) session is.role is.begun; other = is.other }
-
   waits-next : Invariant c s → IsPolite s e.event → NoLauncherWaits s → NoLauncherWaits (next c s e.event)
   waits-next whole polite waits = record {
-    at = λ n. all-weaker (IsNoLauncher s) (IsNoLauncher (next c s e.event)) stays-other (behind (node_queue n (next c s e.event).nodes)) (of_event n e.event polite);
+    at = λ n. all-weaker (IsNoLauncher s) (IsNoLauncher (next c s e.event)) (λ session is. record { role = is.role; begun = role-over c s (e ∷ []) session is.role is.begun; other = is.other }) (behind (node_queue n (next c s e.event).nodes)) (of_event n e.event polite);
   } where
     of_event : (n : NodeId) (f : Event) → IsPolite s f → AllByRecursion (IsNoLauncher s) (behind (node_queue n (next c s f).nodes))
     of_event n (Event.Start by m) is = subst (λ (queue : List SessionId). AllByRecursion (IsNoLauncher s) (behind queue)) (sym (queue-put c s (Event.Start by m) refl n)) (waits.at n)
@@ -412,40 +379,25 @@ polite-at says c journal before e rest driven is = polite-turn says c (turns c b
 
 -- ## a useful event is of its role
 
--- a session that it opens is of the role
-useful-opens : (c : Configuration) (s : State) (role r : Role) → row_holds c s role (Event.OpenSession r) ≡ true → r ≡ role
-useful-opens c s role r is = grind (arith, nat_tests, same_role-is)
-
--- and only the reaper takes sessions away
-useful-crashes : (c : Configuration) (s : State) (role : Role) (session : SessionId) → row_holds c s role (Event.Crash session) ≡ true → role ≡ Reaper
-useful-crashes c s role session is = grind (arith, nat_tests)
-
-useful-expires : (c : Configuration) (s : State) (role : Role) (session : SessionId) → row_holds c s role (Event.Expire session) ≡ true → role ≡ Reaper
-useful-expires c s role session is = grind (arith, nat_tests)
-
 pub useful-of_role : (c : Configuration) (s : State) (role : Role) (e : Event) → IsUseful c s role e → IsOfRole role s e
-useful-of_role c s role e useful = record {
+useful-of_role c s role e useful = let row = useful.row in record {
   maker = λ session is. current-role role session s (subst (λ (o : Option SessionId). is_maker_of role s o ≡ true) is useful.maker);
-  opens = λ r is. useful-opens c s role r (subst (λ (x : Event). row_holds c s role x ≡ true) is useful.row);
-  crashes = λ session is. useful-crashes c s role session (subst (λ (x : Event). row_holds c s role x ≡ true) is useful.row);
-  expires = λ session is. useful-expires c s role session (subst (λ (x : Event). row_holds c s role x ≡ true) is useful.row);
+  opens = λ r is. grind (arith, nat_tests, same_role-is);
+  crashes = λ session is. grind (arith, nat_tests);
+  expires = λ session is. grind (arith, nat_tests);
 }
 
 -- ## an event that was planned
 
 -- no planned event opens a session or takes one away
-planned-of_role : (role : Role) (s : State) (e : Event) → is_planned e ≡ true → ((session : SessionId) → maker_of e ≡ Some session → role_of session s ≡ Some role) → IsOfRole role s e
-planned-of_role role s e planned makes = record {
-  maker = makes;
-  opens = λ r is. absurd (false≢true (ap is_planned (sym is) ∙ planned));
-  crashes = λ session is. absurd (false≢true (ap is_planned (sym is) ∙ planned));
-  expires = λ session is. absurd (false≢true (ap is_planned (sym is) ∙ planned));
-}
-
 was-of_role : (c : Configuration) (journal : List Entry) (role : Role) (e : Event) → WasUseful c journal role e → IsOfRole role (after c journal) e
-was-of_role c journal role e was = planned-of_role role (after c journal) e was.planned (λ session is.
-    subst (λ (j : List Entry). role_of session (after c j) ≡ Some role) (take-append-drop was.place journal)
-    (role-stays c (take was.place journal) (drop was.place journal) session role ((useful-of_role c (after c (take was.place journal)) role e was.useful).maker session is)))
+was-of_role c journal role e was = record {
+  maker = λ session is. subst (λ (j : List Entry). role_of session (after c j) ≡ Some role) (take-append-drop was.place journal)
+      (role-stays c (take was.place journal) (drop was.place journal) session role ((useful-of_role c (after c (take was.place journal)) role e was.useful).maker session is));
+  opens = λ r is. absurd (false≢true (ap is_planned (sym is) ∙ was.planned));
+  crashes = λ session is. absurd (false≢true (ap is_planned (sym is) ∙ was.planned));
+  expires = λ session is. absurd (false≢true (ap is_planned (sym is) ∙ was.planned));
+}
 
 -- the entry of a journal where a part of it ends, or the next one
 next-at : (k : ℕ) (journal : List Entry) (e : Entry) → k ≤ length journal → (d : Entry) × (rest : List Entry) × (journal ++ e ∷ [] ≡ take k journal ++ d ∷ rest)
@@ -529,9 +481,11 @@ module _ (c : Configuration) (journal : List Entry) where
   allowed-answer plans (Ask.Act r) (Answer.Did e) h = (inl h.0, h.1)
   allowed-answer plans a t h = h
 
+-- the answers of a board
+pub walk_as : {F : Type 0} (answers : F → List Entry → Ask → Answer → Type 0) (plans : Bool) (site : F → Configuration) → AnswersAsBoard plans site answers → (f : F) (ms : List Move) (v w : Sight Entry) → Walk answers f ms v w → Walk (answers_of plans) (site f) ms v w
+walk_as answers plans site told f [] v w h = h
+walk_as answers plans site told f (asked a t ∷ ms) v w h = (h.0, (h.1.0, h.1.1, told f h.1.0 a t h.1.2, h.1.3), walk_as answers plans site told f ms h.0 w h.2)
+walk_as answers plans site told f (move ∷ ms) v w h = walk_as answers plans site told f ms v w h
+
 pub allowed-walk : (plans : Bool) (c : Configuration) (ms : List Move) (v w : Sight Entry) → Walk answers c ms v w → Walk (answers_of plans) c ms v w
-allowed-walk plans c [] v w walk = walk
-allowed-walk plans c (asked a t ∷ ms) v w walk =
-    let it = walk.1 in
-    (walk.0, (it.0, it.1, allowed-answer c it.0 plans a t it.2, it.3), allowed-walk plans c ms walk.0 w walk.2)
-allowed-walk plans c (move ∷ ms) v w walk = allowed-walk plans c ms v w walk
+allowed-walk plans c = walk_as answers plans (λ f. f) (λ f history a t. allowed-answer f history plans a t) c

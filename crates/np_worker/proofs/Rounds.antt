@@ -1,25 +1,21 @@
 -- whole rounds of all players: each launch is reported once, and what other workers do
-use Rattle.np_worker.proofs.Prelude.{All, All-append, All-contains, All-nil, All-weaker, AreNamed, AreNumbered, AreRising, Ask, BeginsLaunch, Bool, Configuration, Contains, Contains-append_right, Done, DrivenAs, DrivenBy, DriverFacts, Driving, EachTurn, EndsAs, Entry, Event, HaveDriven, HaveDrivenAs, IsChosen, IsCutOff, IsDrivenTurn, IsOfUse, IsReportOfLaunch, IsRound, IsSweepOfServer, IsTickBetween, IsTurnAs, Launch, Launcher, List, NoMemory, NodeId, NodeRecord, None, Option, Outcome, Part, Player, PlayerEnd, PlaysFrom, PoolId, Reply, RequesterId, Result, Role, RoundEnd, Runs, Says, SessionId, Sight, Some, SomeTurn, StartsWith, Tag, Turn, WasAnswered, WasOfUse, Work, Worker, acting, after, ap, append-nil, append_assoc, arith, cases_lt, driving_in, driving_of, drivings_of, eq-eqb, eqb-true, false, false_from_ne_true, first_phase, inl, inr, is_ok, is_report_of, is_tick, judge, launch_of, launches_of, length, length-append, maker_of, map, node_in, of_pool, of_reaper, of_requester, refl, reported, role_of, same_Some, same_pool, start_state, subst, subst₂, suc, sym, true, turns, was_node_of, work_of, ℕ, [], ⊎_elim, ◌++◌, ◌<◌, ◌∙◌, ◌∷◌, ◌≡◌, ◌≢◌, ◌≤◌}
+use Rattle.np_worker.proofs.Prelude.{All, All-append, All-contains, All-nil, All-weaker, AreNamed, AreNumbered, AreRising, Ask, BeginsLaunch, Bool, Configuration, Contains, Contains-append_right, Done, DrivenAs, DrivenBy, DriverFacts, Driving, EachTurn, EndsAs, Entry, Event, HaveDriven, HaveDrivenAs, IsChosen, IsCutOff, IsDrivenTurn, IsOfUse, IsReportOfLaunch, IsRound, IsSweepOfServer, IsTickBetween, IsTurnAs, Launch, Launcher, List, NoMemory, NodeId, NodeRecord, Option, Outcome, Part, Player, PlayerEnd, PlaysFrom, PoolId, Reply, Result, RoundEnd, Runs, Says, SessionId, Sight, Some, SomeTurn, StartsWith, Tag, Turn, WasAnswered, WasOfUse, Work, Worker, after, ap, append-nil, append_assoc, arith, cases_lt, driving_in, driving_of, drivings_of, eq-eqb, eqb-true, false, false_from_ne_true, first_phase, inl, inr, is_ok, is_report_of, is_tick, judge, launch_of, launches_of, length, length-append, maker_of, map, node_in, of_pool, refl, reported, role_of, same_Some, same_pool, start_state, subst, subst₂, suc, sym, true, turns, was_node_of, work_of, ℕ, [], ⊎_elim, ◌++◌, ◌<◌, ◌∙◌, ◌∷◌, ◌≡◌, ◌≢◌, ◌≤◌}
 use Rattle.np_worker.proofs.Reports.{chosen-accepted, chosen-done, chosen-start, chosen-tickless, chosen-turn, may-report, polite-at, waits-after}
-use Rattle.np_worker.proofs.Made.{Cause, Follows, HasReported, IsActed, IsReported, IsSwept, answer-kept, answer-new, each_made, numbered-now, of-cause, one-end, places_new, places_rise, player-there, player_of, round-of, servers_named}
-use Rattle.np_worker.proofs.Walks.{split-outer, split-within, length-split, same-split, none-between}
-use Rattle.np_worker.proofs.Journals.{act-work, driven-at, driven-from, each-from, names-later, report-event, some-from, some-place, start-parts, tick-event, turn-as, turn-more_as, turn_after}
+use Rattle.np_worker.proofs.Made.{Cause, HasReported, IsActed, IsReported, IsSwept, answer-kept, answer-new, each_made, numbered-now, of-cause, one-end, player-there, player_of, round-of, servers_named, rises}
+use Rattle.np_worker.proofs.Walks.{split-outer, split-within, length-split, same-split, none-between, rising_least, rising_lower}
+use Rattle.np_worker.proofs.Journals.{act-work, driven-at, each-from, names-later, report-event, some-from, some-place, start-parts, tick-event, turn-as, turn-more_as, turn_after, each-as, each-passes}
 use Rattle.np_worker.proofs.Records.{never-of, once, quiet-report, report-later, role-stays}
-use Rattle.np_worker.proofs.Leaving.{sweep-removes}
+use Rattle.np_worker.proofs.Leaving.{sweep_removes}
 use Rattle.np_worker.proofs.Acts.{IsForeign}
 
 -- # Rounds, by the kind of worker.
 
 module _ {F : Type 0} {answers : F → List Entry → Ask → Turn → Type 0} {f : F} {D : Type 0} (facts : D → DriverFacts) (plan : D → Tag → Option Outcome) (sound : D → List ℕ → Bool) (room : D → ℕ) where
-  pub requester_round : (w : Worker D) (q : RequesterId) {v u : Sight Entry} (r : Result RoundEnd NoMemory) → w ≡ Worker.Requester q
-      → Part answers f (acting (Role.Requester q) 16) v u None None (EndsAs (of_requester q) None None r)
-      → Part answers f (first_phase (work_of w)) v u (driving_of facts plan sound room w) None (EndsAs (work_of w) (driving_of facts plan sound room w) None r)
-  requester_round w q {v} {u} r h p = subst (λ (x : Worker D). Part answers f (first_phase (work_of x)) v u (driving_of facts plan sound room x) None (EndsAs (work_of x) (driving_of facts plan sound room x) None r)) (sym h) p
-
-  pub reaper_round : (w : Worker D) {v u : Sight Entry} (r : Result RoundEnd NoMemory) → w ≡ Worker.Reaper
-      → Part answers f (acting Role.Reaper 16) v u None None (EndsAs of_reaper None None r)
-      → Part answers f (first_phase (work_of w)) v u (driving_of facts plan sound room w) (driving_of facts plan sound room w) (EndsAs (work_of w) (driving_of facts plan sound room w) (driving_of facts plan sound room w) r)
-  reaper_round w {v} {u} r h p = subst (λ (x : Worker D). Part answers f (first_phase (work_of x)) v u (driving_of facts plan sound room x) (driving_of facts plan sound room x) (EndsAs (work_of x) (driving_of facts plan sound room x) (driving_of facts plan sound room x) r)) (sym h) p
+  -- the round of a worker that is this one, before and after it
+  pub round_of : (w x v : Worker D) {s u : Sight Entry} (r : Result RoundEnd NoMemory) → w ≡ v → x ≡ v
+      → Part answers f (first_phase (work_of v)) s u (driving_of facts plan sound room v) (driving_of facts plan sound room v) (EndsAs (work_of v) (driving_of facts plan sound room v) (driving_of facts plan sound room v) r)
+      → Part answers f (first_phase (work_of w)) s u (driving_of facts plan sound room w) (driving_of facts plan sound room x) (EndsAs (work_of w) (driving_of facts plan sound room w) (driving_of facts plan sound room x) r)
+  round_of w x v {s} {u} r h k p = subst₂ (λ (y z : Worker D). Part answers f (first_phase (work_of y)) s u (driving_of facts plan sound room y) (driving_of facts plan sound room z) (EndsAs (work_of y) (driving_of facts plan sound room y) (driving_of facts plan sound room z) r)) (sym h) (sym k) p
 
 -- # a round reports a launch once
 
@@ -118,11 +114,6 @@ module _ (c : Configuration) (later : List Entry) (runs : Runs c later (after c 
 
 -- ## the entries of a round: who made each, and why
 
-same-cause : (plans : Bool) (c : Configuration) (stood before : List Entry) (entry e : Entry) (work : Work) (mine : List ℕ) (launches : List Launch) → stood ≡ before → entry ≡ e
-    → Cause plans c stood entry work (Unit {0}) mine launches → Cause plans c before e work (Unit {0}) mine launches
-same-cause plans c stood before entry e work mine launches one two cause =
-    subst₂ (λ (b : List Entry) (d : Entry). Cause plans c b d work (Unit {0}) mine launches) one two cause
-
 -- which end the entry after the journal belongs to, and why it was made
 pub record NewEntry (plans : Bool) (c : Configuration) (history : List Entry) (ends : List PlayerEnd) (before : List Entry) (e : Entry) : Type 0 where
   pub end : PlayerEnd
@@ -159,7 +150,7 @@ module _ {plans : Bool} (c : Configuration) (history later : List Entry) (player
         mine = m.made;
         player = p.player;
         plays = p.plays;
-        cause = same-cause plans c made.before before made.entry e p.player.work m.end.sight.mine (launches_of p.plays.trace) same.0 same.1 made.cause;
+        cause = subst₂ (λ (b : List Entry) (d : Entry). Cause plans c b d p.player.work (Unit {0}) m.end.sight.mine (launches_of p.plays.trace)) same.0 same.1 made.cause;
       }
 
   -- an entry of an earlier place is one of the history
@@ -170,14 +161,6 @@ module _ {plans : Bool} (c : Configuration) (history later : List Entry) (player
       split-within before history rest goes_on.0 e same old
 
 -- # a round of all players leaves a driven journal
-
--- the first of two that follow one another is among them
-follows-there : (mine : List ℕ) (i x : ℕ) → Follows mine i x → Contains mine i
-follows-there mine i x f = subst (λ (places : List ℕ). Contains places i) (sym f.splits) (Contains-append_right f.earlier (i ∷ x ∷ f.later) i (0, omega arith, refl))
-
-none-within : (mine : List ℕ) (i x y end : ℕ) → AreRising 0 mine end → Follows mine i x → Contains mine y → i < y → y < x → ⊥
-none-within mine i x y end rises f there above below =
-    none-between 0 f.earlier i x f.later end y (subst (λ (places : List ℕ). AreRising 0 places end) f.splits rises) (subst (λ (places : List ℕ). Contains places y) f.splits there) above below
 
 pub numbered-after : (plans : Bool) (c : Configuration) (history later : List Entry) (players now : List Player) (is_cut : Bool) → IsRound plans c history later players now is_cut → AreNumbered 0 players → AreNumbered 0 now
 numbered-after plans c history later players now is_cut round are = subst (λ (ps : List Player). AreNumbered 0 ps) round.players_now (numbered-now plans c history 0 players round.ends round.plays are)
@@ -197,15 +180,15 @@ module _ {plans : Bool} (c : Configuration) (history later : List Entry) (player
     start = begins c later runs r.start.session r.start.tag.node r.start.tag.attempt plans before e rest is new.player.work r refl refl refl
 
     start-new : length history ≤ length r.earlier
-    start-new = places_new c history new.player new.end new.plays (length r.earlier) (follows-there new.end.sight.mine (length r.earlier) (length before) told.1)
+    start-new = rising_least (length history) (length new.end.sight.seen) new.end.sight.mine (rises c history new.player new.end new.plays).1 (length r.earlier) (subst (λ (places : List ℕ). Contains places (length r.earlier)) (sym told.1.splits) (Contains-append_right told.1.earlier (length r.earlier ∷ length before ∷ told.1.later) (length r.earlier) (0, omega arith, refl)))
 
     -- the worker of the pool made no entry between the start and the report
     not-between : (b : List Entry) (u : Entry) (other : NewEntry plans c history round.ends b u) → other.player.work ≡ of_pool r.pool → length r.earlier < length b → length b < length before → ⊥
     not-between b u other work above below =
         let same : other.end ≡ new.end = one-end 0 round.ends (now-numbered c history later players now is_cut round have) other.end new.end other.there new.there r.pool (other.plays.work ∙ work) (new.plays.work ∙ r.own) in
-        none-within new.end.sight.mine (length r.earlier) (length before) (length b) (length new.end.sight.seen)
-        (places_rise c history new.player new.end new.plays) told.1
-        (subst (λ (x : PlayerEnd). Contains x.sight.mine (length b)) same other.mine) above below
+        none-between 0 told.1.earlier (length r.earlier) (length before) told.1.later (length new.end.sight.seen) (length b)
+        (subst (λ (places : List ℕ). AreRising 0 places (length new.end.sight.seen)) told.1.splits (rising_lower (length history) 0 (length new.end.sight.seen) new.end.sight.mine (omega arith) (rises c history new.player new.end new.plays).1))
+        (subst (λ (places : List ℕ). Contains places (length b)) told.1.splits (subst (λ (x : PlayerEnd). Contains x.sight.mine (length b)) same other.mine)) above below
 
     no-report : (b : List Entry) (u : Entry) (more : List Entry) → before ≡ b ++ u ∷ more → (o : Outcome) → u.event ≡ Event.Done r.start.session r.start.tag.node r.start.tag.attempt o → ⊥
     no-report b u more inner o event =
@@ -262,7 +245,7 @@ module _ {plans : Bool} (c : Configuration) (history later : List Entry) (player
     number = s.node;
     server = s.server;
     event = s.answer.2.event;
-    removed = sweep-removes c before s.pool s.node s.server e s.answer;
+    removed = sweep_removes c before s.pool s.node s.server e s.answer;
     current = s.answer.2.current;
     named = s.named tt;
     unswept = s.answer.1;
@@ -281,17 +264,14 @@ module _ {plans : Bool} (c : Configuration) (history later : List Entry) (player
   old-driven : (before : List Entry) (e : Entry) (rest : List Entry) → later ≡ before ++ e ∷ rest → length before < length history → IsTurnAs (WasAnswered (drivings_of players-now)) plans c (turns c before) (turn_after c before e)
   old-driven before e rest is old =
       let z = old-entry c history later players now is_cut round have before e rest is old in
-      turn-more_as c (WasAnswered (drivings_of players)) (WasAnswered (drivings_of players-now)) (answer-kept plans c history players round.ends round.plays) plans (turns c before) (turn_after c before e)
+      turn-more_as c (WasAnswered (drivings_of players)) (WasAnswered (drivings_of players-now)) (answer-kept plans c history players round.ends round.plays have.numbered) plans (turns c before) (turn_after c before e)
       (driven-at c (WasAnswered (drivings_of players)) plans history before e z.0 have.driven z.1)
 
   -- the journal stays driven, by the players as they are now
   pub round-driven : DrivenAs (WasAnswered (drivings_of now)) plans c later
   round-driven = subst (λ (ps : List Player). DrivenAs (WasAnswered (drivings_of ps)) plans c later) round.players_now
-      (driven-from c (WasAnswered (drivings_of players-now)) plans later
-      (λ before e rest is. ⊎_elim (old-driven before e rest is) (new-driven before e rest is) (cases_lt (length before) (length history))))
-
-  pub round-numbered : AreNumbered 0 now
-  round-numbered = numbered-after plans c history later players now is_cut round have.numbered
+      (each-as c says plans later (each-passes c (IsTurnAs says plans c) [] (start_state c) later
+      (λ before e rest is. ⊎_elim (old-driven before e rest is) (new-driven before e rest is) (cases_lt (length before) (length history)))))
 
   -- no tick is among its entries
   pub round-no-tick : (before : List Entry) (e : Entry) (rest : List Entry) → later ≡ before ++ e ∷ rest → length history ≤ length before → is_tick e.event ≡ false
@@ -384,5 +364,5 @@ module _ {plans : Bool} (c : Configuration) (history later : List Entry) (player
   round-have-driven = record {
     driven = round-driven c history later players now is_cut round runs have;
     named = subst (λ (ps : List Player). All (AreNamed c later) (drivings_of ps)) round.players_now (all-drivings (AreNamed c later) round.ends end-named);
-    numbered = round-numbered c history later players now is_cut round runs have;
+    numbered = numbered-after plans c history later players now is_cut round have.numbered;
   }

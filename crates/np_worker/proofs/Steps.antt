@@ -1,5 +1,5 @@
 -- what follows a phase of a round, case by case: what a turn may begin, name or remove, and how a round ends
-use Rattle.np_worker.proofs.Prelude.{AreAsksOf, AreInOrder, AreReported, Ask, Bool, EndsWhereFull, Entry, Event, IfSome, IsAskOf, IsLone, IsOfServer, IsOfWork, IsPastJanitor, IsPastLauncher, IsPlayed, IsReported, Launch, Leads, List, MayAsk, MayLaunch, MayRemove, Move, NodeId, None, Option, Outcome, OwesRemoval, Phase, PoolId, Reports, RequesterId, Role, Server, Some, Stage, Start, Tag, TookAll, Turn, WasFull, WasIdle, WentFar, Work, acting, acts, after_act, after_launch, after_look, after_removal, after_report, after_start, after_sweep, after_turn, ap, append-nil, append_assoc, arith, ask_of, asked, cond, did_count, ended, false, first_phase, inl, inr, is_did, is_idle, is_janitor_act, is_launcher_act, is_lone_act, is_unwanted, launched, launches_of, looks, map, nat_tests, of_pool, of_reaper, of_requester, owed_tags, owes_due, owes_launch, owes_report, owes_swept, phase_of, player, refl, removed, report_of, rests, server_in, stage_of, start_made, start_of, steps_left, subst, suc, sweeps, sym, tags_launched, tags_of, true, zero, ℕ, [], ◌&&◌, ◌++◌, ◌+◌, ◌<◌, ◌∙◌, ◌∷◌, ◌≡◌, ◌≤◌, ◌⊎◌}
+use Rattle.np_worker.proofs.Prelude.{AreAsksOf, AreInOrder, AreReported, Ask, Bool, EndsWhereFull, Event, IfSome, IsAskOf, IsLone, IsOfServer, IsOfWork, IsPastJanitor, IsPastLauncher, IsPlayed, IsReported, Launch, Leads, List, MayAsk, MayLaunch, MayRemove, Move, NodeId, Outcome, OwesRemoval, Phase, PoolId, Reports, RequesterId, Role, Server, Some, Stage, Start, Tag, TookAll, Turn, WasFull, WasIdle, WentFar, Work, acting, acts, after_launch, after_removal, after_turn, ap, append-nil, append_assoc, arith, ask_of, asked, cond, did_count, ended, false, first_phase, inl, inr, is_did, is_idle, is_janitor_act, is_launcher_act, is_lone_act, launched, launches_of, looks, map, nat_tests, of_pool, of_reaper, of_requester, owed_tags, owes_due, owes_launch, owes_report, owes_swept, phase_of, player, refl, removed, rests, stage_of, start_made, steps_left, subst, suc, sweeps, sym, tags_launched, tags_of, true, zero, ℕ, [], ◌&&◌, ◌++◌, ◌+◌, ◌<◌, ◌∙◌, ◌∷◌, ◌≡◌, ◌≤◌, ◌⊎◌}
 use Rattle.np_worker.specs.Trace.{starts_of, NamesServer, AreNamed}
 
 -- # What follows a phase, case by case.
@@ -17,59 +17,6 @@ goes_on P act look sweep rest (Role.Janitor pool) zero = sweep pool
 goes_on P act look sweep rest r zero = rest
 goes_on P act look sweep rest (Role.Janitor pool) (suc n) = look pool n
 goes_on P act look sweep rest r (suc n) = act r n
-
--- what holds of each turn, in each phase, and of the phase that it leads to
-pub record TurnCases (P : Phase → Ask → Turn → Phase → Type 0) : Type 0 where
-  -- the journal has no room
-  pub full : (p : Phase) (a : Ask) → MayAsk p a → P p a Turn.Full ended
-  -- a role made an entry that is no start, made a start, or had nothing to do
-  pub entry : (r : Role) (n : ℕ) (e : Entry) → start_made (Ask.Act r) (Turn.Did e) ≡ None → P (acts r n) (Ask.Act r) (Turn.Did e) (acting r n)
-  pub start : (pool : PoolId) (n : ℕ) (e : Entry) (s : Start) → start_of pool e ≡ Some s → P (acts (Role.Launcher pool) n) (Ask.Act (Role.Launcher pool)) (Turn.Did e) (owes_launch pool n s)
-  pub idle : (r : Role) (n : ℕ) (t : Turn) → is_idle t ≡ true → P (acts r n) (Ask.Act r) t (acting r 0)
-  -- a launch was reported
-  pub report : (pool : PoolId) (n : ℕ) (s : Start) (o : Outcome) (t : Turn) → P (owes_report pool n s o) (Ask.Do (report_of s o)) t (acting (Role.Launcher pool) n)
-  -- a due node has a server, or there is none to remove
-  pub due_server : (pool : PoolId) (n : ℕ) (node : NodeId) (x : ℕ) → P (looks pool n) (Ask.Due pool) (Turn.DueNode node (Some x)) (owes_due pool n x)
-  pub look : (pool : PoolId) (n : ℕ) (t : Turn) → P (looks pool n) (Ask.Due pool) t (acts (Role.Janitor pool) n)
-  -- nobody wants the server that was asked about, or it is kept
-  pub swept_server : (pool : PoolId) (node : NodeId) (x : ℕ) (t : Turn) → is_unwanted t ≡ true → P (sweeps pool) (Ask.Sweep pool node x) t (owes_swept pool x)
-  pub sweep : (pool : PoolId) (node : NodeId) (x : ℕ) (t : Turn) → P (sweeps pool) (Ask.Sweep pool node x) t (sweeps pool)
-
--- then it holds of every turn that may come
-module _ (P : Phase → Ask → Turn → Phase → Type 0) (c : TurnCases P) where
-  of_start : (pool : PoolId) (n : ℕ) (e : Entry) (o : Option Start) → start_of pool e ≡ o → P (acts (Role.Launcher pool) n) (Ask.Act (Role.Launcher pool)) (Turn.Did e) (after_start pool n o)
-  of_start pool n e None h = c.entry (Role.Launcher pool) n e h
-  of_start pool n e (Some s) h = c.start pool n e s h
-
-  of_act : (r : Role) (n : ℕ) (t : Turn) → P (acts r n) (Ask.Act r) t (after_act r n t)
-  of_act (Role.Launcher pool) n (Turn.Did e) = of_start pool n e (start_of pool e) refl
-  of_act r n (Turn.Did e) = c.entry r n e refl
-  of_act r n Turn.Full = c.full (acts r n) (Ask.Act r) refl
-  of_act r n t = c.idle r n t refl
-
-  of_report : (pool : PoolId) (n : ℕ) (s : Start) (o : Outcome) (t : Turn) → P (owes_report pool n s o) (Ask.Do (report_of s o)) t (after_report pool n t)
-  of_report pool n s o Turn.Full = c.full (owes_report pool n s o) (Ask.Do (report_of s o)) refl
-  of_report pool n s o t = c.report pool n s o t
-
-  of_look : (pool : PoolId) (n : ℕ) (t : Turn) → P (looks pool n) (Ask.Due pool) t (after_look pool n t)
-  of_look pool n Turn.Full = c.full (looks pool n) (Ask.Due pool) refl
-  of_look pool n (Turn.DueNode node (Some x)) = c.due_server pool n node x
-  of_look pool n t = c.look pool n t
-
-  of_answer : (pool : PoolId) (node : NodeId) (x : ℕ) (t : Turn) (b : Bool) → is_unwanted t ≡ b → P (sweeps pool) (Ask.Sweep pool node x) t (cond b (owes_swept pool x) (sweeps pool))
-  of_answer pool node x t true h = c.swept_server pool node x t h
-  of_answer pool node x t false h = c.sweep pool node x t
-
-  of_sweep : (pool : PoolId) (node : NodeId) (x : ℕ) (t : Turn) → P (sweeps pool) (Ask.Sweep pool node x) t (after_sweep pool x t)
-  of_sweep pool node x Turn.Full = c.full (sweeps pool) (Ask.Sweep pool node x) (node, x, refl)
-  of_sweep pool node x t = of_answer pool node x t (is_unwanted t) refl
-
-  pub of_turn : (p : Phase) (a : Ask) (t : Turn) → MayAsk p a → P p a t (after_turn p a t)
-  of_turn (acts r n) a t h = subst (λ (b : Ask). P (acts r n) b t (after_act r n t)) (sym h) (of_act r n t)
-  of_turn (owes_report pool n s o) a t h = subst (λ (b : Ask). P (owes_report pool n s o) b t (after_report pool n t)) (sym h) (of_report pool n s o t)
-  of_turn (looks pool n) a t h = subst (λ (b : Ask). P (looks pool n) b t (after_look pool n t)) (sym h) (of_look pool n t)
-  of_turn (sweeps pool) a t h = subst (λ (b : Ask). P (sweeps pool) b t (after_sweep pool (server_in b) t)) (sym h.2) (of_sweep pool h.0 h.1 t)
-  of_turn p a t h = absurd h
 
 -- what holds of a launch, when one may come, and of the phase after it
 pub of_launch : (P : Phase → Tag → Phase → Type 0) → ((pool : PoolId) (n : ℕ) (s : Start) (o : Outcome) → P (owes_launch pool n s) s.tag (owes_report pool n s o)) → (p : Phase) (tag : Tag) (o : Outcome) → MayLaunch p tag → P p tag (after_launch p o)
@@ -100,14 +47,10 @@ starts_launched p q (removed y ∷ ms) h = of_removal (λ u s. owed_tags u ++ st
 -- ## reports
 
 reports : (pool : PoolId) (n : ℕ) (s : Start) (o : Outcome) (ms : List Move) (q : Phase) → Leads (owes_report pool n s o) ms q → Reports s o ms q
-reports pool n s o [] q h = (pool, n, sym h)
-reports pool n s o (asked a t ∷ ms) q h = h.0
-reports pool n s o _ q h = absurd h.0
+reports pool n s o ms q x1 = grind (arith, nat_tests)
 
 is_reported : (pool : PoolId) (n : ℕ) (s : Start) (ms : List Move) (q : Phase) → Leads (owes_launch pool n s) ms q → IsReported s ms q
-is_reported pool n s [] q h = (pool, n, sym h)
-is_reported pool n s (launched tag o ∷ ms) q h = (h.0, reports pool n s o ms q h.1)
-is_reported pool n s _ q h = absurd h.0
+is_reported pool n s ms q x1 = grind (arith, nat_tests, reports)
 
 -- the start of a turn, if there is one, is launched and reported in the moves that come next
 turn_reported : (p q : Phase) (a : Ask) (t : Turn) (ms : List Move) → MayAsk p a → Leads (after_turn p a t) ms q → IfSome (start_made a t) (λ s. IsReported s ms q)
@@ -166,14 +109,10 @@ NamedBut p (launched tag o ∷ ms) = AreNamed ms
 NamedBut p (removed x ∷ ms) = MayRemove p x × AreNamed ms
 
 all_named : (p : Phase) (ms : List Move) → ((x : ℕ) → MayRemove p x → ⊥) → NamedBut p ms → AreNamed ms
-all_named p [] none h = tt
-all_named p (removed x ∷ ms) none h = absurd (none x h.0)
-all_named p _ none h = h
+all_named p ms x1 x2 = grind (arith, nat_tests)
 
 named_after : (a : Ask) (t : Turn) (s : Phase) (ms : List Move) → ((x : ℕ) → MayRemove s x → NamesServer a t x) → NamedBut s ms → AreNamed (asked a t ∷ ms)
-named_after a t s [] names h = tt
-named_after a t s (removed x ∷ ms) names h = (names x h.0, h.1)
-named_after a t s _ names h = h
+named_after a t s ms x1 x2 = grind (arith, nat_tests)
 
 named_but : (p q : Phase) (ms : List Move) → Leads p ms q → NamedBut p ms
 named_but p q [] h = tt
@@ -186,9 +125,6 @@ are_named p q ms free h = all_named p ms (λ x m. free (of_removal (λ u s. Owes
 
 -- # The end of a round whose turn found no room in the journal.
 
-pub role_goes : (r : Role) (n : ℕ) → acting r n ≡ ended → ⊥
-role_goes r n x1 = grind (arith, nat_tests)
-
 -- only a turn that found the journal full leads to the end
 turn_ends : (p : Phase) (a : Ask) (t : Turn) → MayAsk p a → (t ≡ Turn.Full) ⊎ (after_turn p a t ≡ ended → ⊥)
 turn_ends p a t x1 = grind (arith, nat_tests)
@@ -199,24 +135,19 @@ ends_full p q (asked a t ∷ ms) free h k = elim (turn_ends p a t h.0) [ inl e �
 ends_full p q (launched tag o ∷ ms) free h k = ends_full (after_launch p o) q ms (of_launch (λ u x s. s ≡ ended → ⊥) (λ pool n s x e. cc) p tag o h.0) h.1 k
 ends_full p q (removed x ∷ ms) free h k = ends_full (after_removal p) q ms (of_removal (λ u s. s ≡ ended → ⊥) (λ pool n y e. cc) (λ pool y e. cc) p x h.0) h.1 k
 
-pub full_ends : (p : Phase) (a : Ask) → MayAsk p a → after_turn p a Turn.Full ≡ ended
-full_ends p a x1 = grind (arith, nat_tests)
-
 -- nothing comes after such a turn
 full_stops : (p q : Phase) (a : Ask) (t : Turn) (ms : List Move) → MayAsk p a → Leads (after_turn p a t) ms q → t ≡ Turn.Full → (ms ≡ []) × (q ≡ ended)
-full_stops p q a t ms m h e = nothing_more q ms (subst (λ (s : Phase). Leads s ms q) (ap (after_turn p a) e ∙ full_ends p a m) h)
+full_stops p q a t ms m h e = nothing_more q ms (subst (λ (s : Phase). Leads s ms q) (let ends : after_turn p a Turn.Full ≡ ended = grind (arith, nat_tests) in ap (after_turn p a) e ∙ ends) h)
 
 pub is_at_end : (p q : Phase) (ms : List Move) → Leads p ms q → WasFull ms → q ≡ ended
 is_at_end p q [] h w = absurd w
 is_at_end p q (asked a t ∷ ms) h w = elim w [ inl e ↦ (full_stops p q a t ms h.0 h.1 e).1 | inr v ↦ is_at_end (after_turn p a t) q ms h.1 v ]
-is_at_end p q (launched tag o ∷ ms) h w = is_at_end (after_launch p o) q ms h.1 w
-is_at_end p q (removed x ∷ ms) h w = is_at_end (after_removal p) q ms h.1 w
+is_at_end p q (move ∷ ms) h w = is_at_end _ q ms h.1 w
 
 pub ends_where_full : (p q : Phase) (ms : List Move) → Leads p ms q → EndsWhereFull ms
 ends_where_full p q [] h = tt
 ends_where_full p q (asked a t ∷ ms) h = ((λ e. (full_stops p q a t ms h.0 h.1 e).0), ends_where_full (after_turn p a t) q ms h.1)
-ends_where_full p q (launched tag o ∷ ms) h = ends_where_full (after_launch p o) q ms h.1
-ends_where_full p q (removed x ∷ ms) h = ends_where_full (after_removal p) q ms h.1
+ends_where_full p q (move ∷ ms) h = ends_where_full _ q ms h.1
 
 -- # How many turns the roles took.
 
@@ -261,17 +192,15 @@ module _ (test : Ask → Bool) (no_report : (e : Event) → test (Ask.Do e) ≡ 
   turns_taken p q (launched tag o ∷ ms) h z free = subst (λ (n : ℕ). (did_count test ms ≡ n) ⊎ WasIdle test ms) (of_launch (λ u x s. left test s ≡ left test u) (λ pool n s x. refl) p tag o h.0) (turns_taken (after_launch p o) q ms h.1 z free)
   turns_taken p q (removed x ∷ ms) h z free = subst (λ (n : ℕ). (did_count test ms ≡ n) ⊎ WasIdle test ms) (of_removal (λ u s. left test s ≡ left test u) (λ pool n y. refl) (λ pool y. refl) p x h.0) (turns_taken (after_removal p) q ms h.1 z free)
 
-past_launcher : (q : Phase) → IsPastLauncher q → left is_launcher_act q ≡ 0
-past_launcher q x1 = grind (arith, nat_tests)
-
-past_janitor : (q : Phase) → IsPastJanitor q → left is_janitor_act q ≡ 0
-past_janitor q x1 = grind (arith, nat_tests)
+-- none is left where the role is done
+none_left : (q : Phase) → (IsPastLauncher q → left is_launcher_act q ≡ 0) × (IsPastJanitor q → left is_janitor_act q ≡ 0)
+none_left q = ((λ past. grind (arith, nat_tests)), (λ past. grind (arith, nat_tests)))
 
 pub launcher_took : (pool : PoolId) (q : Phase) (ms : List Move) → Leads (first_phase (of_pool pool)) ms q → IsPastLauncher q → TookAll is_launcher_act ms
-launcher_took pool q ms h past = turns_taken is_launcher_act (λ e. refl) (λ a. refl) (λ a n x. refl) (first_phase (of_pool pool)) q ms h (past_launcher q past) (λ e. subst IsPastLauncher e past)
+launcher_took pool q ms h past = turns_taken is_launcher_act (λ e. refl) (λ a. refl) (λ a n x. refl) (first_phase (of_pool pool)) q ms h ((none_left q).0 past) (λ e. subst IsPastLauncher e past)
 
 pub janitor_took : (pool : PoolId) (q : Phase) (ms : List Move) → Leads (first_phase (of_pool pool)) ms q → IsPastJanitor q → TookAll is_janitor_act ms
-janitor_took pool q ms h past = turns_taken is_janitor_act (λ e. refl) (λ a. refl) (λ a n x. refl) (first_phase (of_pool pool)) q ms h (past_janitor q past) (λ e. subst IsPastJanitor e past)
+janitor_took pool q ms h past = turns_taken is_janitor_act (λ e. refl) (λ a. refl) (λ a n x. refl) (first_phase (of_pool pool)) q ms h ((none_left q).1 past) (λ e. subst IsPastJanitor e past)
 
 lone_took : (p : Phase) (ms : List Move) → Leads p ms rests → left is_lone_act p ≡ 16 → TookAll is_lone_act ms
 lone_took p ms h k = subst (λ (n : ℕ). (did_count is_lone_act ms ≡ n) ⊎ WasIdle is_lone_act ms) k (turns_taken is_lone_act (λ e. refl) (λ a. refl) (λ a n x. refl) p rests ms h refl (λ e. cc))
@@ -301,12 +230,8 @@ module _ (w : Work) where
   asks_from p q (launched tag o ∷ ms) h l = asks_from (after_launch p o) q ms (of_launch (λ u x s. IsOfWork w u → IsOfWork w s) (λ pool n s x k. k) p tag o l.0 h) l.1
   asks_from p q (removed x ∷ ms) h l = asks_from (after_removal p) q ms (of_removal (λ u s. IsOfWork w u → IsOfWork w s) (λ pool n y k. k) (λ pool y k. k) p x l.0 h) l.1
 
-begins : (w : Work) → IsOfWork w (first_phase w)
-begins of_reaper = refl
-begins w = refl
-
 pub asks_of : (w : Work) (q : Phase) (ms : List Move) → Leads (first_phase w) ms q → AreAsksOf w ms
-asks_of w q ms l = asks_from w (first_phase w) q ms (begins w) l
+asks_of w q ms l = asks_from w (first_phase w) q ms (grind (arith, nat_tests)) l
 
 -- # The stages of a round, and the series of turns that leads from one to another.
 

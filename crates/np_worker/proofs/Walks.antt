@@ -1,8 +1,7 @@
 -- the walk of a round: its parts one after the other, their traces and drivers, and the history that it gains
-use Rattle.np_worker.proofs.Prelude.{All, All-cons, All-contains, All-from_recursion, All-head, All-nil, All-tail, AllByRecursion, Answered, Answers, AreKept, AreOrderly, AreRising, AreSoundAlone, Ask, Asked, Bool, Comes, Configuration, Contains, Contains-append_left, Contains-append_right, Contains-push, Counts, Drives, Driving, Drove, EndsAs, Entry, Err, FailFull, FailsFull, FollowsPlan, Gains, Goes, HasMoves, Heard, Hears, IfSome, IsAsPlanned, IsDealtWith, IsOfDriver, IsOfServer, IsOfWork, IsOver, IsReplied, IsSoundAlone, IsTrue, KeepsCounts, Launch, LaunchFault, Leads, List, MatchResult, MayAsk, MayLaunch, MayRemove, Move, Next, NoMemory, None, Ok, Option, Outcome, OwesRemoval, Part, Phase, Playing, PoolId, Records, RemovalEnds, RemovalFailed, Rests, Result, RolesTook, Server, Sight, Some, Soundness, Stage, StandAt, StartsWith, SweepsAll, SweepsOne, SweepsServers, Tag, Took, Turn, Turned, Unturned, Walk, Walked, WasKept, WentFar, WentOn, Work, after_launch, after_removal, after_sweep, after_turn, all-filter_to, all-weaker, answers, ap, append-nil, append_assoc, arith, ask_of, asked, asks, by_bool, cond, drop, drop-past, drop-there, drop_all, entries_of, entry_count, eq-eqb, false, filter, first_phase, get_or, inl, inr, is_full, is_number, is_unwanted, launched, launches_of, length, length-append, map, nat_tests, not, numbers_of, of_pool, of_reaper, of_requester, option_map, or_left, or_right, owed_tags, owes_swept, phase_of, recorded, refl, removed, rests, rising_more, servers_after, slice_get, starts_more, starts_on, starts_same, steps_left, subst, suc, sweeps, sym, true, with_launch, with_launched, without_number, zero, ℕ, [], ⊎_elim, ◌++◌, ◌+◌, ◌<◌, ◌==◌, ◌^◌, ◌∙◌, ◌∷◌, ◌≡◌, ◌≤◌, ◌⊎◌}
+use Rattle.np_worker.proofs.Prelude.{All, All-contains, All-contains_itself, All-from_recursion, All-weaker, AllByRecursion, Answered, Answers, AreKept, AreOrderly, AreRising, AreSoundAlone, Ask, Asked, Bool, Comes, Configuration, Contains, Contains-append_left, Contains-append_right, Contains-push, Counts, Drives, Driving, Drove, EndsAs, Entry, Err, FailFull, FailsFull, FollowsPlan, Gains, Goes, HasMoves, Heard, Hears, IfSome, IsAsPlanned, IsDealtWith, IsOfDriver, IsOfServer, IsOfWork, IsOver, IsReplied, IsSoundAlone, IsTrue, KeepsCounts, Launch, LaunchFault, Leads, List, MatchResult, MayAsk, MayRemove, Move, Next, NoMemory, None, Ok, Option, Outcome, OwesRemoval, Part, Phase, Playing, PoolId, Records, RemovalEnds, RemovalFailed, Rests, Result, RolesTook, Server, Sight, Some, Soundness, StandAt, StartsWith, SweepsAll, SweepsOne, SweepsServers, Tag, Took, Turn, Turned, Unturned, Walk, Walked, WasKept, WentFar, WentOn, Work, after_removal, after_sweep, after_turn, all-filter_to, all-weaker, answers, ap, append-nil, append_assoc, arith, ask_of, asked, asks, by_bool, cond, drop, drop-past, drop-there, drop_all, entries_of, entry_count, eq-eqb, false, filter, first_phase, get_or, inl, inr, is_full, is_number, is_unwanted, launched, launches_of, length, length-append, nat_tests, not, numbers_of, of_pool, of_reaper, of_requester, option_map, or_left, or_right, owes_swept, phase_of, recorded, refl, removed, rests, rising_more, servers_after, slice_get, starts_more, starts_on, steps_left, subst, suc, sweeps, sym, true, unturned_on, unturned_same, with_launch, with_launched, without_number, zero, ℕ, [], ⊎_elim, ◌++◌, ◌+◌, ◌<◌, ◌==◌, ◌^◌, ◌∙◌, ◌∷◌, ◌≡◌, ◌≤◌, ◌⊎◌}
 use Rattle.std.proofs.lemmas.Option.{IfSome_then}
 use Rattle.np_cloud.specs.Sound.{IsFull}
-use Rattle.np_worker.specs.Trace.{starts_of}
 use Rattle.np_worker.proofs.Steps.{are_named, are_reported, asks_no_server, asks_of, ends_where_full, in_order, is_at_end, janitor_took, launcher_took, may_ask, pool_swept, reaper_took, requester_took, starts_launched, steps_after, tags_of_launches, work_after}
 use Rattle.np_desk.specs.Turned as turned
 
@@ -16,9 +15,6 @@ module _ {E : Type 0} where
 
   pub starts_length : (log seen : List E) → StartsWith log seen → length seen ≤ length log
   starts_length log seen h = omega (arith, ap length h.1, length-append seen h.0)
-
-  pub contains_later : (log seen : List E) (x : E) → StartsWith log seen → Contains seen x → Contains log x
-  contains_later log seen x h k = subst (λ (l : List E). Contains l x) (sym h.1) (Contains-append_left seen h.0 x k)
 
 -- ## rising places
 
@@ -49,15 +45,12 @@ Rises n v = (n ≤ length v.seen) × AreRising n v.mine (length v.seen)
 rises_seen : (n : ℕ) (v w : Sight Entry) → StartsWith w.seen v.seen → w.mine ≡ v.mine → Rises n v → Rises n w
 rises_seen n v w s m h = let le : length v.seen ≤ length w.seen = starts_length w.seen v.seen s in (omega (arith, h.0), rising_same n (length v.seen) (length w.seen) v.mine w.mine m le h.1)
 
-rises_pushed : (n : ℕ) (before : List Entry) (e : Entry) (v w : Sight Entry) → StartsWith before v.seen → w.seen ≡ before ++ e ∷ [] → w.mine ≡ v.mine ++ length before ∷ [] → Rises n v → Rises n w
-rises_pushed n before e v w s is m h =
-    let le : length v.seen ≤ length before = starts_length before v.seen s in
-    let long : length w.seen ≡ suc (length before) = omega (arith, ap length is, length-append before (e ∷ [])) in
-    (omega (arith, h.0), rising_same n (suc (length before)) (length w.seen) (v.mine ++ length before ∷ []) w.mine m (omega arith) (rising_push n (length v.seen) (length before) v.mine (omega (arith, h.0)) le h.1))
-
 rises_turn : (n : ℕ) (r : Option Entry) (before : List Entry) (v w : Sight Entry) → StartsWith before v.seen → Records r before v w → Rises n v → Rises n w
 rises_turn n None before v w s r h = rises_seen n v w (subst (λ (l : List Entry). StartsWith l v.seen) (sym r.0) s) r.1 h
-rises_turn n (Some e) before v w s r h = rises_pushed n before e v w s r.0 r.1 h
+rises_turn n (Some e) before v w s r h =
+    let le : length v.seen ≤ length before = starts_length before v.seen s in
+    let long : length w.seen ≡ suc (length before) = omega (arith, ap length r.0, length-append before (e ∷ [])) in
+    (omega (arith, h.0), rising_same n (suc (length before)) (length w.seen) (v.mine ++ length before ∷ []) w.mine r.1 (omega arith) (rising_push n (length v.seen) (length before) v.mine (omega (arith, h.0)) le h.1))
 
 module _ {F : Type 0} (answers : F → List Entry → Ask → Turn → Type 0) (f : F) where
   pub walk_rises : (n : ℕ) (ms : List Move) (v w : Sight Entry) → Walk answers f ms v w → Rises n v → Rises n w
@@ -66,8 +59,6 @@ module _ {F : Type 0} (answers : F → List Entry → Ask → Turn → Type 0) (
   walk_rises n (move ∷ ms) v w h k = walk_rises n ms v w h k
 
 -- ## lists that are split at a member, and places that rise
-
--- ## splits
 
 module _ {A : Type 0} where
   -- the place of a member determines what comes before it, the member, and what follows it
@@ -113,12 +104,10 @@ module _ {A : Type 0} where
   no-member y h = let less : h.0 < 0 = h.1 in absurd (omega arith)
 
   pub All-left : (P : A → Type 0) (xs ys : List A) → All P (xs ++ ys) → All P xs
-  All-left P [] ys h = All-nil P
-  All-left P (x ∷ xs) ys h = All-cons P x xs (All-head P x (xs ++ ys) h) (All-left P xs ys (All-tail P x (xs ++ ys) h))
+  All-left P xs ys h = All-weaker (Contains xs) P (λ x there. All-contains P (xs ++ ys) x h (Contains-append_left xs ys x there)) xs (All-contains_itself xs)
 
   pub All-right : (P : A → Type 0) (xs ys : List A) → All P (xs ++ ys) → All P ys
-  All-right P [] ys h = h
-  All-right P (x ∷ xs) ys h = All-right P xs ys (All-tail P x (xs ++ ys) h)
+  All-right P xs ys h = All-weaker (Contains ys) P (λ y there. All-contains P (xs ++ ys) y h (Contains-append_right xs ys y there)) ys (All-contains_itself ys)
 
 -- ## places that rise
 
@@ -139,15 +128,11 @@ none-between from (z ∷ earlier) i x later end y rises h above below =
 
 -- # an entry that a turn recorded
 
-replied-as : (c : Configuration) (journal : List Entry) (d e : Entry) → Some d ≡ Some e → IsReplied c journal d → IsReplied c journal e
-replied-as c journal d e is replied = let same : d ≡ e = cc in subst (λ (x : Entry). IsReplied c journal x) same replied
-
 pub turn-replied : (c : Configuration) (journal : List Entry) (ask : Ask) (t : Turn) (e : Entry) → answers c journal ask t → recorded ask t ≡ Some e → IsReplied c journal e
-turn-replied c journal (Ask.Act role) (Turn.Did d) e answer is = replied-as c journal d e is answer.1
-turn-replied c journal (Ask.Do event) (Turn.Did d) e answer is = replied-as c journal d e is answer.1
-turn-replied c journal (Ask.Due p) (Turn.Did d) e answer is = absurd answer
-turn-replied c journal (Ask.Sweep p n x) (Turn.Did d) e answer is = replied-as c journal d e is answer.3
-turn-replied c journal ask _ e answer is = absurd cc
+turn-replied c journal ask t e x1 x2 = grind (arith, nat_tests)
+
+-- under a name that an attribute can give
+pub ruleset turn_replied = (turn-replied)
 
 -- # What a walk gained of the history.
 
@@ -189,12 +174,6 @@ module _ {F : Type 0} (answers : F → List Entry → Ask → Turn → Type 0) (
 
 -- # The moves of a round are orderly.
 
-first_owes_none : (work : Work) → OwesRemoval (first_phase work) → ⊥
-first_owes_none work x1 = grind (arith, nat_tests)
-
-first_launches : (work : Work) (trace : List Move) (to : Phase) → Leads (first_phase work) trace to → starts_of trace ≡ map (λ (l : Launch). l.tag) (launches_of trace) ++ owed_tags to
-first_launches work trace to led = let all = starts_launched (first_phase work) to trace led in let tags = tags_of_launches trace in grind (arith, nat_tests)
-
 roles_took : (work : Work) (trace : List Move) (to : Phase) → Leads (first_phase work) trace to → RolesTook work trace to
 roles_took (of_pool pool) trace to led = (launcher_took pool to trace led, janitor_took pool to trace led)
 roles_took (of_requester q) trace to led = λ is. requester_took q trace (subst (λ (p : Phase). Leads (first_phase (of_requester q)) trace p) is led)
@@ -204,9 +183,9 @@ pub orderly : (work : Work) (trace : List Move) (to : Phase) → Leads (first_ph
 orderly work trace to led = record {
   asks = asks_of work to trace led;
   order = in_order (first_phase work) to trace led;
-  launched = first_launches work trace to led;
+  launched = let all = starts_launched (first_phase work) to trace led in let tags = tags_of_launches trace in grind (arith, nat_tests);
   reported = are_reported (first_phase work) to trace led;
-  removed = are_named (first_phase work) to trace (first_owes_none work) led;
+  removed = are_named (first_phase work) to trace (λ owes. grind (arith, nat_tests)) led;
   took = roles_took work trace to led;
   last = ends_where_full (first_phase work) to trace led;
   full = is_at_end (first_phase work) to trace led;
@@ -283,19 +262,13 @@ module _ (room : ℕ) (ns : List Move) where
   full-append (removed x ∷ ms) ls s h k = full-append ms ls (option_map (without_number x) s) h (same-fulls _ _ _ _ refl (sym (map_twice (without_number x) (servers_after ms) (servers_after (removed x ∷ ms)) (λ l. refl) s)) k)
 
 module _ {F : Type 0} (answers : F → List Entry → Ask → Turn → Type 0) (f : F) where
-  pub unturned-on : (u v w : Sight Entry) → Unturned u v → Unturned v w → Unturned u w
-  unturned-on u v w h k = (starts_on w.seen v.seen u.seen k.0 h.0, k.1 ∙ h.1)
-
   pub records-from : (e : Option Entry) (before : List Entry) (u v w : Sight Entry) → v.mine ≡ u.mine → Records e before v w → Records e before u w
   records-from None before u v w m h = (h.0, h.1 ∙ m)
   records-from (Some e) before u v w m h = (h.0, h.1 ∙ ap (λ (l : List ℕ). l ++ length before ∷ []) m)
 
-  pub answered-from : (u v w : Sight Entry) (a : Ask) (t : Turn) → Unturned u v → Answered answers recorded f v a t w → Answered answers recorded f u a t w
-  answered-from u v w a t h k = (k.0, starts_on k.0 v.seen u.seen k.1 h.0, k.2, records-from (recorded a t) k.0 u v w h.1 k.3)
-
   pub walk-from : (u v w : Sight Entry) (ms : List Move) → Unturned u v → Walk answers f ms v w → Walk answers f ms u w
-  walk-from u v w [] h k = unturned-on u v w h k
-  walk-from u v w (asked a t ∷ ms) h k = (k.0, answered-from u v k.0 a t h k.1, k.2)
+  walk-from u v w [] h k = unturned_on u v w h k
+  walk-from u v w (asked a t ∷ ms) h k = (k.0, (k.1.0, starts_on k.1.0 v.seen u.seen k.1.1 h.0, k.1.2, records-from (recorded a t) k.1.0 u v k.0 h.1 k.1.3), k.2)
   walk-from u v w (move ∷ ms) h k = walk-from u v w ms h k
 
   pub walk-append : (u v w : Sight Entry) (ms ns : List Move) → Walk answers f ms u v → Walk answers f ns v w → Walk answers f (ms ++ ns) u w
@@ -315,24 +288,14 @@ swept_both ms ns o x1 x2 = grind (arith, nat_tests, sweeps-append)
 alone_both : (sound : List ℕ → Bool) (ms ns : List Move) (o : Option (List Server)) → IfSome o (λ s. AreSoundAlone sound ms) → IfSome (option_map (servers_after ms) o) (λ s. AreSoundAlone sound ns) → IfSome o (λ s. AreSoundAlone sound (ms ++ ns))
 alone_both sound ms ns o x1 x2 = grind (arith, nat_tests, alone-append)
 
-alone_now : (a b : Driving) (ms ns : List Move) → b.facts.servers ≡ option_map (servers_after ms) a.facts.servers → b.sound ≡ a.sound → IfSome b.facts.servers (λ s. AreSoundAlone b.sound ns) → IfSome (option_map (servers_after ms) a.facts.servers) (λ s. AreSoundAlone a.sound ns)
-alone_now a b ms ns e f h = subst (λ (g : List ℕ → Bool). IfSome (option_map (servers_after ms) a.facts.servers) (λ s. AreSoundAlone g ns)) f (subst (λ (o : Option (List Server)). IfSome o (λ s. AreSoundAlone b.sound ns)) e h)
-
-full_now : (a b : Driving) (ms ns : List Move) → b.facts.answered ≡ option_map (λ (ls : List Launch). ls ++ launches_of ms) a.facts.answered → b.facts.servers ≡ option_map (servers_after ms) a.facts.servers → b.room ≡ a.room → FailFull b.room ns b.facts.answered b.facts.servers
-    → FailFull a.room ns (option_map (λ (ls : List Launch). ls ++ launches_of ms) a.facts.answered) (option_map (servers_after ms) a.facts.servers)
-full_now a b ms ns e f g h =
-    subst (λ (n : ℕ). FailFull n ns (option_map (λ (ls : List Launch). ls ++ launches_of ms) a.facts.answered) (option_map (servers_after ms) a.facts.servers)) g
-    (subst (λ (o : Option (List Server)). FailFull b.room ns (option_map (λ (ls : List Launch). ls ++ launches_of ms) a.facts.answered) o) f
-    (subst (λ (o : Option (List Launch)). FailFull b.room ns o b.facts.servers) e h))
-
 pub drives-append : (a b c : Driving) (ms ns : List Move) → Drives ms a b → Drives ns b c → Drives (ms ++ ns) a c
 drives-append a b c ms ns h k = record {
   answered = k.answered ∙ (ap (option_map (λ (ls : List Launch). ls ++ launches_of ns)) h.answered ∙ map_twice (λ (ls : List Launch). ls ++ launches_of ms) (λ (ls : List Launch). ls ++ launches_of ns) (λ (ls : List Launch). ls ++ launches_of (ms ++ ns)) (λ ls. append_assoc ls (launches_of ms) (launches_of ns) ∙ ap (λ (l : List Launch). ls ++ l) (sym (launches-append ms ns))) a.facts.answered);
   servers = k.servers ∙ (ap (option_map (servers_after ns)) h.servers ∙ map_twice (servers_after ms) (servers_after ns) (servers_after (ms ++ ns)) (λ s. sym (servers-append ms ns s)) a.facts.servers);
   swept = swept_both ms ns a.facts.servers h.swept (subst (λ (o : Option (List Server)). IfSome o (λ s. SweepsServers ns s)) h.servers k.swept);
   planned = plan-append a.plan ms ns h.planned (subst (λ (p : Tag → Option Outcome). FollowsPlan p ns) h.plan k.planned);
-  alone = alone_both a.sound ms ns a.facts.servers h.alone (alone_now a b ms ns h.servers h.sound k.alone);
-  full = full-append a.room ns ms a.facts.answered a.facts.servers h.full (full_now a b ms ns h.answered h.servers h.room k.full);
+  alone = alone_both a.sound ms ns a.facts.servers h.alone (rw (← h.servers, ← h.sound) k.alone);
+  full = full-append a.room ns ms a.facts.answered a.facts.servers h.full (rw (← h.answered, ← h.servers, ← h.room) k.full);
   plan = k.plan ∙ h.plan;
   sound = k.sound ∙ h.sound;
   room = k.room ∙ h.room;
@@ -373,25 +336,19 @@ drives_kept a b h s k = drives_of [] a b (h ∙ none_more a.facts.answered) (s �
 pub drives_none : (d : Driving) → Drives [] d d
 drives_none d = drives_kept d d refl refl (stays_same d)
 
-drives_ask : (d : Driving) (a : Ask) (t : Turn) → IfSome d.facts.servers (λ s. IsOfServer a s) → Drives (asked a t ∷ []) d d
-drives_ask d a t h = drives_of (asked a t ∷ []) d d (none_more d.facts.answered) (same_servers d.facts.servers) (IfSome_then d.facts.servers h (λ s of. (of, tt))) tt (if_some d.facts.servers _ (λ s. tt)) tt (stays_same d)
-
 pub drove_none : (d : Option Driving) → Drove [] d d
 drove_none None = tt
 drove_none (Some d) = drives_none d
 
 pub drove_ask : (d : Option Driving) (a : Ask) (t : Turn) → IsOfDriver a d → Drove (asked a t ∷ []) d d
 drove_ask None a t h = tt
-drove_ask (Some d) a t h = drives_ask d a t h
+drove_ask (Some d) a t h = drives_of (asked a t ∷ []) d d (none_more d.facts.answered) (same_servers d.facts.servers) (IfSome_then d.facts.servers h (λ s of. (of, tt))) tt (if_some d.facts.servers _ (λ s. tt)) tt (stays_same d)
 
 drives_launched : (a b : Driving) (tag : Tag) (o : Outcome) → Answers a.facts tag o b.facts → IfSome (a.plan tag) (λ planned. planned ≡ o) → IfSome a.facts.servers (λ _. IsSoundAlone a.sound o) → FailsFull a.room o a.facts.answered a.facts.servers → StaysSame a b → Drives (launched tag o ∷ []) a b
 drives_launched a b tag o h p alone full k = drives_of (launched tag o ∷ []) a b h.answered h.servers (if_some a.facts.servers _ (λ s. tt)) (p, tt) (IfSome_then a.facts.servers alone (λ s sound. (sound, tt))) (full, tt) k
 
-launched_as_planned : (p : Option Outcome) (x : ℕ) → IsAsPlanned p (Ok x) → IfSome p (λ planned. planned ≡ Outcome.Launched x)
-launched_as_planned p x x1 = grind (arith, nat_tests)
-
-failed_as_planned : (p : Option Outcome) → IsAsPlanned p (Err LaunchFault.Failed) → IfSome p (λ planned. planned ≡ Outcome.Failed)
-failed_as_planned p x1 = grind (arith, nat_tests)
+as_planned : (p : Option Outcome) → ((x : ℕ) → IsAsPlanned p (Ok x) → IfSome p (λ planned. planned ≡ Outcome.Launched x)) × (IsAsPlanned p (Err LaunchFault.Failed) → IfSome p (λ planned. planned ≡ Outcome.Failed))
+as_planned p = ((λ x is. grind (arith, nat_tests)), (λ is. grind (arith, nat_tests)))
 
 -- the number of the last server is one of the numbers
 last_number : (x : ℕ) (tag : Tag) (servers : List Server) → is_number x (numbers_of (with_launched tag (Outcome.Launched x) servers)) ≡ true
@@ -407,10 +364,10 @@ alone_launched a b tag x (Some s) e f h =
     subst (λ (g : List ℕ → Bool). IsTrue (g (x ∷ []))) f (h.fewer (numbers_of now) (x ∷ []) sound (refl, tt) (last_number x tag s, tt))
 
 pub drives_launch : (a b : Driving) (tag : Tag) (x : ℕ) → Answers a.facts tag (Outcome.Launched x) b.facts → IsAsPlanned (a.plan tag) (Ok x) → Soundness b.facts b.sound → StaysSame a b → Drives (launched tag (Outcome.Launched x) ∷ []) a b
-drives_launch a b tag x h p sound k = drives_launched a b tag (Outcome.Launched x) h (launched_as_planned (a.plan tag) x p) (alone_launched a b tag x a.facts.servers h.servers k.sound sound) tt k
+drives_launch a b tag x h p sound k = drives_launched a b tag (Outcome.Launched x) h ((as_planned (a.plan tag)).0 x p) (alone_launched a b tag x a.facts.servers h.servers k.sound sound) tt k
 
 pub drives_failed : (a b : Driving) (tag : Tag) → Answers a.facts tag Outcome.Failed b.facts → IsAsPlanned (a.plan tag) (Err LaunchFault.Failed) → IsFull a.facts a.room → StaysSame a b → Drives (launched tag Outcome.Failed ∷ []) a b
-drives_failed a b tag h p full k = drives_launched a b tag Outcome.Failed h (failed_as_planned (a.plan tag) p) (if_some a.facts.servers _ (λ s. tt)) full k
+drives_failed a b tag h p full k = drives_launched a b tag Outcome.Failed h ((as_planned (a.plan tag)).1 p) (if_some a.facts.servers _ (λ s. tt)) full k
 
 pub drives_removed : (a b : Driving) (x : ℕ) → b.facts.answered ≡ a.facts.answered → b.facts.servers ≡ option_map (without_number x) a.facts.servers → StaysSame a b → Drives (removed x ∷ []) a b
 drives_removed a b x h s k = drives_of (removed x ∷ []) a b (h ∙ none_more a.facts.answered) s (if_some a.facts.servers _ (λ s. tt)) tt (if_some a.facts.servers _ (λ s. tt)) tt k
@@ -420,9 +377,6 @@ failed_before a b c ms x1 x2 = grind (arith, nat_tests)
 
 pub same_driving : (a b : Driving) → a.facts ≡ b.facts → a.plan ≡ b.plan → a.sound ≡ b.sound → a.room ≡ b.room → a ≡ b
 same_driving a b x1 x2 x3 x4 = grind (arith, nat_tests)
-
-pub drove_same : (a b : Driving) → b ≡ a → Drove [] (Some a) (Some b)
-drove_same a b h = subst (λ (d : Driving). Drove [] (Some a) (Some d)) (sym h) (drives_none a)
 
 -- # The servers that were asked about, the last first.
 
@@ -445,9 +399,6 @@ drop_filter P f (suc n) (x ∷ xs) h = by_bool (λ b. AllByRecursion P (drop (su
 not_itself : (a : ℕ) → not (a == a) ≡ true → ⊥
 not_itself a h = let e : (a == a) ≡ true = eq-eqb a a refl in let k : not (a == a) ≡ false = ap not e in cc
 
-was_kept_before : (pool : PoolId) (ms ns : List Move) (x : Server) → WasKept pool ms x → WasKept pool (ms ++ ns) x
-was_kept_before pool ms ns x h = (h.0, Contains-append_left ms ns (asked (Ask.Sweep pool x.tag.node x.number) h.0) h.1, h.2)
-
 was_kept_after : (pool : PoolId) (ms ns : List Move) (x : Server) → WasKept pool ns x → WasKept pool (ms ++ ns) x
 was_kept_after pool ms ns x h = (h.0, Contains-append_right ms ns (asked (Ask.Sweep pool x.tag.node x.number) h.0) h.1, h.2)
 
@@ -455,12 +406,9 @@ pub kept_start : (pool : PoolId) (ms : List Move) (n : ℕ) (o : Option (List Se
 kept_start pool ms n None h = tt
 kept_start pool ms n (Some s) h = subst (AllByRecursion (WasKept pool ms)) (sym (drop_all n s h)) tt
 
-kept_all : (pool : PoolId) (ms : List Move) (o : Option (List Server)) → KeptFrom pool ms 0 o → IfSome o (λ s. All (WasKept pool ms) s)
+pub kept_all : (pool : PoolId) (ms : List Move) (o : Option (List Server)) → KeptFrom pool ms 0 o → IfSome o (λ s. All (WasKept pool ms) s)
 kept_all pool ms None h = tt
 kept_all pool ms (Some s) h = All-from_recursion (WasKept pool ms) s h
-
-pub kept_end : (pool : PoolId) (ms : List Move) (d : Driving) → KeptFrom pool ms 0 d.facts.servers → AreKept pool ms (Some d)
-kept_end pool ms d h = kept_all pool ms d.facts.servers h
 
 -- more moves came before the sweeps
 pub are_kept_after : (pool : PoolId) (ms ns : List Move) (d : Driving) → AreKept pool ns (Some d) → AreKept pool (ms ++ ns) (Some d)
@@ -471,7 +419,7 @@ kept_none pool ms n None h = tt
 kept_none pool ms n (Some s) h = subst (AllByRecursion (WasKept pool ms)) (sym (drop-past s n (sym h))) tt
 
 later : (pool : PoolId) (n : ℕ) (ms ns : List Move) (s : List Server) → AllByRecursion (WasKept pool ms) (drop (suc n) s) → AllByRecursion (WasKept pool (ms ++ ns)) (drop (suc n) s)
-later pool n ms ns s k = all-weaker (WasKept pool ms) (WasKept pool (ms ++ ns)) (λ x h. was_kept_before pool ms ns x h) (drop (suc n) s) k
+later pool n ms ns s k = all-weaker (WasKept pool ms) (WasKept pool (ms ++ ns)) (λ x h. (h.0, Contains-append_left ms ns (asked (Ask.Sweep pool x.tag.node x.number) h.0) h.1, h.2)) (drop (suc n) s) k
 
 kept_stays : (pool : PoolId) (n : ℕ) (x : Server) (ms ns : List Move) (o : Option (List Server)) → IfSome o (λ s. Some x ≡ slice_get s n) → KeptFrom pool ms (suc n) o → WasKept pool ns x → KeptFrom pool (ms ++ ns) n o
 kept_stays pool n x ms ns None h k w = tt
@@ -492,12 +440,9 @@ kept_one pool n x d e ms ns h k dealt = elim dealt [
 
 -- # Parts of a round one after the other.
 
-pub unturned_same : (v : Sight Entry) → Unturned v v
-unturned_same v = (starts_same v.seen, refl)
-
 module _ {F : Type 0} {answers : F → List Entry → Ask → Turn → Type 0} {f : F} where
   -- a part with these moves
-  with_moves : {from : Phase} {v w : Sight Entry} {d e : Option Driving} {P : List Move → Phase → Type 0} (trace : List Move) (to : Phase)
+  pub with_moves : {from : Phase} {v w : Sight Entry} {d e : Option Driving} {P : List Move → Phase → Type 0} (trace : List Move) (to : Phase)
       → Walk answers f trace v w → Drove trace d e → Leads from trace to → P trace to → Part answers f from v w d e P
   with_moves trace to walked drove led r = record { trace = trace; to = to; walked = walked; drove = drove; led = led; holds = r }
 
@@ -524,23 +469,6 @@ module _ {F : Type 0} {answers : F → List Entry → Ask → Turn → Type 0} {
       → P (asked a t ∷ []) (after_turn p a t) → Part answers f p v w d d P
   one_turn p v w d a t may of h r = with_moves (asked a t ∷ []) (after_turn p a t) (w, h, unturned_same w) (drove_ask d a t of) (may, refl) r
 
-  -- a launch
-  pub one_launch : (p : Phase) (v : Sight Entry) (d e : Option Driving) (tag : Tag) (o : Outcome) {P : List Move → Phase → Type 0}
-      → MayLaunch p tag → Drove (launched tag o ∷ []) d e
-      → P (launched tag o ∷ []) (after_launch p o) → Part answers f p v v d e P
-  one_launch p v d e tag o may h r = with_moves (launched tag o ∷ []) (after_launch p o) (unturned_same v) h (may, refl) r
-
-  -- a removal
-  pub one_removal : (p : Phase) (v : Sight Entry) (d e : Option Driving) (x : ℕ) {P : List Move → Phase → Type 0}
-      → MayRemove p x → Drove (removed x ∷ []) d e
-      → P (removed x ∷ []) (after_removal p) → Part answers f p v v d e P
-  one_removal p v d e x may h r = with_moves (removed x ∷ []) (after_removal p) (unturned_same v) h (may, refl) r
-
-  -- nothing but a call of the driver that failed
-  pub no_move : (p : Phase) (v : Sight Entry) (d e : Option Driving) {P : List Move → Phase → Type 0}
-      → Drove [] d e → P [] p → Part answers f p v v d e P
-  no_move p v d e h r = with_moves [] p (unturned_same v) h refl r
-
 module _ {F : Type 0} {answers : F → List Entry → Ask → Turn → Type 0} where
   pub same_fixed : {f g : F} {from : Phase} {u v : Sight Entry} {d e : Option Driving} {P : List Move → Phase → Type 0}
       → g ≡ f → Part answers g from u v d e P → Part answers f from u v d e P
@@ -562,15 +490,15 @@ module _ {F : Type 0} {answers : F → List Entry → Ask → Turn → Type 0} {
   pub removal : (from go idle : Phase) (v : Sight Entry) (d e : Driving) (x : ℕ) (n : Next)
       → MayRemove from x → OwesRemoval from → after_removal from ≡ go → RemovalEnds x d e n
       → Part answers f from v v (Some d) (Some e) (Comes go idle (Some d) (Some e) (Ok n))
-  removal from go idle v d e x Next.Go may owes h r = one_removal from v (Some d) (Some e) x may r h
-  removal from go idle v d e x Next.Failed may owes h r = no_move from v (Some d) (Some e) r.0 (owes, r.1)
+  removal from go idle v d e x Next.Go may owes h r = with_moves (removed x ∷ []) (after_removal from) (unturned_same v) r (may, refl) h
+  removal from go idle v d e x Next.Failed may owes h r = with_moves [] from (unturned_same v) r.0 refl (owes, r.1)
   removal from go idle v d e x n may owes h r = absurd r
 
   pub swept_removal : (pool : PoolId) (v : Sight Entry) (d e : Driving) (server : Server) (n : Next)
       → RemovalEnds server.number d e n
       → Part answers f (owes_swept pool server.number) v v (Some d) (Some e) (SweepsOne pool server d e (Ok n))
-  swept_removal pool v d e server Next.Go r = one_removal (owes_swept pool server.number) v (Some d) (Some e) server.number refl r (refl, inr r.servers)
-  swept_removal pool v d e server Next.Failed r = no_move (owes_swept pool server.number) v (Some d) (Some e) r.0 (tt, r.1)
+  swept_removal pool v d e server Next.Go r = with_moves (removed server.number ∷ []) (sweeps pool) (unturned_same v) r (refl, refl) (refl, inr r.servers)
+  swept_removal pool v d e server Next.Failed r = with_moves [] (owes_swept pool server.number) (unturned_same v) r.0 refl (tt, r.1)
   swept_removal pool v d e server n r = absurd r
 
 -- a part that began with a turn ends as its rest does
@@ -601,14 +529,7 @@ counts_turn n m a t before v w h r = omega (arith, ap length r.1)
 pub counts_on : (n m k : ℕ) (u v w : Sight Entry) → Counts n u m v → Counts m v k w → Counts n u k w
 counts_on n m k u v w h i = omega arith
 
--- an answer that memory ran out
-pub at_err : {A : Type 0} {r : Result A NoMemory} {y : NoMemory} (C : Result A NoMemory → Type 0) → r ≡ Err y → C (Err y) → C r
-at_err C h k = subst C (sym h) k
-
 -- ## phases in the loops over 16 turns
-
-pub comes_at : (go idle : Phase) (d e : Option Driving) (n m : Next) (trace : List Move) (to : Phase) → n ≡ m → Comes go idle d e (Ok n) trace to → Comes go idle d e (Ok m) trace to
-comes_at go idle d e n m trace to h k = subst (λ (x : Next). Comes go idle d e (Ok x) trace to) h k
 
 -- a part that neither was cut off nor failed went on
 pub comes_to : (go : Phase) (d e : Option Driving) (n : Next) (trace : List Move) (to : Phase) → (n ≡ Next.Full → ⊥) → (n ≡ Next.Failed → ⊥) → Comes go go d e (Ok n) trace to → to ≡ go
@@ -629,9 +550,6 @@ was_kept_now pool server t trace h k = (t, subst (λ (l : List Move). Contains l
 pub sweeps_one_all : (pool : PoolId) (server : Server) (d0 d e : Driving) (ms : List Move) (n : Next) (trace trace' : List Move) (to : Phase)
     → (n ≡ Next.Go → ⊥) → Drove ms (Some d0) (Some d) → SweepsOne pool server d e (Ok n) trace to → SweepsAll pool d0 e (Ok n) trace' to
 sweeps_one_all pool server d0 d e ms n trace trace' to x1 x2 x3 = let failed = failed_before (Some d0) (Some d) (Some e) ms x2 in grind (arith, nat_tests)
-
-pub sweeps_one_at : (pool : PoolId) (server : Server) (d e : Driving) (n m : Next) (trace : List Move) (to : Phase) → n ≡ m → SweepsOne pool server d e (Ok n) trace to → SweepsOne pool server d e (Ok m) trace to
-sweeps_one_at pool server d e n m trace to h l = subst (λ (x : Next). SweepsOne pool server d e (Ok x) trace to) h l
 
 -- # The series of turns that leads from one stage to another.
 
@@ -686,21 +604,12 @@ module _ {F : Type 0} (answers : F → List Entry → Ask → Turn → Type 0) (
   pub took_far : {R : Type 0} (p q : Playing) (v w : Sight Entry) (y : R) → Taken v p (Ok y) w q → WentFar (phase_of p.stage) q.stage
   took_far p q v w y t = let less = heard_steps p q t.turns t.heard in (omega (arith, less), ⊎_elim (λ (none : ask_of q.stage ≡ None). inl none) (λ (all : length t.turns ≡ 16). inr (omega (arith, less, all))) t.over.1)
 
-  pub took_work : {R : Type 0} (w : Work) (p q : Playing) (v u : Sight Entry) (result : Result R NoMemory) → Taken v p result u q → IsOfWork w (phase_of p.stage) → IsOfWork w (phase_of q.stage)
-  took_work w p q v u result t h = heard_work w p q t.turns t.heard h
-
   pub with_recorded_series : {R : Type 0} (r : Ask → Turn → Option Entry) → r ≡ recorded → (v : Sight Entry) (p : Playing) (result : Result R NoMemory) (w : Sight Entry) (q : Playing) → Took answers r asks Hears f v p 16 result w q → Taken v p result w q
   with_recorded_series r e v p result w q h = subst (λ (s : Ask → Turn → Option Entry). Took answers s asks Hears f v p 16 result w q) e h
 
 -- # How the roles of a worker go on.
 
 -- ## how a stage goes on
-
-pub went_go : (n : Next) (from now : Phase) → n ≡ Next.Go → WentOn n from now → steps_left now < steps_left from
-went_go n from now h k = subst (λ (x : Next). WentOn x from now) h k
-
-pub work_at : (w : Work) (s t : Stage) → s ≡ t → IsOfWork w (phase_of s) → IsOfWork w (phase_of t)
-work_at w s t h k = subst (λ (x : Stage). IsOfWork w (phase_of x)) h k
 
 -- the roles of a pool were played, or the round ends
 pub roles_end : (pool : PoolId) (a b c : Option Driving) (ms : List Move) (n : Next) (from p : Phase) (trace trace' : List Move) (to : Phase) → (n ≡ Next.Go → ⊥) → Drove ms a b → Comes p p b c (Ok n) trace to → WentOn n from p → IsOfWork (of_pool pool) p

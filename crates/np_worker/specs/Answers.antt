@@ -22,20 +22,17 @@ IsFull journal = 262144 ≤ length journal
 -- a useful event of the role was recorded; none is; or one is and there is no room (own)
 abbrev pub answers_act : Configuration → List Entry → Role → Turn → Type 0
 answers_act c journal role (Turn.Did e) = IsUseful c (after c journal) role e.event × IsReplied c journal e
-answers_act c journal role (Turn.DueNode n x) = ⊥
-answers_act c journal role Turn.Swept = ⊥
 answers_act c journal role Turn.Idle = (e : Event) → IsUseful c (after c journal) role e → ⊥
 answers_act c journal role Turn.Full = ((e : Event) × IsUseful c (after c journal) role e) × IsFull journal
+answers_act c journal role _ = ⊥
 
 -- ## Do
 
 -- the event was recorded, or there is no room (own)
 abbrev pub answers_do : Configuration → List Entry → Event → Turn → Type 0
 answers_do c journal event (Turn.Did e) = (e.event ≡ event) × IsReplied c journal e
-answers_do c journal event (Turn.DueNode n x) = ⊥
-answers_do c journal event Turn.Swept = ⊥
-answers_do c journal event Turn.Idle = ⊥
 answers_do c journal event Turn.Full = IsFull journal
+answers_do c journal event _ = ⊥
 
 -- ## Due
 
@@ -52,11 +49,9 @@ pub record IsDue (p : PoolId) (s : State) (n : NodeId) (x : Option ℕ) : Type 0
 
 -- a node that is due, or none is (own)
 abbrev pub answers_due : Configuration → List Entry → PoolId → Turn → Type 0
-answers_due c journal p (Turn.Did e) = ⊥
 answers_due c journal p (Turn.DueNode n x) = IsDue p (after c journal) n x
-answers_due c journal p Turn.Swept = ⊥
 answers_due c journal p Turn.Idle = (n : NodeId) (x : Option ℕ) → IsDue p (after c journal) n x → ⊥
-answers_due c journal p Turn.Full = ⊥
+answers_due c journal p _ = ⊥
 
 -- ## Sweep
 
@@ -105,10 +100,4 @@ nothing_else c journal role e = ⊥
 -- as above, but a turn of a role may also have recorded one of those (own)
 abbrev pub answers_also : Also → Configuration → List Entry → Ask → Turn → Type 0
 answers_also also c journal (Ask.Act role) (Turn.Did e) = (IsUseful c (after c journal) role e.event ⊎ also c journal role e.event) × IsReplied c journal e
-answers_also also c journal (Ask.Act role) (Turn.DueNode n x) = ⊥
-answers_also also c journal (Ask.Act role) Turn.Swept = ⊥
-answers_also also c journal (Ask.Act role) Turn.Idle = answers_act c journal role Turn.Idle
-answers_also also c journal (Ask.Act role) Turn.Full = answers_act c journal role Turn.Full
-answers_also also c journal (Ask.Do event) t = answers_do c journal event t
-answers_also also c journal (Ask.Due p) t = answers_due c journal p t
-answers_also also c journal (Ask.Sweep p n x) t = answers_sweep c journal p n x t
+answers_also also c journal a t = answers c journal a t

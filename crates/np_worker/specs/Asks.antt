@@ -7,7 +7,4 @@ use Rattle.np_worker.specs.declared.ask.Turn.{Turn}
 -- the entry that a turn recorded, if any (own)
 abbrev pub recorded : Ask → Turn → Option Entry
 recorded ask (Turn.Did e) = Some e
-recorded ask (Turn.DueNode n x) = None
-recorded ask Turn.Swept = None
-recorded ask Turn.Idle = None
-recorded ask Turn.Full = None
+recorded ask _ = None

@@ -1,7 +1,7 @@
 -- a worker's round at a board: where its entries stand, of which role they are, how far its roles came, and what became of its servers
 use Rattle.std.specs.Prelude.{◌≡◌, ◌⊎◌, ◌++◌, ℕ, length, List, [], ◌∷◌, Bool, true, false, Contains, All, IfOk, Option, Result}
 use Rattle.np_changes.specs.Prelude.{Configuration, Entry, Event, Janitor, Launcher, NoMemory, PoolId, Reaper, Requester, Role, after}
-use Rattle.np_worker.specs.Prelude.{AreRising, Driving, IsUseful, Move, Phase, Server, Sight, StartsWith, Work, asked, launched, of_pool, of_reaper, of_requester, removed}
+use Rattle.np_worker.specs.Prelude.{AreRising, Driving, IsUseful, Move, Phase, Server, Sight, StartsWith, Work, asked, of_pool, of_reaper, of_requester}
 use Rattle.np_worker.specs.declared.ask.Ask.{Ask}
 use Rattle.np_worker.specs.declared.ask.Turn.{Turn}
 use Rattle.np_worker.specs.Move.{entries_of}
@@ -30,8 +30,7 @@ pub record HadNothing (c : Configuration) (role : Role) (history seen : List Ent
 abbrev pub acts_as : Role → Ask → Bool
 acts_as (Launcher pool) = is_launcher_act
 acts_as (Janitor pool) = is_janitor_act
-acts_as (Requester q) = is_lone_act
-acts_as Reaper = is_lone_act
+acts_as _ = is_lone_act
 
 -- 16 turns of the role made an entry, or it had no useful event at some time of the round (own)
 abbrev pub CameFar : Configuration → List Entry → List Entry → List Move → Role → Type 0
@@ -54,8 +53,7 @@ IsSweptSo _ _ = Unit {0}
 abbrev pub AreSweptSo : List Move → Type 0
 AreSweptSo [] = Unit {0}
 AreSweptSo (asked a t ∷ moves) = IsSweptSo a t × AreSweptSo moves
-AreSweptSo (launched tag o ∷ moves) = AreSweptSo moves
-AreSweptSo (removed x ∷ moves) = AreSweptSo moves
+AreSweptSo (move ∷ moves) = AreSweptSo moves
 
 -- ## servers
 

@@ -46,8 +46,7 @@ abbrev pub FollowsPlan : (Tag → Option Outcome) → List Move → Type 0
 FollowsPlan plan [] = Unit {0}
 FollowsPlan plan (launched tag o ∷ moves) =
     IfSome (plan tag) (λ planned. planned ≡ o) × FollowsPlan plan moves
-FollowsPlan plan (asked a t ∷ moves) = FollowsPlan plan moves
-FollowsPlan plan (removed x ∷ moves) = FollowsPlan plan moves
+FollowsPlan plan (move ∷ moves) = FollowsPlan plan moves
 
 -- the server that a launch made, if any, is sound by itself (own)
 abbrev pub IsSoundAlone : (List ℕ → Bool) → Outcome → Type 0
@@ -58,8 +57,7 @@ IsSoundAlone sound Outcome.Failed = Unit {0}
 abbrev pub AreSoundAlone : (List ℕ → Bool) → List Move → Type 0
 AreSoundAlone sound [] = Unit {0}
 AreSoundAlone sound (launched tag o ∷ moves) = IsSoundAlone sound o × AreSoundAlone sound moves
-AreSoundAlone sound (asked a t ∷ moves) = AreSoundAlone sound moves
-AreSoundAlone sound (removed x ∷ moves) = AreSoundAlone sound moves
+AreSoundAlone sound (move ∷ moves) = AreSoundAlone sound moves
 
 -- a launch failed only when there were as many servers as the driver has room for, or as many
 -- launches answered as may be, if it reports them (own)
@@ -95,5 +93,4 @@ pub record Drives (moves : List Move) (before now : Driving) : Type 0 where
 abbrev pub Drove : List Move → Option Driving → Option Driving → Type 0
 Drove moves None None = Unit {0}
 Drove moves (Some before) (Some now) = Drives moves before now
-Drove moves None (Some now) = ⊥
-Drove moves (Some before) None = ⊥
+Drove moves _ _ = ⊥

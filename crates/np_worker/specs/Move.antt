@@ -18,12 +18,10 @@ pub data Move : Type 0 where
 abbrev pub entries_of : List Move → List Entry
 entries_of [] = []
 entries_of (asked ask turn ∷ moves) = turned.entries_of (recorded ask turn) ++ entries_of moves
-entries_of (launched tag o ∷ moves) = entries_of moves
-entries_of (removed x ∷ moves) = entries_of moves
+entries_of (move ∷ moves) = entries_of moves
 
 -- the launches that were answered (own)
 abbrev pub launches_of : List Move → List Launch
 launches_of [] = []
-launches_of (asked ask turn ∷ moves) = launches_of moves
 launches_of (launched tag o ∷ moves) = record { tag = tag; outcome = o } ∷ launches_of moves
-launches_of (removed x ∷ moves) = launches_of moves
+launches_of (move ∷ moves) = launches_of moves

@@ -1,6 +1,6 @@
 -- what holds of the moves of every round
 use Rattle.std.specs.Prelude.{◌≡◌, List, ◌++◌, map, Option}
-use Rattle.np_worker.specs.Prelude.{Driving, Drove, Phase, Sight, Walk, Work, ended, of_pool, of_reaper, of_requester, rests}
+use Rattle.np_worker.specs.Prelude.{Driving, Drove, Phase, Sight, Walk, Work, ended, of_pool, rests}
 use Rattle.np_event.specs.declared.entry.Entry.{Entry}
 use Rattle.np_worker.specs.declared.ask.Ask.{Ask}
 use Rattle.np_worker.specs.declared.ask.Turn.{Turn}
@@ -11,8 +11,7 @@ use Rattle.np_worker.specs.Trace.{starts_of, owed_tags, AreReported, AreAsksOf, 
 abbrev pub RolesTook : Work → List Move → Phase → Type 0
 RolesTook (of_pool pool) trace to =
     (IsPastLauncher to → TookAll is_launcher_act trace) × (IsPastJanitor to → TookAll is_janitor_act trace)
-RolesTook (of_requester q) trace to = to ≡ rests → TookAll is_lone_act trace
-RolesTook of_reaper trace to = to ≡ rests → TookAll is_lone_act trace
+RolesTook _ trace to = to ≡ rests → TookAll is_lone_act trace
 
 -- the moves of a worker's round that came to this phase (own)
 pub record AreOrderly (work : Work) (trace : List Move) (to : Phase) : Type 0 where

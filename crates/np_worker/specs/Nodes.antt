@@ -5,12 +5,9 @@ use Rattle.np_changes.specs.Prelude.{NodeEntry, NodeRecord, NodeState, PoolId}
 -- launched, and not given up: ready, in use, used or on hold (Nodepool)
 abbrev pub is_up : NodeState → Bool
 is_up NodeState.Building = false
-is_up NodeState.Ready = true
-is_up NodeState.InUse = true
-is_up NodeState.Used = true
-is_up NodeState.Hold = true
 is_up NodeState.Deleting = false
 is_up NodeState.Failed = false
+is_up _ = true
 
 abbrev pub listed : Option ℕ → List ℕ
 listed None = []

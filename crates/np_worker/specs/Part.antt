@@ -38,21 +38,21 @@ module _ {F : Type 0} (answers : F → List Entry → Ask → Turn → Type 0) (
     pub led : Leads from trace to
     pub holds : Holds trace to
 
--- the phase that a part without removals leads to, by how the round goes on (own)
+-- what a part came to, by how the round goes on: it may end where the journal has no room, or with a removal that failed (own)
+abbrev pub ComesTo : Type 0 → Type 0 → Type 0 → Result Next NoMemory → Phase → Type 0
+ComesTo go idle failed (Ok Next.Go) to = go
+ComesTo go idle failed (Ok Next.Idle) to = idle
+ComesTo go idle failed (Ok Next.Full) to = to ≡ phase.ended
+ComesTo go idle failed (Ok Next.Failed) to = OwesRemoval to × failed
+ComesTo go idle failed (Err _) to = Unit {0}
+
+-- the phase that a part without removals leads to (own)
 abbrev pub Goes : Phase → Phase → Result Next NoMemory → List Move → Phase → Type 0
-Goes go idle (Ok Next.Go) trace to = to ≡ go
-Goes go idle (Ok Next.Idle) trace to = to ≡ idle
-Goes go idle (Ok Next.Full) trace to = to ≡ phase.ended
-Goes go idle (Ok Next.Failed) trace to = ⊥
-Goes go idle (Err _) trace to = Unit {0}
+Goes go idle r trace to = ComesTo (to ≡ go) (to ≡ idle) ⊥ r to
 
 -- the same with removals, of which one may have failed (own)
 abbrev pub Comes : Phase → Phase → Option Driving → Option Driving → Result Next NoMemory → List Move → Phase → Type 0
-Comes go idle before now (Ok Next.Go) trace to = to ≡ go
-Comes go idle before now (Ok Next.Idle) trace to = to ≡ idle
-Comes go idle before now (Ok Next.Full) trace to = to ≡ phase.ended
-Comes go idle before now (Ok Next.Failed) trace to = OwesRemoval to × RemovalFailed before now
-Comes go idle before now (Err _) trace to = Unit {0}
+Comes go idle before now r trace to = ComesTo (to ≡ go) (to ≡ idle) (RemovalFailed before now) r to
 
 -- what a turn came to in this phase (own)
 abbrev pub Came : Phase → Ask → Result Turn NoMemory → List Move → Phase → Type 0
@@ -72,33 +72,21 @@ IsDealtWith pool server before now trace =
 
 -- what the sweep of one server came to (own)
 abbrev pub SweepsOne : PoolId → Server → Driving → Driving → Result Next NoMemory → List Move → Phase → Type 0
-SweepsOne pool server before now (Ok Next.Go) trace to =
-    (to ≡ phase.sweeps pool) × IsDealtWith pool server before now trace
-SweepsOne pool server before now (Ok Next.Idle) trace to = ⊥
-SweepsOne pool server before now (Ok Next.Full) trace to = to ≡ phase.ended
-SweepsOne pool server before now (Ok Next.Failed) trace to =
-    OwesRemoval to × RemovalFailed (Some before) (Some now)
-SweepsOne pool server before now (Err _) trace to = Unit {0}
+SweepsOne pool server before now r trace to =
+    ComesTo ((to ≡ phase.sweeps pool) × IsDealtWith pool server before now trace) ⊥ (RemovalFailed (Some before) (Some now)) r to
 
 -- what a pool's round came to (own)
 abbrev pub SweepsAll : PoolId → Driving → Driving → Result Next NoMemory → List Move → Phase → Type 0
-SweepsAll pool before now (Ok Next.Go) trace to = (to ≡ phase.sweeps pool) × AreKept pool trace (Some now)
-SweepsAll pool before now (Ok Next.Idle) trace to = (to ≡ phase.sweeps pool) × AreKept pool trace (Some now)
-SweepsAll pool before now (Ok Next.Full) trace to = to ≡ phase.ended
-SweepsAll pool before now (Ok Next.Failed) trace to =
-    OwesRemoval to × RemovalFailed (Some before) (Some now)
-SweepsAll pool before now (Err _) trace to = Unit {0}
+SweepsAll pool before now r trace to =
+    ComesTo ((to ≡ phase.sweeps pool) × AreKept pool trace (Some now)) ((to ≡ phase.sweeps pool) × AreKept pool trace (Some now)) (RemovalFailed (Some before) (Some now)) r to
 
 -- whether the journal has no room (own)
 abbrev pub is_full : Next → Bool
-is_full Next.Go = false
-is_full Next.Idle = false
 is_full Next.Full = true
-is_full Next.Failed = false
+is_full _ = false
 
 -- what a removal came to (own)
 abbrev pub RemovalEnds : ℕ → Driving → Driving → Next → Type 0
 RemovalEnds x before now Next.Go = Drives (removed x ∷ []) before now
 RemovalEnds x before now Next.Failed = Drives [] before now × RemovalFailed (Some before) (Some now)
-RemovalEnds x before now Next.Idle = ⊥
-RemovalEnds x before now Next.Full = ⊥
+RemovalEnds x before now _ = ⊥

@@ -73,16 +73,13 @@ pub data Phase : Type 0 where
 abbrev pub after_role : Role → Phase
 after_role (Role.Launcher pool) = looks pool 15
 after_role (Role.Janitor pool) = sweeps pool
-after_role (Role.Requester q) = rests
-after_role Role.Reaper = rests
+after_role _ = rests
 
 -- a role that may take this many turns (own)
 abbrev pub acting : Role → ℕ → Phase
 acting r zero = after_role r
-acting (Role.Launcher pool) (suc n) = acts (Role.Launcher pool) n
 acting (Role.Janitor pool) (suc n) = looks pool n
-acting (Role.Requester q) (suc n) = acts (Role.Requester q) n
-acting Role.Reaper (suc n) = acts Role.Reaper n
+acting r (suc n) = acts r n
 
 -- the phase in which a round begins (own)
 abbrev pub first_phase : Work → Phase
@@ -118,9 +115,7 @@ after_start pool n (Some s) = owes_launch pool n s
 
 abbrev pub after_entry : Role → ℕ → Entry → Phase
 after_entry (Role.Launcher pool) n e = after_start pool n (start_of pool e)
-after_entry (Role.Janitor pool) n e = acting (Role.Janitor pool) n
-after_entry (Role.Requester q) n e = acting (Role.Requester q) n
-after_entry Role.Reaper n e = acting Role.Reaper n
+after_entry r n e = acting r n
 
 -- an entry was made, or the role has nothing to do (own)
 abbrev pub after_act : Role → ℕ → Turn → Phase

@@ -29,8 +29,7 @@ pub record PlaysFrom (plans : Bool) (c : Configuration) (history : List Entry) (
 abbrev pub EachPlaysFrom : Bool → Configuration → List Entry → List Player → List PlayerEnd → Type 0
 EachPlaysFrom plans c history [] [] = Unit {0}
 EachPlaysFrom plans c history (player ∷ players) (end ∷ ends) = PlaysFrom plans c history player end × EachPlaysFrom plans c history players ends
-EachPlaysFrom plans c history [] (end ∷ ends) = ⊥
-EachPlaysFrom plans c history (player ∷ players) [] = ⊥
+EachPlaysFrom plans c history _ _ = ⊥
 
 -- some player made the entry at the place (own)
 pub record IsMade (ends : List PlayerEnd) (x : ℕ) : Type 0 where

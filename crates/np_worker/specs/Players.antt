@@ -1,7 +1,7 @@
 -- who plays a site: workers as contracts see them, and what is known of what they drive
 use Rattle.std.specs.Prelude.{◌≡◌, Bool, false, ℕ, suc, List, [], ◌∷◌, ◌++◌, All, Contains, slice_get, Option, Some, None, IfSome}
 use Rattle.np_changes.specs.Prelude.{Configuration, Entry, NodeId, Outcome, PoolId, SomeTurn, turns}
-use Rattle.np_worker.specs.Prelude.{Driving, Launch, NamesServer, Server, Work, of_pool, of_reaper, of_requester}
+use Rattle.np_worker.specs.Prelude.{Driving, Launch, NamesServer, Server, Work, of_pool}
 use Rattle.np_worker.specs.Planned.{DrivenAs}
 
 -- a worker: whose it is, and what it drives (own)
@@ -24,15 +24,12 @@ drivings_of (player ∷ players) = driving_in player.driving ++ drivings_of play
 abbrev pub IsNumbered : ℕ → Work → Option Driving → Type 0
 IsNumbered n (of_pool pool) (Some driving) = pool.0 ≡ n
 IsNumbered n (of_pool pool) None = ⊥
-IsNumbered n (of_requester q) None = Unit {0}
-IsNumbered n (of_requester q) (Some driving) = ⊥
-IsNumbered n of_reaper None = Unit {0}
-IsNumbered n of_reaper (Some driving) = ⊥
+IsNumbered n _ None = Unit {0}
+IsNumbered n _ (Some driving) = ⊥
 
 abbrev pub next_number : ℕ → Work → ℕ
 next_number n (of_pool pool) = suc n
-next_number n (of_requester q) = n
-next_number n of_reaper = n
+next_number n _ = n
 
 -- the pools' workers are in the order of the pools, the first of them that of the pool of this
 -- number (own)

@@ -10,8 +10,7 @@ use Rattle.np_worker.specs.Part.{RemovalFailed, AreKept}
 abbrev pub Rests : Work → Option Driving → Option Driving → List Move → Phase → Type 0
 Rests (of_pool pool) before now trace to =
     ((to ≡ sweeps pool) × AreKept pool trace now) ⊎ (OwesRemoval to × RemovalFailed before now)
-Rests (of_requester q) before now trace to = to ≡ rests
-Rests of_reaper before now trace to = to ≡ rests
+Rests _ before now trace to = to ≡ rests
 
 -- a round ends when a turn found the journal full, or with its work done; if memory ran out,
 -- anywhere (own)
@@ -29,5 +28,4 @@ work_of Worker.Reaper = of_reaper
 -- what it drives (own)
 abbrev pub driving_of : {D : Type 0} → (D → DriverFacts) → (D → Tag → Option Outcome) → (D → List ℕ → Bool) → (D → ℕ) → Worker D → Option Driving
 driving_of facts plan sound room (Worker.Pool pool driver) = Some (driving facts plan sound room driver)
-driving_of facts plan sound room (Worker.Requester q) = None
-driving_of facts plan sound room Worker.Reaper = None
+driving_of facts plan sound room _ = None

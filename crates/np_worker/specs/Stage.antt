@@ -47,8 +47,7 @@ player Role.Reaper = of_reaper
 -- it plays one role, which does nothing but act (own)
 abbrev pub IsLone : Work → Type 0
 IsLone (of_pool pool) = ⊥
-IsLone (of_requester q) = Unit {0}
-IsLone of_reaper = Unit {0}
+IsLone _ = Unit {0}
 
 -- the phase is one of this worker's round (own)
 abbrev pub IsOfWork : Work → Phase → Type 0
@@ -64,22 +63,11 @@ IsOfWork w ended = Unit {0}
 
 -- ## how long it may go on
 
--- how many turns, launches and removals may come, if the role may take n turns; those of the servers
--- at the end are not counted (own)
-abbrev pub steps_acting : Role → ℕ → ℕ
-steps_acting (Role.Launcher pool) n = 48 + 3 * n
-steps_acting (Role.Janitor pool) n = 3 * n
-steps_acting (Role.Requester q) n = n
-steps_acting Role.Reaper n = n
-
-abbrev pub steps_act : Role → ℕ → ℕ
-steps_act (Role.Launcher pool) n = 51 + 3 * n
-steps_act (Role.Janitor pool) n = 1 + 3 * n
-steps_act (Role.Requester q) n = 1 + n
-steps_act Role.Reaper n = 1 + n
-
+-- how many turns, launches and removals may come; those of the servers at the end are not counted (own)
 abbrev pub steps_left : Phase → ℕ
-steps_left (acts r n) = steps_act r n
+steps_left (acts (Role.Launcher pool) n) = 51 + 3 * n
+steps_left (acts (Role.Janitor pool) n) = 1 + 3 * n
+steps_left (acts _ n) = 1 + n
 steps_left (owes_launch pool n s) = 50 + 3 * n
 steps_left (owes_report pool n s o) = 49 + 3 * n
 steps_left (looks pool n) = 3 + 3 * n
@@ -101,8 +89,7 @@ IsPlayed _ = ⊥
 abbrev pub WentOn : Next → Phase → Phase → Type 0
 WentOn Next.Go before now = steps_left now < steps_left before
 WentOn Next.Idle before now = IsPlayed now
-WentOn Next.Full before now = Unit {0}
-WentOn Next.Failed before now = Unit {0}
+WentOn _ before now = Unit {0}
 
 -- the phase that a series of turns leads to (own)
 abbrev pub Reaches : Result Stage NoMemory → List Move → Phase → Type 0

@@ -26,15 +26,13 @@ start_made _ _ = None
 abbrev pub starts_of : List Move → List Tag
 starts_of [] = []
 starts_of (asked a t ∷ moves) = tags_of (start_made a t) ++ starts_of moves
-starts_of (launched tag o ∷ moves) = starts_of moves
-starts_of (removed x ∷ moves) = starts_of moves
+starts_of (move ∷ moves) = starts_of moves
 
 -- the tags of the launches, in order (own)
 abbrev pub tags_launched : List Move → List Tag
 tags_launched [] = []
-tags_launched (asked a t ∷ moves) = tags_launched moves
 tags_launched (launched tag o ∷ moves) = tag ∷ tags_launched moves
-tags_launched (removed x ∷ moves) = tags_launched moves
+tags_launched (move ∷ moves) = tags_launched moves
 
 -- the start whose launch a phase owes (own)
 abbrev pub owed_tags : Phase → List Tag
@@ -52,23 +50,20 @@ IsBeforeReport s o to = (pool : PoolId) × (n : ℕ) × (to ≡ owes_report pool
 abbrev pub Reports : Start → Outcome → List Move → Phase → Type 0
 Reports s o [] to = IsBeforeReport s o to
 Reports s o (asked a t ∷ moves) to = a ≡ Ask.Do (report_of s o)
-Reports s o (launched tag q ∷ moves) to = ⊥
-Reports s o (removed x ∷ moves) to = ⊥
+Reports s o (move ∷ moves) to = ⊥
 
 -- the start is launched next, and its launch is reported then, with what became of it (own)
 abbrev pub IsReported : Start → List Move → Phase → Type 0
 IsReported s [] to = IsBeforeLaunch s to
 IsReported s (launched tag o ∷ moves) to = (tag ≡ s.tag) × Reports s o moves to
-IsReported s (asked a t ∷ moves) to = ⊥
-IsReported s (removed x ∷ moves) to = ⊥
+IsReported s (move ∷ moves) to = ⊥
 
 -- the same for each accepted start (own)
 abbrev pub AreReported : List Move → Phase → Type 0
 AreReported [] to = Unit {0}
 AreReported (asked a t ∷ moves) to =
     IfSome (start_made a t) (λ s. IsReported s moves to) × AreReported moves to
-AreReported (launched tag o ∷ moves) to = AreReported moves to
-AreReported (removed x ∷ moves) to = AreReported moves to
+AreReported (move ∷ moves) to = AreReported moves to
 
 -- ## whose turns, and in which order
 
@@ -85,23 +80,20 @@ IsAskOf of_reaper a = a ≡ Ask.Act Role.Reaper
 abbrev pub AreAsksOf : Work → List Move → Type 0
 AreAsksOf work [] = Unit {0}
 AreAsksOf work (asked a t ∷ moves) = IsAskOf work a × AreAsksOf work moves
-AreAsksOf work (launched tag o ∷ moves) = AreAsksOf work moves
-AreAsksOf work (removed x ∷ moves) = AreAsksOf work moves
+AreAsksOf work (move ∷ moves) = AreAsksOf work moves
 
 -- a launcher's asks come first, then a janitor's, then the sweeps (own)
 abbrev pub stage_of : Ask → ℕ
 stage_of (Ask.Act (Role.Janitor pool)) = 1
-stage_of (Ask.Act _) = 0
-stage_of (Ask.Do e) = 0
 stage_of (Ask.Due pool) = 1
 stage_of (Ask.Sweep pool n x) = 2
+stage_of _ = 0
 
 -- no ask is of an earlier stage than one before it (own)
 abbrev pub AreInOrder : ℕ → List Move → Type 0
 AreInOrder stage [] = Unit {0}
 AreInOrder stage (asked a t ∷ moves) = (stage ≤ stage_of a) × AreInOrder (stage_of a) moves
-AreInOrder stage (launched tag o ∷ moves) = AreInOrder stage moves
-AreInOrder stage (removed x ∷ moves) = AreInOrder stage moves
+AreInOrder stage (move ∷ moves) = AreInOrder stage moves
 
 -- ## removals
 
@@ -116,9 +108,8 @@ NamesServer _ _ x = ⊥
 abbrev pub AreNamed : List Move → Type 0
 AreNamed [] = Unit {0}
 AreNamed (asked a t ∷ removed x ∷ moves) = NamesServer a t x × AreNamed moves
-AreNamed (asked a t ∷ moves) = AreNamed moves
-AreNamed (launched tag o ∷ moves) = AreNamed moves
 AreNamed (removed x ∷ moves) = ⊥
+AreNamed (move ∷ moves) = AreNamed moves
 
 -- the answer to a sweep of the server was not that nobody wants it (own)
 abbrev pub WasKept : PoolId → List Move → Server → Type 0
@@ -132,8 +123,7 @@ WasKept pool trace server = (t : Turn)
 abbrev pub StandAt : List Entry → List ℕ → List Entry → Type 0
 StandAt seen [] [] = Unit {0}
 StandAt seen (x ∷ xs) (e ∷ es) = (slice_get seen x ≡ Some e) × StandAt seen xs es
-StandAt seen [] (e ∷ es) = ⊥
-StandAt seen (x ∷ xs) [] = ⊥
+StandAt seen _ _ = ⊥
 
 -- one's own places grew by the places of these entries (own)
 abbrev pub Gains : Sight Entry → List Entry → Sight Entry → Type 0
@@ -170,16 +160,14 @@ is_lone_act _ = false
 abbrev pub did_count : (Ask → Bool) → List Move → ℕ
 did_count test [] = 0
 did_count test (asked a t ∷ moves) = cond (test a && is_did t) 1 0 + did_count test moves
-did_count test (launched tag o ∷ moves) = did_count test moves
-did_count test (removed x ∷ moves) = did_count test moves
+did_count test (move ∷ moves) = did_count test moves
 
 -- one of these turns found nothing to do (own)
 abbrev pub WasIdle : (Ask → Bool) → List Move → Type 0
 WasIdle test [] = ⊥
 WasIdle test (asked a t ∷ moves) =
     ((test a ≡ true) × (is_idle t ≡ true)) ⊎ WasIdle test moves
-WasIdle test (launched tag o ∷ moves) = WasIdle test moves
-WasIdle test (removed x ∷ moves) = WasIdle test moves
+WasIdle test (move ∷ moves) = WasIdle test moves
 
 -- there were 16 of these turns that made an entry, or one that found nothing to do (own)
 abbrev pub TookAll : (Ask → Bool) → List Move → Type 0
@@ -206,19 +194,16 @@ IsPastJanitor _ = ⊥
 abbrev pub WasFull : List Move → Type 0
 WasFull [] = ⊥
 WasFull (asked a t ∷ moves) = (t ≡ Turn.Full) ⊎ WasFull moves
-WasFull (launched tag o ∷ moves) = WasFull moves
-WasFull (removed x ∷ moves) = WasFull moves
+WasFull (move ∷ moves) = WasFull moves
 
 -- nothing comes after such a turn (own)
 abbrev pub EndsWhereFull : List Move → Type 0
 EndsWhereFull [] = Unit {0}
 EndsWhereFull (asked a t ∷ moves) = (t ≡ Turn.Full → moves ≡ []) × EndsWhereFull moves
-EndsWhereFull (launched tag o ∷ moves) = EndsWhereFull moves
-EndsWhereFull (removed x ∷ moves) = EndsWhereFull moves
+EndsWhereFull (move ∷ moves) = EndsWhereFull moves
 
 -- servers of this number were removed (own)
 abbrev pub WasRemoved : ℕ → List Move → Type 0
 WasRemoved x [] = ⊥
-WasRemoved x (asked a t ∷ moves) = WasRemoved x moves
-WasRemoved x (launched tag o ∷ moves) = WasRemoved x moves
 WasRemoved x (removed y ∷ moves) = (y ≡ x) ⊎ WasRemoved x moves
+WasRemoved x (move ∷ moves) = WasRemoved x moves

@@ -14,24 +14,28 @@ ghost use Rattle.np_worker.specs.Asks.{recorded};
 ghost use Rattle.np_worker.specs.Legal.{is_legal};
 
 /// A legal journal is one that the machine makes.
+#[tactic(auto, using(crate::proofs::Journals::legal_laws))]
 pub fn a_legal_journal_runs()
     ensures { (c : Configuration) (journal : List Entry) → is_legal c journal ≡ true →
         Runs c journal (after c journal) }
 {}
 
 /// A journal that the machine makes is legal.
+#[tactic(auto, using(crate::proofs::Journals::legal_laws))]
 pub fn a_journal_that_runs_is_legal()
     ensures { (c : Configuration) (journal : List Entry) (s : State) → Runs c journal s →
         is_legal c journal ≡ true }
 {}
 
 /// A beginning of a legal journal is legal.
+#[tactic(auto, using(crate::proofs::Journals::legal_laws))]
 pub fn a_beginning_of_a_legal_journal_is_legal()
     ensures { (c : Configuration) (journal rest : List Entry) →
         is_legal c (journal ++ rest) ≡ true → is_legal c journal ≡ true }
 {}
 
 /// A legal journal with room stays legal with one more entry that has the machine's reply.
+#[tactic(auto, using(crate::proofs::Journals::legal_laws))]
 pub fn a_legal_journal_goes_on()
     ensures { (c : Configuration) (journal : List Entry) (e : Entry) →
         is_legal c journal ≡ true → IsReplied c journal e →
@@ -39,6 +43,7 @@ pub fn a_legal_journal_goes_on()
 {}
 
 /// Each entry of a legal journal has the machine's reply, in the state after the entries before it.
+#[tactic(auto, using(crate::proofs::Journals::legal_between))]
 pub fn a_legal_journal_has_the_machines_replies()
     ensures at_place { (c : Configuration) (journal : List Entry) (at : ℕ) (e : Entry) →
         is_legal c journal ≡ true → slice_get journal at ≡ Some e →
@@ -48,6 +53,7 @@ pub fn a_legal_journal_has_the_machines_replies()
 {}
 
 /// What a turn records has the machine's reply.
+#[tactic(auto, using(crate::proofs::Walks::turn_replied))]
 pub fn a_turn_records_the_machines_reply()
     ensures { (c : Configuration) (journal : List Entry) (ask : Ask) (t : Turn) (e : Entry) →
         answers c journal ask t → recorded ask t ≡ Some e → IsReplied c journal e }
@@ -55,6 +61,7 @@ pub fn a_turn_records_the_machines_reply()
 
 /// A sweep by the pool's current janitor is answered `Keep` if the server is wanted, otherwise
 /// `Remove`; so the answers to an ask to sweep are the machine's.
+#[tactic(auto, using(crate::proofs::Leaving::sweep_judged))]
 pub fn a_sweep_keeps_what_is_wanted()
     ensures { (c : Configuration) (s : State) (p : PoolId) (session : SessionId) (n : NodeId)
         (x : ℕ) → is_current (Janitor p) session s ≡ true →
@@ -63,6 +70,7 @@ pub fn a_sweep_keeps_what_is_wanted()
 {}
 
 /// A sweep that a turn records is answered `Remove`.
+#[tactic(auto, using(crate::proofs::Leaving::sweep_removes))]
 pub fn a_recorded_sweep_is_answered_remove()
     ensures { (c : Configuration) (journal : List Entry) (p : PoolId) (n : NodeId) (x : ℕ)
         (e : Entry) → answers_sweep c journal p n x (turn.Did e) →

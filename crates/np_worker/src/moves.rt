@@ -17,6 +17,7 @@ use np_event::Entry;
 
 /// The accepted starts are the launches, in this order and with these tags. Only if the moves end
 /// between a start and its launch does the last start have none.
+#[tactic(auto, using(crate::proofs::Steps::starts_launched, crate::proofs::Steps::tags_of_launches))]
 pub fn starts_are_launched()
     ensures launched { (p q : Phase) (trace : List Move) → Leads p trace q →
         owed_tags p ++ starts_of trace ≡ tags_launched trace ++ owed_tags q }
@@ -27,16 +28,19 @@ pub fn starts_are_launched()
 /// After each accepted start the next move is its launch, and the one after that the turn that
 /// reports it, for the same session, node and attempt and with what became of the launch. Only the
 /// last start may lack them, if the moves end there.
+#[tactic(auto, using(crate::proofs::Steps::are_reported))]
 pub fn starts_are_reported()
     ensures { (p q : Phase) (trace : List Move) → Leads p trace q → AreReported trace q }
 {}
 
 /// A launcher's turns and reports come before a janitor's turns, and these before the sweeps.
+#[tactic(auto, using(crate::proofs::Steps::in_order))]
 pub fn asks_are_in_order()
     ensures { (p q : Phase) (trace : List Move) → Leads p trace q → AreInOrder 0 trace }
 {}
 
 /// A worker asks only what belongs to its roles.
+#[tactic(auto, using(crate::proofs::Steps::asks_of))]
 pub fn asks_are_of_the_worker()
     ensures { (w : Work) (q : Phase) (trace : List Move) → Leads (first_phase w) trace q →
         AreAsksOf w trace }
@@ -44,6 +48,7 @@ pub fn asks_are_of_the_worker()
 
 /// The moves come to their end if and only if a turn found no room in the journal, and nothing
 /// comes after that turn.
+#[tactic(auto, using(crate::proofs::Steps::ends_full, crate::proofs::Steps::is_at_end, crate::proofs::Steps::ends_where_full))]
 pub fn a_full_journal_ends_the_round()
     ensures full { (p q : Phase) (trace : List Move) → ¬ (p ≡ ended) → Leads p trace q →
         q ≡ ended → WasFull trace }
@@ -60,6 +65,7 @@ pub fn servers_leave_by_removals()
 
 /// A server is removed right after a turn that named it: as that of a due node, or by the answer to
 /// its own sweep that nobody wants it.
+#[tactic(auto, using(crate::proofs::Steps::are_named))]
 pub fn removals_are_named()
     ensures { (p q : Phase) (trace : List Move) → ¬ (OwesRemoval p) → Leads p trace q →
         AreNamed trace }
@@ -68,6 +74,7 @@ pub fn removals_are_named()
 /// If the round came past the launcher, the launcher took 16 turns that made an entry, or one in
 /// which it had nothing to do. The same is true of the janitor, and of the one role of a
 /// requester's worker or of the reaper's.
+#[tactic(auto, using(crate::proofs::Steps::launcher_took, crate::proofs::Steps::janitor_took, crate::proofs::Steps::requester_took, crate::proofs::Steps::reaper_took))]
 pub fn roles_take_their_turns()
     ensures launcher { (pool : PoolId) (q : Phase) (trace : List Move) →
         Leads (first_phase (of_pool pool)) trace q → IsPastLauncher q →

@@ -12,6 +12,7 @@ ghost use Rattle.np_worker.specs.Hosting.{BeginAfter, Earlier, HaveHosted, HaveS
 
 /// A node whose launch was begun for a pool, as a driven journal has it, was of the pool: a report on
 /// it is one of the pool's.
+#[tactic(auto, using(crate::proofs::Records::begun_of))]
 pub fn a_launch_that_was_begun_is_of_its_pool()
     ensures { (c : Configuration) (journal : List Entry) (session : SessionId) (n : NodeId)
         (attempt start : ℕ) (p : PoolId) →
@@ -46,6 +47,7 @@ pub fn a_tick_keeps_what_is_hosted()
 
 /// In the end the drivers carried the journal, and if they had answered no launch before, launches
 /// failed only where a driver was full.
+#[tactic(auto, using(crate::proofs::Hosted::hosted_laws))]
 pub fn what_is_hosted_was_carried()
     ensures carried { (earlier : Earlier) (c : Configuration) (full : Bool) (journal : List Entry)
         (players : List Player) → IsHosted earlier c full journal players →

@@ -11,6 +11,7 @@ ghost use Rattle.np_worker.specs.Played.{IsRound};
 
 /// Before the first entry nothing was driven, and players without servers have none that was not
 /// named.
+#[tactic(auto, using(crate::proofs::Journals::driven_laws))]
 pub fn players_begin_with_the_empty_journal()
     ensures { (plans : Bool) (c : Configuration) (players : List Player) → AreNumbered 0 players →
         All (λ (d : Driving). d.facts.servers ≡ Some []) (drivings_of players) →
@@ -47,6 +48,7 @@ pub fn a_tick_after_a_round_is_driven()
 
 /// If drivers plan as the configuration does, what they drove was driven as planned, with planned
 /// events or without.
+#[tactic(auto, using(crate::proofs::Journals::driven_laws))]
 pub fn what_planned_drivers_drove_was_driven_as_planned()
     ensures driven { (c : Configuration) (drivings : List Driving) (journal : List Entry) →
         ArePlanned c 0 (map (λ (d : Driving). d.plan) drivings) →

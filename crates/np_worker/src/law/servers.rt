@@ -13,6 +13,7 @@ ghost use Rattle.np_worker.specs.Servers.{HasServers, IsOfRound, IsOnlyNodeOfIts
 /// the round, or a server of its number that the driver had in the round was swept, and is swept
 /// after all that was seen. If no other server of the round has its number, it is itself swept; if
 /// no other node of the pool has a server of that number, the node is its own.
+#[tactic(auto, using(crate::proofs::Leaving::own_pair, crate::proofs::Leaving::own_node))]
 pub fn servers_leave_with_a_cause()
     ensures cause { (plans : Bool) (c : Configuration) (history : List Entry) (player : Player) (end : PlayerEnd)
         (pool : PoolId) (before now : List Server) (plays : PlaysFrom plans c history player end) →

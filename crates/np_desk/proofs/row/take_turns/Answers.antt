@@ -1,5 +1,5 @@
-use Rattle.np_desk.proofs.Prelude.{AnsweredAtOnce, List, ap, arith, err_from_is_err_and, grown, inl, inr, refl, subst, sym, true, ◌∙◌, ◌≡◌}
-use Rattle.np_desk.proofs.HistoryLemmas.{begins_on, none-went, starts_same, took_all, took_some, went_on}
+use Rattle.np_desk.proofs.Prelude.{AnsweredAtOnce, arith, err_from_is_err_and, grown, inl, inr, refl, subst, sym, true, ◌∙◌, ◌≡◌}
+use Rattle.np_desk.proofs.HistoryLemmas.{begins_on, none-went, starts_same, took_so, went_on}
 use Rattle.np_desk.proofs.row.take_turns.Goals as goal
 
 pub loop-turn-init : goal.loop-turn-init
@@ -21,13 +21,13 @@ loop-turn-preserved g c = let i = c.loop-turn.invariant in
     }
 
 pub returns-in-None-clause-turns : goal.returns-in-None-clause-turns
-returns-in-None-clause-turns g c = λ mine. took_all g.M.SeqObject.answers g.M.SeqObject.recorded g.S.Series.asks g.S.Series.hears (g.M.SeqObject.fixed c.args.object.now) _ c.args.series.now c.args.most c.loop-turn._turn _ c.loop-turn.series tt (c.loop-turn.invariant.went mine) (omega (arith, c.loop-turn.auto._turn-end)) (inl (sym c.ask.ensures ∙ c.in-None.is))
+returns-in-None-clause-turns g c = λ mine. took_so g.M.SeqObject.answers g.M.SeqObject.recorded g.S.Series.asks g.S.Series.hears _ _ _ _ _ _ _ _ (c.loop-turn.invariant.went mine) (omega (arith, c.loop-turn.auto._turn-end)) (inl (sym c.ask.ensures ∙ c.in-None.is))
 
 pub returns-clause-turns : goal.returns-clause-turns
 returns-clause-turns g c =
     let all : c.loop-turn._turn ≡ c.args.most = omega (arith, c.loop-turn.auto._turn-end, c.loop-turn-test.false) in
-    λ mine. took_all g.M.SeqObject.answers g.M.SeqObject.recorded g.S.Series.asks g.S.Series.hears (g.M.SeqObject.fixed c.args.object.now) _ c.args.series.now c.args.most c.loop-turn._turn _ c.loop-turn.series tt (c.loop-turn.invariant.went mine) (omega (arith, all)) (inr all)
+    λ mine. took_so g.M.SeqObject.answers g.M.SeqObject.recorded g.S.Series.asks g.S.Series.hears _ _ _ _ _ _ _ _ (c.loop-turn.invariant.went mine) (omega (arith, all)) (inr all)
 
 pub returns-in_err-turn-in-Some-clause-turns : goal.returns-in_err-turn-in-Some-clause-turns
-returns-in_err-turn-in-Some-clause-turns g c = let e = err_from_is_err_and c.from_residual.result c.from_residual.ensures.1 in
-    λ mine. took_some g.M.SeqObject.answers g.M.SeqObject.recorded g.S.Series.asks g.S.Series.hears (g.M.SeqObject.fixed c.args.object.now) _ c.args.series.now c.args.most c.loop-turn._turn c.from_residual.result e.0 _ _ c.loop-turn.series e.1 (c.loop-turn.invariant.went mine) (omega (arith, c.loop-turn.auto._turn-end)) (ap (λ (l : List g.row.M-Entry.Denot). grown mine (g.M.SeqObject.history c.args.object.now) l) (sym c.in_err-turn-in-Some.ensures.history))
+returns-in_err-turn-in-Some-clause-turns g c mine = let failed = (err_from_is_err_and c.from_residual.result c.from_residual.ensures.1).1 in
+    rw (failed, c.in_err-turn-in-Some.ensures.history) (took_so g.M.SeqObject.answers g.M.SeqObject.recorded g.S.Series.asks g.S.Series.hears _ _ _ _ _ _ _ _ (c.loop-turn.invariant.went mine) (omega (arith, c.loop-turn.auto._turn-end)) tt)

@@ -1,11 +1,11 @@
-use Rattle.np_janitor.proofs.Prelude.{Configuration, IsSound, NoneFinished, arith, below_more, subst, sym, ℕ, ◌∙◌}
-use Rattle.np_janitor.proofs.Janitors.{finish-none, found-none}
+use Rattle.np_janitor.proofs.Prelude.{ChoosesFinish, Configuration, IsSound, NoneFinished, arith, below_more, subst, sym, ℕ, ◌∙◌}
+use Rattle.np_janitor.proofs.Janitors.{finish-none, none-chosen}
 use Rattle.np_janitor.proofs.janitor.first_finish.Goals as goal
 
 pub loop-at-preserved : goal.loop-at-preserved
 loop-at-preserved g c =
     below_more (λ (k : ℕ). NoneFinished (g.L.Look.site c.args.look.now) (g.L.Look.state c.args.look.now) c.args.rows.now.known.pool (record { 0 = k })) c.loop-at.at c.loop-at.invariant
-    (found-none (g.L.Look.site c.args.look.now) (g.L.Look.state c.args.look.now) c.args.rows.now.known.pool (record { 0 = c.loop-at.at }) c.finish_for-found.result (sym c.if-is_some.ensures) c.finish_for-found.ensures)
+    (none-chosen (ChoosesFinish (g.L.Look.site c.args.look.now) (g.L.Look.state c.args.look.now) c.args.rows.now.known.pool (record { 0 = c.loop-at.at })) c.finish_for-found.result (sym c.if-is_some.ensures) c.finish_for-found.ensures)
 
 pub returns : goal.returns
 returns g c =

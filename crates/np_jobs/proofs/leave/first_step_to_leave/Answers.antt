@@ -1,5 +1,5 @@
-use Rattle.np_jobs.proofs.Prelude.{NoLeave, NodeId, Some, arith, before-end, below_more, node_to_leave, same-there, sym, ◌≡◌}
-use Rattle.np_jobs.proofs.Nodes.{to_leave, below-nodes, leaves-none, no-leave}
+use Rattle.np_jobs.proofs.Prelude.{ChoosesToLeave, NoLeave, NodeId, Some, arith, before-end, below_more, node_to_leave, none-chosen, same-there, sym, ◌≡◌}
+use Rattle.np_jobs.proofs.Nodes.{to_leave, below-nodes, leaves-none}
 use Rattle.np_jobs.proofs.leave.first_step_to_leave.Goals as goal
 
 pub returns-in_default : goal.returns-in_default
@@ -11,7 +11,7 @@ pub loop-at-preserved : goal.loop-at-preserved
 loop-at-preserved g c =
     below_more (λ k. (n : NodeId) → node_to_leave (g.L.Look.site c.args.look.now) c.args.rows.now.requester c.args.session k (g.L.Look.state c.args.look.now) ≡ Some n → NoLeave (g.L.Look.site c.args.look.now) (g.L.Look.state c.args.look.now) c.args.rows.now.requester c.args.session n) c.loop-at.at c.loop-at.invariant
     (λ n found. same-there (NoLeave (g.L.Look.site c.args.look.now) (g.L.Look.state c.args.look.now) c.args.rows.now.requester c.args.session) c.in-Some.node n _ (sym c.in-Some.ensures) found
-    (no-leave (g.L.Look.site c.args.look.now) (g.L.Look.state c.args.look.now) c.args.rows.now.requester c.args.session c.in-Some.node c.step_to_leave-found.result (sym c.if-is_some.ensures) c.step_to_leave-found.ensures))
+    (none-chosen (ChoosesToLeave (g.L.Look.site c.args.look.now) (g.L.Look.state c.args.look.now) c.args.rows.now.requester c.args.session c.in-Some.node) c.step_to_leave-found.result (sym c.if-is_some.ensures) c.step_to_leave-found.ensures))
 
 pub returns : goal.returns
 returns g c =

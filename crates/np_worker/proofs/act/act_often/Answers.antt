@@ -1,13 +1,12 @@
-use Rattle.np_worker.proofs.Prelude.{Goes, IsOfWork, Phase, WentFar, acting, ap, err_from_is_err_and, phase_of, player, refl, rests, subst, sym, ◌∙◌, ◌≡◌}
-use Rattle.np_worker.proofs.Walks.{at_err, of_part, same_from}
+use Rattle.np_worker.proofs.Prelude.{IsOfWork, Phase, WentFar, acting, ap, err_from_is_err_and, phase_of, player, refl, rests, subst, sym, ◌∙◌, ◌≡◌}
+use Rattle.np_worker.proofs.Walks.{of_part, same_from}
 use Rattle.np_worker.proofs.Steps.{lone_rests, work_acting}
 use Rattle.np_worker.proofs.act.act_often.Goals as goal
 
 pub returns-in_err-take_turns-clause-part : goal.returns-in_err-take_turns-clause-part
 returns-in_err-take_turns-clause-part g c = λ d.
     let e = err_from_is_err_and c.from_residual.result c.from_residual.ensures.1 in
-    let p = same_from c.acting.ensures (c.take_turns.ensures.part d) in
-    of_part p (at_err (λ r. Goes rests rests r p.trace p.to) e.1 tt)
+    of_part (same_from c.acting.ensures (c.take_turns.ensures.part d)) (rw e.1 tt)
 
 pub returns-in-Ended-clause-part : goal.returns-in-Ended-clause-part
 returns-in-Ended-clause-part g c = λ d.

@@ -1,12 +1,12 @@
-use Rattle.np_worker.proofs.Prelude.{Came, Ok, after_turn, asked, err_from_is_err_and, refl, [], ◌∷◌}
-use Rattle.np_worker.proofs.Walks.{one_turn, no_turn, with_recorded, counts_turn, at_err}
+use Rattle.np_worker.proofs.Prelude.{Ok, err_from_is_err_and, refl}
+use Rattle.np_worker.proofs.Walks.{one_turn, no_turn, with_recorded, counts_turn}
 use Rattle.np_worker.proofs.act.take_turn.Goals as goal
 
 pub returns-in_err-turn-clause-part : goal.returns-in_err-turn-clause-part
-returns-in_err-turn-clause-part g c = λ p d may of. let e = err_from_is_err_and c.from_residual.result c.from_residual.ensures.1 in no_turn p (g.T.Turns.sight c.args.turns.now) (g.T.Turns.sight c.turn.new.self) d c.in_err-turn.ensures.turn (at_err (λ r. Came p c.args.ask r [] p) e.1 tt)
+returns-in_err-turn-clause-part g c = λ p d may of. let e = err_from_is_err_and c.from_residual.result c.from_residual.ensures.1 in no_turn p (g.T.Turns.sight c.args.turns.now) (g.T.Turns.sight c.turn.new.self) d c.in_err-turn.ensures.turn (rw e.1 tt)
 
 pub returns-in_err-entries-clause-part : goal.returns-in_err-entries-clause-part
-returns-in_err-entries-clause-part g c = λ p d may of. let e = err_from_is_err_and c.from_residual-in_err-entries.result c.from_residual-in_err-entries.ensures.1 in one_turn p (g.T.Turns.sight c.args.turns.now) (g.T.Turns.sight c.turn.new.self) d c.args.ask c.in_ok-turn.turn may of (with_recorded g.T.Turns.answers g.T.Turns.recorded c.requires.recorded (g.T.Turns.fixed c.args.turns.now) (g.T.Turns.sight c.args.turns.now) (g.T.Turns.sight c.turn.new.self) c.args.ask (Ok c.in_ok-turn.turn) c.in_ok-turn.ensures.turn) (at_err (λ r. Came p c.args.ask r (asked c.args.ask c.in_ok-turn.turn ∷ []) (after_turn p c.args.ask c.in_ok-turn.turn)) e.1 tt)
+returns-in_err-entries-clause-part g c = λ p d may of. let e = err_from_is_err_and c.from_residual-in_err-entries.result c.from_residual-in_err-entries.ensures.1 in one_turn p (g.T.Turns.sight c.args.turns.now) (g.T.Turns.sight c.turn.new.self) d c.args.ask c.in_ok-turn.turn may of (with_recorded g.T.Turns.answers g.T.Turns.recorded c.requires.recorded (g.T.Turns.fixed c.args.turns.now) (g.T.Turns.sight c.args.turns.now) (g.T.Turns.sight c.turn.new.self) c.args.ask (Ok c.in_ok-turn.turn) c.in_ok-turn.ensures.turn) (rw e.1 tt)
 
 pub returns-clause-part : goal.returns-clause-part
 returns-clause-part g c = λ p d may of. one_turn p (g.T.Turns.sight c.args.turns.now) (g.T.Turns.sight c.turn.new.self) d c.args.ask c.in_ok-turn.turn may of (with_recorded g.T.Turns.answers g.T.Turns.recorded c.requires.recorded (g.T.Turns.fixed c.args.turns.now) (g.T.Turns.sight c.args.turns.now) (g.T.Turns.sight c.turn.new.self) c.args.ask (Ok c.in_ok-turn.turn) c.in_ok-turn.ensures.turn) (refl, refl)

@@ -1,5 +1,5 @@
-use Rattle.np_worker.proofs.Prelude.{Ok, Playing, Reaches, arith, err_from_is_err_and, ◌<◌, ◌^◌}
-use Rattle.np_worker.proofs.Walks.{at_err, of_part, took_counts, took_far, took_part, took_work, with_recorded_series}
+use Rattle.np_worker.proofs.Prelude.{Ok, Playing, arith, err_from_is_err_and, ◌<◌, ◌^◌}
+use Rattle.np_worker.proofs.Walks.{of_part, took_counts, took_far, took_part, with_recorded_series, heard_work}
 use Rattle.np_worker.proofs.act.take_turns.Goals as goal
 
 pub returns-in_err-turns-clause-part : goal.returns-in_err-turns-clause-part
@@ -7,14 +7,14 @@ returns-in_err-turns-clause-part g c = λ d.
     let p : Playing = record { stage = c.args.stage; entries = c.from.result } in
     let e = err_from_is_err_and c.from_residual.result c.from_residual.ensures.1 in
     let t = took_part g.T.Turns.answers (g.T.Turns.fixed c.args.turns.now) p c.turns.new.series (g.T.Turns.sight c.args.turns.now) (g.T.Turns.sight c.turns.new.self) c.turns.result d (with_recorded_series g.T.Turns.answers (g.T.Turns.fixed c.args.turns.now) g.T.Turns.recorded c.requires.recorded (g.T.Turns.sight c.args.turns.now) p c.turns.result (g.T.Turns.sight c.turns.new.self) c.turns.new.series c.turns.ensures.turns) in
-    of_part t (at_err (λ r. Reaches r t.trace t.to) e.1 tt)
+    of_part t (rw e.1 tt)
 
 pub returns-in_err-entries-clause-part : goal.returns-in_err-entries-clause-part
 returns-in_err-entries-clause-part g c = λ d.
     let p : Playing = record { stage = c.args.stage; entries = c.from.result } in
     let e = err_from_is_err_and c.from_residual-in_err-entries.result c.from_residual-in_err-entries.ensures.1 in
     let t = took_part g.T.Turns.answers (g.T.Turns.fixed c.args.turns.now) p c.turns.new.series (g.T.Turns.sight c.args.turns.now) (g.T.Turns.sight c.turns.new.self) c.turns.result d (with_recorded_series g.T.Turns.answers (g.T.Turns.fixed c.args.turns.now) g.T.Turns.recorded c.requires.recorded (g.T.Turns.sight c.args.turns.now) p c.turns.result (g.T.Turns.sight c.turns.new.self) c.turns.new.series c.turns.ensures.turns) in
-    of_part t (at_err (λ r. Reaches r t.trace t.to) e.1 tt)
+    of_part t (rw e.1 tt)
 
 pub returns-clause-part : goal.returns-clause-part
 returns-clause-part g c = λ d.
@@ -29,7 +29,7 @@ returns-clause-far g c =
 pub returns-clause-work : goal.returns-clause-work
 returns-clause-work g c = λ w h.
     let p : Playing = record { stage = c.args.stage; entries = c.from.result } in
-    took_work g.T.Turns.answers (g.T.Turns.fixed c.args.turns.now) w p c.turns.new.series (g.T.Turns.sight c.args.turns.now) (g.T.Turns.sight c.turns.new.self) c.turns.result (with_recorded_series g.T.Turns.answers (g.T.Turns.fixed c.args.turns.now) g.T.Turns.recorded c.requires.recorded (g.T.Turns.sight c.args.turns.now) p c.turns.result (g.T.Turns.sight c.turns.new.self) c.turns.new.series c.turns.ensures.turns) h
+    let t = with_recorded_series g.T.Turns.answers (g.T.Turns.fixed c.args.turns.now) g.T.Turns.recorded c.requires.recorded (g.T.Turns.sight c.args.turns.now) p c.turns.result (g.T.Turns.sight c.turns.new.self) c.turns.new.series c.turns.ensures.turns in heard_work w p c.turns.new.series t.turns t.heard h
 
 pub returns-clause-count : goal.returns-clause-count
 returns-clause-count g c =

@@ -1,13 +1,11 @@
-use Rattle.np_worker.proofs.Prelude.{Comes, Ok, Part, Role, Some, acts, ap, driving, err_from_is_err_and, owes_due, owes_launch, owes_report, phase_of, refl, ◌++◌, ◌∙◌, ◌≡◌}
-use Rattle.np_worker.proofs.Walks.{at_err, comes_from, drove_same, follow, no_move, of_part, one_launch, removal, work_at}
+use Rattle.np_worker.proofs.Prelude.{unturned_same, Comes, IsOfWork, Ok, Part, Role, Some, Stage, acts, ap, driving, err_from_is_err_and, launched, owes_due, owes_launch, owes_report, phase_of, refl, subst, [], ◌++◌, ◌∙◌, ◌∷◌, ◌≡◌, Driving, Drove, sym}
+use Rattle.np_worker.proofs.Walks.{comes_from, follow, of_part, removal, with_moves, drives_none}
 use Rattle.np_worker.proofs.roles.play_on.Goals as goal
 
 pub returns-in_err-reached-clause-part : goal.returns-in_err-reached-clause-part
 returns-in_err-reached-clause-part g c =
-    let d = Some (driving g.D.Driver.facts g.D.Driver.plan g.D.Driver.sound g.D.Driver.room c.args.driver.now) in
     let e = err_from_is_err_and c.from_residual.result c.from_residual.ensures.1 in
-    let p = c.take_turns.ensures.part d in
-    of_part p (at_err (λ r. Comes (phase_of c.args.stage.now) (phase_of c.args.stage.now) d d r p.trace p.to) e.1 tt)
+    of_part (c.take_turns.ensures.part (Some (driving g.D.Driver.facts g.D.Driver.plan g.D.Driver.sound g.D.Driver.room c.args.driver.now))) (rw e.1 tt)
 
 pub returns-in_err-outcome-in-Launches-clause-part : goal.returns-in_err-outcome-in-Launches-clause-part
 returns-in_err-outcome-in-Launches-clause-part g c =
@@ -16,9 +14,8 @@ returns-in_err-outcome-in-Launches-clause-part g c =
     let e = err_from_is_err_and c.from_residual-in_err-outcome-in-Launches.result c.from_residual-in_err-outcome-in-Launches.ensures.1 in
     let p = c.in_ok-reached.ensures.part (Some d) in
     let owed = owes_launch c.in-Launches.pool c.in-Launches.left c.in-Launches.start in
-    let now = phase_of c.in_ok-reached.reached in
-    let q : Part g.T.Turns.answers (g.T.Turns.fixed c.args.turns.now) owed (g.T.Turns.sight c.take_turns.new.turns) (g.T.Turns.sight c.take_turns.new.turns) (Some d) (Some x) (λ trace to. to ≡ owed) = no_move owed (g.T.Turns.sight c.take_turns.new.turns) (Some d) (Some x) (drove_same d x c.in_err-outcome-in-Launches.ensures) refl in
-    follow p (p.holds ∙ ap phase_of c.in-Launches.is) q (at_err (λ r. Comes now now (Some d) (Some x) r (p.trace ++ q.trace) q.to) e.1 tt)
+    let q : Part g.T.Turns.answers (g.T.Turns.fixed c.args.turns.now) owed (g.T.Turns.sight c.take_turns.new.turns) (g.T.Turns.sight c.take_turns.new.turns) (Some d) (Some x) (λ trace to. to ≡ owed) = with_moves [] owed (unturned_same (g.T.Turns.sight c.take_turns.new.turns)) (subst (λ (y : Driving). Drove [] (Some d) (Some y)) (sym c.in_err-outcome-in-Launches.ensures) (drives_none d)) refl refl in
+    follow p (p.holds ∙ ap phase_of c.in-Launches.is) q (rw e.1 tt)
 
 pub returns-in_ok-outcome-in-Launches-clause-part : goal.returns-in_ok-outcome-in-Launches-clause-part
 returns-in_ok-outcome-in-Launches-clause-part g c =
@@ -26,11 +23,11 @@ returns-in_ok-outcome-in-Launches-clause-part g c =
     let x = Some (driving g.D.Driver.facts g.D.Driver.plan g.D.Driver.sound g.D.Driver.room c.launch_server.new.driver) in
     let p = c.in_ok-reached.ensures.part d in
     let owed = owes_launch c.in-Launches.pool c.in-Launches.left c.in-Launches.start in
-    let q : Part g.T.Turns.answers (g.T.Turns.fixed c.args.turns.now) owed (g.T.Turns.sight c.take_turns.new.turns) (g.T.Turns.sight c.take_turns.new.turns) d x (λ trace to. to ≡ owes_report c.in-Launches.pool c.in-Launches.left c.in-Launches.start c.in_ok-outcome-in-Launches.outcome) = one_launch owed (g.T.Turns.sight c.take_turns.new.turns) d x c.in-Launches.start.tag c.in_ok-outcome-in-Launches.outcome refl c.in_ok-outcome-in-Launches.ensures refl in
+    let q : Part g.T.Turns.answers (g.T.Turns.fixed c.args.turns.now) owed (g.T.Turns.sight c.take_turns.new.turns) (g.T.Turns.sight c.take_turns.new.turns) d x (λ trace to. to ≡ owes_report c.in-Launches.pool c.in-Launches.left c.in-Launches.start c.in_ok-outcome-in-Launches.outcome) = with_moves (launched c.in-Launches.start.tag c.in_ok-outcome-in-Launches.outcome ∷ []) (owes_report c.in-Launches.pool c.in-Launches.left c.in-Launches.start c.in_ok-outcome-in-Launches.outcome) (unturned_same (g.T.Turns.sight c.take_turns.new.turns)) c.in_ok-outcome-in-Launches.ensures (refl, refl) refl in
     follow p (p.holds ∙ ap phase_of c.in-Launches.is) q q.holds
 
 pub returns-in_ok-outcome-in-Launches-clause-work : goal.returns-in_ok-outcome-in-Launches-clause-work
-returns-in_ok-outcome-in-Launches-clause-work g c = λ w h. work_at w _ _ c.in-Launches.is (c.in_ok-reached.ensures.work w h)
+returns-in_ok-outcome-in-Launches-clause-work g c = λ w h. subst (λ (s : Stage). IsOfWork w (phase_of s)) c.in-Launches.is (c.in_ok-reached.ensures.work w h)
 
 pub returns-in-Removes-clause-part : goal.returns-in-Removes-clause-part
 returns-in-Removes-clause-part g c =
@@ -43,7 +40,7 @@ returns-in-Removes-clause-part g c =
     follow p (p.holds ∙ ap phase_of c.in-Removes.is) q (comes_from now now (Some d) (Some x) (Ok c.remove_server.result) q.trace (p.trace ++ q.trace) q.to q.holds)
 
 pub returns-in-Removes-clause-work : goal.returns-in-Removes-clause-work
-returns-in-Removes-clause-work g c = λ w h. work_at w _ _ c.in-Removes.is (c.in_ok-reached.ensures.work w h)
+returns-in-Removes-clause-work g c = λ w h. subst (λ (s : Stage). IsOfWork w (phase_of s)) c.in-Removes.is (c.in_ok-reached.ensures.work w h)
 
 pub returns-in-Ended-clause-part : goal.returns-in-Ended-clause-part
 returns-in-Ended-clause-part g c = let p = c.in_ok-reached.ensures.part (Some (driving g.D.Driver.facts g.D.Driver.plan g.D.Driver.sound g.D.Driver.room c.args.driver.now)) in of_part p (p.holds ∙ ap phase_of c.in-Ended.is)

@@ -1,5 +1,5 @@
-use Rattle.np_worker.proofs.Prelude.{Comes, IsOfWork, Next, Role, Some, acting, ap, arith, driving, err_from_is_err_and, of_pool, phase_of, refl, steps_left, subst, sweeps, sym, ◌++◌, ◌∙◌}
-use Rattle.np_worker.proofs.Walks.{at_err, comes_at, counts_on, follow, no_turn, roles_end, same_fixed, unturned_same, went_go}
+use Rattle.np_worker.proofs.Prelude.{unturned_same, Comes, IsOfWork, Next, Ok, Role, Some, WentOn, acting, ap, arith, driving, err_from_is_err_and, of_pool, phase_of, refl, steps_left, subst, sym, ◌++◌, ◌∙◌}
+use Rattle.np_worker.proofs.Walks.{counts_on, follow, no_turn, roles_end, same_fixed}
 use Rattle.np_worker.proofs.Steps.{work_acting}
 use Rattle.np_worker.proofs.roles.play_roles.Goals as goal
 
@@ -26,20 +26,17 @@ loop-step-preserved g c =
       ready = c.in_ok-next.ensures.ready;
       fixed = c.in_ok-next.ensures.fixed ∙ i.fixed;
       place = c.in_ok-next.ensures.place ∙ i.place;
-      part = follow p p.holds q (comes_at now now b x _ Next.Go q.trace q.to c.in-Go.is q.holds);
-      left = omega (arith, i.left, went_go c.in_ok-next.next (phase_of c.loop-step.stage) now c.in-Go.is c.in_ok-next.ensures.on);
+      part = follow p p.holds q (subst (λ (n : Next). Comes now now b x (Ok n) q.trace q.to) c.in-Go.is q.holds);
+      left = omega (arith, i.left, subst (λ (n : Next). WentOn n (phase_of c.loop-step.stage) now) c.in-Go.is c.in_ok-next.ensures.on);
       work = c.in_ok-next.ensures.work (of_pool c.args.pool) i.work;
       count = counts_on c.args.entries.now c.loop-step.entries c.play_on.new.entries (g.T.Turns.sight c.args.turns.now) (g.T.Turns.sight c.loop-step.turns) (g.T.Turns.sight c.play_on.new.turns) i.count c.in_ok-next.ensures.count;
     }
 
 pub returns-in_err-next-clause-part : goal.returns-in_err-next-clause-part
 returns-in_err-next-clause-part g c =
-    let d = Some (driving g.D.Driver.facts g.D.Driver.plan g.D.Driver.sound g.D.Driver.room c.args.driver.now) in
-    let x = Some (driving g.D.Driver.facts g.D.Driver.plan g.D.Driver.sound g.D.Driver.room c.play_on.new.driver) in
+    let i = c.loop-step.invariant in
     let e = err_from_is_err_and c.from_residual.result c.from_residual.ensures.1 in
-    let p = c.loop-step.invariant.part in
-    let q = same_fixed c.loop-step.invariant.fixed c.play_on.ensures.part in
-    follow p p.holds q (at_err (λ r. Comes (sweeps c.args.pool) (sweeps c.args.pool) d x r (p.trace ++ q.trace) q.to) e.1 tt)
+    follow i.part i.part.holds (same_fixed i.fixed c.play_on.ensures.part) (rw e.1 tt)
 
 pub returns-in_default-clause-part : goal.returns-in_default-clause-part
 returns-in_default-clause-part g c =

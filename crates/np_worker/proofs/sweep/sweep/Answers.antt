@@ -1,12 +1,12 @@
-use Rattle.np_worker.proofs.Prelude.{Next, Some, SweepsAll, arith, driving, err_from_is_err_and, refl, subst, suc, sweeps, [], ◌++◌, ◌-◌, ◌<◌, ◌∙◌, ◌≡◌}
-use Rattle.np_worker.proofs.Walks.{KeptFrom, at_err, counts_on, follow, kept_end, kept_none, kept_one, kept_start, no_turn, of_part, same_fixed, sweeps_one_all, sweeps_one_at, unturned_same}
+use Rattle.np_worker.proofs.Prelude.{unturned_same, Next, Ok, Some, SweepsOne, arith, driving, err_from_is_err_and, refl, subst, suc, sweeps, [], ◌++◌, ◌-◌, ◌<◌, ◌∙◌, ◌≡◌}
+use Rattle.np_worker.proofs.Walks.{KeptFrom, counts_on, follow, kept_all, kept_none, kept_one, kept_start, no_turn, of_part, same_fixed, sweeps_one_all}
 use Rattle.np_worker.proofs.sweep.sweep.Goals as goal
 
 pub returns-in_err-count-clause-part : goal.returns-in_err-count-clause-part
 returns-in_err-count-clause-part g c =
     let d = driving g.D.Driver.facts g.D.Driver.plan g.D.Driver.sound g.D.Driver.room c.args.driver.now in
     let e = err_from_is_err_and c.from_residual.result c.from_residual.ensures.1 in
-    no_turn (sweeps c.args.pool) (g.T.Turns.sight c.args.turns.now) (g.T.Turns.sight c.args.turns.now) (Some d) (unturned_same (g.T.Turns.sight c.args.turns.now)) (at_err (λ r. SweepsAll c.args.pool d d r [] (sweeps c.args.pool)) e.1 tt)
+    no_turn (sweeps c.args.pool) (g.T.Turns.sight c.args.turns.now) (g.T.Turns.sight c.args.turns.now) (Some d) (unturned_same (g.T.Turns.sight c.args.turns.now)) (rw e.1 tt)
 
 pub loop-at-init : goal.loop-at-init
 loop-at-init g c = record {
@@ -31,7 +31,6 @@ loop-at-preserved g c =
 
 pub loop-at-preserved-in-Go : goal.loop-at-preserved-in-Go
 loop-at-preserved-in-Go g c =
-    let d = driving g.D.Driver.facts g.D.Driver.plan g.D.Driver.sound g.D.Driver.room c.args.driver.now in
     let b = driving g.D.Driver.facts g.D.Driver.plan g.D.Driver.sound g.D.Driver.room c.loop-at.driver in
     let x = driving g.D.Driver.facts g.D.Driver.plan g.D.Driver.sound g.D.Driver.room c.sweep_one.new.driver in
     let i = c.loop-at.invariant in
@@ -39,7 +38,7 @@ loop-at-preserved-in-Go g c =
     let h : c.loop-at.at ≡ suc (c.loop-at.at - 1) = omega arith in
     let p = i.part in
     let q = same_fixed i.fixed c.in_ok-next.ensures.part in
-    let k = sweeps_one_at c.args.pool c.in-Some.server b x _ Next.Go q.trace q.to c.in-Go.is q.holds in
+    let k = subst (λ (n : Next). SweepsOne c.args.pool c.in-Some.server b x (Ok n) q.trace q.to) c.in-Go.is q.holds in
     let from : KeptFrom c.args.pool p.trace (suc (c.loop-at.at - 1)) b.facts.servers = subst (λ n. KeptFrom c.args.pool p.trace n (g.D.Driver.facts c.loop-at.driver).servers) h p.holds.1 in
     record {
       ready = c.in_ok-next.ensures.ready;
@@ -52,18 +51,13 @@ loop-at-preserved-in-Go g c =
 pub returns-clause-part : goal.returns-clause-part
 returns-clause-part g c = let p = c.loop-at.invariant.part in
     let h : c.loop-at.at ≡ 0 = omega arith in
-    of_part p (p.holds.0, kept_end c.args.pool p.trace (driving g.D.Driver.facts g.D.Driver.plan g.D.Driver.sound g.D.Driver.room c.loop-at.driver) (subst (λ n. KeptFrom c.args.pool p.trace n (g.D.Driver.facts c.loop-at.driver).servers) h p.holds.1))
+    of_part p (p.holds.0, kept_all c.args.pool p.trace (g.D.Driver.facts c.loop-at.driver).servers (subst (λ n. KeptFrom c.args.pool p.trace n (g.D.Driver.facts c.loop-at.driver).servers) h p.holds.1))
 
 pub returns-in_err-next-clause-part : goal.returns-in_err-next-clause-part
 returns-in_err-next-clause-part g c =
-    let d = driving g.D.Driver.facts g.D.Driver.plan g.D.Driver.sound g.D.Driver.room c.args.driver.now in
-    let b = driving g.D.Driver.facts g.D.Driver.plan g.D.Driver.sound g.D.Driver.room c.loop-at.driver in
-    let x = driving g.D.Driver.facts g.D.Driver.plan g.D.Driver.sound g.D.Driver.room c.sweep_one.new.driver in
     let i = c.loop-at.invariant in
     let e = err_from_is_err_and c.from_residual-in_err-next.result c.from_residual-in_err-next.ensures.1 in
-    let p = i.part in
-    let q = same_fixed i.fixed c.sweep_one.ensures.part in
-    follow p p.holds.0 q (at_err (λ r. SweepsAll c.args.pool d x r (p.trace ++ q.trace) q.to) e.1 tt)
+    follow i.part i.part.holds.0 (same_fixed i.fixed c.sweep_one.ensures.part) (rw e.1 tt)
 
 pub returns-in_default-2-clause-part : goal.returns-in_default-2-clause-part
 returns-in_default-2-clause-part g c =

@@ -1,5 +1,5 @@
 use Rattle.np_worker.proofs.Prelude.{Bool, Ok, Part, Some, SweepsOne, after_sweep, ap, cond, driving, err_from_is_err_and, inl, owes_swept, refl, sweeps, sym, ◌++◌, ◌∙◌}
-use Rattle.np_worker.proofs.Walks.{follow, of_part, swept_removal, sweeps_one_on, removed_deals, after_sweep_turn, of_kept_server, was_kept_now, at_err}
+use Rattle.np_worker.proofs.Walks.{follow, of_part, swept_removal, sweeps_one_on, removed_deals, after_sweep_turn, of_kept_server, was_kept_now}
 use Rattle.np_worker.proofs.sweep.sweep_one.Goals as goal
 
 pub returns-in_err-turn-clause-part : goal.returns-in_err-turn-clause-part
@@ -7,7 +7,7 @@ returns-in_err-turn-clause-part g c =
     let d = driving g.D.Driver.facts g.D.Driver.plan g.D.Driver.sound g.D.Driver.room c.args.driver.now in
     let e = err_from_is_err_and c.from_residual.result c.from_residual.ensures.1 in
     let p = c.take_turn.ensures.part (sweeps c.args.pool) (Some d) (c.args.server.tag.node, c.args.server.number, refl) (of_kept_server c.args.pool c.args.server d c.requires.server) in
-    of_part p (at_err (λ r. SweepsOne c.args.pool c.args.server d d r p.trace p.to) e.1 tt)
+    of_part p (rw e.1 tt)
 
 pub returns-in-Full-clause-part : goal.returns-in-Full-clause-part
 returns-in-Full-clause-part g c =
