@@ -1,25 +1,28 @@
 -- the members and the rows of a sound configuration are read again from their values
-use Rattle.np_config_text.proofs.Prelude.{AGE, All, All-from_each, AreProviders, Bool, Configuration, Crash, Data, EachAfter, Equal, Expire, FAIL_STARTS, FAULT_ACTS, Fault, FaultKind, Greater, HANDLES, HasNewName, IfSome, IsAscii, IsAscii-append, IsAscii-cons, IsAscii-name, IsAscii-nil, IsFault, IsJob, IsLabel, IsLimit, IsOffer, IsPool, IsProvider, IsRequester, IsRole, IsSem, IsSound, IsStart, IsTenant, IsUnused, IsUtf8-from_ascii, Job, LABELS, Label, LabelId, Length, Less, Limit, List, MIN_READY, Members, NODE_CORES, NODE_RAM, None, Offer, Ok, Option, Ordering, POOL_CORES, POOL_RAM, POOL_SERVERS, Pool, PoolId, PoolsSoFar, Provider, ReadsItem, Requester, RequesterId, Role, START_NUMBER, Sem, SemId, Some, StandsByOwner, Stop, TENANTS, Tenant, TenantId, and_parts, ap, append-nil, append_assoc, arith, at_most, below, bytes_eq, codes, cond, count, decimal, default_name, default_tenant, false, fault_at, fault_data, fault_kind_of, fault_kind_word, full_name, get, get-map, get_member, given, given_limit, is-at_most, is_eq, is_gt, is_name_text, items_from, items_len, items_of, job_tenant, label_at, label_data, label_for, label_name, label_named, label_row, label_value, length, length-map, limit_at, list_any, list_at, list_data, list_if_any, list_maybe, list_required, map, match_ordering, member, name_at, named_at, nat_cmp, nat_lt, nat_tests, new_name, no_members, offer_amount, offer_at, offer_data, offer_label, offers_at, ok, only_keys, option_map, option_map_or, or_parts, other, passed, pool_at, pool_data, pool_keys, pool_name, pool_named, pool_names, pool_names-unused, pool_row, position, position_or_len, put, put_given, put_limit, reached, refl, requester_name, requester_named, required_word, role_at, semaphore_at, semaphore_data, semaphore_name, semaphore_named, slice_cmp, slice_get, start_at, starts_at, string, subst, suc, sym, take, tenant_at, tenant_data, tenant_id, tenant_keys, tenant_name, tenant_named, tenant_of, true, whole_required, whole_value, word_value, zero, ℕ, [], ◌&&◌, ◌++◌, ◌+◌, ◌<◌, ◌==◌, ◌>>=◌, ◌∙◌, ◌∷◌, ◌≡◌, ◌≤◌}
+use Rattle.np_config_text.proofs.Prelude.{AGE, All, All-from_each, AreProviders, Bool, Configuration, Crash, Data, EachAfter, Equal, Expire, FAIL_STARTS, FAULT_ACTS, Fault, FaultKind, Greater, HANDLES, HasNewName, IfSome, IsAscii, IsAscii-append, IsAscii-cons, IsAscii-name, IsAscii-nil, IsFault, IsJob, IsLabel, IsLimit, IsOffer, IsPool, IsProvider, IsRequester, IsRole, IsSem, IsSound, IsStart, IsTenant, IsUnused, IsUtf8-from_ascii, Job, LABELS, Label, LabelId, Length, Less, Limit, List, MIN_READY, Members, NODE_CORES, NODE_RAM, None, Offer, Ok, Option, Ordering, POOL_CORES, POOL_RAM, POOL_SERVERS, Pool, PoolId, PoolsSoFar, Provider, ReadsItem, Requester, RequesterId, Role, START_NUMBER, Sem, SemId, Some, StandsByOwner, Stop, TENANTS, Tenant, TenantId, and_parts, ap, append-nil, append_assoc, arith, at_most, below, bytes_eq, bytes_eq-Decides, array, codes, cond, count, decimal, default_name, default_tenant, false, fault_at, fault_data, fault_kind_of, fault_kind_word, full_name, get, get-map, get_member, given, given_limit, is-at_most, is_eq, is_gt, is_name_text, items_from, items_len, items_of, job_tenant, label_at, label_data, label_for, label_name, label_named, label_row, label_value, length, length-map, limit_at, list_any, list_at, list_data, list_if_any, list_maybe, list_required, map, match_ordering, member, name_at, named_at, nat_cmp, nat_lt, nat_tests, new_name, no_members, offer_amount, offer_at, offer_data, offer_label, offers_at, ok, only_keys, option_map, option_map_or, or_parts, other, passed, pool_at, pool_data, pool_keys, pool_name, pool_named, pool_names, pool_names-unused, pool_row, position, position_or_len, put, put_given, put_limit, reached, refl, requester_name, requester_named, required_word, role_at, semaphore_at, semaphore_data, semaphore_name, semaphore_named, slice_cmp, slice_get, start_at, starts_at, string, subst, suc, sym, take, tenant_at, tenant_data, tenant_id, tenant_keys, tenant_name, tenant_named, tenant_of, true, whole_required, whole_value, word_value, zero, ℕ, [], ◌&&◌, ◌++◌, ◌+◌, ◌<◌, ◌==◌, ◌>>=◌, ◌∙◌, ◌∷◌, ◌≡◌, ◌≤◌}
 
 -- # the value of a sound configuration is read as that configuration
 
-pub items_len-of : {T : Type 0} (shown : T → Data) (xs : List T) → items_len (items_of (map shown xs)) ≡ length xs
-items_len-of shown [] = refl
-items_len-of shown (x ∷ xs) = ap suc (items_len-of shown xs)
+items_len-of : (ds : List Data) → items_len (items_of ds) ≡ length ds
+items_len-of [] = refl
+items_len-of (d ∷ ds) = ap suc (items_len-of ds)
 
-module _ {T : Type 0} (read : ReadsItem (List T)) (shown : T → Data) (P : List T → T → Type 0)
-    (again : (at : List ℕ) (e : List T) (x : T) → P e x → read at e (shown x) ≡ Ok (e ++ x ∷ [])) where
-  pub items_again : (at : List ℕ) (n : ℕ) (e xs : List T) → EachAfter P e xs → items_from read at n e (items_of (map shown xs)) ≡ Ok (e ++ xs)
+-- a list whose items are read
+pub list_of_items : {S : Type 0} (read : ReadsItem S) (at : List ℕ) (l : Length) (s t : S) (ds : List Data) → items_from read at 0 s (items_of ds) ≡ Ok t → l.before + length ds ≤ l.most → l.least ≤ length ds
+    → list_at read at l s (array (items_of ds)) ≡ Ok t
+unfolding list_at
+list_of_items read at l s t ds items most least = rw (items_len-of ds, is-at_most (l.before + length ds) l.most most, is-at_most l.least (length ds) least, items) refl
+
+-- rows, each of which is read after a state that those before it make
+module _ {S T : Type 0} (read : ReadsItem S) (shown : T → Data) (state : List T → S) (P : List T → T → Type 0)
+    (again : (at : List ℕ) (e : List T) (x : T) → P e x → read at (state e) (shown x) ≡ Ok (state (e ++ x ∷ []))) where
+  items_again : (at : List ℕ) (n : ℕ) (e xs : List T) → EachAfter P e xs → items_from read at n (state e) (items_of (map shown xs)) ≡ Ok (state (e ++ xs))
   unfolding items_from
-  items_again at n e [] each = ap ok (sym (append-nil e))
-  items_again at n e (x ∷ xs) each = rw (again (below at (decimal n)) e x each.0) (items_again at (n + 1) (e ++ x ∷ []) xs each.1 ∙ ap ok (append_assoc e (x ∷ []) xs))
+  items_again at n e [] each = ap (λ (es : List T). ok (state es)) (sym (append-nil e))
+  items_again at n e (x ∷ xs) each = rw (again (below at (decimal n)) e x each.0) (items_again at (n + 1) (e ++ x ∷ []) xs each.1 ∙ ap (λ (es : List T). ok (state es)) (append_assoc e (x ∷ []) xs))
 
-  pub list_again : (at : List ℕ) (l : Length) (xs : List T) → EachAfter P [] xs → l.before + length xs ≤ l.most → l.least ≤ length xs → list_at read at l [] (list_data shown xs) ≡ Ok xs
-  unfolding list_at
-  list_again at l xs each most least =
-      let few = is-at_most (l.before + length xs) l.most most in
-      let some = is-at_most l.least (length xs) least in
-      rw (items_len-of shown xs, few, some, items_again at 0 [] xs each) refl
+  pub list_again : (at : List ℕ) (l : Length) (xs : List T) → EachAfter P [] xs → l.before + length xs ≤ l.most → l.least ≤ length xs → list_at read at l (state []) (list_data shown xs) ≡ Ok (state xs)
+  list_again at l xs each most least = list_of_items read at l (state []) (state xs) (map shown xs) (items_again at 0 [] xs each) (omega (arith, length-map xs shown)) (omega (arith, length-map xs shown))
 
 -- ## Numbers
 
@@ -70,20 +73,12 @@ start_again at e n is = rw (whole_again at 1 START_NUMBER n is.least is.most, is
 
 -- ## References
 
-pub bytes_eq-refl : (a : List ℕ) → bytes_eq a a ≡ true
-bytes_eq-refl [] = refl
-bytes_eq-refl (x ∷ a) = let same : (x == x) ≡ true = grind (arith, nat_tests) in rw same (bytes_eq-refl a)
-
 pub first_place : {T : Type 0} (p : T → Bool) (xs : List T) (i : ℕ) (x : T) → list_any p (take i xs) ≡ false → slice_get xs i ≡ Some x → p x ≡ true → position_or_len p xs ≡ i
 first_place p [] i x none there passes = absurd (cc)
-first_place p (y ∷ xs) zero x none there passes =
-    let same : y ≡ x = cc in
-    let here : p y ≡ true = ap p same ∙ passes in
-    rw here refl
+first_place p (y ∷ xs) zero x none there passes = grind arith
 first_place p (y ∷ xs) (suc i) x none there passes =
     let parts = or_parts (p y) (list_any p (take i xs)) none in
-    let more : 1 + i ≡ suc i = omega arith in
-    rw parts.0 (ap (λ n. 1 + n) (first_place p xs i x parts.1 there passes) ∙ more)
+    rw parts.0 (omega (arith, first_place p xs i x parts.1 there passes))
 
 pub stands_there : {T : Type 0} (P : List T → T → Type 0) (e xs : List T) (i : ℕ) → i < length xs → EachAfter P e xs → (x : T) × (slice_get xs i ≡ Some x) × P (e ++ take i xs) x
 stands_there P e [] i within each = absurd (omega arith)
@@ -97,7 +92,7 @@ pub found_again : {T : Type 0} (name : T → List ℕ) (P : List T → T → Typ
     → (x : T) × (slice_get xs i ≡ Some x) × (position (λ r. bytes_eq (name x) (name r)) xs ≡ Some i)
 found_again name P says xs i within each =
     let there = stands_there P [] xs i within each in
-    let place = first_place (λ r. bytes_eq (name there.0) (name r)) xs i there.0 (says (take i xs) there.0 there.2).new there.1 (bytes_eq-refl (name there.0)) in
+    let place = first_place (λ r. bytes_eq (name there.0) (name r)) xs i there.0 (says (take i xs) there.0 there.2).new there.1 ((bytes_eq-Decides (name there.0) (name there.0)).1 refl) in
     let less : nat_lt i (length xs) ≡ true = grind (arith, nat_tests) in
     (there.0, there.1, rw (place, less) refl)
 
@@ -121,11 +116,10 @@ offer_again c each at e o is =
 
 -- ## What is found
 
-module _ (k l : List ℕ) where
-  -- a member under another key is passed over
-  pub get-other : (o : Option Data) (ms : Members) → other k l → get_member k (given l o ms) ≡ get_member k ms
-  get-other None ms apart = refl
-  get-other (Some d) ms apart = passed (slice_cmp nat_cmp k l) (get_member k ms) (Some d) apart
+-- a member under another key is passed over
+pub get-other : (k l : List ℕ) (o : Option Data) (ms : Members) → other k l → get_member k (given l o ms) ≡ get_member k ms
+get-other k l None ms apart = refl
+get-other k l (Some d) ms apart = passed (slice_cmp nat_cmp k l) (get_member k ms) (Some d) apart
 
 -- the member that may be absent, if no other has its key
 pub get-given : (k : List ℕ) (o : Option Data) (ms : Members) → is_eq (slice_cmp nat_cmp k k) ≡ true → get_member k ms ≡ None → get_member k (given k o ms) ≡ o
@@ -137,173 +131,63 @@ pub keys-given : (keys : List (List ℕ)) (k : List ℕ) (o : Option Data) (ms :
 keys-given keys k None ms known = refl
 keys-given keys k (Some d) ms known = rw known refl
 
--- ## Members in byte order
-
--- members after members
-abbrev pub then : Members → Members → Members
-then no_members ns = ns
-then (member k d ms) ns = member k d (then ms ns)
-
--- the key comes after all keys of the members
-abbrev pub is_behind : List ℕ → Members → Bool
-is_behind k no_members = true
-is_behind k (member l e ms) = is_gt (slice_cmp nat_cmp k l) && is_behind k ms
-
-pub then-given : (k : List ℕ) (o : Option Data) (ms ns : Members) → then (given k o ms) ns ≡ given k o (then ms ns)
-then-given k None ms ns = refl
-then-given k (Some d) ms ns = refl
-
-pub behind-given : (k l : List ℕ) (o : Option Data) (ms : Members) → is_gt (slice_cmp nat_cmp k l) ≡ true → is_behind k ms ≡ true → is_behind k (given l o ms) ≡ true
-behind-given k l None ms after rest = rest
-behind-given k l (Some d) ms after rest = rw (after, rest) refl
-
--- a member whose key comes after all is put last
-pub put-behind : (k : List ℕ) (d : Data) (ms : Members) → is_behind k ms ≡ true → put k d ms ≡ then ms (member k d no_members)
-put-behind k d no_members after = refl
-put-behind k d (member l e ms) after =
-    let parts = and_parts (is_gt (slice_cmp nat_cmp k l)) (is_behind k ms) after in
-    by (slice_cmp nat_cmp k l) parts.0 (put-behind k d ms parts.1)
-  where
-    by : (r : Ordering) → is_gt r ≡ true → put k d ms ≡ then ms (member k d no_members)
-        → match_ordering r (member k d (member l e ms)) (member l d ms) (member l e (put k d ms)) ≡ member l e (then ms (member k d no_members))
-    by Less e rest = absurd (cc)
-    by Equal e rest = absurd (cc)
-    by Greater e' rest = ap (member l e) rest
-
-then-none : (ms : Members) → then ms no_members ≡ ms
-then-none no_members = refl
-then-none (member k d ms) = ap (member k d) (then-none ms)
-
-pub put_given-behind : (k : List ℕ) (o : Option Data) (ms : Members) → is_behind k ms ≡ true → put_given k o ms ≡ then ms (given k o no_members)
-put_given-behind k None ms after = sym (then-none ms)
-put_given-behind k (Some d) ms after = put-behind k d ms after
-
-then-then : (ms ns os : Members) → then (then ms ns) os ≡ then ms (then ns os)
-then-then no_members ns os = refl
-then-then (member k d ms) ns os = ap (member k d) (then-then ms ns os)
-
-behind-then : (k : List ℕ) (ms ns : Members) → is_behind k ms ≡ true → is_behind k ns ≡ true → is_behind k (then ms ns) ≡ true
-behind-then k no_members ns one two = two
-behind-then k (member l e ms) ns one two =
-    let parts = and_parts (is_gt (slice_cmp nat_cmp k l)) (is_behind k ms) one in
-    rw (parts.0, behind-then k ms ns parts.1 two) refl
-
--- one more after members that were put after others
-put_given-then : (k : List ℕ) (o : Option Data) (ms ns : Members) → is_behind k ms ≡ true → is_behind k ns ≡ true → put_given k o (then ms ns) ≡ then ms (then ns (given k o no_members))
-put_given-then k o ms ns one two = put_given-behind k o (then ms ns) (behind-then k ms ns one two) ∙ then-then ms ns (given k o no_members)
-
 -- ## Limits
 
-module _ (l : Limit) where
-  abbrev cores : Option Data
-  cores = option_map count l.cores
+-- the members of a limit, before a name
+abbrev limit_and_name : Option Data → Option Data → Option Data → Data → Members
+limit_and_name cores ram servers name = given (codes "max-cores") cores (given (codes "max-ram") ram (given (codes "max-servers") servers (member (codes "name") name no_members)))
 
-  abbrev ram : Option Data
-  ram = option_map count l.ram
+-- what is found under their keys, and how the code puts them
+record LimitStands (cores ram servers : Option Data) (name : Data) : Type 0 where
+  pub tenant_has : only_keys tenant_keys (limit_and_name cores ram servers name) ≡ true
+  pub pool_has : only_keys pool_keys (limit_and_name cores ram servers name) ≡ true
+  pub name_found : get_member (codes "name") (limit_and_name cores ram servers name) ≡ Some name
+  pub cores_found : get_member (codes "max-cores") (limit_and_name cores ram servers name) ≡ cores
+  pub ram_found : get_member (codes "max-ram") (limit_and_name cores ram servers name) ≡ ram
+  pub servers_found : get_member (codes "max-servers") (limit_and_name cores ram servers name) ≡ servers
+  pub tenant_put : put (codes "name") name (put_given (codes "max-servers") servers (put_given (codes "max-ram") ram (put_given (codes "max-cores") cores no_members))) ≡ limit_and_name cores ram servers name
+  pub pool_put : (starts offers : Data)
+      → put (codes "name") name (put_given (codes "max-servers") servers (put_given (codes "max-ram") ram (put_given (codes "max-cores") cores (put (codes "labels") offers (put (codes "fail-starts") starts no_members)))))
+      ≡ member (codes "fail-starts") starts (member (codes "labels") offers (limit_and_name cores ram servers name))
 
-  abbrev servers : Option Data
-  servers = option_map count l.instances
-
-  pub then-limit : (ms ns : Members) → then (given_limit l ms) ns ≡ given_limit l (then ms ns)
-  then-limit ms ns =
-      then-given (codes "max-cores") cores (given (codes "max-ram") ram (given (codes "max-servers") servers ms)) ns
-      ∙ ap (given (codes "max-cores") cores) (then-given (codes "max-ram") ram (given (codes "max-servers") servers ms) ns
-      ∙ ap (given (codes "max-ram") ram) (then-given (codes "max-servers") servers ms ns))
-
-  pub behind-limit : (k : List ℕ) (ms : Members) → is_gt (slice_cmp nat_cmp k (codes "max-cores")) ≡ true → is_gt (slice_cmp nat_cmp k (codes "max-ram")) ≡ true → is_gt (slice_cmp nat_cmp k (codes "max-servers")) ≡ true
-      → is_behind k ms ≡ true → is_behind k (given_limit l ms) ≡ true
-  behind-limit k ms one two three rest =
-      behind-given k (codes "max-cores") cores (given (codes "max-ram") ram (given (codes "max-servers") servers ms)) one
-      (behind-given k (codes "max-ram") ram (given (codes "max-servers") servers ms) two (behind-given k (codes "max-servers") servers ms three rest))
-
-  -- a limit put after members
-  pub put_limit-behind : (ms : Members) → is_behind (codes "max-cores") ms ≡ true → is_behind (codes "max-ram") ms ≡ true → is_behind (codes "max-servers") ms ≡ true → put_limit l ms ≡ then ms (given_limit l no_members)
-  put_limit-behind ms one two three =
-      let c = given (codes "max-cores") cores no_members in
-      let r = given (codes "max-ram") ram no_members in
-      let cr = given (codes "max-cores") cores r in
-      let s = given (codes "max-servers") servers no_members in
-      let first : put_given (codes "max-cores") cores ms ≡ then ms c = put_given-behind (codes "max-cores") cores ms one in
-      let second : put_given (codes "max-ram") ram (then ms c) ≡ then ms cr =
-      put_given-then (codes "max-ram") ram ms c two (behind-given (codes "max-ram") (codes "max-cores") cores no_members refl refl)
-      ∙ ap (then ms) (then-given (codes "max-cores") cores no_members r) in
-      let third : put_given (codes "max-servers") servers (then ms cr) ≡ then ms (given_limit l no_members) =
-      put_given-then (codes "max-servers") servers ms cr three
-      (behind-given (codes "max-servers") (codes "max-cores") cores r refl (behind-given (codes "max-servers") (codes "max-ram") ram no_members refl refl))
-      ∙ ap (then ms) (then-given (codes "max-cores") cores r s ∙ ap (given (codes "max-cores") cores) (then-given (codes "max-ram") ram no_members s)) in
-      ap (λ x. put_given (codes "max-servers") servers (put_given (codes "max-ram") ram x)) first ∙ ap (put_given (codes "max-servers") servers) second ∙ third
-
-  -- what is found under the keys of a limit, and under another
-  pub get-limit_other : (k : List ℕ) (ms : Members) → is_eq (slice_cmp nat_cmp k (codes "max-cores")) ≡ false → is_eq (slice_cmp nat_cmp k (codes "max-ram")) ≡ false → is_eq (slice_cmp nat_cmp k (codes "max-servers")) ≡ false
-      → get_member k (given_limit l ms) ≡ get_member k ms
-  get-limit_other k ms one two three =
-      get-other k (codes "max-cores") cores (given (codes "max-ram") ram (given (codes "max-servers") servers ms)) one
-      ∙ get-other k (codes "max-ram") ram (given (codes "max-servers") servers ms) two
-      ∙ get-other k (codes "max-servers") servers ms three
-
-  pub get-servers : (ms : Members) → get_member (codes "max-servers") ms ≡ None → get_member (codes "max-servers") (given_limit l ms) ≡ servers
-  get-servers ms none =
-      get-other (codes "max-servers") (codes "max-cores") cores (given (codes "max-ram") ram (given (codes "max-servers") servers ms)) refl
-      ∙ get-other (codes "max-servers") (codes "max-ram") ram (given (codes "max-servers") servers ms) refl
-      ∙ get-given (codes "max-servers") servers ms refl none
-
-  pub get-cores : (ms : Members) → get_member (codes "max-cores") ms ≡ None → get_member (codes "max-cores") (given_limit l ms) ≡ cores
-  get-cores ms none =
-      get-given (codes "max-cores") cores (given (codes "max-ram") ram (given (codes "max-servers") servers ms)) refl
-      (get-other (codes "max-cores") (codes "max-ram") ram (given (codes "max-servers") servers ms) refl ∙ get-other (codes "max-cores") (codes "max-servers") servers ms refl ∙ none)
-
-  pub get-ram : (ms : Members) → get_member (codes "max-ram") ms ≡ None → get_member (codes "max-ram") (given_limit l ms) ≡ ram
-  get-ram ms none =
-      get-other (codes "max-ram") (codes "max-cores") cores (given (codes "max-ram") ram (given (codes "max-servers") servers ms)) refl
-      ∙ get-given (codes "max-ram") ram (given (codes "max-servers") servers ms) refl (get-other (codes "max-ram") (codes "max-servers") servers ms refl ∙ none)
-
-  pub keys-limit : (keys : List (List ℕ)) (ms : Members) → list_any (bytes_eq (codes "max-cores")) keys ≡ true → list_any (bytes_eq (codes "max-ram")) keys ≡ true → list_any (bytes_eq (codes "max-servers")) keys ≡ true
-      → only_keys keys (given_limit l ms) ≡ only_keys keys ms
-  keys-limit keys ms one two three =
-      keys-given keys (codes "max-cores") cores (given (codes "max-ram") ram (given (codes "max-servers") servers ms)) one
-      ∙ keys-given keys (codes "max-ram") ram (given (codes "max-servers") servers ms) two
-      ∙ keys-given keys (codes "max-servers") servers ms three
+limit_stands : (l : Limit) (name : Data) → LimitStands (option_map count l.cores) (option_map count l.ram) (option_map count l.instances) name
+limit_stands l name = by (option_map count l.cores) (option_map count l.ram) (option_map count l.instances)
+  where
+    by : (cores ram servers : Option Data) → LimitStands cores ram servers name
+    by None None None = record { tenant_has = refl; pool_has = refl; name_found = refl; cores_found = refl; ram_found = refl; servers_found = refl; tenant_put = refl; pool_put = λ starts offers. refl }
+    by None None (Some d) = record { tenant_has = refl; pool_has = refl; name_found = refl; cores_found = refl; ram_found = refl; servers_found = refl; tenant_put = refl; pool_put = λ starts offers. refl }
+    by None (Some b) None = record { tenant_has = refl; pool_has = refl; name_found = refl; cores_found = refl; ram_found = refl; servers_found = refl; tenant_put = refl; pool_put = λ starts offers. refl }
+    by None (Some b) (Some d) = record { tenant_has = refl; pool_has = refl; name_found = refl; cores_found = refl; ram_found = refl; servers_found = refl; tenant_put = refl; pool_put = λ starts offers. refl }
+    by (Some a) None None = record { tenant_has = refl; pool_has = refl; name_found = refl; cores_found = refl; ram_found = refl; servers_found = refl; tenant_put = refl; pool_put = λ starts offers. refl }
+    by (Some a) None (Some d) = record { tenant_has = refl; pool_has = refl; name_found = refl; cores_found = refl; ram_found = refl; servers_found = refl; tenant_put = refl; pool_put = λ starts offers. refl }
+    by (Some a) (Some b) None = record { tenant_has = refl; pool_has = refl; name_found = refl; cores_found = refl; ram_found = refl; servers_found = refl; tenant_put = refl; pool_put = λ starts offers. refl }
+    by (Some a) (Some b) (Some d) = record { tenant_has = refl; pool_has = refl; name_found = refl; cores_found = refl; ram_found = refl; servers_found = refl; tenant_put = refl; pool_put = λ starts offers. refl }
 
 -- ## What the code puts
-
--- a limit and a name after members
-limit_and_name : (base : Members) (name : Data) (l : Limit) → is_behind (codes "max-cores") base ≡ true → is_behind (codes "max-ram") base ≡ true → is_behind (codes "max-servers") base ≡ true → is_behind (codes "name") base ≡ true
-    → put (codes "name") name (put_limit l base) ≡ then base (given_limit l (member (codes "name") name no_members))
-limit_and_name base name l cores ram servers named =
-    let last = member (codes "name") name no_members in
-    let front : put_limit l base ≡ then base (given_limit l no_members) = put_limit-behind l base cores ram servers in
-    let behind : is_behind (codes "name") (then base (given_limit l no_members)) ≡ true = behind-then (codes "name") base (given_limit l no_members) named (behind-limit l (codes "name") no_members refl refl refl refl) in
-    ap (put (codes "name") name) front ∙ put-behind (codes "name") name (then base (given_limit l no_members)) behind
-    ∙ then-then base (given_limit l no_members) last ∙ ap (then base) (then-limit l no_members last)
 
 pub pool_members : (starts offers name : Data) (l : Limit)
     → put (codes "name") name (put_limit l (put (codes "labels") offers (put (codes "fail-starts") starts no_members)))
     ≡ member (codes "fail-starts") starts (member (codes "labels") offers (given_limit l (member (codes "name") name no_members)))
-pool_members starts offers name l =
-    limit_and_name (member (codes "fail-starts") starts (member (codes "labels") offers no_members)) name l refl refl refl refl
+pool_members starts offers name l = (limit_stands l name).pool_put starts offers
 
 pub tenant_members : (name : Data) (l : Limit) → put (codes "name") name (put_limit l no_members) ≡ given_limit l (member (codes "name") name no_members)
-tenant_members name l = limit_and_name no_members name l refl refl refl refl
+tenant_members name l = (limit_stands l name).tenant_put
 
 pub job_members : (end labels name priority relative first semaphores : Data) (tenant : Option Data)
     → put_given (codes "tenant") tenant (put (codes "semaphores") semaphores (put (codes "resources-first") first (put (codes "relative-priority") relative (
     put (codes "priority") priority (put (codes "name") name (put (codes "labels") labels (put (codes "end") end no_members)))))))
     ≡ member (codes "end") end (member (codes "labels") labels (member (codes "name") name (member (codes "priority") priority (
     member (codes "relative-priority") relative (member (codes "resources-first") first (member (codes "semaphores") semaphores (given (codes "tenant") tenant no_members)))))))
-job_members end labels name priority relative first semaphores tenant =
-    put_given-behind (codes "tenant") tenant
-    (member (codes "end") end (member (codes "labels") labels (member (codes "name") name (member (codes "priority") priority (
-    member (codes "relative-priority") relative (member (codes "resources-first") first (member (codes "semaphores") semaphores no_members))))))) refl
+job_members end labels name priority relative first semaphores None = refl
+job_members end labels name priority relative first semaphores (Some d) = refl
 
 pub top_members : (faults labels age providers requesters semaphores : Data) (tenants : Option Data)
     → put_given (codes "tenants") tenants (put (codes "semaphores") semaphores (put (codes "requesters") requesters (put (codes "providers") providers (
     put (codes "max-hold-age") age (put (codes "labels") labels (put (codes "faults") faults no_members))))))
     ≡ member (codes "faults") faults (member (codes "labels") labels (member (codes "max-hold-age") age (member (codes "providers") providers (
     member (codes "requesters") requesters (member (codes "semaphores") semaphores (given (codes "tenants") tenants no_members))))))
-top_members faults labels age providers requesters semaphores tenants =
-    put_given-behind (codes "tenants") tenants
-    (member (codes "faults") faults (member (codes "labels") labels (member (codes "max-hold-age") age (member (codes "providers") providers (
-    member (codes "requesters") requesters (member (codes "semaphores") semaphores no_members)))))) refl
+top_members faults labels age providers requesters semaphores None = refl
+top_members faults labels age providers requesters semaphores (Some d) = refl
 
 -- # the names of a configuration are ASCII
 
@@ -313,52 +197,32 @@ at_place P Q says e [] i x each there = absurd (cc)
 at_place P Q says e (y ∷ xs) zero x each there = let same : y ≡ x = cc in subst Q same (says e y each.0)
 at_place P Q says e (y ∷ xs) (suc i) x each there = at_place P Q says (e ++ y ∷ []) xs i x each.1 there
 
--- the name of a label, a semaphore, a tenant or a requester that is there
+-- the names of rows that have names, and the name of one that is there
+module _ {T : Type 0} (name : T → List ℕ) (P : List T → T → Type 0) (says : (e : List T) (x : T) → P e x → is_name_text (name x) ≡ true) where
+  pub names-ascii : (xs : List T) → EachAfter P [] xs → All (λ x. IsAscii (name x)) xs
+  names-ascii xs each = All-from_each P (λ x. IsAscii (name x)) (λ e x is. IsAscii-name (name x) (says e x is)) [] xs each
+
+  name-ascii : (xs : List T) (i : ℕ) (x : T) → EachAfter P [] xs → slice_get xs i ≡ Some x → IsAscii (name x)
+  name-ascii xs i x each there = at_place P (λ y. IsAscii (name y)) (λ e y is. IsAscii-name (name y) (says e y is)) [] xs i x each there
+
 pub label-ascii : (c : Configuration) (i : ℕ) (x : Label) → IsSound c → slice_get c.labels i ≡ Some x → IsAscii x.name
-label-ascii c i x sound there = at_place IsLabel (λ (r : Label). IsAscii r.name) (λ e r is. IsAscii-name r.name is.name.named) [] c.labels i x sound.labels there
+label-ascii c i x sound there = name-ascii (λ (r : Label). r.name) IsLabel (λ e r is. is.name.named) c.labels i x sound.labels there
 
 pub semaphore-ascii : (c : Configuration) (i : ℕ) (x : Sem) → IsSound c → slice_get c.semaphores i ≡ Some x → IsAscii x.name
-semaphore-ascii c i x sound there = at_place IsSem (λ (r : Sem). IsAscii r.name) (λ e r is. IsAscii-name r.name is.name.named) [] c.semaphores i x sound.semaphores there
-
-default-ascii : IsAscii default_name
-unfolding is_name_text
-default-ascii = IsAscii-name default_name refl
+semaphore-ascii c i x sound there = name-ascii (λ (r : Sem). r.name) IsSem (λ e r is. is.name.named) c.semaphores i x sound.semaphores there
 
 pub tenant-ascii : (c : Configuration) (id : TenantId) (x : Tenant) → IsSound c → tenant_of c id ≡ Some x → IsAscii x.name
+unfolding is_name_text
 tenant-ascii c id x sound there = by id.0 there
   where
     by : (n : ℕ) → slice_get (default_tenant ∷ c.tenants) n ≡ Some x → IsAscii x.name
-    by zero there = let same : default_tenant ≡ x = cc in subst (λ (r : Tenant). IsAscii r.name) same default-ascii
-    by (suc n) there = at_place IsTenant (λ (r : Tenant). IsAscii r.name) (λ e r is. IsAscii-name r.name is.name.named) [] c.tenants n x sound.tenants there
+    by zero there = let same : default_tenant ≡ x = cc in subst (λ (r : Tenant). IsAscii r.name) same (IsAscii-name default_name refl)
+    by (suc n) there = name-ascii (λ (r : Tenant). r.name) IsTenant (λ e r is. is.name.named) c.tenants n x sound.tenants there
 
 pub requester-ascii : (c : Configuration) (i : ℕ) (x : Requester) → IsSound c → slice_get c.requesters i ≡ Some x → IsAscii x.name
-requester-ascii c i x sound there = at_place IsRequester (λ (r : Requester). IsAscii r.name) (λ e r is. IsAscii-name r.name is.name.named) [] c.requesters i x sound.demand.each_requester there
+requester-ascii c i x sound there = name-ascii (λ (r : Requester). r.name) IsRequester (λ e r is. is.name.named) c.requesters i x sound.demand.each_requester there
 
 pub ruleset utf8 = (IsUtf8-from_ascii)
-
--- the names of all rows
-pub labels-ascii : (c : Configuration) → IsSound c → All (λ l. IsAscii l.name) c.labels
-labels-ascii c sound = All-from_each IsLabel (λ (l : Label). IsAscii l.name) (λ e l is. IsAscii-name l.name is.name.named) [] c.labels sound.labels
-
-pub semaphores-ascii : (c : Configuration) → IsSound c → All (λ s. IsAscii s.name) c.semaphores
-semaphores-ascii c sound = All-from_each IsSem (λ (s : Sem). IsAscii s.name) (λ e s is. IsAscii-name s.name is.name.named) [] c.semaphores sound.semaphores
-
-pub tenants-ascii : (c : Configuration) → IsSound c → All (λ t. IsAscii t.name) c.tenants
-tenants-ascii c sound = All-from_each IsTenant (λ (t : Tenant). IsAscii t.name) (λ e t is. IsAscii-name t.name is.name.named) [] c.tenants sound.tenants
-
-pub providers-ascii : (c : Configuration) → IsSound c → All (λ p. IsAscii p.name) c.providers
-providers-ascii c sound = All-from_each IsProvider (λ (p : Provider). IsAscii p.name) (λ e p is. IsAscii-name p.name is.name.named) [] c.providers sound.supply.each_provider
-
-pub pools-ascii : (c : Configuration) → IsSound c → All (λ p. IsAscii p.name) c.pools
-pools-ascii c sound =
-    All-from_each (StandsByOwner (λ (p : Pool). p.provider) (IsPool (length c.labels))) (λ (p : Pool). IsAscii p.name) (λ e p is. IsAscii-name p.name is.own.name.named) [] c.pools sound.supply.each_pool
-
-pub requesters-ascii : (c : Configuration) → IsSound c → All (λ q. IsAscii q.name) c.requesters
-requesters-ascii c sound = All-from_each IsRequester (λ (q : Requester). IsAscii q.name) (λ e q is. IsAscii-name q.name is.name.named) [] c.requesters sound.demand.each_requester
-
-pub jobs-ascii : (c : Configuration) → IsSound c → All (λ j. IsAscii j.name) c.jobs
-jobs-ascii c sound =
-    All-from_each (StandsByOwner (λ (j : Job). j.requester.0) (IsJob (length c.labels) (length c.semaphores) (length c.tenants))) (λ (j : Job). IsAscii j.name) (λ e j is. IsAscii-name j.name is.own.name.named) [] c.jobs sound.demand.each_job
 
 or_empty : {T : Type 0} (name : T → List ℕ) (o : Option T) → ((x : T) → o ≡ Some x → IsAscii (name x)) → IsAscii (option_map_or name o [])
 or_empty name None some = IsAscii-nil
@@ -366,9 +230,8 @@ or_empty name (Some x) some = some x refl
 
 pub pool_name-ascii : (c : Configuration) (i : ℕ) (p : Pool) → IsSound c → slice_get c.pools i ≡ Some p → IsAscii (pool_name c.providers p)
 pool_name-ascii c i p sound there =
-    let own : IsAscii p.name = at_place (StandsByOwner (λ (q : Pool). q.provider) (IsPool (length c.labels))) (λ (q : Pool). IsAscii q.name) (λ e q is. IsAscii-name q.name is.own.name.named) [] c.pools i p sound.supply.each_pool there in
-    let provider = or_empty (λ (q : Provider). q.name) (slice_get c.providers p.provider)
-    (λ x has. at_place IsProvider (λ (q : Provider). IsAscii q.name) (λ e q is. IsAscii-name q.name is.name.named) [] c.providers p.provider x sound.supply.each_provider has) in
+    let own = name-ascii (λ (q : Pool). q.name) (StandsByOwner (λ (q : Pool). q.provider) (IsPool (length c.labels))) (λ e q is. is.own.name.named) c.pools i p sound.supply.each_pool there in
+    let provider = or_empty (λ (q : Provider). q.name) (slice_get c.providers p.provider) (λ x has. name-ascii (λ (q : Provider). q.name) IsProvider (λ e q is. is.name.named) c.providers p.provider x sound.supply.each_provider has) in
     IsAscii-append (option_map_or (λ (q : Provider). q.name) (slice_get c.providers p.provider) []) (47 ∷ p.name) provider (IsAscii-cons 47 p.name (omega arith) own)
 
 -- # the values of faults are read as those
@@ -384,7 +247,7 @@ pool_reference c labels p are within =
     let inside : p.0 < length names = omega arith in
     let there = stands_there IsUnused [] names p.0 inside (pool_names-unused labels c.providers c.pools are) in
     let here : full_name c p ≡ there.0 = or_there (pool_name c.providers) (slice_get c.pools p.0) there.0 (sym (get-map (pool_name c.providers) c.pools p.0) ∙ there.1) in
-    let place = first_place (bytes_eq there.0) names p.0 there.0 there.2 there.1 (bytes_eq-refl there.0) in
+    let place = first_place (bytes_eq there.0) names p.0 there.0 there.2 there.1 ((bytes_eq-Decides there.0 there.0).1 refl) in
     let less : nat_lt p.0 (length names) ≡ true = grind (arith, nat_tests) in
     let found : position (bytes_eq there.0) names ≡ Some p.0 = rw (place, less) refl in
     ap (λ (t : List ℕ). position (bytes_eq t) names) here ∙ found
@@ -415,22 +278,15 @@ module _ (c : Configuration) (labels : ℕ) (are : AreProviders labels c.provide
 tenant_again : (at : List ℕ) (e : List Tenant) (t : Tenant) → IsTenant e t → tenant_at at e (tenant_data t) ≡ Ok (e ++ t ∷ [])
 unfolding tenant_at named_at name_at new_name
 tenant_again at e t is =
-    let last = member (codes "name") (string t.name) no_members in
-    let keys = keys-limit t.limit tenant_keys last refl refl refl in
-    let name = get-limit_other t.limit (codes "name") last refl refl refl in
-    let limit = limit_again at (tenant_data t) t.limit is.limit (get-servers t.limit last refl) (get-cores t.limit last refl) (get-ram t.limit last refl) in
-    rw (keys, name, is.name.named, is.name.new, is.listed, limit) refl
+    let found = limit_stands t.limit (string t.name) in
+    rw (found.tenant_has, found.name_found, is.name.named, is.name.new, is.listed, limit_again at (tenant_data t) t.limit is.limit found.servers_found found.cores_found found.ram_found) refl
 
 -- the tenants of a configuration, which are absent if there are none
 pub tenants_again : (at : List ℕ) (ts : List Tenant) → EachAfter IsTenant [] ts → length ts ≤ TENANTS → option_map_or (list_at tenant_at at (at_most TENANTS) []) (list_if_any tenant_data ts) (ok []) ≡ Ok ts
-tenants_again at ts each few = by ts each few (length ts == 0) refl
-  where
-    by : (us : List Tenant) → EachAfter IsTenant [] us → length us ≤ TENANTS → (b : Bool) → (length us == 0) ≡ b
-        → option_map_or (list_at tenant_at at (at_most TENANTS) []) (cond b None (Some (list_data tenant_data us))) (ok []) ≡ Ok us
-    by [] each few true is = refl
-    by [] each few false is = absurd (cc)
-    by (u ∷ us) each few true is = absurd (grind (arith, nat_tests))
-    by (u ∷ us) each few false is = list_again tenant_at tenant_data IsTenant tenant_again at (at_most TENANTS) (u ∷ us) each (omega arith) (omega arith)
+tenants_again at [] each few = refl
+tenants_again at (t ∷ ts) each few =
+    let some : (length (t ∷ ts) == 0) ≡ false = grind (arith, nat_tests) in
+    rw some (list_again tenant_at tenant_data (λ (us : List Tenant). us) IsTenant tenant_again at (at_most TENANTS) (t ∷ ts) each (omega arith) (omega arith))
 
 -- ## The tenant of a job
 
@@ -444,53 +300,23 @@ listed_reference c i each within =
 pub job_tenant_again : (c : Configuration) (at : List ℕ) (t : TenantId) → EachAfter IsTenant [] c.tenants → t.0 ≤ length c.tenants
     → option_map_or (word_value (tenant_named c.tenants) at) (job_tenant c t) (ok (tenant_id 0)) ≡ Ok t
 unfolding word_value
-job_tenant_again c at t each within = by t.0 within (t.0 == 0) refl
+job_tenant_again c at t each within = by t.0 within
   where
-    by : (n : ℕ) → n ≤ length c.tenants → (b : Bool) → (n == 0) ≡ b
-        → option_map_or (word_value (tenant_named c.tenants) at) (cond b None (Some (string (tenant_name c (tenant_id n))))) (ok (tenant_id 0)) ≡ Ok (tenant_id n)
-    by zero within true is = refl
-    by zero within false is = absurd (cc)
-    by (suc i) within true is = absurd (grind (arith, nat_tests))
-    by (suc i) within false is = rw (listed_reference c i each (omega arith)) refl
+    by : (n : ℕ) → n ≤ length c.tenants → option_map_or (word_value (tenant_named c.tenants) at) (job_tenant c (tenant_id n)) (ok (tenant_id 0)) ≡ Ok (tenant_id n)
+    by zero within = refl
+    by (suc i) within =
+        let some : (suc i == 0) ≡ false = grind (arith, nat_tests) in
+        rw (some, listed_reference c i each (omega arith)) refl
 
 -- # the values of pools and providers are read as those
 
--- a list of this many rows, each of which is read into a state
-module _ {S T : Type 0} (read : ReadsItem S) (shown : T → Data) (Fit : S → T → Type 0) (after : S → T → S)
-    (again : (at : List ℕ) (s : S) (x : T) → Fit s x → read at s (shown x) ≡ Ok (after s x)) where
-  abbrev pub all_after : S → List T → S
-  all_after s [] = s
-  all_after s (x ∷ xs) = all_after (after s x) xs
-
-  abbrev pub EachFits : S → List T → Type 0
-  EachFits s [] = Unit {0}
-  EachFits s (x ∷ xs) = Fit s x × EachFits (after s x) xs
-
-  pub states_again : (at : List ℕ) (n : ℕ) (s : S) (xs : List T) → EachFits s xs → items_from read at n s (items_of (map shown xs)) ≡ Ok (all_after s xs)
-  unfolding items_from
-  states_again at n s [] each = refl
-  states_again at n s (x ∷ xs) each = rw (again (below at (decimal n)) s x each.0) (states_again at (n + 1) (after s x) xs each.1)
-
-  pub state_list_again : (at : List ℕ) (l : Length) (s : S) (xs : List T) → EachFits s xs → l.before + length xs ≤ l.most → l.least ≤ length xs → list_at read at l s (list_data shown xs) ≡ Ok (all_after s xs)
-  unfolding list_at
-  state_list_again at l s xs each most least =
-      let few = is-at_most (l.before + length xs) l.most most in
-      let some = is-at_most l.least (length xs) least in
-      rw (items_len-of shown xs, few, some, states_again at 0 s xs each) refl
-
-abbrev pub joined : PoolsSoFar → Pool → PoolsSoFar
-joined s p = record s { pools = s.pools ++ p ∷ [] }
-
-abbrev of_provider : ℕ → Pool → Pool
-of_provider k p = record p { provider = k }
-
-pub pool_again : (c : Configuration) → EachAfter IsLabel [] c.labels → (at : List ℕ) (s : PoolsSoFar) (p : Pool) → (p.provider ≡ s.provider) × IsPool (length c.labels) s.pools p → pool_at c.labels at s (pool_data c p) ≡ Ok (joined s p)
+pub pool_again : (c : Configuration) → EachAfter IsLabel [] c.labels → (k : ℕ) (at : List ℕ) (e : List Pool) (p : Pool) → (p.provider ≡ k) × IsPool (length c.labels) e p
+    → pool_at c.labels at (record { provider = k; pools = e }) (pool_data c p) ≡ Ok (record { provider = k; pools = e ++ p ∷ [] })
 unfolding pool_at pool_row offers_at starts_at list_required list_maybe named_at name_at new_name
-pool_again c each at s p is =
-    let last = member (codes "name") (string p.name) no_members in
-    let keys = keys-limit p.limit pool_keys last refl refl refl in
-    let name = get-limit_other p.limit (codes "name") last refl refl refl in
-    let limit = limit_again at (pool_data c p) p.limit is.1.limit (get-servers p.limit last refl) (get-cores p.limit last refl) (get-ram p.limit last refl) in
-    let offers = list_again (offer_at c.labels) (offer_data c) (IsOffer (length c.labels)) (offer_again c each) (below at (codes "labels")) (at_most LABELS) p.offers is.1.offers (omega (arith, is.1.few_offers)) (omega arith) in
-    let starts = list_again start_at count IsStart start_again (below at (codes "fail-starts")) (at_most FAIL_STARTS) p.fail_starts is.1.starts (omega (arith, is.1.few_starts)) (omega arith) in
-    rw (keys, name, is.1.name.named, is.1.name.new, limit, offers, starts) (ap (λ k. ok (joined s (of_provider k p))) (sym is.0))
+pool_again c each k at e p is =
+    let found = limit_stands p.limit (string p.name) in
+    let limit = limit_again at (pool_data c p) p.limit is.1.limit found.servers_found found.cores_found found.ram_found in
+    let offers = list_again (offer_at c.labels) (offer_data c) (λ (os : List Offer). os) (IsOffer (length c.labels)) (offer_again c each) (below at (codes "labels")) (at_most LABELS) p.offers is.1.offers (omega (arith, is.1.few_offers)) (omega arith) in
+    let starts = list_again start_at count (λ (ns : List ℕ). ns) IsStart start_again (below at (codes "fail-starts")) (at_most FAIL_STARTS) p.fail_starts is.1.starts (omega (arith, is.1.few_starts)) (omega arith) in
+    let with_pool : ℕ → PoolsSoFar = λ n. record { provider = k; pools = e ++ record p { provider = n } ∷ [] } in
+    rw (found.pool_has, found.name_found, is.1.name.named, is.1.name.new, limit, offers, starts) (ap (λ (n : ℕ). ok (with_pool n)) (sym is.0))

@@ -82,3 +82,4 @@ pub use Rattle.std.specs.Option.{option_map, option_map_or}
 pub use Rattle.std.specs.Ordering.{is_eq, is_gt, match_ordering, nat_cmp}
 pub use Rattle.std.specs.Prelude.{All, filter, position, slice_get, ⊤, ◌==◌}
 pub use Rattle.std.specs.Str.{IsAscii, IsUtf8, bytes_eq}
+pub use Rattle.std.proofs.lemmas.Slice.Eq.{bytes_eq-Decides}

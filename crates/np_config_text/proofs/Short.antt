@@ -1,5 +1,6 @@
 -- how long the one text of a sound configuration is at most
-use Rattle.np_config_text.proofs.Prelude.{All, All-cons, All-filter, All-from_each, All-head, All-map, All-nil, All-tail, Bool, CONCURRENCY, Configuration, Crash, Data, EachAfter, EndAs, Expire, FAIL_STARTS, FAULTS, Fault, FaultKind, Hold, IfSome, IsFault, IsJob, IsLabel, IsLimit, IsOffer, IsPool, IsProvider, IsRequester, IsSem, IsSound, IsStart, IsTenant, JOBS, JOB_LABELS, JOB_SEMAPHORES, Job, LABELS, Label, LabelId, Limit, List, Members, NAME_BYTES, None, Offer, Option, POOLS, POOL_CORES, POOL_RAM, POOL_SERVERS, PROVIDERS, Pool, PoolId, Provider, REQUESTERS, Requester, RequesterId, Role, SEMAPHORES, Sem, SemId, Some, StandsByOwner, Stop, TENANTS, Tenant, TenantId, Used, arith, array, boolean, canonical, codes, comma_if, compact_text, cond, configuration_data, count, count_by-le-length, default_tenant, end_as_word, escape, escape_byte, false, fault_data, fault_kind_word, filter, full_name, given, given_limit, is_name_text, items_of, items_text, job_data, job_tenant, label_data, label_name, length, length-append, length-decimal-le, length-filter, length-map, list_data, list_if_any, map, member, members_text, mul-le, nat_le, nat_tests, no_members, number, object, offer_data, option_map, option_map_or, placed, pool_data, pool_name, priority_word, provider_data, refl, requester_data, requester_name, role_name, role_word, semaphore_data, semaphore_name, slice_get, string, suc, tenant_data, tenant_name, true, unsigned, zero, ℕ, [], ◌*◌, ◌++◌, ◌+◌, ◌<◌, ◌==◌, ◌^◌, ◌∷◌, ◌≡◌, ◌≤◌}
+use Rattle.np_config_text.proofs.Values.{unless_out}
+use Rattle.np_config_text.proofs.Prelude.{All, All-cons, All-filter, All-from_each, All-head, All-map, All-nil, All-tail, Bool, CONCURRENCY, Configuration, Data, EachAfter, EndAs, FAIL_STARTS, FAULTS, Fault, FaultKind, IfSome, IsFault, IsJob, IsLabel, IsLimit, IsOffer, IsPool, IsProvider, IsRequester, IsSem, IsSound, IsStart, IsTenant, JOBS, JOB_LABELS, JOB_SEMAPHORES, Job, LABELS, Label, LabelId, Limit, List, Members, NAME_BYTES, None, Offer, Option, POOLS, POOL_CORES, POOL_RAM, POOL_SERVERS, PROVIDERS, Pool, PoolId, Provider, REQUESTERS, Requester, RequesterId, Role, SEMAPHORES, Sem, SemId, Some, StandsByOwner, TENANTS, Tenant, TenantId, arith, array, boolean, canonical, codes, comma_if, compact_text, configuration_data, count, count_by-le-length, default_tenant, end_as_word, escape, escape_byte, false, fault_data, fault_kind_word, filter, full_name, given, given_limit, is_name_text, items_of, items_text, job_data, job_tenant, label_data, label_name, length, length-append, length-decimal-le, length-filter, length-map, list_data, list_if_any, map, member, members_text, mul-le, nat_le, nat_tests, no_members, number, object, offer_data, option_map, option_map_or, placed, pool_data, pool_name, priority_word, provider_data, refl, requester_data, requester_name, role_name, role_word, semaphore_data, semaphore_name, slice_get, string, suc, tenant_data, tenant_name, true, unsigned, zero, ℕ, [], ◌*◌, ◌++◌, ◌+◌, ◌<◌, ◌==◌, ◌^◌, ◌∷◌, ◌≡◌, ◌≤◌}
 
 -- # how long the text of a JSON value is at most
 
@@ -13,9 +14,6 @@ pub record MembersTake (n : ℕ) (ms : Members) : Type 0 where
 
 pub wider : {d : Data} {n : ℕ} (m : ℕ) → n ≤ m → TakesAtMost n d → TakesAtMost m d
 wider m wide takes = record { most = omega arith }
-
-pub wider_members : {ms : Members} {n : ℕ} (m : ℕ) → n ≤ m → MembersTake n ms → MembersTake m ms
-wider_members m wide take = record { most = λ later. omega (arith, take.most later) }
 
 -- ## Texts and numbers
 
@@ -34,14 +32,12 @@ pub number_takes : (n : ℕ) → n < 10 ^ 10 → TakesAtMost 10 (number (unsigne
 number_takes n small = record { most = length-decimal-le 10 n (omega arith) small (omega arith) }
 
 pub flag_takes : (b : Bool) → TakesAtMost 5 (boolean b)
-flag_takes true = record { most = omega arith }
-flag_takes false = record { most = omega arith }
+flag_takes b = record { most = grind arith }
 
 -- ## Arrays
 
 length-comma : (later : Bool) → length (comma_if later) ≤ 1
-length-comma true = omega arith
-length-comma false = omega arith
+length-comma later = grind arith
 
 length-items : (n : ℕ) (later : Bool) (ds : List Data) → All (TakesAtMost n) ds → length (items_text later (items_of ds)) ≤ length ds * (n + 1) + 1
 length-items n later [] each = omega arith
@@ -83,27 +79,16 @@ length-name_at name n P says e (x ∷ xs) zero each = says e x each.0
 length-name_at name n P says e (x ∷ xs) (suc i) each = length-name_at name n P says (e ++ x ∷ []) xs i each.1
 
 length-end_as : (e : EndAs) → length (end_as_word e) ≤ 10
-length-end_as Used = omega arith
-length-end_as Hold = omega arith
+length-end_as e = grind arith
 
 length-fault_kind : (k : FaultKind) → length (fault_kind_word k) ≤ 10
-length-fault_kind Expire = omega arith
-length-fault_kind Crash = omega arith
-length-fault_kind Stop = omega arith
+length-fault_kind k = grind arith
 
 length-role : (r : Role) → length (role_word r) ≤ 10
-length-role (Role.Launcher p) = omega arith
-length-role (Role.Janitor p) = omega arith
-length-role (Role.Requester q) = omega arith
-length-role Role.Reaper = omega arith
+length-role r = grind arith
 
 length-priority : (n : ℕ) → length (priority_word n) ≤ 10
-length-priority n = by (n == 100) (n == 200)
-  where
-    by : (high normal : Bool) → length (cond high (codes "high") (cond normal (codes "normal") (codes "low"))) ≤ 10
-    by true normal = omega arith
-    by false true = omega arith
-    by false false = omega arith
+length-priority n = grind (arith, nat_tests)
 
 name_takes : (text : List ℕ) → length text ≤ NAME_BYTES → TakesAtMost 400 (string text)
 name_takes text short = wider 400 (omega arith) (text_takes NAME_BYTES text short)
@@ -137,17 +122,10 @@ some_take : {T : Type 0} (most n : ℕ) (shown : T → Data) (p : T → Bool) (x
 some_take most n shown p xs few each =
     rows_take most n (filter p xs) (omega (arith, length-filter p xs, count_by-le-length p xs)) shown (All-filter p (λ x. TakesAtMost n (shown x)) xs each)
 
-any_takes : {T : Type 0} (n : ℕ) (shown : T → Data) (xs : List T) → TakesAtMost n (list_data shown xs) → IfSome (list_if_any shown xs) (TakesAtMost n)
-any_takes n shown xs takes = by (length xs == 0)
-  where
-    by : (b : Bool) → IfSome (cond b None (Some (list_data shown xs))) (TakesAtMost n)
-    by true = tt
-    by false = takes
-
 -- ## Members that may be absent
 
 given_takes : {m : ℕ} {ms : Members} (n : ℕ) (key : List ℕ) → nat_le (length key) 20 ≡ true → (o : Option Data) → IfSome o (TakesAtMost n) → MembersTake m ms → MembersTake (n + m + 124) (given key o ms)
-given_takes {m = m} n key short None some rest = wider_members (n + m + 124) (omega arith) rest
+given_takes n key short None some rest = record { most = λ later. omega (arith, rest.most later) }
 given_takes n key short (Some d) some rest = member_takes key short some rest
 
 some_number_takes : (Q : ℕ → Type 0) → ((n : ℕ) → Q n → n < 10 ^ 10) → (o : Option ℕ) → IfSome o Q → IfSome (option_map count o) (TakesAtMost 10)
@@ -155,11 +133,11 @@ some_number_takes Q small None some = tt
 some_number_takes Q small (Some n) some = number_takes n (small n some)
 
 limit_takes : {m : ℕ} {ms : Members} (l : Limit) → IsLimit l → MembersTake m ms → MembersTake (m + 500) (given_limit l ms)
-limit_takes {m = m} l is rest =
-    wider_members (m + 500) (omega arith) (
-    given_takes 10 (codes "max-cores") refl (option_map count l.cores) (some_number_takes (λ n. n ≤ POOL_CORES) (λ n most. omega arith) l.cores is.cores) (
+limit_takes l is rest =
+    let take = given_takes 10 (codes "max-cores") refl (option_map count l.cores) (some_number_takes (λ n. n ≤ POOL_CORES) (λ n most. omega arith) l.cores is.cores) (
     given_takes 10 (codes "max-ram") refl (option_map count l.ram) (some_number_takes (λ n. n ≤ POOL_RAM) (λ n most. omega arith) l.ram is.ram) (
-    given_takes 10 (codes "max-servers") refl (option_map count l.instances) (some_number_takes (λ n. n ≤ POOL_SERVERS) (λ n most. omega arith) l.instances is.servers) rest)))
+    given_takes 10 (codes "max-servers") refl (option_map count l.instances) (some_number_takes (λ n. n ≤ POOL_SERVERS) (λ n most. omega arith) l.instances is.servers) rest)) in
+    record { most = λ later. omega (arith, take.most later) }
 
 -- ## Rows
 
@@ -238,13 +216,6 @@ module _ (c : Configuration) (sound : IsSound c) where
       member_takes (codes "name") refl (named_takes p.name is.name.named) (
       member_takes (codes "pools") refl (some_take POOLS 400000 (pool_data c) (λ q. q.provider == k) c.pools sound.supply.few_pools pools_take) no_members_take)))))
 
-  tenant_given : (t : TenantId) → IfSome (job_tenant c t) (TakesAtMost 400)
-  tenant_given t = by (t.0 == 0)
-    where
-      by : (b : Bool) → IfSome (cond b None (Some (string (tenant_name c t)))) (TakesAtMost 400)
-      by true = tt
-      by false = name_takes (tenant_name c t) (length-tenant t)
-
   job_takes : (e : List Job) (j : Job) → IsJob (length c.labels) (length c.semaphores) (length c.tenants) e j → TakesAtMost 20000 (job_data c j)
   job_takes e j is =
       wider 20000 (omega arith) (object_takes (
@@ -255,7 +226,7 @@ module _ (c : Configuration) (sound : IsSound c) where
       member_takes (codes "relative-priority") refl (number_takes j.relative_priority (omega arith)) (
       member_takes (codes "resources-first") refl (flag_takes j.resources_first) (
       member_takes (codes "semaphores") refl (rows_take JOB_SEMAPHORES 400 j.semaphores is.few_taken (λ s. string (semaphore_name c s)) (λ k d within. name_takes _ (length-semaphore _))) (
-      given_takes 400 (codes "tenant") refl (job_tenant c j.tenant) (tenant_given j.tenant) no_members_take)))))))))
+      given_takes 400 (codes "tenant") refl (job_tenant c j.tenant) (unless_out (TakesAtMost 400) (j.tenant.0 == 0) _ (name_takes _ (length-tenant j.tenant))) no_members_take)))))))))
 
   jobs_take : All (λ j. TakesAtMost 20000 (job_data c j)) c.jobs
   jobs_take =
@@ -285,7 +256,7 @@ module _ (c : Configuration) (sound : IsSound c) where
       member_takes (codes "providers") refl (placed_take PROVIDERS 30000000 c.providers sound.few_providers (provider_data c) IsProvider provider_takes sound.supply.each_provider) (
       member_takes (codes "requesters") refl (placed_take REQUESTERS 90000000 c.requesters sound.few_requesters (requester_data c) IsRequester requester_takes sound.demand.each_requester) (
       member_takes (codes "semaphores") refl (each_takes SEMAPHORES 1000 c.semaphores sound.few_semaphores semaphore_data IsSem semaphore_takes sound.semaphores) (
-      given_takes 200000 (codes "tenants") refl (list_if_any tenant_data c.tenants) (any_takes 200000 tenant_data c.tenants (wider 200000 (omega arith) (each_takes TENANTS 2000 c.tenants sound.few_tenants tenant_data IsTenant tenant_takes sound.tenants))) no_members_take))))))))
+      given_takes 200000 (codes "tenants") refl (list_if_any tenant_data c.tenants) (unless_out (TakesAtMost 200000) (length c.tenants == 0) _ (wider 200000 (omega arith) (each_takes TENANTS 2000 c.tenants sound.few_tenants tenant_data IsTenant tenant_takes sound.tenants))) no_members_take))))))))
 
   pub canonical-short : length (canonical c) < 2 ^ 32
   unfolding canonical

@@ -1,21 +1,15 @@
 -- the drill site: it is a configuration that a text can have, and what its jobs are
-use Rattle.np_gen.proofs.Prelude.{Bool, Job, LabelId, List, [], add-one, after_draws, after_job, ap, append-nil, append_assoc, arith, cond, draw, drawn_jobs, drawn_labels, drill_job, false, jobs_from, jobs_of, label_at, next_state, refl, suc, sym, true, zero, ℕ, ◌%◌, ◌++◌, ◌+◌, ◌-◌, ◌<◌, ◌==◌, ◌∙◌, ◌∷◌, ◌≡◌, ◌≤◌, All, All-append, All-filter_number, All-nil, All-weaker, EachAfter, EachAfter-append, StandsByOwner, after_earlier, filter, length, length-append, nat_tests, subst, AllByRecursion, all_ascii_digits, and_parts, bytes_eq, bytes_eq-apart, decimal, decimal_injective, digits_decimal, drop, is_ascii_digit, is_name_byte, is_name_text, job_name, length-decimal-le, list_all, list_any, model, nat_le, All-cons, All-push, All-replicate, AreProviders, AreRequesters, Fault, IsFault, IsJob, IsLabel, IsOffer, IsPool, IsPriority, IsProvider, IsRequester, IsSem, IsSound, IsTaken, IsWanted, Label, Offer, Pool, Provider, Requester, Sem, SemId, Tenant, all-push, all-weaker, codes, configuration, deploy, drill_jobs, drill_label, drill_labels, drill_offer, drill_pool, drill_pools, drill_provider, drill_providers, drill_requester, drill_requesters, drill_semaphores, drill_site, inl, inr, is_large, is_unoffered, job_labels, job_priority, job_semaphores, label_count, lit<, lit≤, replicate, rules, stage, All-filter, All-head, All-tail, asks_for_nine, filter-append, ◌/◌, ◌≢◌}
+use Rattle.np_gen.proofs.Prelude.{Bool, Job, LabelId, List, [], after_draws, after_job, ap, append-nil, append_assoc, arith, cond, draw, drawn_jobs, drawn_labels, drill_job, false, jobs_from, jobs_of, label_at, next_state, refl, suc, sym, true, zero, ℕ, ◌%◌, ◌++◌, ◌+◌, ◌-◌, ◌<◌, ◌==◌, ◌∙◌, ◌∷◌, ◌≡◌, ◌≤◌, All, All-append, All-filter_number, by_bool, All-nil, All-weaker, EachAfter, EachAfter-append, StandsByOwner, after_earlier, filter, length, length-append, nat_tests, subst, AllByRecursion, all_ascii_digits, bytes_eq, bytes_eq-apart, decimal, decimal_injective, digits_decimal, drop, is_name_byte, is_name_text, job_name, length-decimal-le, list_all, list_any, model, nat_le, All-cons, All-push, All-replicate, AreProviders, AreRequesters, Fault, IsFault, IsJob, IsLabel, IsOffer, IsPool, IsPriority, IsProvider, IsRequester, IsSem, IsSound, IsTaken, IsWanted, Label, Pool, Provider, Requester, Sem, SemId, Tenant, all-push, all-weaker, codes, configuration, deploy, drill_jobs, drill_labels, drill_offer, drill_pool, drill_pools, drill_providers, drill_requesters, drill_semaphores, drill_site, is_large, job_labels, job_priority, job_semaphores, label_count, lit<, lit≤, replicate, rules, stage, All-filter, All-head, All-tail, asks_for_nine, filter-append, ◌/◌, ◌≢◌}
 
 -- # one draw more
 
-after_draws-suc : (k s : ℕ) → after_draws (suc k) s ≡ next_state (after_draws k s)
-after_draws-suc zero s = refl
-after_draws-suc (suc k) s = after_draws-suc k (next_state s)
-
 pub after_draws-more : (k s : ℕ) → after_draws (k + 1) s ≡ next_state (after_draws k s)
-after_draws-more k s = rw add-one (after_draws-suc k s)
-
-drawn_labels-suc : (k s : ℕ) → drawn_labels (suc k) s ≡ drawn_labels k s ++ label_at (draw (after_draws k s) % 4) ∷ []
-drawn_labels-suc zero s = refl
-drawn_labels-suc (suc k) s = ap (λ (ls : List LabelId). label_at (draw s % 4) ∷ ls) (drawn_labels-suc k (next_state s))
+after_draws-more zero s = refl
+after_draws-more (suc k) s = let more : suc k + 1 ≡ suc (k + 1) = omega arith in rw more (after_draws-more k (next_state s))
 
 pub drawn_labels-more : (k s : ℕ) → drawn_labels (k + 1) s ≡ drawn_labels k s ++ label_at (draw (after_draws k s) % 4) ∷ []
-drawn_labels-more k s = rw add-one (drawn_labels-suc k s)
+drawn_labels-more zero s = refl
+drawn_labels-more (suc k) s = let more : suc k + 1 ≡ suc (k + 1) = omega arith in rw more (ap (λ (ls : List LabelId). label_at (draw s % 4) ∷ ls) (drawn_labels-more k (next_state s)))
 
 pub ruleset draws = (after_draws-more, drawn_labels-more)
 
@@ -28,13 +22,10 @@ pub jobs_of-more : (q n i s : ℕ) (rows : List Job) → i < n
 jobs_of-more q n i s rows less =
     let one : n - i ≡ suc (n - (i + 1)) = omega arith in
     let later : List Job = jobs_of q (jobs_from (n - (i + 1)) (i + 1) (after_job i s)) in
+    let this : cond (i % 4 == q) (drill_job i s ∷ []) [] ++ later ≡ cond (i % 4 == q) (drill_job i s ∷ later) later = grind arith in
     append_assoc rows (jobs_of q (drill_job i s ∷ [])) later
-    ∙ ap (λ (js : List Job). rows ++ js) (by (i % 4 == q) later)
+    ∙ ap (λ (js : List Job). rows ++ js) this
     ∙ ap (λ (k : ℕ). rows ++ jobs_of q (jobs_from k i s)) (sym one)
-  where
-    by : (b : Bool) (later : List Job) → cond b (drill_job i s ∷ []) [] ++ later ≡ cond b (drill_job i s ∷ later) later
-    by true later = refl
-    by false later = refl
 
 pub jobs_of-all : (q n i s : ℕ) (rows : List Job) → n ≤ i → rows ++ jobs_of q (jobs_from (n - i) i s) ≡ rows
 jobs_of-all q n i s rows most = let none : n - i ≡ 0 = omega arith in ap (λ (k : ℕ). rows ++ jobs_of q (jobs_from k i s)) none ∙ append-nil rows
@@ -47,57 +38,37 @@ module _ {T : Type 0} (owner : T → ℕ) where
   abbrev pub group : ℕ → List T → List T
   group k xs = filter (λ y. owner y == k) xs
 
-  -- the rows of the owners 0 to 3, in the order of these
-  abbrev pub groups : List T → List T
-  groups xs = group 0 xs ++ group 1 xs ++ group 2 xs ++ group 3 xs
+  -- the rows of the owners below a number, in the order of these
+  abbrev pub groups : ℕ → List T → List T
+  groups zero xs = []
+  groups (suc k) xs = groups k xs ++ group k xs
 
-  below : (k m : ℕ) (xs : List T) → k < m → All (λ y. owner y < m) (group k xs)
-  below k m xs less = All-weaker (λ (y : T). owner y ≡ k) (λ (y : T). owner y < m) (λ y h. omega arith) (group k xs) (All-filter_number owner k xs)
+  groups_below : (k : ℕ) (xs : List T) → All (λ y. owner y < k) (groups k xs)
+  groups_below zero xs = All-nil (λ (y : T). owner y < 0)
+  groups_below (suc k) xs = All-append (λ (y : T). owner y < suc k) (groups k xs) (group k xs)
+      (All-weaker (λ (y : T). owner y < k) (λ (y : T). owner y < suc k) (λ y h. omega arith) (groups k xs) (groups_below k xs))
+      (All-weaker (λ (y : T). owner y ≡ k) (λ (y : T). owner y < suc k) (λ y h. omega arith) (group k xs) (All-filter_number owner k xs))
 
-  both_below : (m : ℕ) (xs ys : List T) → All (λ y. owner y < m) xs → All (λ y. owner y < m) ys → All (λ y. owner y < m) (xs ++ ys)
-  both_below m xs ys front back = All-append (λ (y : T). owner y < m) xs ys front back
-
-  two_below : (m : ℕ) (xs : List T) → 1 < m → All (λ y. owner y < m) (group 0 xs ++ group 1 xs)
-  two_below m xs less = both_below m (group 0 xs) (group 1 xs) (below 0 m xs (omega arith)) (below 1 m xs less)
-
-  three_below : (m : ℕ) (xs : List T) → 2 < m → All (λ y. owner y < m) (group 0 xs ++ group 1 xs ++ group 2 xs)
-  three_below m xs less = both_below m (group 0 xs ++ group 1 xs) (group 2 xs) (two_below m xs (omega arith)) (below 2 m xs less)
-
-  pub groups_below : (xs : List T) → All (λ y. owner y < 4) (groups xs)
-  groups_below xs = both_below 4 (group 0 xs ++ group 1 xs ++ group 2 xs) (group 3 xs) (three_below 4 xs (omega arith)) (below 3 4 xs (omega arith))
-
-  pub length-groups : (xs : List T) → length (groups xs) ≤ length xs
-  length-groups xs = simp length-append (sum xs)
+  length-groups : (xs : List T) → length (groups 4 xs) ≤ length xs
+  length-groups xs = simp length-append (omega (arith, sum xs))
     where
       sum : (ys : List T) → length (group 0 ys) + length (group 1 ys) + length (group 2 ys) + length (group 3 ys) ≤ length ys
       sum [] = omega arith
       sum (y ∷ ys) = grind (arith, nat_tests, sum ys)
 
 module _ {T : Type 0} (owner : T → ℕ) (P : List T → T → Type 0) where
-  -- the rows of the next owner, after those of the owners before it
-  next_group : (k : ℕ) (old xs : List T) → All (λ y. owner y < k) old → EachAfter P [] (group owner k xs)
-      → EachAfter (StandsByOwner owner P) [] old → EachAfter (StandsByOwner owner P) [] (old ++ group owner k xs)
-  next_group k old xs less each before =
-      let more = after_earlier owner P k old [] (group owner k xs) less (All-nil (λ (y : T). owner y ≡ k)) (All-filter_number owner k xs) each in
-      EachAfter-append (StandsByOwner owner P) [] old (group owner k xs) before (subst (λ (e : List T). EachAfter (StandsByOwner owner P) e (group owner k xs)) (append-nil old) more)
-
-  pub groups_stand : (xs : List T) → ((k : ℕ) → EachAfter P [] (group owner k xs)) → EachAfter (StandsByOwner owner P) [] (groups owner xs)
-  groups_stand xs each =
-      let first = next_group 0 [] xs (All-nil (λ (y : T). owner y < 0)) (each 0) tt in
-      let second = next_group 1 (group owner 0 xs) xs (below owner 0 1 xs (omega arith)) (each 1) first in
-      let third = next_group 2 (group owner 0 xs ++ group owner 1 xs) xs (two_below owner 2 xs (omega arith)) (each 2) second in
-      next_group 3 (group owner 0 xs ++ group owner 1 xs ++ group owner 2 xs) xs (three_below owner 3 xs (omega arith)) (each 3) third
+  groups_stand : (k : ℕ) (xs : List T) → ((k : ℕ) → EachAfter P [] (group owner k xs)) → EachAfter (StandsByOwner owner P) [] (groups owner k xs)
+  groups_stand zero xs each = tt
+  groups_stand (suc k) xs each =
+      let old : List T = groups owner k xs in
+      let more = after_earlier owner P k old [] (group owner k xs) (groups_below owner k xs) (All-nil (λ (y : T). owner y ≡ k)) (All-filter_number owner k xs) (each k) in
+      EachAfter-append (StandsByOwner owner P) [] old (group owner k xs) (groups_stand k xs each) (subst (λ (e : List T). EachAfter (StandsByOwner owner P) e (group owner k xs)) (append-nil old) more)
 
 -- # names of jobs: each is a name, and no two jobs have the same one
 
-digit_named : (b : ℕ) → is_ascii_digit b ≡ true → is_name_byte b ≡ true
-digit_named b digit = grind (arith, nat_tests)
-
 digits_named : (text : List ℕ) → all_ascii_digits text ≡ true → list_all is_name_byte text ≡ true
 digits_named [] digits = refl
-digits_named (b ∷ text) digits =
-    let parts = and_parts (is_ascii_digit b) (all_ascii_digits text) digits in
-    rw (digit_named b parts.0) (digits_named text parts.1)
+digits_named (b ∷ text) digits = grind (arith, nat_tests, digits, digits_named text)
 
 pub job_name_named : (i : ℕ) → i < 4000 → is_name_text (job_name i) ≡ true
 unfolding is_name_text
@@ -113,9 +84,6 @@ pub record IsBefore (i : ℕ) (row : Job) : Type 0 where
   pub number : ℕ
   pub less : number < i
   pub named : row.name ≡ job_name number
-
-pub IsBefore-later : (i : ℕ) (row : Job) → IsBefore i row → IsBefore (i + 1) row
-IsBefore-later i row before = record { number = before.number; less = omega arith; named = before.named }
 
 other_name : (i : ℕ) (row : Job) → i < 4000 → IsBefore i row → bytes_eq (job_name i) row.name ≡ false
 other_name i row small before = bytes_eq-apart (job_name i) row.name (λ same.
@@ -145,43 +113,20 @@ pub length-drawn : (k s : ℕ) → length (drawn_labels k s) ≡ k
 length-drawn zero s = refl
 length-drawn (suc k) s = omega (arith, length-drawn k (next_state s))
 
-large_asked : IsAsked (replicate 9 (label_at 0))
-large_asked = record { wanted = All-replicate (IsWanted 4) 9 (label_at 0) (lit< tt); some = lit≤ tt; few = lit≤ tt }
-
-drawn_asked : (k s : ℕ) → 1 ≤ k → k ≤ 3 → IsAsked (drawn_labels k s)
-drawn_asked k s least most = record {
-  wanted = drawn_wanted k s;
-  some = omega (arith, length-drawn k s);
-  few = omega (arith, length-drawn k s);
-}
-
-either_asked : (b : Bool) (xs ys : List LabelId) → IsAsked xs → IsAsked ys → IsAsked (cond b xs ys)
-either_asked true xs ys first second = first
-either_asked false xs ys first second = second
-
 labels_asked : (i s : ℕ) → IsAsked (job_labels i s)
 labels_asked i s =
-    either_asked (is_large i) (replicate 9 (label_at 0)) (drawn_labels (label_count s) (next_state s)) large_asked
-    (drawn_asked (label_count s) (next_state s) (omega arith) (omega arith))
+    let k : ℕ = label_count s in
+    by_bool (λ b. IsAsked (cond b (replicate 9 (label_at 0)) (drawn_labels k (next_state s)))) (is_large i)
+    (λ _. record { wanted = All-replicate (IsWanted 4) 9 (label_at 0) (lit< tt); some = lit≤ tt; few = lit≤ tt })
+    (λ _. record { wanted = drawn_wanted k (next_state s); some = omega (arith, length-drawn k (next_state s)); few = omega (arith, length-drawn k (next_state s)) })
 
 priority_stands : (i s : ℕ) → IsPriority (job_priority i s)
-priority_stands i s =
-    let d : ℕ = draw (after_draws (label_count s + 1) s) in
-    by (is_large i) (d % 3 == 0) (d % 3 == 1)
-  where
-    by : (large none one : Bool) → IsPriority (cond large 200 (cond none 100 (cond one 200 300)))
-    by true none one = inr (inl refl)
-    by false true one = inl refl
-    by false false true = inr (inl refl)
-    by false false false = inr (inr refl)
+priority_stands i s = grind (arith, nat_tests)
 
 -- semaphores that a job may take
 record IsTakenOf (semaphores : List SemId) : Type 0 where
   taken : EachAfter (IsTaken 2) [] semaphores
   few : length semaphores ≤ 1
-
-none_taken : IsTakenOf []
-none_taken = record { taken = tt; few = lit≤ tt }
 
 one_taken : (s : SemId) → s.0 < 2 → IsTakenOf (s ∷ [])
 one_taken s there = record { taken = (record { semaphore = there; new = refl }, tt); few = lit≤ tt }
@@ -192,10 +137,10 @@ semaphores_taken i s =
     by (is_large i) (d % 8 == 0) (d % 8 == 1)
   where
     by : (large none one : Bool) → IsTakenOf (cond large [] (cond none (deploy ∷ []) (cond one (stage ∷ []) [])))
-    by true none one = none_taken
+    by true none one = record { taken = tt; few = lit≤ tt }
     by false true one = one_taken deploy (lit< tt)
     by false false true = one_taken stage (lit< tt)
-    by false false false = none_taken
+    by false false false = record { taken = tt; few = lit≤ tt }
 
 job_stands : (earlier : List Job) (i s : ℕ) → i < 4000 → AllByRecursion (IsBefore i) earlier → IsJob 4 2 0 earlier (drill_job i s)
 job_stands earlier i s small before =
@@ -218,18 +163,12 @@ job_stands earlier i s small before =
 jobs_stand : (q k i s : ℕ) (earlier : List Job) → i + k ≤ 4000 → AllByRecursion (IsBefore i) earlier → EachAfter (IsJob 4 2 0) earlier (jobs_of q (jobs_from k i s))
 jobs_stand q zero i s earlier small before = tt
 jobs_stand q (suc k) i s earlier small before =
-    by (i % 4 == q) (λ e each. jobs_stand q k (i + 1) (after_job i s) e (omega arith) each)
-  where
-    later : AllByRecursion (IsBefore (i + 1)) earlier
-    later = all-weaker (IsBefore i) (IsBefore (i + 1)) (λ row h. IsBefore-later i row h) earlier before
-
-    this : IsBefore (i + 1) (drill_job i s)
-    this = record { number = i; less = omega arith; named = refl }
-
-    by : (b : Bool) → ((e : List Job) → AllByRecursion (IsBefore (i + 1)) e → EachAfter (IsJob 4 2 0) e (jobs_of q (jobs_from k (i + 1) (after_job i s))))
-        → EachAfter (IsJob 4 2 0) earlier (cond b (drill_job i s ∷ jobs_of q (jobs_from k (i + 1) (after_job i s))) (jobs_of q (jobs_from k (i + 1) (after_job i s))))
-    by true stand = (job_stands earlier i s (omega arith) before, stand (earlier ++ drill_job i s ∷ []) (all-push (IsBefore (i + 1)) earlier (drill_job i s) later this))
-    by false stand = stand earlier later
+    let rest : List Job = jobs_of q (jobs_from k (i + 1) (after_job i s)) in
+    let later : AllByRecursion (IsBefore (i + 1)) earlier =
+    all-weaker (IsBefore i) (IsBefore (i + 1)) (λ row h. record { number = h.number; less = omega (arith, h.less); named = h.named }) earlier before in
+    by_bool (λ b. EachAfter (IsJob 4 2 0) earlier (cond b (drill_job i s ∷ rest) rest)) (i % 4 == q)
+    (λ _. (job_stands earlier i s (omega arith) before, jobs_stand q k (i + 1) (after_job i s) (earlier ++ drill_job i s ∷ []) (omega arith) (all-push (IsBefore (i + 1)) earlier (drill_job i s) later record { number = i; less = omega arith; named = refl })))
+    (λ _. jobs_stand q k (i + 1) (after_job i s) earlier (omega arith) later)
 
 length-jobs_from : (k i s : ℕ) → length (jobs_from k i s) ≡ k
 length-jobs_from zero i s = refl
@@ -237,36 +176,16 @@ length-jobs_from (suc k) i s = omega (arith, length-jobs_from k (i + 1) (after_j
 
 -- ## the supply
 
-label_stands : (earlier : List Label) (name : List ℕ) → is_name_text name ≡ true → list_any (λ (row : Label). bytes_eq name row.name) earlier ≡ false → IsLabel earlier (drill_label name)
-label_stands earlier name named new = record { name = record { named = named; new = new }; min_ready = lit≤ tt; max_ready_age = lit≤ tt }
-
 labels_stand : EachAfter IsLabel [] drill_labels
 unfolding is_name_text
-labels_stand = (label_stands _ _ refl refl, (label_stands _ _ refl refl, (label_stands _ _ refl refl, (label_stands _ _ refl refl, tt))))
-
-provider_stands : (earlier : List Provider) (name : List ℕ) → is_name_text name ≡ true → list_any (λ (row : Provider). bytes_eq name row.name) earlier ≡ false → IsProvider earlier (drill_provider name)
-provider_stands earlier name named new = record {
-  name = record { named = named; new = new };
-  some_try = lit≤ tt;
-  retries = lit≤ tt;
-  concurrency = tt;
-}
+labels_stand = search (rules, lit≤)
 
 providers_stand : EachAfter IsProvider [] drill_providers
 unfolding is_name_text
-providers_stand = (provider_stands _ _ refl refl, (provider_stands _ _ refl refl, tt))
-
-offer_stands : (earlier : List Offer) (k : ℕ) → k < 4 → is_unoffered earlier (label_at k) ≡ true → IsOffer 4 earlier (drill_offer k)
-offer_stands earlier k there new = record {
-  label = there;
-  new = new;
-  instances = refl;
-  cores = lit≤ tt;
-  ram = lit≤ tt;
-}
+providers_stand = search (rules, lit≤)
 
 offers_stand : EachAfter (IsOffer 4) [] (drill_offer 0 ∷ drill_offer 1 ∷ drill_offer 2 ∷ drill_offer 3 ∷ [])
-offers_stand = (offer_stands _ 0 (lit< tt) refl, (offer_stands _ 1 (lit< tt) refl, (offer_stands _ 2 (lit< tt) refl, (offer_stands _ 3 (lit< tt) refl, tt))))
+offers_stand = search (rules, lit≤, lit<)
 
 pool_stands : (earlier : List Pool) (provider : ℕ) (name : List ℕ) → All (λ (y : Pool). y.provider ≤ provider) earlier → is_name_text name ≡ true
     → list_any (λ (row : Pool). bytes_eq name row.name) (filter (λ (y : Pool). y.provider == provider) earlier) ≡ false
@@ -312,23 +231,15 @@ supply_stands = record {
   each_has_one = has_pool;
 }
 
-semaphore_stands : (earlier : List Sem) (name : List ℕ) (most : ℕ) → 1 ≤ most → most ≤ 2 → is_name_text name ≡ true
-    → list_any (λ (row : Sem). bytes_eq name row.name) earlier ≡ false → IsSem earlier (record { name = name; max = most })
-semaphore_stands earlier name most some few named new =
-    record { name = record { named = named; new = new }; some = some; max = omega arith }
-
 semaphores_stand : EachAfter IsSem [] drill_semaphores
 unfolding is_name_text
-semaphores_stand = (semaphore_stands _ _ 1 (lit≤ tt) (lit≤ tt) refl refl, (semaphore_stands _ _ 2 (lit≤ tt) (lit≤ tt) refl refl, tt))
+semaphores_stand = search (rules, lit≤)
 
 -- ## the requesters
 
-requester_stands : (earlier : List Requester) (name : List ℕ) → is_name_text name ≡ true → list_any (λ (row : Requester). bytes_eq name row.name) earlier ≡ false → IsRequester earlier (drill_requester name)
-requester_stands earlier name named new = record { name = record { named = named; new = new }; some = lit≤ tt; window = lit≤ tt }
-
 requesters_stand : EachAfter IsRequester [] drill_requesters
 unfolding is_name_text
-requesters_stand = (requester_stands _ _ refl refl, (requester_stands _ _ refl refl, (requester_stands _ _ refl refl, (requester_stands _ _ refl refl, tt))))
+requesters_stand = search (rules, lit≤)
 
 demand_stands : (n : ℕ) → n ≤ 4000 → AreRequesters 4 2 0 drill_requesters (drill_jobs n)
 demand_stands n small =
@@ -338,9 +249,9 @@ demand_stands n small =
     let within : length (drill_jobs n) ≤ 4096 = omega arith in
     record {
       each_requester = requesters_stand;
-      each_job = groups_stand owner (IsJob 4 2 0) (drawn_jobs n) (λ k. jobs_stand k n 0 n [] (omega arith) tt);
+      each_job = groups_stand owner (IsJob 4 2 0) 4 (drawn_jobs n) (λ k. jobs_stand k n 0 n [] (omega arith) tt);
       few_jobs = within;
-      owned = groups_below owner (drawn_jobs n);
+      owned = groups_below owner 4 (drawn_jobs n);
     }
 
 -- ## the site
@@ -378,14 +289,7 @@ drill_site-made n labels providers pools semaphores tenants requesters jobs faul
 
 commute : {T : Type 0} (p q : T → Bool) (xs : List T) → filter p (filter q xs) ≡ filter q (filter p xs)
 commute p q [] = refl
-commute p q (x ∷ xs) = by (p x) (q x) refl refl (commute p q xs)
-  where
-    by : (a b : Bool) → p x ≡ a → q x ≡ b → filter p (filter q xs) ≡ filter q (filter p xs)
-        → filter p (cond b (x ∷ filter q xs) (filter q xs)) ≡ filter q (cond a (x ∷ filter p xs) (filter p xs))
-    by true true passes_p passes_q same = rw (passes_p, passes_q) (ap (λ zs. x ∷ zs) same)
-    by true false passes_p fails_q same = rw fails_q same
-    by false true fails_p passes_q same = rw fails_p same
-    by false false fails_p fails_q same = same
+commute p q (x ∷ xs) = grind (arith, commute p q xs)
 
 module _ {T : Type 0} (owner : T → ℕ) where
   all_grouped : (xs : List T) → All (λ y. owner y < 4) xs → length (group owner 0 xs) + length (group owner 1 xs) + length (group owner 2 xs) + length (group owner 3 xs) ≡ length xs
@@ -394,47 +298,30 @@ module _ {T : Type 0} (owner : T → ℕ) where
       let here : owner x < 4 = All-head (λ (y : T). owner y < 4) x xs owned in
       grind (arith, nat_tests, all_grouped xs (All-tail (λ (y : T). owner y < 4) x xs owned))
 
+  filter-groups : (p : T → Bool) (k : ℕ) (xs : List T) → filter p (groups owner k xs) ≡ groups owner k (filter p xs)
+  filter-groups p zero xs = refl
+  filter-groups p (suc k) xs = filter-append p (groups owner k xs) (group owner k xs) ∙ (λ i. filter-groups p k xs i ++ commute p (λ y. owner y == k) xs i)
+
   -- as many rows pass a test in the groups as in all rows
-  length-filter_groups : (p : T → Bool) (xs : List T) → All (λ y. owner y < 4) xs → length (filter p (groups owner xs)) ≡ length (filter p xs)
+  length-filter_groups : (p : T → Bool) (xs : List T) → All (λ y. owner y < 4) xs → length (filter p (groups owner 4 xs)) ≡ length (filter p xs)
   length-filter_groups p xs owned =
-      let same : (k : ℕ) → filter p (group owner k xs) ≡ group owner k (filter p xs) = λ k. commute p (λ y. owner y == k) xs in
-      let first : filter p (group owner 0 xs) ≡ group owner 0 (filter p xs) = same 0 in
-      let second : filter p (group owner 1 xs) ≡ group owner 1 (filter p xs) = same 1 in
-      let third : filter p (group owner 2 xs) ≡ group owner 2 (filter p xs) = same 2 in
-      let fourth : filter p (group owner 3 xs) ≡ group owner 3 (filter p xs) = same 3 in
       let sum = all_grouped (filter p xs) (All-filter p (λ (y : T). owner y < 4) xs owned) in
-      simp (filter-append, length-append) (rw (first, second, third, fourth) sum)
+      ap length (filter-groups p 4 xs) ∙ simp length-append (omega (arith, sum))
 
 -- ## the jobs
 
 asks_when_large : (i s : ℕ) → (length (job_labels i s) == 9) ≡ (i % 10 == 9)
-asks_when_large i s = by (i % 10 == 9)
-  where
-    other : (length (drawn_labels (label_count s) (next_state s)) == 9) ≡ false
-    other =
-        let few : length (drawn_labels (label_count s) (next_state s)) ≤ 3 = omega (arith, length-drawn (label_count s) (next_state s)) in
-        grind (arith, nat_tests)
+asks_when_large i s = by_bool (λ b. (length (cond b (replicate 9 (label_at 0)) (drawn_labels (label_count s) (next_state s))) == 9) ≡ b) (i % 10 == 9) (λ _. refl)
+    (λ _. let few : length (drawn_labels (label_count s) (next_state s)) ≤ 3 = omega (arith, length-drawn (label_count s) (next_state s)) in grind (arith, nat_tests))
 
-    by : (b : Bool) → (length (cond b (replicate 9 (label_at 0)) (drawn_labels (label_count s) (next_state s))) == 9) ≡ b
-    by true = refl
-    by false = other
-
-length-one : (b : Bool) (job : Job) (later : List Job) → length (cond b (job ∷ later) later) ≡ cond b (suc (length later)) (length later)
-length-one true job later = refl
-length-one false job later = refl
-
-one_more : (b : Bool) (count i k : ℕ) → (i % 10 == 9) ≡ b → count + (i + 1) / 10 ≡ (i + 1 + k) / 10 → cond b (suc count) count + i / 10 ≡ (i + suc k) / 10
-one_more true count i k is later = let nine : i % 10 ≡ 9 = grind (arith, nat_tests) in omega arith
-one_more false count i k is later = let other : i % 10 ≢ 9 = grind (arith, nat_tests) in omega arith
+one_more : (b : Bool) (job : Job) (later : List Job) (i k : ℕ) → (i % 10 == 9) ≡ b → length later + (i + 1) / 10 ≡ (i + 1 + k) / 10 → length (cond b (job ∷ later) later) + i / 10 ≡ (i + suc k) / 10
+one_more true job later i k is rest = let nine : i % 10 ≡ 9 = grind (arith, nat_tests) in omega arith
+one_more false job later i k is rest = let other : i % 10 ≢ 9 = grind (arith, nat_tests) in omega arith
 
 counted : (k i s : ℕ) → length (filter asks_for_nine (jobs_from k i s)) + i / 10 ≡ (i + k) / 10
 counted zero i s = omega arith
 counted (suc k) i s =
-    let later : List Job = filter asks_for_nine (jobs_from k (i + 1) (after_job i s)) in
-    let first : length (filter asks_for_nine (jobs_from (suc k) i s)) ≡ cond (length (job_labels i s) == 9) (suc (length later)) (length later) = length-one (length (job_labels i s) == 9) (drill_job i s) later in
-    let second : cond (length (job_labels i s) == 9) (suc (length later)) (length later) ≡ cond (i % 10 == 9) (suc (length later)) (length later)
-    = ap (λ (b : Bool). cond b (suc (length later)) (length later)) (asks_when_large i s) in
-    ap (λ (m : ℕ). m + i / 10) (first ∙ second) ∙ one_more (i % 10 == 9) (length later) i k refl (counted k (i + 1) (after_job i s))
+    rw (asks_when_large i s) (one_more (i % 10 == 9) (drill_job i s) (filter asks_for_nine (jobs_from k (i + 1) (after_job i s))) i k refl (counted k (i + 1) (after_job i s)))
 
 jobs_owned : (k i s : ℕ) → All (λ (job : Job). job.requester.0 < 4) (jobs_from k i s)
 jobs_owned zero i s = All-nil (λ (job : Job). job.requester.0 < 4)

@@ -16,7 +16,7 @@ unfoldable pub use Rattle.np_gen.specs.Draw.{draw, next_state}
 pub use Rattle.np_gen.specs.Site.{after_job, asks_for_nine, deploy, drawn_jobs, drawn_labels, drill_job, drill_jobs, drill_label, drill_labels, drill_offer, drill_pool, drill_pools, drill_provider, drill_providers, drill_requester, drill_requesters, drill_semaphores, is_large, job_labels, job_name, job_priority, job_semaphores, jobs_from, jobs_of, label_at, label_count, stage}
 unfoldable pub use Rattle.np_gen.specs.Site.{drill_site}
 pub use Rattle.np_lists.proofs.Changes.{All-filter_number, EachAfter-append, all-push, all-weaker}
-pub use Rattle.np_lists.proofs.Plain.{bytes_eq-apart}
+pub use Rattle.np_lists.proofs.Plain.{by_bool, bytes_eq-apart}
 pub use Rattle.np_lists.specs.EachAfter.{EachAfter}
 pub use Rattle.np_text.proofs.SpellingLemmas.{model}
 pub use Rattle.np_text.specs.Name.{is_name_byte}

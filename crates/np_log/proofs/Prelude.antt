@@ -2,7 +2,8 @@
 pub use Rattle.np_event.proofs.Lines.{event_in-spelled, event_in-words, inside-event_line}
 pub use Rattle.np_event.proofs.Fields.{is_line-inside}
 unfoldable pub use Rattle.np_event.specs.EventForm.{event_forms}
-pub use Rattle.np_event.specs.Kind.{lettered}
+pub use Rattle.np_event.specs.EventForm.{event_parts, event_row}
+pub use Rattle.np_event.specs.Kind.{HasWord, field_text, lettered}
 pub use Rattle.np_event.specs.Line.{HasEventLine, event_line}
 unfoldable pub use Rattle.np_event.specs.Line.{event_in}
 pub use Rattle.np_event.specs.Words.{words_of}
@@ -10,10 +11,11 @@ pub use Rattle.np_event.specs.declared.event.Event.{Event}
 pub use Rattle.np_event.specs.declared.fault.LineFault.{LineFault}
 pub use Rattle.np_io.proofs.Moments.{LeavesOnly-stays, LeavesOnly-then, LeavesOnly-weaker}
 pub use Rattle.np_io.specs.Disk.{AfterTornWrite, DiskFacts, IsDisk, LeavesOnly, Only, Settles, Stays, TornWrite, put_at}
-pub use Rattle.np_lists.proofs.Plain.{decimal-short}
+pub use Rattle.np_lists.proofs.Changes.{all-weaker}
+pub use Rattle.np_lists.proofs.Plain.{by_bool, decimal-short}
 pub use Rattle.np_lists.specs.Refusals.{found, need, ◌>>=◌, ◌>>◌}
-pub use Rattle.np_log.specs.Batch.{IsBatch, batch_of, batch_text, ends_in_newline, event_of_line, events_of, is_newline, within_batch}
-pub use Rattle.np_log.specs.Log.{Content, Walk, add_events, after_batch, after_config, after_record, content_of, content_with, first_bytes, first_record, go_on, is_open, map_ok, past_gate, record_text}
+pub use Rattle.np_log.specs.Batch.{IsBatch, batch_of, batch_text, ends_in_newline, events_of, is_newline, within_batch}
+pub use Rattle.np_log.specs.Log.{Content, Walk, add_events, after_batch, after_config, after_record, content_of, content_with, first_bytes, go_on, is_open, map_ok, past_gate, record_text}
 unfoldable pub use Rattle.np_log.specs.Log.{record_in, walk, walk_of}
 pub use Rattle.np_log.specs.Place.{IsSettled, IsSettledIn, Place, SaysAllOrNone, SaysFirst, SaysNewLog}
 pub use Rattle.np_log.specs.Walking.{Fails, IsNear, walk_view}
@@ -26,20 +28,16 @@ pub use Rattle.np_text.specs.Lines.{line, line_in, lines_of}
 pub use Rattle.np_text.specs.Number.{ten_digits_of}
 pub use Rattle.np_text.specs.Request.{HasText}
 unfoldable pub use Rattle.np_text.specs.Request.{request_text_of}
-pub use Rattle.np_text.specs.Word.{end_as_word, reason_kind_word, role_kind_word}
 pub use Rattle.np_text.specs.declared.id.RequestId.{RequestId}
 pub use Rattle.np_text.specs.declared.limit.TheConstants.{JOURNAL_ENTRIES}
-pub use Rattle.np_text.specs.declared.word.EndAs.{EndAs}
-pub use Rattle.np_text.specs.declared.word.ReasonKind.{ReasonKind}
-pub use Rattle.np_text.specs.declared.word.RoleKind.{RoleKind}
-pub use Rattle.std.proofs.Common.{Bool, Err, IfSome, List, None, Ok, Option, Result, Some, [], ap, append-nil, append_assoc, arith, codes, cond, decimal, drop, drop_at, eq-eqb, false, flat_map, get_or, inl, inr, length, length-append, length-drop, length-take-le, map, nat_le, ne_eqb, option_and_then, option_map, refl, slice_get, subst, suc, sym, take, take-append-drop, take_at, true, zero, ℕ, ⊎_elim, ◌&&◌, ◌*◌, ◌++◌, ◌+◌, ◌-◌, ◌<◌, ◌==◌, ◌^◌, ◌∙◌, ◌∷◌, ◌≡◌, ◌≢◌, ◌≤◌, ◌⊎◌}
+pub use Rattle.std.proofs.Common.{Bool, Err, IfSome, List, None, Ok, Option, Result, Some, [], ap, append-nil, append_assoc, arith, cond, decimal, drop, drop_at, eq-eqb, false, flat_map, get_or, inl, inr, length, length-append, length-drop, length-take-le, map, nat_le, ne_eqb, option_and_then, option_map, refl, slice_get, subst, suc, sym, take, take-append-drop, take_at, true, zero, ℕ, ⊎_elim, ◌&&◌, ◌*◌, ◌++◌, ◌+◌, ◌-◌, ◌<◌, ◌==◌, ◌^◌, ◌∙◌, ◌∷◌, ◌≡◌, ◌≢◌, ◌≤◌, ◌⊎◌}
 pub use Rattle.std.proofs.Math.Seq.{get_or-append_seam, take-add}
 pub use Rattle.std.proofs.lemmas.Bool.{cases_eq}
 pub use Rattle.std.proofs.lemmas.Bool.Decides.{nat_tests}
 pub use Rattle.std.proofs.lemmas.Fmt.{length-decimal-le}
 pub use Rattle.std.proofs.lemmas.List.{drop_all, drop_min, drop_more}
 pub use Rattle.std.proofs.lemmas.Nat.{from_be_bytes-to_be_bytes_4}
-pub use Rattle.std.proofs.lemmas.Option.{slice_get-get_or, some_pair_parts}
+pub use Rattle.std.proofs.lemmas.Option.{IfSome_then, cond_some, option_and_then_some, slice_get-get_or}
 pub use Rattle.std.proofs.lemmas.Result.{err_from_is_err_and}
 pub use Rattle.std.specs.Int.{from_be_bytes, to_be_bytes, w32}
 pub use Rattle.std.specs.List.{AllByRecursion, onto_first}

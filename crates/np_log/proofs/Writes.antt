@@ -1,5 +1,5 @@
 -- writing the log: what a new log or one more batch leaves on the disk, also after a torn write
-use Rattle.np_log.proofs.Prelude.{AllByRecursion, EndAs, Event, HasEventLine, HasText, List, ReasonKind, RequestId, RoleKind, [], arith, batch_text, codes, decimal, decimal-short, end_as_word, event_line, flat_map, length, length-append, length-decimal-le, length-ten, lettered, line, nat_le, nat_tests, reason_kind_word, refl, request_text_of, role_kind_word, ten_digits_of, true, ℕ, ◌*◌, ◌++◌, ◌<◌, ◌^◌, ◌∷◌, ◌≡◌, ◌≤◌, AfterTornWrite, IsSettledIn, JOURNAL_ENTRIES, Ok, Only, Place, SaysAllOrNone, Some, TornWrite, Walk, add_events, after_batch, after_record, ap, append_assoc, batch_of, cases_eq, content_of, content_with, drop, drop_at, drop_more, get_or, go_on, inl, inr, map_ok, put_at, record_and_gate, record_text, subst, sym, take, take-append-drop, take_at, walk_of, ⊎_elim, ◌+◌, ◌∙◌, ◌⊎◌, DiskFacts, Err, IfSome, IsDisk, LeavesOnly, LeavesOnly-stays, LeavesOnly-then, None, Option, SaysNewLog, Stays, TornFirst, after_config, append-nil, behind_gate, behind_open_gate, drop_all, option_map, LeavesOnly-weaker, TornBehindOrAt, Content, Result, SaysFirst, take-add}
+use Rattle.np_log.proofs.Prelude.{AllByRecursion, Event, HasEventLine, HasText, List, RequestId, HasWord, all-weaker, event_parts, event_row, field_text, [], arith, batch_text, decimal, decimal-short, event_line, flat_map, length, length-append, length-decimal-le, length-ten, lettered, line, nat_le, nat_tests, refl, request_text_of, ten_digits_of, true, ℕ, ◌*◌, ◌++◌, ◌<◌, ◌^◌, ◌∷◌, ◌≡◌, ◌≤◌, AfterTornWrite, IsSettled, IsSettledIn, JOURNAL_ENTRIES, Ok, Only, Place, SaysAllOrNone, Some, TornWrite, Walk, add_events, after_batch, after_record, ap, append_assoc, batch_of, cases_eq, content_of, content_with, drop, drop_at, drop_more, get_or, go_on, inl, inr, map_ok, put_at, record_and_gate, record_text, subst, sym, take, take-append-drop, take_at, walk_of, ⊎_elim, ◌+◌, ◌∙◌, ◌⊎◌, DiskFacts, Err, IfSome, IsDisk, LeavesOnly, LeavesOnly-stays, LeavesOnly-then, None, Option, SaysNewLog, Stays, TornFirst, after_config, append-nil, behind_gate, behind_open_gate, drop_all, option_map, LeavesOnly-weaker, TornBehindOrAt, Content, Result, SaysFirst, take-add}
 use Rattle.np_text.specs.declared.id.Role.{Role}
 use Rattle.np_text.specs.declared.word.Reason.{Reason}
 use Rattle.np_event.specs.declared.event.Outcome.{Outcome}
@@ -12,28 +12,8 @@ use Rattle.np_log.proofs.Walks.{EndsAt, after_record-batch, batch_of-text, go_on
 at_most : (n : ℕ) (text : List ℕ) → nat_le (length text) n ≡ true → length text ≤ n
 at_most n text test = grind (arith, nat_tests)
 
-role_kind_word-short : (kind : RoleKind) → length (role_kind_word kind) ≤ 20
-role_kind_word-short RoleKind.Launcher = at_most 20 (codes "launcher") refl
-role_kind_word-short RoleKind.Janitor = at_most 20 (codes "janitor") refl
-role_kind_word-short RoleKind.Requester = at_most 20 (codes "requester") refl
-
-reason_kind_word-short : (kind : ReasonKind) → length (reason_kind_word kind) ≤ 20
-reason_kind_word-short ReasonKind.NoLabel = at_most 20 (codes "no-label") refl
-reason_kind_word-short ReasonKind.NeverFits = at_most 20 (codes "never-fits") refl
-reason_kind_word-short ReasonKind.TenantNeverFits = at_most 20 (codes "tenant-never-fits") refl
-reason_kind_word-short ReasonKind.Spent = at_most 20 (codes "spent") refl
-
-end_as_word-short : (e : EndAs) → length (end_as_word e) ≤ 20
-end_as_word-short EndAs.Used = at_most 20 (codes "used") refl
-end_as_word-short EndAs.Hold = at_most 20 (codes "hold") refl
-
 lettered-short : (letter n : ℕ) → n < 2 ^ 32 → length (lettered letter n) ≤ 20
-lettered-short letter n small =
-    let digits : length (decimal n) ≤ 10 = length-decimal-le 10 n (omega arith) (omega arith) (omega arith) in
-    omega arith
-
-place-short : (letter n : ℕ) → n < 2 ^ 16 → length (lettered letter n) ≤ 20
-place-short letter n small = lettered-short letter n (omega arith)
+lettered-short letter n small = omega (arith, length-decimal-le 10 n (omega arith) (omega arith) (omega arith))
 
 request_text_of-short : (id : RequestId) → HasText id → length (request_text_of id) ≤ 20
 unfolding request_text_of
@@ -43,57 +23,30 @@ request_text_of-short id has =
 
 -- ## A line
 
-words-short : (words : List (List ℕ)) → AllByRecursion (λ word. length word ≤ 20) words → length (flat_map (λ word. 32 ∷ word) words) ≤ 21 * length words
-words-short [] each = omega arith
-words-short (word ∷ words) each = omega (arith, each.0, words-short words each.1, length-append (32 ∷ word) (flat_map (λ word. 32 ∷ word) words))
+words-short : {K : Type 0} (text : K → List ℕ) (kinds : List K) → AllByRecursion (λ kind. length (text kind) ≤ 20) kinds → length (flat_map (λ kind. 32 ∷ text kind) kinds) ≤ 21 * length kinds
+words-short text [] each = omega arith
+words-short text (kind ∷ kinds) each = omega (arith, each.0, words-short text kinds each.1, length-append (32 ∷ text kind) (flat_map (λ kind. 32 ∷ text kind) kinds))
 
--- a line of a first word and at most five more
-line-short : (head : List ℕ) (words : List (List ℕ)) → nat_le (length head) 14 ≡ true → nat_le (length words) 5 ≡ true → AllByRecursion (λ word. length word ≤ 20) words
-    → length (head ++ flat_map (λ word. 32 ∷ word) words) ≤ 160
-line-short head words first few each =
-    let head_few : length head ≤ 14 = at_most 14 head first in
-    let words_few : length words ≤ 5 = grind (arith, nat_tests) in
-    omega (arith, head_few, words_few, words-short words each, length-append head (flat_map (λ word. 32 ∷ word) words))
+-- each word of an event's line
+each_short : (e : Event) → HasEventLine e → AllByRecursion (λ kind. length (field_text kind (event_parts e).1) ≤ 20) (event_row (event_parts e).0).kinds
+each_short e has =
+    let f = (event_parts e).1 in
+    all-weaker (λ kind. HasWord kind f) (λ kind. length (field_text kind f) ≤ 20)
+    (λ kind h. grind (arith, nat_tests, h, lettered-short 115 f.session.0, lettered-short 110 f.node.0, lettered-short 106 f.job.0, lettered-short 108 f.label.0, lettered-short 112 f.pool.0, lettered-short 113 f.requester.0, lettered-short 120 f.semaphore.0, request_text_of-short f.request, decimal-short f.attempt, decimal-short f.number, decimal-short f.relative, decimal-short f.server, decimal-short f.instances, decimal-short f.cores, decimal-short f.ram))
+    (event_row (event_parts e).0).kinds has.words
+
+row-short : (e : Event) → (nat_le (length (event_row (event_parts e).0).head) 14 ≡ true) × (nat_le (length (event_row (event_parts e).0).kinds) 5 ≡ true)
+row-short (Event.OpenSession Role.Reaper) = (refl, refl)
+row-short (Event.Decline s r Reason.NeverFits) = (refl, refl)
+row-short (Event.Done s n k Outcome.Failed) = (refl, refl)
+row-short e = (refl, refl)
 
 pub event_line-short : (e : Event) → HasEventLine e → length (event_line e) ≤ 160
-event_line-short Event.Tick has = line-short (codes "tick") [] refl refl tt
-event_line-short (Event.OpenSession (Role.Launcher p)) has = line-short (codes "open") (role_kind_word RoleKind.Launcher ∷ lettered 112 p.0 ∷ []) refl refl (role_kind_word-short RoleKind.Launcher, (place-short 112 p.0 has.words.1.0, tt))
-event_line-short (Event.OpenSession (Role.Janitor p)) has = line-short (codes "open") (role_kind_word RoleKind.Janitor ∷ lettered 112 p.0 ∷ []) refl refl (role_kind_word-short RoleKind.Janitor, (place-short 112 p.0 has.words.1.0, tt))
-event_line-short (Event.OpenSession (Role.Requester q)) has = line-short (codes "open") (role_kind_word RoleKind.Requester ∷ lettered 113 q.0 ∷ []) refl refl (role_kind_word-short RoleKind.Requester, (place-short 113 q.0 has.words.1.0, tt))
-event_line-short (Event.Crash s) has = line-short (codes "crash") (lettered 115 s.0 ∷ []) refl refl (lettered-short 115 s.0 has.words.0, tt)
-event_line-short (Event.Expire s) has = line-short (codes "expire") (lettered 115 s.0 ∷ []) refl refl (lettered-short 115 s.0 has.words.0, tt)
-event_line-short (Event.Register s) has = line-short (codes "register") (lettered 115 s.0 ∷ []) refl refl (lettered-short 115 s.0 has.words.0, tt)
-event_line-short (Event.Submit s j) has = line-short (codes "submit") (lettered 115 s.0 ∷ lettered 106 j.0 ∷ []) refl refl (lettered-short 115 s.0 has.words.0, (lettered-short 106 j.0 has.words.1.0, tt))
-event_line-short (Event.Revise s j v) has = line-short (codes "revise") (lettered 115 s.0 ∷ lettered 106 j.0 ∷ decimal v ∷ []) refl refl (lettered-short 115 s.0 has.words.0, (lettered-short 106 j.0 has.words.1.0, (decimal-short v (omega (arith, has.words.1.1.0)), tt)))
-event_line-short (Event.MinReady s l) has = line-short (codes "min-ready") (lettered 115 s.0 ∷ lettered 108 l.0 ∷ []) refl refl (lettered-short 115 s.0 has.words.0, (place-short 108 l.0 has.words.1.0, tt))
-event_line-short (Event.LockRequest s r) has = line-short (codes "lock-request") (lettered 115 s.0 ∷ request_text_of r ∷ []) refl refl (lettered-short 115 s.0 has.words.0, (request_text_of-short r has.words.1.0, tt))
-event_line-short (Event.UnlockRequest s r) has = line-short (codes "unlock-request") (lettered 115 s.0 ∷ request_text_of r ∷ []) refl refl (lettered-short 115 s.0 has.words.0, (request_text_of-short r has.words.1.0, tt))
-event_line-short (Event.Accept s r) has = line-short (codes "accept") (lettered 115 s.0 ∷ request_text_of r ∷ []) refl refl (lettered-short 115 s.0 has.words.0, (request_text_of-short r has.words.1.0, tt))
-event_line-short (Event.Decline s r (Reason.NoLabel l)) has = line-short (codes "decline") (lettered 115 s.0 ∷ request_text_of r ∷ reason_kind_word ReasonKind.NoLabel ∷ lettered 108 l.0 ∷ []) refl refl (lettered-short 115 s.0 has.words.0, (request_text_of-short r has.words.1.0, (reason_kind_word-short ReasonKind.NoLabel, (place-short 108 l.0 has.words.1.1.1.0, tt))))
-event_line-short (Event.Decline s r Reason.NeverFits) has = line-short (codes "decline") (lettered 115 s.0 ∷ request_text_of r ∷ reason_kind_word ReasonKind.NeverFits ∷ []) refl refl (lettered-short 115 s.0 has.words.0, (request_text_of-short r has.words.1.0, (reason_kind_word-short ReasonKind.NeverFits, tt)))
-event_line-short (Event.Decline s r Reason.TenantNeverFits) has = line-short (codes "decline") (lettered 115 s.0 ∷ request_text_of r ∷ reason_kind_word ReasonKind.TenantNeverFits ∷ []) refl refl (lettered-short 115 s.0 has.words.0, (request_text_of-short r has.words.1.0, (reason_kind_word-short ReasonKind.TenantNeverFits, tt)))
-event_line-short (Event.Decline s r (Reason.Spent n)) has = line-short (codes "decline") (lettered 115 s.0 ∷ request_text_of r ∷ reason_kind_word ReasonKind.Spent ∷ lettered 110 n.0 ∷ []) refl refl (lettered-short 115 s.0 has.words.0, (request_text_of-short r has.words.1.0, (reason_kind_word-short ReasonKind.Spent, (lettered-short 110 n.0 has.words.1.1.1.0, tt))))
-event_line-short (Event.TakeReady s r n) has = line-short (codes "take-ready") (lettered 115 s.0 ∷ request_text_of r ∷ lettered 110 n.0 ∷ []) refl refl (lettered-short 115 s.0 has.words.0, (request_text_of-short r has.words.1.0, (lettered-short 110 n.0 has.words.1.1.0, tt)))
-event_line-short (Event.Create s r) has = line-short (codes "create") (lettered 115 s.0 ∷ request_text_of r ∷ []) refl refl (lettered-short 115 s.0 has.words.0, (request_text_of-short r has.words.1.0, tt))
-event_line-short (Event.Start s n) has = line-short (codes "start") (lettered 115 s.0 ∷ lettered 110 n.0 ∷ []) refl refl (lettered-short 115 s.0 has.words.0, (lettered-short 110 n.0 has.words.1.0, tt))
-event_line-short (Event.Done s n k (Outcome.Launched x)) has = line-short (codes "done") (lettered 115 s.0 ∷ lettered 110 n.0 ∷ decimal k ∷ codes "ok" ∷ decimal x ∷ []) refl refl (lettered-short 115 s.0 has.words.0, (lettered-short 110 n.0 has.words.1.0, (decimal-short k (omega (arith, has.words.1.1.0)), (at_most 20 (codes "ok") refl, (decimal-short x has.words.1.1.1.1.0, tt)))))
-event_line-short (Event.Done s n k Outcome.Failed) has = line-short (codes "done") (lettered 115 s.0 ∷ lettered 110 n.0 ∷ decimal k ∷ codes "failed" ∷ []) refl refl (lettered-short 115 s.0 has.words.0, (lettered-short 110 n.0 has.words.1.0, (decimal-short k (omega (arith, has.words.1.1.0)), (at_most 20 (codes "failed") refl, tt))))
-event_line-short (Event.Fulfil s r) has = line-short (codes "fulfil") (lettered 115 s.0 ∷ request_text_of r ∷ []) refl refl (lettered-short 115 s.0 has.words.0, (request_text_of-short r has.words.1.0, tt))
-event_line-short (Event.LockNode s n) has = line-short (codes "lock-node") (lettered 115 s.0 ∷ lettered 110 n.0 ∷ []) refl refl (lettered-short 115 s.0 has.words.0, (lettered-short 110 n.0 has.words.1.0, tt))
-event_line-short (Event.UnlockNode s n) has = line-short (codes "unlock-node") (lettered 115 s.0 ∷ lettered 110 n.0 ∷ []) refl refl (lettered-short 115 s.0 has.words.0, (lettered-short 110 n.0 has.words.1.0, tt))
-event_line-short (Event.Acquire s j) has = line-short (codes "acquire") (lettered 115 s.0 ∷ lettered 106 j.0 ∷ []) refl refl (lettered-short 115 s.0 has.words.0, (lettered-short 106 j.0 has.words.1.0, tt))
-event_line-short (Event.Take s j) has = line-short (codes "take") (lettered 115 s.0 ∷ lettered 106 j.0 ∷ []) refl refl (lettered-short 115 s.0 has.words.0, (lettered-short 106 j.0 has.words.1.0, tt))
-event_line-short (Event.EndNode s n e) has = line-short (codes "end-node") (lettered 115 s.0 ∷ lettered 110 n.0 ∷ end_as_word e ∷ []) refl refl (lettered-short 115 s.0 has.words.0, (lettered-short 110 n.0 has.words.1.0, (end_as_word-short e, tt)))
-event_line-short (Event.Finish s j) has = line-short (codes "finish") (lettered 115 s.0 ∷ lettered 106 j.0 ∷ []) refl refl (lettered-short 115 s.0 has.words.0, (lettered-short 106 j.0 has.words.1.0, tt))
-event_line-short (Event.Withdraw s j) has = line-short (codes "withdraw") (lettered 115 s.0 ∷ lettered 106 j.0 ∷ []) refl refl (lettered-short 115 s.0 has.words.0, (lettered-short 106 j.0 has.words.1.0, tt))
-event_line-short (Event.Release s j) has = line-short (codes "release") (lettered 115 s.0 ∷ lettered 106 j.0 ∷ []) refl refl (lettered-short 115 s.0 has.words.0, (lettered-short 106 j.0 has.words.1.0, tt))
-event_line-short (Event.MarkDeleting s n) has = line-short (codes "mark-deleting") (lettered 115 s.0 ∷ lettered 110 n.0 ∷ []) refl refl (lettered-short 115 s.0 has.words.0, (lettered-short 110 n.0 has.words.1.0, tt))
-event_line-short (Event.Gone s n) has = line-short (codes "gone") (lettered 115 s.0 ∷ lettered 110 n.0 ∷ []) refl refl (lettered-short 115 s.0 has.words.0, (lettered-short 110 n.0 has.words.1.0, tt))
-event_line-short (Event.Reset s r) has = line-short (codes "reset") (lettered 115 s.0 ∷ request_text_of r ∷ []) refl refl (lettered-short 115 s.0 has.words.0, (request_text_of-short r has.words.1.0, tt))
-event_line-short (Event.FreeNode s n) has = line-short (codes "free-node") (lettered 115 s.0 ∷ lettered 110 n.0 ∷ []) refl refl (lettered-short 115 s.0 has.words.0, (lettered-short 110 n.0 has.words.1.0, tt))
-event_line-short (Event.FailDeclined s r) has = line-short (codes "fail-declined") (lettered 115 s.0 ∷ request_text_of r ∷ []) refl refl (lettered-short 115 s.0 has.words.0, (request_text_of-short r has.words.1.0, tt))
-event_line-short (Event.Sweep s n x) has = line-short (codes "sweep") (lettered 115 s.0 ∷ lettered 110 n.0 ∷ decimal x ∷ []) refl refl (lettered-short 115 s.0 has.words.0, (lettered-short 110 n.0 has.words.1.0, (decimal-short x has.words.1.1.0, tt)))
-event_line-short (Event.OpenSession Role.Reaper) has = absurd has.role
+event_line-short e has =
+    let form = event_row (event_parts e).0 in
+    let head : length form.head ≤ 14 = at_most 14 form.head (row-short e).0 in
+    let few : length form.kinds ≤ 5 = grind (arith, nat_tests, (row-short e).1) in
+    omega (arith, head, few, words-short (λ kind. field_text kind (event_parts e).1) form.kinds (each_short e has), length-append form.head (flat_map (λ kind. 32 ∷ field_text kind (event_parts e).1) form.kinds))
 
 pub batch_text-short : (events : List Event) → AllByRecursion HasEventLine events → length (batch_text events) ≤ 161 * length events
 batch_text-short [] each = omega arith
@@ -282,15 +235,15 @@ says (Some file) images config image short torn =
     new))
     torn
 
-under_some_new : (o : Option (List ℕ)) (a b : DiskFacts) (P : List ℕ → Type 0) → LeavesOnly a b (λ c. IfSome o (λ _. P c)) → IfSome o (λ _. LeavesOnly a b P)
-under_some_new None a b P run = tt
-under_some_new (Some file) a b P run = run
+under_some : (o : Option (List ℕ)) (a b : DiskFacts) (P : List ℕ → List ℕ → Type 0) → LeavesOnly a b (λ c. IfSome o (λ file. P file c)) → IfSome o (λ file. LeavesOnly a b (P file))
+under_some None a b P run = tt
+under_some (Some file) a b P run = run
 
 -- calls that change nothing, and then the first record
 pub create_moment : (a b c : DiskFacts) (config bytes : List ℕ) → IsDisk a → Stays a b → length config < 2 ^ 32 → bytes ≡ record_and_gate config → LeavesOnly b c (TornFirst b bytes)
     → IfSome a.now (λ _. LeavesOnly a c (SaysNewLog a.may_leave config))
 create_moment a b c config bytes lawful stays short is run =
-    under_some_new a.now a c (SaysNewLog a.may_leave config)
+    under_some a.now a c (λ _. SaysNewLog a.may_leave config)
     (LeavesOnly-then a b c a.may_leave (TornFirst b bytes) (λ x. IfSome a.now (λ _. SaysNewLog a.may_leave config x))
     (LeavesOnly-stays a b a.may_leave lawful stays (λ x left. left)) run
     (λ x left. says a.now a.may_leave config x short (inl left))
@@ -302,39 +255,34 @@ create_moment a b c config bytes lawful stays short is run =
 
 -- ## In the end
 
-pub create_walk : (o now : Option (List ℕ)) (config bytes : List ℕ) → bytes ≡ record_and_gate config → now ≡ option_map (λ _. behind_open_gate 0 bytes (0 ∷ [])) o → length config < 2 ^ 32
-    → IfSome now (λ file. walk_of file ≡ Ok (after_config config))
-create_walk o None config bytes is written short = tt
-create_walk None (Some new) config bytes is written short = absurd (cc)
-create_walk (Some file) (Some new) config bytes is written short =
-    let same : new ≡ behind_open_gate 0 bytes (0 ∷ []) = cc in
-    ap walk_of (same ∙ ap (λ (l : List ℕ). behind_open_gate 0 l (0 ∷ [])) is ∙ new_bytes (record_and_gate config)) ∙ new_walk config short
-
 pub create_content : (before mid now : Option (List ℕ)) (config bytes : List ℕ) → mid ≡ before → bytes ≡ record_and_gate config → now ≡ option_map (λ _. behind_open_gate 0 bytes (0 ∷ [])) mid → length config < 2 ^ 32
     → option_map content_of now ≡ option_map (λ _. Ok (record { config = config; events = [] })) before
-create_content before mid now config bytes same is written short = by before (written ∙ ap (option_map (λ _. behind_open_gate 0 bytes (0 ∷ []))) same)
+create_content before mid now config bytes same is written short = rw (written, same, is) (made before)
   where
-    by : (o : Option (List ℕ)) → now ≡ option_map (λ _. behind_open_gate 0 bytes (0 ∷ [])) o → option_map content_of now ≡ option_map (λ _. Ok (record { config = config; events = [] })) o
-    by None is_now = ap (option_map content_of) is_now
-    by (Some file) is_now =
-        ap (option_map content_of) is_now
-        ∙ ap (λ (r : List ℕ). Some (content_of r)) (ap (λ (l : List ℕ). behind_open_gate 0 l (0 ∷ [])) is ∙ new_bytes (record_and_gate config))
-        ∙ ap (λ w. Some (map_ok (λ w. w.content) w)) (new_walk config short)
+    made : (o : Option (List ℕ)) → option_map content_of (option_map (λ _. behind_open_gate 0 (record_and_gate config) (0 ∷ [])) o) ≡ option_map (λ _. Ok (record { config = config; events = [] })) o
+    made None = refl
+    made (Some file) = rw (new_bytes (record_and_gate config), new_walk config short) refl
 
-pub create_settled : (now : Option (List ℕ)) (after : List ℕ → Type 0) (config : List ℕ) → IfSome now (λ file. walk_of file ≡ Ok (after_config config)) → IfSome now (λ file. Only file after)
-    → IfSome now (IsSettledIn after (record { gate = length config + 5; events = 0 }))
-create_settled None after config is only = tt
-create_settled (Some file) after config is only = record { only = only; walk = after_config config; is = is; gate = omega arith; events = refl }
+pub create_settled : (o now : Option (List ℕ)) (after : List ℕ → Type 0) (config bytes : List ℕ) → bytes ≡ record_and_gate config → now ≡ option_map (λ _. behind_open_gate 0 bytes (0 ∷ [])) o → length config < 2 ^ 32
+    → IfSome now (λ file. Only file after) → IfSome now (IsSettledIn after (record { gate = length config + 5; events = 0 }))
+create_settled o now after config bytes is written short = subst (λ now. IfSome now (λ file. Only file after) → IfSome now (IsSettledIn after (record { gate = length config + 5; events = 0 }))) (sym written) (made o)
+  where
+    made : (o : Option (List ℕ)) → IfSome (option_map (λ _. behind_open_gate 0 bytes (0 ∷ [])) o) (λ file. Only file after) → IfSome (option_map (λ _. behind_open_gate 0 bytes (0 ∷ [])) o) (IsSettledIn after (record { gate = length config + 5; events = 0 }))
+    made None only = tt
+    made (Some file) only = record { only = only; walk = after_config config; is = ap walk_of (ap (λ (l : List ℕ). behind_open_gate 0 l (0 ∷ [])) is ∙ new_bytes (record_and_gate config)) ∙ new_walk config short; gate = omega arith; events = refl }
 
 -- # What an append leaves, by what its writes leave.
 
--- what is appended, and what it adds
-pub adds_of : (place : Place) (events : List Event) → AllByRecursion HasEventLine events → 1 ≤ length events → length events ≤ 64 → place.events + length events ≤ JOURNAL_ENTRIES → Adds place (batch_text events) events
-adds_of place events lines some few room = record { short = batch_fits events lines few; batch = batch_of-text events lines some few; few = room }
+-- what an append is given: a settled log, and a batch that it has room for
+pub record IsGiven (disk : DiskFacts) (place : Place) (events : List Event) : Type 0 where
+  pub settled : IsSettled disk place
+  pub adds : Adds place (batch_text events) events
 
-pub fits : (o : Option (List ℕ)) (images : List ℕ → Type 0) (place : Place) → IfSome o (IsSettledIn images place) → IfSome o (λ file. place.gate + 1 ≤ length file)
-fits None images place settled = tt
-fits (Some file) images place settled = gate_within file images place settled
+pub given : (disk : DiskFacts) (place log : Place) (events : List Event) → place ≡ log → IsSettled disk log → AllByRecursion HasEventLine events → 1 ≤ length events → length events ≤ 64 → log.events + length events ≤ JOURNAL_ENTRIES → IsGiven disk place events
+given disk place log events is settled lines some few room = record {
+  settled = subst (IsSettled disk) (sym is) settled;
+  adds = record { short = batch_fits events lines few; batch = batch_of-text events lines some few; few = omega (arith, room, ap (λ (p : Place). p.events) is) };
+}
 
 -- every moment
 either_at : (o : Option (List ℕ)) (images : List ℕ → Type 0) (place : Place) (payload : List ℕ) (events : List Event) → IfSome o (IsSettledIn images place) → Adds place payload events
@@ -344,15 +292,12 @@ either_at None images place payload events settled adds c torn = tt
 either_at (Some file) images place payload events settled adds c torn =
     ⊎_elim (λ before. inl (torn_behind file images place settled (length (record_and_gate payload)) c before)) (λ at. torn_at file images place settled payload events adds c at) torn
 
-under_some : (o : Option (List ℕ)) (a b : DiskFacts) (P : List ℕ → List ℕ → Type 0) → LeavesOnly a b (λ c. IfSome o (λ file. P file c)) → IfSome o (λ file. LeavesOnly a b (P file))
-under_some None a b P run = tt
-under_some (Some file) a b P run = run
-
-pub every_moment : (a b : DiskFacts) (place : Place) (payload : List ℕ) (events : List Event) → IfSome a.now (IsSettledIn a.may_leave place) → Adds place payload events
-    → LeavesOnly a b (TornBehindOrAt a place.gate (record_and_gate payload)) → IfSome a.now (λ file. LeavesOnly a b (SaysAllOrNone (content_of file) events))
-every_moment a b place payload events settled adds run =
+pub every_moment : (a b : DiskFacts) (place : Place) (events : List Event) (bytes : List ℕ) → IsGiven a place events → bytes ≡ record_and_gate (batch_text events) → LeavesOnly a b (TornBehindOrAt a place.gate bytes)
+    → IfSome a.now (λ file. LeavesOnly a b (SaysAllOrNone (content_of file) events))
+every_moment a b place events bytes known is run =
     under_some a.now a b (λ file. SaysAllOrNone (content_of file) events)
-    (LeavesOnly-weaker a b (TornBehindOrAt a place.gate (record_and_gate payload)) (λ c. IfSome a.now (λ file. SaysAllOrNone (content_of file) events c)) run (either_at a.now a.may_leave place payload events settled adds))
+    (LeavesOnly-weaker a b (TornBehindOrAt a place.gate bytes) (λ c. IfSome a.now (λ file. SaysAllOrNone (content_of file) events c)) run
+    (subst (λ (l : List ℕ). (c : List ℕ) → TornBehindOrAt a place.gate l c → IfSome a.now (λ file. SaysAllOrNone (content_of file) events c)) (sym is) (either_at a.now a.may_leave place (batch_text events) events known.settled known.adds)))
 
 -- in the end
 pub then_content : (o now : Option (List ℕ)) (images : List ℕ → Type 0) (place : Place) (payload : List ℕ) (events : List Event) → IfSome o (IsSettledIn images place) → Adds place payload events
@@ -382,12 +327,8 @@ one_more said events at n = content_with-then said (take at events) (take n (dro
 pub content_more : (o mid now : Option (List ℕ)) (events : List Event) (at n : ℕ) → option_map content_of mid ≡ option_map (λ file. content_with (content_of file) (take at events)) o
     → option_map content_of now ≡ option_map (λ file. content_with (content_of file) (take n (drop at events))) mid
     → option_map content_of now ≡ option_map (λ file. content_with (content_of file) (take (at + n) events)) o
-content_more o None now events at n first second = none o first second
-  where
-    none : (o : Option (List ℕ)) → None ≡ option_map (λ file. content_with (content_of file) (take at events)) o → option_map content_of now ≡ None
-        → option_map content_of now ≡ option_map (λ file. content_with (content_of file) (take (at + n) events)) o
-    none None first second = second
-    none (Some file) first second = absurd (cc)
+content_more None None now events at n first second = second
+content_more (Some file) None now events at n first second = absurd (cc)
 content_more None (Some file) now events at n first second = absurd (cc)
 content_more (Some file) (Some other) now events at n first second =
     let said : content_of other ≡ content_with (content_of file) (take at events) = cc in

@@ -1,17 +1,11 @@
 -- the parts of a printed text, and what the comparison of two texts finds is so
-use Rattle.np_report.proofs.Prelude.{AllByRecursion, Configuration, Entry, Event, HasEntryLine, IsPrinted, List, [], after, and_parts, ap, append-nil, append_assoc, bar, canonical, configuration_data, entry_line, entry_lines, events_told, fate_lines, fates, flat_map, inl, inr, is_line, is_line-entry, later_lines, leading_events, length, line, lines_of, lines_of-line, lines_of-lines, list_all, map, played, refl, replayed, start, sym, take, text_of, true, ℕ, ◌++◌, ◌∙◌, ◌∷◌, ◌≡◌, ◌≤◌, Bool, Declined, EachAfter, Fate, IsJob, IsRequester, IsSound, Job, NodeId, None, Option, Phase, PoolId, Reason, Requester, Some, StandsByOwner, arith, at_place, codes, decimal, decline_text, eqb-true, false, fate_text, is_name_byte, is_name_text, job_text, nat_le, nat_tests, newline_count, newlines, node_text, not, option_map_or, phase_word, pool_text, reason_text_of, requester_name, slice_get, sum_by-append, sum_by-cons, ◌&&◌, ◌+◌, ◌<◌, ◌==◌, common_lines, drop, drop_all, drop_more, eq-eqb, get_or, if◌then◌else◌, subst, BeginsAText, Finding, IsAText, IsNoText, IsSo, No, Yes, suc, ConfigFault, Err, IsPlayable, Ok, Script, append_cancel_left, bytes_eq, bytes_eq-refl, finding_of, first_line, reads, same_bytes}
+use Rattle.np_report.proofs.Prelude.{AllByRecursion, BeginsAText, ConfigFault, Configuration, Declined, EachAfter, Entry, Err, Event, Fate, Finding, HasEntryLine, IsAText, IsJob, IsNoText, IsPlayable, IsPrinted, IsRequester, IsSo, IsSound, Job, List, No, NodeId, None, Ok, Option, Reason, Requester, Script, Some, StandsByOwner, Yes, after, and_parts, ap, append-nil, append_assoc, append_cancel_left, arith, at_place, bar, by_bool, bytes_eq, bytes_eq-refl, canonical, codes, common_lines, decimal, decline_text, drop, drop_all, drop_more, entry_line, entry_lines, eq-eqb, eqb-true, events_told, false, fate_lines, fate_text, fates, finding_of, first_line, flat_map, get_or, if◌then◌else◌, inl, inr, is_line, is_line-entry, is_name_byte, is_name_text, job_text, later_lines, leading_events, length, line, lines_of, lines_of-line, lines_of-lines, list_all, list_all-append, map, nat_le, nat_tests, newline_count, newlines, node_text, not, option_map_or, played, pool_text, reads, reason_text_of, refl, replayed, requester_name, same_bytes, slice_get, start, subst, suc, sum_by-append, sum_by-cons, sym, take, text_of, true, ℕ, [], ◌&&◌, ◌++◌, ◌+◌, ◌<◌, ◌==◌, ◌∙◌, ◌∷◌, ◌≡◌, ◌≤◌}
 use Rattle.np_report.proofs.Rows.{lines-Runs}
-use Rattle.np_report.proofs.OwnText.{is_line-append, is_line-compact_text, is_line-decimal, reads-canonical}
+use Rattle.np_report.proofs.OwnText.{text_of-injective, is_line-append, is_line-canonical, is_line-decimal, reads-canonical}
 use Rattle.np_report.proofs.PlayedLemmas.{Shows, are_lines-push, first_line-line, flat_map-push, later_lines-line, line-injective, line-some, played_lines-whole, printed-script, shows-lines}
 use Rattle.np_machine.specs.Fates as fate
 
 -- # the parts of a Text, and what is played from them
-
--- ## parts
-
-pub is_line-canonical : (c : Configuration) → is_line (canonical c) ≡ true
-unfolding canonical
-is_line-canonical c = is_line-compact_text (configuration_data c)
 
 -- the second bar and the fates
 abbrev pub fates_part : Configuration → List Entry → List ℕ
@@ -23,11 +17,7 @@ run_part c journal = entry_lines journal ++ fates_part c journal
 
 pub text_of-parts : (c : Configuration) (journal : List Entry) → text_of c journal ≡ line (canonical c) ++ (line bar ++ run_part c journal)
 unfolding text_of
-text_of-parts c journal =
-    let last = fate_lines c 0 c.jobs (fates (after c journal)) in
-    append_assoc (line (canonical c) ++ line bar ++ entry_lines journal) (line bar) last
-    ∙ append_assoc (line (canonical c) ++ line bar) (entry_lines journal) (line bar ++ last)
-    ∙ append_assoc (line (canonical c)) (line bar) (entry_lines journal ++ (line bar ++ last))
+text_of-parts c journal = simp append_assoc
 
 -- each entry of a printed run has a line
 pub entries_of_a_run : (c : Configuration) (journal : List Entry) (text : List ℕ) → IsPrinted c journal text → AllByRecursion HasEntryLine journal
@@ -49,9 +39,6 @@ entries_played c bytes = played c (leading_events (later_lines (later_lines byte
 -- the Text that the bytes are compared with
 abbrev pub text_played : Configuration → List ℕ → List ℕ
 text_played c bytes = text_of c (entries_played c bytes)
-
-begins-along : (text same : List ℕ) (lines : List (List ℕ)) → text ≡ same → (r : List ℕ) × (same ≡ flat_map line lines ++ r) → (r : List ℕ) × (text ≡ flat_map line lines ++ r)
-begins-along text same lines is begins = (begins.0, is ∙ begins.1)
 
 module _ (d : Configuration) (journal : List Entry) (runs : replayed d (start d) journal ≡ journal) (short : length journal ≤ 262144) (has : AllByRecursion HasEntryLine journal) where
   lines_of-run_part : lines_of (run_part d journal) ≡ map entry_line journal ++ bar ∷ lines_of (fate_lines d 0 d.jobs (fates (after d journal)))
@@ -78,16 +65,7 @@ module _ (d : Configuration) (journal : List Entry) (runs : replayed d (start d)
       (r' : List ℕ) × (text_of d entries ≡ flat_map line (a ∷ b ∷ ls) ++ r')
   begins_with_three a b ls r entries first second same (inr all) = (r, ap (text_of d) all ∙ sym same)
   begins_with_three a b ls r entries first second same (inl begins) =
-      let rest = begins.0 ++ fates_part d entries in (
-        rest,
-        text_of-parts d entries
-            ∙ ap (λ (t : List ℕ). line (canonical d) ++ (line bar ++ (t ++ fates_part d entries))) begins.1
-            ∙ ap (λ (t : List ℕ). line (canonical d) ++ (line bar ++ t)) (append_assoc (flat_map line ls) begins.0 (fates_part d entries))
-            ∙ ap (λ (t : List ℕ). line (canonical d) ++ t) (sym (append_assoc (line bar) (flat_map line ls) rest))
-            ∙ sym (append_assoc (line (canonical d)) (line bar ++ flat_map line ls) rest)
-            ∙ ap (λ (x : List ℕ). (line x ++ (line bar ++ flat_map line ls)) ++ rest) (sym first)
-            ∙ ap (λ (x : List ℕ). (line a ++ (line x ++ flat_map line ls)) ++ rest) (sym second),
-      )
+      (begins.0 ++ fates_part d entries, text_of-parts d entries ∙ rw (first, second, begins.1) (simp append_assoc))
 
   -- lines that begin both the bytes and a Text begin what is played from the bytes
   pub text_played-begins : (lines : List (List ℕ)) (bytes rest r : List ℕ) → list_all is_line lines ≡ true → bytes ≡ flat_map line lines ++ rest → flat_map line lines ++ r ≡ text_of d journal →
@@ -117,29 +95,20 @@ module _ (d : Configuration) (journal : List Entry) (runs : replayed d (start d)
       = ap leading_events later ∙ ap (λ (lines : List (List ℕ)). take 262144 (events_told lines)) (lines_of-lines ls rest more.1) in
       let shown = shows-lines d (start d) 262144 journal ls (lines_of rest) r (fate_lines d 0 d.jobs (fates (after d journal))) short runs has more.1 cut_more.1 in
       let begins = begins_with_three a b ls r (played d (take 262144 (events_told (ls ++ lines_of rest)))) cut.0 cut_more.0 same shown in
-      begins-along (text_played d bytes) (text_of d (played d (take 262144 (events_told (ls ++ lines_of rest))))) (a ∷ b ∷ ls) (ap (λ (es : List Event). text_of d (played d es)) events) begins
+      (begins.0, ap (λ (es : List Event). text_of d (played d es)) events ∙ begins.1)
 
 -- # a Text has fewer newlines than a number of 32 bits counts
 
 -- ## counting
 
-newlines-append : (xs ys : List ℕ) → newlines (xs ++ ys) ≡ newlines xs + newlines ys
-newlines-append xs ys = sum_by-append newline_count xs ys
-
 newlines-none : (bytes : List ℕ) → is_line bytes ≡ true → newlines bytes ≡ 0
 newlines-none [] plain = refl
-newlines-none (b ∷ bs) plain =
-    let parts = and_parts (not (b == 10)) (is_line bs) plain in
-    let other : (b == 10) ≡ false = grind (arith, nat_tests) in
-    let first : newline_count b ≡ 0 = rw other refl in
-    let all : newlines (b ∷ bs) ≡ newline_count b + newlines bs = sum_by-cons newline_count b bs in
-    omega (arith, all, first, newlines-none bs parts.1)
-
-newlines-line : (bytes : List ℕ) → is_line bytes ≡ true → newlines (line bytes) ≡ 1
-newlines-line bytes plain = newlines-append bytes (10 ∷ []) ∙ ap (λ (n : ℕ). n + 1) (newlines-none bytes plain)
+newlines-none (b ∷ bs) plain = grind (arith, nat_tests, newlines-none bs, sum_by-cons newline_count b bs)
 
 newlines-lines : (bytes rest : List ℕ) (n : ℕ) → is_line bytes ≡ true → newlines rest ≤ n → newlines (line bytes ++ rest) ≤ n + 1
-newlines-lines bytes rest n plain few = omega (arith, newlines-append (line bytes) rest, newlines-line bytes plain, few)
+newlines-lines bytes rest n plain few =
+    let one : newlines (line bytes) ≡ newlines bytes + 1 = sum_by-append newline_count bytes (10 ∷ []) in
+    omega (arith, sum_by-append newline_count (line bytes) rest, one, newlines-none bytes plain, few)
 
 -- ## entries
 
@@ -150,34 +119,20 @@ newlines-entries (e ∷ journal) has =
 
 -- ## names
 
-name_byte-plain : (b : ℕ) → is_name_byte b ≡ true → not (b == 10) ≡ true
-name_byte-plain b named = cases (b == 10) refl
-  where
-    cases : (t : Bool) → (b == 10) ≡ t → not t ≡ true
-    cases true here =
-        let other : true ≡ false = sym named ∙ ap is_name_byte (eqb-true b 10 here) in
-        absurd cc
-    cases false here = refl
-
 name_bytes-plain : (bytes : List ℕ) → list_all is_name_byte bytes ≡ true → is_line bytes ≡ true
 name_bytes-plain [] named = refl
-name_bytes-plain (b ∷ bs) named =
-    let parts = and_parts (is_name_byte b) (list_all is_name_byte bs) named in
-    rw (name_byte-plain b parts.0) (name_bytes-plain bs parts.1)
+name_bytes-plain (b ∷ bs) named = grind (arith, nat_tests, name_bytes-plain bs)
 
 is_line-name : (text : List ℕ) → is_name_text text ≡ true → is_line text ≡ true
 unfolding is_name_text
 is_line-name text named =
     name_bytes-plain text (and_parts (nat_le 1 (length text) && nat_le (length text) 64) (list_all is_name_byte text) named).1
 
-is_line-found : (o : Option Requester) → ((q : Requester) → o ≡ Some q → is_line q.name ≡ true) → is_line (option_map_or (λ q. q.name) o []) ≡ true
-is_line-found None plain = refl
-is_line-found (Some q) plain = plain q refl
-
 is_line-requester_name : (c : Configuration) (job : Job) → IsSound c → is_line (requester_name c job) ≡ true
-is_line-requester_name c job sound =
-    is_line-found (slice_get c.requesters job.requester.0) (λ q there.
-    at_place IsRequester (λ (r : Requester). is_line r.name ≡ true) (λ e r is. is_line-name r.name is.name.named) [] c.requesters job.requester.0 q sound.demand.each_requester there)
+is_line-requester_name c job sound = found (slice_get c.requesters job.requester.0) refl where
+  found : (o : Option Requester) → slice_get c.requesters job.requester.0 ≡ o → is_line (option_map_or (λ q. q.name) o []) ≡ true
+  found None there = refl
+  found (Some q) there = at_place IsRequester (λ (r : Requester). is_line r.name ≡ true) (λ e r is. is_line-name r.name is.name.named) [] c.requesters job.requester.0 q sound.demand.each_requester there
 
 -- the name of each of these jobs
 abbrev HasPlainName : Job → Type 0
@@ -197,15 +152,8 @@ job_names c sound =
 is_line-job_text : (c : Configuration) (n : ℕ) (job : Job) → IsSound c → HasPlainName job → is_line (job_text c n job) ≡ true
 unfolding job_text
 is_line-job_text c n job sound plain =
-    let number : is_line (codes "j" ++ decimal n) ≡ true = is_line-append (codes "j") (decimal n) refl (is_line-decimal n) in
-    let space : is_line (codes "j" ++ decimal n ++ codes " ") ≡ true = is_line-append (codes "j" ++ decimal n) (codes " ") number refl in
-    let owner : is_line (codes "j" ++ decimal n ++ codes " " ++ requester_name c job) ≡ true
-    = is_line-append (codes "j" ++ decimal n ++ codes " ") (requester_name c job) space (is_line-requester_name c job sound) in
-    let slash : is_line (codes "j" ++ decimal n ++ codes " " ++ requester_name c job ++ codes "/") ≡ true
-    = is_line-append (codes "j" ++ decimal n ++ codes " " ++ requester_name c job) (codes "/") owner refl in
-    let name : is_line (codes "j" ++ decimal n ++ codes " " ++ requester_name c job ++ codes "/" ++ job.name) ≡ true
-    = is_line-append (codes "j" ++ decimal n ++ codes " " ++ requester_name c job ++ codes "/") job.name slash plain in
-    is_line-append (codes "j" ++ decimal n ++ codes " " ++ requester_name c job ++ codes "/" ++ job.name) (codes " ") name refl
+    let append = list_all-append (λ b. not (b == 10)) in
+    rw (append (codes "j" ++ decimal n ++ codes " " ++ requester_name c job ++ codes "/" ++ job.name) (codes " "), append (codes "j" ++ decimal n ++ codes " " ++ requester_name c job ++ codes "/") job.name, append (codes "j" ++ decimal n ++ codes " " ++ requester_name c job) (codes "/"), append (codes "j" ++ decimal n ++ codes " ") (requester_name c job), append (codes "j" ++ decimal n) (codes " "), append (codes "j") (decimal n), is_line-decimal n, is_line-requester_name c job sound, plain) refl
 
 is_line-flat_map : {X : Type 0} (f : X → List ℕ) → ((x : X) → is_line (f x) ≡ true) → (xs : List X) → is_line (flat_map f xs) ≡ true
 is_line-flat_map f plain [] = refl
@@ -217,34 +165,23 @@ is_line-reason Reason.NeverFits = refl
 is_line-reason Reason.TenantNeverFits = refl
 is_line-reason (Reason.Spent n) = is_line-append (codes "spent-n") (decimal n.0) refl (is_line-decimal n.0)
 
+is_line-nodes : (nodes : List NodeId) → is_line (flat_map node_text nodes) ≡ true
+is_line-nodes = is_line-flat_map node_text (λ n. is_line-append (codes " n") (decimal n.0) refl (is_line-decimal n.0))
+
 is_line-decline : (d : Declined) → is_line (decline_text d) ≡ true
 is_line-decline d =
-    let number : is_line (codes " p" ++ decimal d.pool.0) ≡ true = is_line-append (codes " p") (decimal d.pool.0) refl (is_line-decimal d.pool.0) in
-    let colon : is_line (codes " p" ++ decimal d.pool.0 ++ codes ":") ≡ true = is_line-append (codes " p" ++ decimal d.pool.0) (codes ":") number refl in
-    is_line-append (codes " p" ++ decimal d.pool.0 ++ codes ":") (reason_text_of d.reason) colon (is_line-reason d.reason)
-
-is_line-node : (n : NodeId) → is_line (node_text n) ≡ true
-is_line-node n = is_line-append (codes " n") (decimal n.0) refl (is_line-decimal n.0)
-
-is_line-pool : (p : Option PoolId) → is_line (pool_text p) ≡ true
-is_line-pool None = refl
-is_line-pool (Some p) = is_line-append (codes " p") (decimal p.0) refl (is_line-decimal p.0)
-
-is_line-phase : (p : Phase) → is_line (phase_word p) ≡ true
-is_line-phase Phase.New = refl
-is_line-phase Phase.Asked = refl
-is_line-phase Phase.Using = refl
-is_line-phase Phase.Over = refl
+    is_line-append (codes " p" ++ decimal d.pool.0 ++ codes ":") (reason_text_of d.reason)
+    (is_line-append (codes " p" ++ decimal d.pool.0) (codes ":") (is_line-append (codes " p") (decimal d.pool.0) refl (is_line-decimal d.pool.0)) refl) (is_line-reason d.reason)
 
 is_line-fate : (f : Fate) → is_line (fate_text f) ≡ true
-is_line-fate (fate.served p nodes) =
-    let pool : is_line (codes "served" ++ pool_text p) ≡ true = is_line-append (codes "served") (pool_text p) refl (is_line-pool p) in
-    is_line-append (codes "served" ++ pool_text p) (flat_map node_text nodes) pool (is_line-flat_map node_text is_line-node nodes)
+is_line-fate (fate.served None nodes) = is_line-append (codes "served") (flat_map node_text nodes) refl (is_line-nodes nodes)
+is_line-fate (fate.served (Some p) nodes) =
+    let pool = is_line-append (codes "served p") (decimal p.0) refl (is_line-decimal p.0) in
+    is_line-append (codes "served" ++ pool_text (Some p)) (flat_map node_text nodes) pool (is_line-nodes nodes)
 is_line-fate (fate.failed declined) =
     is_line-append (codes "failed") (flat_map decline_text declined) refl (is_line-flat_map decline_text is_line-decline declined)
-is_line-fate fate.lost = refl
-is_line-fate fate.withdrawn = refl
-is_line-fate (fate.waiting p) = is_line-append (codes "waiting ") (phase_word p) refl (is_line-phase p)
+is_line-fate (fate.waiting p) = grind arith
+is_line-fate _ = refl
 
 newlines-fates : (c : Configuration) (n : ℕ) (jobs : List Job) (ends : List Fate) → IsSound c → AllByRecursion HasPlainName jobs → newlines (fate_lines c n jobs ends) ≤ length jobs
 newlines-fates c n [] ends sound plain = omega arith
@@ -258,10 +195,9 @@ newlines-fates c n (job ∷ jobs) (end ∷ ends) sound plain =
 newlines-parts : (first second entries fates : List ℕ) (j k : ℕ) → is_line first ≡ true → is_line second ≡ true → newlines entries ≤ j → newlines fates ≤ k →
     newlines (line first ++ (line second ++ (entries ++ (line second ++ fates)))) ≤ k + 1 + j + 1 + 1
 newlines-parts first second entries fates j k plain bar few_entries few_fates =
-    let last = newlines-lines second fates k bar few_fates in
-    let more : newlines (entries ++ (line second ++ fates)) ≤ k + 1 + j = omega (arith, newlines-append entries (line second ++ fates), last, few_entries) in
-    newlines-lines first (line second ++ (entries ++ (line second ++ fates))) (k + 1 + j + 1) plain
-    (newlines-lines second (entries ++ (line second ++ fates)) (k + 1 + j) bar more)
+    let more : newlines (entries ++ (line second ++ fates)) ≤ k + 1 + j
+    = omega (arith, sum_by-append newline_count entries (line second ++ fates), newlines-lines second fates k bar few_fates, few_entries) in
+    newlines-lines first (line second ++ (entries ++ (line second ++ fates))) (k + 1 + j + 1) plain (newlines-lines second (entries ++ (line second ++ fates)) (k + 1 + j) bar more)
 
 newlines-printed : (c : Configuration) (journal : List Entry) (text : List ℕ) → IsPrinted c journal text → newlines text ≤ 270000
 newlines-printed c journal text printed =
@@ -347,28 +283,20 @@ differ a b x y (c ∷ l) p q other one two = grind (arith, nat_tests, head_same 
 
 -- a byte that both have
 common-same : (a : ℕ) (x y : List ℕ) → Common x y (common_lines x y) → Common (a ∷ x) (a ∷ y) (newline_count a + common_lines x y)
-common-same a x y both = cases (a == 10) refl
-  where
-    cases : (t : Bool) → (a == 10) ≡ t → Common (a ∷ x) (a ∷ y) ((if t then 1 else 0) + common_lines x y)
-    cases true here =
-        let is : 10 ≡ a = sym (eqb-true a 10 here) in
-        let P : ℕ → Type 0 = λ c. Common (c ∷ x) (c ∷ y) (1 + common_lines x y) in
-        subst P is (common-newline x y (common_lines x y) both)
-    cases false here =
-        let same : common_lines x y ≡ 0 + common_lines x y = omega arith in
-        let P : ℕ → Type 0 = λ n. Common (a ∷ x) (a ∷ y) n in
-        subst P same (common-byte a x y (common_lines x y) here both)
+common-same a x y both =
+    let same : common_lines x y ≡ 0 + common_lines x y = omega arith in
+    by_bool (λ t. Common (a ∷ x) (a ∷ y) ((if t then 1 else 0) + common_lines x y)) (a == 10)
+    (λ here. subst (λ (c : ℕ). Common (c ∷ x) (c ∷ y) (1 + common_lines x y)) (sym (eqb-true a 10 here)) (common-newline x y (common_lines x y) both))
+    (λ here. subst (λ (n : ℕ). Common (a ∷ x) (a ∷ y) n) same (common-byte a x y (common_lines x y) here both))
 
 pub common : (x y : List ℕ) → Common x y (common_lines x y)
 common [] y = none_common [] y (λ l p q plain one two. line-some l p one)
 common (a ∷ x) [] = none_common (a ∷ x) [] (λ l p q plain one two. line-some l q two)
-common (a ∷ x) (b ∷ y) = cases (common x y) (a == b) refl
-  where
-    cases : Common x y (common_lines x y) → (t : Bool) → (a == b) ≡ t → Common (a ∷ x) (b ∷ y) (if t then newline_count a + common_lines x y else 0)
-    cases both true here =
-        let P : ℕ → Type 0 = λ c. Common (a ∷ x) (c ∷ y) (newline_count a + common_lines x y) in
-        subst P (eqb-true a b here) (common-same a x y both)
-    cases both false here = none_common (a ∷ x) (b ∷ y) (λ l p q plain one two. differ a b x y l p q here one two)
+common (a ∷ x) (b ∷ y) =
+    let both = common x y in
+    by_bool (λ t. Common (a ∷ x) (b ∷ y) (if t then newline_count a + common_lines x y else 0)) (a == b)
+    (λ here. subst (λ (c : ℕ). Common (a ∷ x) (c ∷ y) (newline_count a + common_lines x y)) (eqb-true a b here) (common-same a x y both))
+    (λ here. none_common (a ∷ x) (b ∷ y) (λ l p q plain one two. differ a b x y l p q here one two))
 
 -- ## one byte after another
 
@@ -393,17 +321,10 @@ common_lines-left_end xs ys i past = rw (drop_all i xs past) refl
 pub common_lines-right_end : (xs ys : List ℕ) (i : ℕ) → length ys ≤ i → common_lines xs (drop i ys) ≡ 0
 common_lines-right_end xs ys i past = rw (drop_all i ys past) (common_lines-nil xs)
 
-either_le : (t : Bool) (m n : ℕ) → m ≤ n → (if t then m else 0) ≤ n
-either_le true m n few = few
-either_le false m n few = omega arith
-
 pub common_lines-le-newlines : (xs ys : List ℕ) → common_lines xs ys ≤ newlines xs
 common_lines-le-newlines [] ys = omega arith
 common_lines-le-newlines (x ∷ xs) [] = omega arith
-common_lines-le-newlines (x ∷ xs) (y ∷ ys) =
-    let later = common_lines-le-newlines xs ys in
-    let all : newline_count x + common_lines xs ys ≤ newlines (x ∷ xs) = omega (arith, sum_by-cons newline_count x xs, later) in
-    either_le (x == y) (newline_count x + common_lines xs ys) (newlines (x ∷ xs)) all
+common_lines-le-newlines (x ∷ xs) (y ∷ ys) = grind (arith, sum_by-cons newline_count x xs, common_lines-le-newlines xs ys)
 
 pub ruleset agreeing = (common_lines-more, common_lines-differ, common_lines-left_end, common_lines-right_end, common_lines-le-newlines)
 
@@ -432,11 +353,9 @@ one_count : (front : List ℕ) (ls ms : List (List ℕ)) (r s : List ℕ) → li
     BeginsAText (front ++ flat_map line ls) → BeginsAText (front ++ flat_map line ms) → Ends (front ++ flat_map line ls) r → Ends (front ++ flat_map line ms) s → length ls ≡ length ms
 one_count front [] [] r s plain_l plain_m same begin_l begin_m ends_l ends_m = refl
 one_count front [] (m ∷ ms) r s plain_l plain_m same begin_l begin_m ends_l ends_m =
-    let parts = and_parts (is_line m) (list_all is_line ms) plain_m in
-    absurd (begins-more front m (flat_map line ms) s r parts.0 same ends_l begin_m)
+    absurd (begins-more front m (flat_map line ms) s r (and_parts (is_line m) (list_all is_line ms) plain_m).0 same ends_l begin_m)
 one_count front (l ∷ ls) [] r s plain_l plain_m same begin_l begin_m ends_l ends_m =
-    let parts = and_parts (is_line l) (list_all is_line ls) plain_l in
-    absurd (begins-more front l (flat_map line ls) r s parts.0 (sym same) ends_m begin_l)
+    absurd (begins-more front l (flat_map line ls) r s (and_parts (is_line l) (list_all is_line ls) plain_l).0 (sym same) ends_m begin_l)
 one_count front (l ∷ ls) (m ∷ ms) r s plain_l plain_m same begin_l begin_m ends_l ends_m =
     let one = and_parts (is_line l) (list_all is_line ls) plain_l in
     let two = and_parts (is_line m) (list_all is_line ms) plain_m in
@@ -461,10 +380,9 @@ one_finding bytes Yes (No n) a b = absurd (b.none a)
 one_finding bytes (No m) Yes a b = absurd (a.none b)
 one_finding bytes (No m) (No n) a b = ap No (one_number bytes m n a b)
 
--- # what the comparison finds is so
+pub ruleset laws = (one_finding, text_of-injective)
 
-true_false : true ≡ false → ⊥
-true_false same = cc
+-- # what the comparison finds is so
 
 -- ## the first line
 
@@ -556,11 +474,11 @@ no_so c text bytes read printed differ =
 
 -- what the comparison finds
 finding_of-so : (c : Configuration) (text bytes : List ℕ) → reads (first_line bytes) ≡ Ok c → IsPrinted c (entries_played c bytes) text → IsSo (finding_of text bytes) bytes
-finding_of-so c text bytes read printed = cases (bytes_eq text bytes) refl
-  where
-    cases : (b : Bool) → bytes_eq text bytes ≡ b → IsSo (if b then Yes else No (common_lines text bytes + 1)) bytes
-    cases true same = yes_so c text bytes bytes printed (same_bytes text bytes same)
-    cases false other = no_so c text bytes read printed (λ same. true_false (sym (bytes_eq-refl text) ∙ ap (λ (t : List ℕ). bytes_eq text t) same ∙ other))
+finding_of-so c text bytes read printed =
+    by_bool (λ b. IsSo (if b then Yes else No (common_lines text bytes + 1)) bytes) (bytes_eq text bytes) (λ same. yes_so c text bytes bytes printed (same_bytes text bytes same)) (λ other.
+    no_so c text bytes read printed (λ same.
+    let apart : true ≡ false = sym (bytes_eq-refl text) ∙ ap (λ (t : List ℕ). bytes_eq text t) same ∙ other in
+    cc))
 
 -- as it is compared
 pub finding-so : (c : Configuration) (bytes rest text shown : List ℕ) (finding : Finding) → reads (first_line bytes) ≡ Ok c → IsPrinted c (played c (leading_events (later_lines rest))) text → rest ≡ later_lines bytes →

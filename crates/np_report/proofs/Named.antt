@@ -1,5 +1,5 @@
 -- what a state of a run names, within the ranges that a line has for it
-use Rattle.np_report.proofs.Prelude.{Answer, Bool, Check, Done, Err, HasReplyLine, HasText, None, Ok, Option, Refusal, RequestId, Result, Some, arith, false, found, has_digits, is_told, is_told_done, is_told_refusal, nat_tests, need, refl, reply_of, true, vacant, ◌<◌, ◌>>=◌, ◌>>◌, ◌^◌, ◌≡◌, inl, inr, All, All-head, All-tail, AllByRecursion, Asked, AsksForJob, AsksToKeep, Changes, Configuration, EachAfter, Event, Gains, Growth, GrowthPremise, IsJob, IsOffer, IsPool, IsPriority, IsSound, IsTaken, IsWanted, Job, JobRecord, JobsChange, LabelId, List, Maker, NodeEntry, NodeId, NodeRecord, NodesChange, NodesPremise, Offer, Pool, PoolId, Premises, PutsNode, RequestEdit, RequestEntry, RequestRecord, RequestsChange, SemId, SessionsChange, StandsByOwner, State, [], all-change_first, all-find, all-insert_before, all-mapped, all-push, all-remove_first, all_in_use, allocated, ap, at_place, change_first, changed, cond, edited, find, find-passes, freed, freed_from, grown, in_use, is_id_before, is_offered, is_ok, is_request, is_some, jobs-grown, jobs_changed, joined, judge, left, length, length-change_at, length-map, length-set, new_record, next, next_id, node_in, node_left, node_queue, nodes_changed, nodes_left, option_map, option_map_or, plan, plan-next, premises, request_entry, request_in, request_left, request_queue, requests_changed, requests_left, same_request, slice_get, start, subst, suc, sym, zero, ℕ, ◌++◌, ◌==◌, ◌∙◌, ◌∷◌, ◌≤◌, ◌⊎◌, Amount, AmountFits, IsFew, IsFitSite, RequestShape, Shaped, TenantId, all-from_at, all-weaker, amount_of, amount_of_all, amount_of_node, count_of, count_of_tenant, drop, filter, is_pending_of, is_tenant, length-drop, map, nothing, rest_of_request, rows-few, total, ◌*◌, IfSome, Invariant, IsLauncher, IsLive, IsLiveQueue, JobId, Registration, SessionFacts, SessionId, ahead_of, all-at, all-filter, comes_before, count_by-le-length, due_tick, earlier, first_full, first_of, first_unoffered, fold, has_handle, holder, is_candidate, is_coming, is_filled, is_free_ready, is_session, least, missing_handles, next_label, node-queue, node_entry, node_holder, not, ready_count, registered, request_holder, session_of, slice_get_within, unfilled, ◌+◌, ◌-◌}
+use Rattle.np_report.proofs.Prelude.{All, All-head, All-tail, AllByRecursion, Amount, AmountFits, Answer, Asked, AsksForJob, AsksToKeep, Bool, Changes, Check, Configuration, Done, EachAfter, Err, Event, Gains, Growth, GrowthPremise, HasReplyLine, HasText, IfSome, Invariant, IsFew, IsFitSite, IsJob, IsLauncher, IsLive, IsLiveQueue, IsOffer, IsPool, IsSound, IsTaken, IsWanted, Job, JobId, JobRecord, JobsChange, LabelId, List, Maker, NodeEntry, NodeId, NodeRecord, NodesChange, NodesPremise, None, Offer, Ok, Option, Pool, PoolId, Premises, PutsNode, Refusal, Registration, RequestEdit, RequestEntry, RequestId, RequestRecord, RequestShape, RequestsChange, Result, SemId, SessionFacts, SessionId, SessionsChange, Shaped, Some, StandsByOwner, State, TenantId, ahead_of, all-at, all-change_first, all-filter, all-find, all-from_at, all-insert_before, all-mapped, all-push, all-remove_first, all-weaker, all_in_use, allocated, amount_of, amount_of_all, amount_of_node, ap, arith, at_place, by_bool, change_first, changed, comes_before, cond, count_by-le-length, count_of, count_of_tenant, drop, due_tick, earlier, edited, false, filter, find, find-passes, first_full, first_of, first_unoffered, fold, found, freed_from, from-map_some, grown, has_digits, has_handle, holder, in_use, inl, inr, is_candidate, is_coming, is_free_ready, is_id_before, is_offered, is_ok, is_pending_of, is_some, is_tenant, is_told, is_told_done, is_told_refusal, jobs-grown, jobs_changed, joined, judge, least, left, length, length-change_at, length-drop, length-map, length-set, map, missing_handles, nat_tests, need, new_record, next, next_id, next_label, node-queue, node_entry, node_holder, node_in, node_left, node_queue, nodes_changed, nodes_left, not, nothing, option_map_or, plan, plan-next, premises, ready_count, refl, registered, reply_of, request_entry, request_holder, request_in, request_left, request_queue, requests_changed, requests_left, rest_of_request, rows-few, same_request, session_of, slice_get, slice_get_within, start, subst, suc, total, true, unfilled, vacant, zero, ℕ, [], ◌*◌, ◌++◌, ◌+◌, ◌-◌, ◌<◌, ◌==◌, ◌>>=◌, ◌>>◌, ◌^◌, ◌∙◌, ◌∷◌, ◌≡◌, ◌≤◌, ◌⊎◌}
 use Rattle.np_text.specs.declared.word.Ending.{Ending}
 use Rattle.np_event.specs.declared.reply.Reply.{Reply}
 
@@ -53,10 +53,7 @@ pub text-of : (r : RequestId) → has_digits r ≡ true → r.seq < 2 ^ 32 → H
 text-of r digits below = record { least = grind (arith, nat_tests); most = grind (arith, nat_tests); sequence = below }
 
 digits-of : (r : RequestId) → HasText r → has_digits r ≡ true
-digits-of r has =
-    let least = has.least in
-    let most = has.most in
-    grind (arith, nat_tests)
+digits-of r has = grind (arith, nat_tests, has.least, has.most)
 
 done-told : (what : Done) → DoneInRange what → is_told_done what ≡ true
 done-told (Done.Request r) is = digits-of r is.0
@@ -103,9 +100,6 @@ pub record HasIds (c : Configuration) (s : State) : Type 0 where
 
 -- ## the configuration's jobs and labels
 
-priority_digits : (p n : ℕ) → IsPriority p → has_digits (record { priority = p; seq = n }) ≡ true
-priority_digits p n is = grind (arith, nat_tests)
-
 wanted_all : (many : ℕ) (labels : List LabelId) → many ≤ 256 → All (IsWanted many) labels → LabelsInRange labels
 wanted_all many [] few all = tt
 wanted_all many (l ∷ labels) few all =
@@ -126,7 +120,7 @@ module _ (c : Configuration) (sound : IsSound c) (at : ℕ) (job : Job) (row : s
   of_job P says = at_place Stands P says [] c.jobs at job sound.demand.each_job row
 
   pub job-digits : (n : ℕ) → has_digits (record { priority = job.priority; seq = n }) ≡ true
-  job-digits n = of_job (λ (j : Job). has_digits (record { priority = j.priority; seq = n }) ≡ true) (λ e j is. priority_digits j.priority n is.own.priority)
+  job-digits n = of_job (λ (j : Job). has_digits (record { priority = j.priority; seq = n }) ≡ true) (λ e j is. let p = is.own.priority in grind (arith, nat_tests))
 
   job-labels : LabelsInRange job.labels
   job-labels = let few = sound.few_labels in of_job (λ (j : Job). LabelsInRange j.labels) (λ e j is. wanted_all (length c.labels) j.labels (omega arith) is.own.wanted)
@@ -136,10 +130,7 @@ module _ (c : Configuration) (sound : IsSound c) (at : ℕ) (job : Job) (row : s
 
 offer_label_in : (labels l : ℕ) (earlier offers : List Offer) → EachAfter (IsOffer labels) earlier offers → is_some (find (λ o. o.label.0 == l) offers) ≡ true → l < labels
 offer_label_in labels l earlier [] each is = absurd cc
-offer_label_in labels l earlier (o ∷ offers) each is = by (o.label.0 == l) refl (offer_label_in labels l (earlier ++ o ∷ []) offers each.1) is where
-  by : (b : Bool) → (o.label.0 == l) ≡ b → (is_some (find (λ x. x.label.0 == l) offers) ≡ true → l < labels) → is_some (cond b (Some o) (find (λ x. x.label.0 == l) offers)) ≡ true → l < labels
-  by true same later there = let below : o.label.0 < labels = each.0.label in grind (arith, nat_tests)
-  by false other later there = later there
+offer_label_in labels l earlier (o ∷ offers) each is = grind (arith, nat_tests, each.0.label, offer_label_in labels l (earlier ++ o ∷ []) offers each.1)
 
 pool_label_in : (labels l : ℕ) (earlier pools : List Pool) → EachAfter (StandsByOwner (λ (p : Pool). p.provider) (IsPool labels)) earlier pools → (at : ℕ) →
     is_some (find (λ o. o.label.0 == l) (option_map_or (λ pool. pool.offers) (slice_get pools at) [])) ≡ true → l < labels
@@ -156,24 +147,19 @@ offered-label c p l sound is =
 
 -- ## what is found
 
-same-digits : (a b : RequestId) → same_request a b ≡ true → has_digits a ≡ true → has_digits b ≡ true
-same-digits a b same is = grind (arith, nat_tests)
-
 -- a request that exists has such an id
 pub request-digits : (r : RequestId) (rows : List RequestEntry) (request : RequestRecord) → AllByRecursion IsSayable rows → request_in r rows ≡ Some request → has_digits r ≡ true
-request-digits r rows request all is = by (request_entry r rows) refl is where
-  by : (o : Option RequestEntry) → request_entry r rows ≡ o → option_map (λ e. e.kept) o ≡ Some request → has_digits r ≡ true
-  by None here has = absurd cc
-  by (Some e) here has = same-digits e.id r (find-passes (λ x. same_request x.id r) rows e here) (all-find IsSayable (λ x. same_request x.id r) rows e all here).0
+request-digits r rows request all is =
+    let at = from-map_some (λ (e : RequestEntry). e.kept) (request_entry r rows) request is in
+    let same = find-passes (λ (x : RequestEntry). same_request x.id r) rows at.0 at.1 in
+    let digits = (all-find IsSayable (λ x. same_request x.id r) rows at.0 all at.1).0 in
+    grind (arith, nat_tests)
 
 -- a node that exists is allocated to such a request, or to none
 pub node-digits : (n : NodeId) (rows : List NodeEntry) (k : NodeRecord) → AllByRecursion AllocationHasDigits rows → node_in n rows ≡ Some k → allocation_has_digits k.allocated_to ≡ true
-node-digits n rows k all is = by (find (λ e. e.id.0 == n.0) rows) refl is where
-  by : (o : Option NodeEntry) → find (λ e. e.id.0 == n.0) rows ≡ o → option_map (λ e. e.kept) o ≡ Some k → allocation_has_digits k.allocated_to ≡ true
-  by None here has = absurd cc
-  by (Some e) here has =
-      let same : e.kept ≡ k = cc in
-      subst (λ (x : NodeRecord). allocation_has_digits x.allocated_to ≡ true) same (all-find AllocationHasDigits (λ x. x.id.0 == n.0) rows e all here)
+node-digits n rows k all is =
+    let at = from-map_some (λ (e : NodeEntry). e.kept) (find (λ e. e.id.0 == n.0) rows) k is in
+    subst (λ (x : NodeRecord). allocation_has_digits x.allocated_to ≡ true) at.2 (all-find AllocationHasDigits (λ x. x.id.0 == n.0) rows at.0 all at.1)
 
 -- ## a change
 
@@ -183,10 +169,7 @@ all_in_use-digits tick (n ∷ numbers) rows all =
     all_in_use-digits tick numbers (change_first (λ e. e.id.0 == n.0) (in_use tick) rows) (all-change_first AllocationHasDigits (λ e. e.id.0 == n.0) (in_use tick) rows (λ e is. is) all)
 
 freed-digits : (e : NodeEntry) (r : RequestId) → AllocationHasDigits e → AllocationHasDigits (freed_from r e)
-freed-digits e r is = by (is_request r e.kept.allocated_to) where
-  by : (b : Bool) → AllocationHasDigits (cond b (record e { kept = freed e.kept }) e)
-  by true = refl
-  by false = is
+freed-digits e r is = grind arith
 
 edited_in : (e : RequestEdit) (q : RequestRecord) → LabelsInRange q.labels → LabelsInRange (edited e q).labels
 edited_in RequestEdit.Fulfil q is = is
@@ -213,46 +196,34 @@ nodes-left : (change : SessionsChange) (rows : List NodeEntry) → AllByRecursio
 nodes-left (SessionsChange.End over) rows old = all-mapped AllocationHasDigits AllocationHasDigits (node_left over) rows (λ e is. is) old
 nodes-left _ rows old = old
 
-new-given : (c : Configuration) (s : State) (ch : Changes) (r : RequestId) (n : NodeId) (kept : NodeRecord) → Gains c s ch r n → ch.grows ≡ Growth.Node kept → kept.allocated_to ≡ Some r
-new-given c s ch r n kept gains grows = grind (arith, nat_tests)
-
 module _ (c : Configuration) (s : State) (ch : Changes) (sound : IsSound c) (old : HasIds c s) where
   asked_in : (priority : ℕ) (asked : Asked) → AsksForJob c s ch priority asked ⊎ AsksToKeep c s ch priority asked → (has_digits (next_id priority s) ≡ true) × LabelsInRange (new_record asked).labels
-  asked_in priority asked (inl asks) = (
-    subst (λ (p : ℕ). has_digits (next_id p s) ≡ true) (sym asks.of_job) (job-digits c sound asks.number.0 asks.job asks.row s.next_request),
-    subst (λ (a : Asked). LabelsInRange (new_record a).labels) (sym asks.asks) (job-labels c sound asks.number.0 asks.job asks.row),
-  )
-  asked_in priority asked (inr asks) = (
-    subst (λ (p : ℕ). has_digits (next_id p s) ≡ true) (sym asks.of_keeping) refl,
-    subst (λ (a : Asked). LabelsInRange (new_record a).labels) (sym asks.asks) (offered-label c asks.pool asks.label sound asks.offered, tt),
-  )
+  asked_in priority asked (inl asks) = rw (asks.of_job, asks.asks) (job-digits c sound asks.number.0 asks.job asks.row s.next_request, job-labels c sound asks.number.0 asks.job asks.row)
+  asked_in priority asked (inr asks) = rw (asks.of_keeping, asks.asks) (refl, (offered-label c asks.pool asks.label sound asks.offered, tt))
 
   requests-grown : (maker : Option Maker) (g : Growth) → GrowthPremise c s ch g → AllByRecursion IsSayable (grown c maker g s).requests
-  requests-grown None (Growth.Registration p) premise = old.requests
-  requests-grown (Some maker) (Growth.Registration p) premise = old.requests
   requests-grown maker (Growth.Request priority asked) premise =
       all-insert_before IsSayable (λ e. is_id_before (next_id priority s) e.id) (record { id = next_id priority s; kept = new_record asked; queue = [] }) s.requests (asked_in priority asked premise) old.requests
   requests-grown (Some maker) (Growth.JoinRequest r) premise =
       all-change_first IsSayable (λ e. same_request e.id r) (λ e. record e { queue = joined maker.session (request_queue r s.requests) }) s.requests (λ e is. is) old.requests
-  requests-grown None (Growth.JoinRequest r) premise = old.requests
-  requests-grown maker _ premise = old.requests
+  requests-grown (Some maker) _ premise = old.requests
+  requests-grown None _ premise = old.requests
 
   gains-digits : (r : RequestId) (n : NodeId) → Gains c s ch r n → has_digits r ≡ true
   gains-digits r n gains = request-digits r s.requests gains.request old.requests gains.worked_on.stands
 
   nodes-grown : (maker : Option Maker) (g : Growth) → ch.grows ≡ g → GrowthPremise c s ch g → AllByRecursion AllocationHasDigits (grown c maker g s).nodes
-  nodes-grown None (Growth.Registration p) at premise = old.nodes
-  nodes-grown (Some maker) (Growth.Registration p) at premise = old.nodes
   nodes-grown maker (Growth.Node kept) at premise =
-      let given = new-given c s ch premise.request _ kept premise.gains at in
-      all-push AllocationHasDigits s.nodes _ old.nodes (subst (λ (o : Option RequestId). allocation_has_digits o ≡ true) (sym given) (gains-digits premise.request _ premise.gains))
+      let digits = gains-digits premise.request _ premise.gains in
+      let gains = premise.gains in
+      let given : kept.allocated_to ≡ Some premise.request = grind (arith, nat_tests) in
+      all-push AllocationHasDigits s.nodes _ old.nodes (rw given digits)
   nodes-grown (Some maker) (Growth.JoinNode n) at premise =
       all-change_first AllocationHasDigits (λ e. e.id.0 == n.0) (λ e. record e { queue = joined maker.session (node_queue n s.nodes) }) s.nodes (λ e is. is) old.nodes
-  nodes-grown None (Growth.JoinNode n) at premise = old.nodes
   nodes-grown (Some maker) (Growth.Allocate n r tenant) at premise =
       all-change_first AllocationHasDigits (λ e. e.id.0 == n.0) (allocated r tenant maker.session) s.nodes (λ e _. gains-digits r n premise) old.nodes
-  nodes-grown None (Growth.Allocate n r tenant) at premise = old.nodes
-  nodes-grown maker _ at premise = old.nodes
+  nodes-grown (Some maker) _ at premise = old.nodes
+  nodes-grown None _ at premise = old.nodes
 
   put-digits : (n : NodeId) (kept : NodeRecord) → PutsNode c s ch n kept → allocation_has_digits kept.allocated_to ≡ true
   put-digits n kept put =
@@ -297,11 +268,11 @@ pub record IsWide (a : Amount) : Type 0 where
 
 -- what labels take together
 few-all : (c : Configuration) (p : PoolId) → IsFitSite c → (labels : List LabelId) → IsFew (amount_of_all c p labels) (length labels)
-few-all c p site [] = record { instances = omega arith; cores = omega arith; ram = omega arith }
+few-all c p site [] = search arith
 few-all c p site (l ∷ labels) =
     let one : AmountFits (amount_of c p l) = site.amounts p l in
     let rest : IsFew (amount_of_all c p labels) (length labels) = few-all c p site labels in
-    record { instances = omega (arith, one.instances, rest.instances); cores = omega (arith, one.cores, rest.cores); ram = omega (arith, one.ram, rest.ram) }
+    search (arith, one.instances, rest.instances, one.cores, rest.cores, one.ram, rest.ram)
 
 -- what a request still waits for
 few-rest : (c : Configuration) (n next : ℕ) → IsFitSite c → (e : RequestEntry) → RequestShape c n next e → IsFew (rest_of_request c e) 32
@@ -314,9 +285,7 @@ few-rest c n next site e is = by e.kept.pool where
       record { instances = omega (arith, few.instances); cores = omega (arith, few.cores); ram = omega (arith, few.ram) }
 
 few-node : (c : Configuration) → IsFitSite c → (p : PoolId) (l : LabelId) → IsFew (amount_of c p l) 32
-few-node c site p l =
-    let fits : AmountFits (amount_of c p l) = site.amounts p l in
-    record { instances = omega (arith, fits.instances); cores = omega (arith, fits.cores); ram = omega (arith, fits.ram) }
+few-node c site p l = let fits : AmountFits (amount_of c p l) = site.amounts p l in search (arith, fits.instances, fits.cores, fits.ram)
 
 -- what a pool's nodes take
 pub wide-count : (c : Configuration) (n : ℕ) (s : State) (p : PoolId) → IsFitSite c → n ≤ 262144 → Shaped c n n s → IsWide (count_of c s p)
@@ -352,58 +321,34 @@ pub record Reached (c : Configuration) (n : ℕ) (s : State) : Type 0 where
 
 earlier-is : (P : RequestEntry → Type 0) (best : Option RequestEntry) (e : RequestEntry) → IfSome best P → P e → IfSome (earlier best e) P
 earlier-is P None e old new = new
-earlier-is P (Some best) e old new = by (comes_before e best) where
-  by : (b : Bool) → IfSome (cond b (Some e) (Some best)) P
-  by true = new
-  by false = old
+earlier-is P (Some best) e old new = by_bool (λ b. IfSome (cond b (Some e) (Some best)) P) (comes_before e best) (λ _. new) (λ _. old)
 
 least-is : (P : RequestEntry → Type 0) (es : List RequestEntry) (best : Option RequestEntry) → IfSome best P → AllByRecursion P es → IfSome (fold earlier best es) P
 least-is P [] best old all = old
 least-is P (e ∷ es) best old all = least-is P es (earlier best e) (earlier-is P best e old all.0) all.1
 
-least-text : (o : Option RequestEntry) (first : RequestId) → IfSome o (λ e. HasText e.id) → option_map (λ e. e.id) o ≡ Some first → HasText first
-least-text None first has is = absurd cc
-least-text (Some e) first has is = let same : e.id ≡ first = cc in subst HasText same has
-
 -- ## counts
 
 ahead-few : (session : SessionId) (queue : List SessionId) → ahead_of session queue ≤ length queue
 ahead-few session [] = omega arith
-ahead-few session (other ∷ queue) = by (is_session other session) (ahead-few session queue) where
-  by : (b : Bool) → ahead_of session queue ≤ length queue → cond b 0 (suc (ahead_of session queue)) ≤ suc (length queue)
-  by true few = omega arith
-  by false few = omega arith
-
-one_unfilled : (b : Bool) (m k : ℕ) → m ≤ k → cond b 0 1 + m ≤ suc k
-one_unfilled true m k few = omega arith
-one_unfilled false m k few = omega arith
+ahead-few session (other ∷ queue) = grind (arith, ahead-few session queue)
 
 pub unfilled-few : (p : PoolId) (session : SessionId) (r : RequestId) (nodes : List NodeEntry) (labels : List LabelId) (numbers : List NodeId) → unfilled p session r nodes labels numbers ≤ length labels
 unfilled-few p session r nodes [] numbers = omega arith
 unfilled-few p session r nodes (l ∷ labels) [] = omega (arith, unfilled-few p session r nodes labels [])
-unfilled-few p session r nodes (l ∷ labels) (n ∷ numbers) =
-    one_unfilled (is_filled p session r l (node_entry n nodes)) (unfilled p session r nodes labels numbers) (length labels) (unfilled-few p session r nodes labels numbers)
+unfilled-few p session r nodes (l ∷ labels) (n ∷ numbers) = grind (arith, unfilled-few p session r nodes labels numbers)
 
 pub due-below : (age since : ℕ) → age ≤ 1000000 → since ≤ 262144 → due_tick age since < 2 ^ 32
-due-below age since short early = by (age == 0) where
-  by : (b : Bool) → cond b 0 (since + age + 1) < 2 ^ 32
-  by true = omega arith
-  by false = omega arith
+due-below age since short early = grind arith
 
 module _ (c : Configuration) (n : ℕ) (s : State) (at : Reached c n s) where
   -- ## sessions
 
   begun-below : (session : SessionId) (facts : SessionFacts) → session_of session s ≡ Some facts → session.0 < 2 ^ 32
-  begun-below session facts is = by (session.0 == 0) is where
-    by : (b : Bool) → cond b None (slice_get s.sessions (session.0 - 1)) ≡ Some facts → session.0 < 2 ^ 32
-    by true none = absurd cc
-    by false there = omega (arith, slice_get_within s.sessions (session.0 - 1) facts there, at.shaped.sessions, at.few)
-
-  live-below : (session : SessionId) → IsLive s session → session.0 < 2 ^ 32
-  live-below session live = begun-below session live.facts live.begun
+  begun-below session facts is = grind (arith, nat_tests, slice_get_within s.sessions (session.0 - 1) facts, at.shaped.sessions, at.few)
 
   first-below : (queue : List SessionId) (session : SessionId) → IsLiveQueue s queue → holder queue ≡ Some session → session.0 < 2 ^ 32
-  first-below queue session is first = live-below session (all-at (IsLive s) queue 0 session is.live first)
+  first-below queue session is first = let live = all-at (IsLive s) queue 0 session is.live first in begun-below session live.facts live.begun
 
   pub request_holder-below : (r : RequestId) (session : SessionId) → request_holder r s.requests ≡ Some session → session.0 < 2 ^ 32
   request_holder-below r session first = by (request_entry r s.requests) refl first where
@@ -418,13 +363,10 @@ module _ (c : Configuration) (n : ℕ) (s : State) (at : Reached c n s) where
     by (Some e) is there = first-below e.queue session (all-find (λ (x : NodeEntry). IsLiveQueue s x.queue) (λ x. x.id.0 == number.0) s.nodes e at.invariant.queued.at_nodes is) there
 
   pub registered-below : (p : PoolId) (session : SessionId) → registered p s.registrations ≡ Some session → session.0 < 2 ^ 32
-  registered-below p session has = by (find (λ g. g.pool.0 == p.0) s.registrations) refl has where
-    by : (o : Option Registration) → find (λ g. g.pool.0 == p.0) s.registrations ≡ o → option_map (λ g. g.session) o ≡ Some session → session.0 < 2 ^ 32
-    by None is there = absurd cc
-    by (Some g) is there =
-        let launcher : IsLauncher s g.pool g.session = all-find (λ (x : Registration). IsLauncher s x.pool x.session) (λ x. x.pool.0 == p.0) s.registrations g at.invariant.registered.of_launcher is in
-        let same : g.session ≡ session = cc in
-        subst (λ (x : SessionId). x.0 < 2 ^ 32) same (begun-below g.session launcher.facts launcher.begun)
+  registered-below p session has =
+      let g = from-map_some (λ (x : Registration). x.session) (find (λ g. g.pool.0 == p.0) s.registrations) session has in
+      let launcher : IsLauncher s g.0.pool g.0.session = all-find (λ (x : Registration). IsLauncher s x.pool x.session) (λ x. x.pool.0 == p.0) s.registrations g.0 at.invariant.registered.of_launcher g.1 in
+      subst (λ (x : SessionId). x.0 < 2 ^ 32) g.2 (begun-below g.0.session launcher.facts launcher.begun)
 
   -- ## requests
 
@@ -435,8 +377,9 @@ module _ (c : Configuration) (n : ℕ) (s : State) (at : Reached c n s) where
 
   pub first_of-text : (p : PoolId) (first : RequestId) → first_of c s p ≡ Some first → HasText first
   first_of-text p first is =
-      least-text (least (filter (is_candidate c s p) s.requests)) first
-      (least-is (λ e. HasText e.id) (filter (is_candidate c s p) s.requests) None tt (all-filter (λ (e : RequestEntry). HasText e.id) (is_candidate c s p) s.requests texts)) is
+      let some = least-is (λ e. HasText e.id) (filter (is_candidate c s p) s.requests) None tt (all-filter (λ (e : RequestEntry). HasText e.id) (is_candidate c s p) s.requests texts) in
+      let e = from-map_some (λ (x : RequestEntry). x.id) (least (filter (is_candidate c s p) s.requests)) first is in
+      subst HasText e.2 (subst (λ (o : Option RequestEntry). IfSome o (λ x. HasText x.id)) e.1 some)
 
   pub allocated-text : (number : NodeId) (k : NodeRecord) (r : RequestId) → node_in number s.nodes ≡ Some k → k.allocated_to ≡ Some r → HasText r
   allocated-text number k r is has =
@@ -455,12 +398,9 @@ module _ (c : Configuration) (n : ℕ) (s : State) (at : Reached c n s) where
   -- ## labels
 
   request-labels : (r : RequestId) (request : RequestRecord) → request_in r s.requests ≡ Some request → LabelsInRange request.labels
-  request-labels r request has = by (request_entry r s.requests) refl has where
-    by : (o : Option RequestEntry) → request_entry r s.requests ≡ o → option_map (λ e. e.kept) o ≡ Some request → LabelsInRange request.labels
-    by None is there = absurd cc
-    by (Some e) is there =
-        let same : e.kept ≡ request = cc in
-        subst (λ (x : RequestRecord). LabelsInRange x.labels) same (all-find IsSayable (λ x. same_request x.id r) s.requests e at.ids.requests is).1
+  request-labels r request has =
+      let e = from-map_some (λ (x : RequestEntry). x.kept) (request_entry r s.requests) request has in
+      subst (λ (x : RequestRecord). LabelsInRange x.labels) e.2 (all-find IsSayable (λ x. same_request x.id r) s.requests e.0 at.ids.requests e.1).1
 
   pub unoffered-below : (r : RequestId) (request : RequestRecord) (p : PoolId) (l : LabelId) → request_in r s.requests ≡ Some request → first_unoffered c p request ≡ Some l → l.0 < 2 ^ 16
   unoffered-below r request p l has is = all-find (λ (x : LabelId). x.0 < 2 ^ 16) _ request.labels l (request-labels r request has) is

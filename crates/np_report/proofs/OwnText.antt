@@ -1,6 +1,8 @@
 -- the compact text of a sound configuration is one line that is read back as that configuration
-use Rattle.np_report.proofs.Prelude.{Bool, Data, IsAscii-decimal, IsUtf8, IsUtf8-append, IsUtf8-are_ascii, IsUtf8-from_ascii, IsUtf8-quoted, Items, Members, Num, [], are_ascii, array, boolean, comma_if, compact_text, decimal, false, item, items_text, member, members_text, no_items, no_members, null, number, object, put, quoted, refl, string, true, unsigned, ◌++◌, ◌<◌, ◌^◌, ◌∷◌, ◌≡◌, ArePrintable-json_tokens, IsNumber-decimal, Some, ap, append-nil, arith, depth, items_depth, items_outline, max_depth, members_depth, members_outline, number_of-decimal, of_items, of_json, of_members, outline, print-outline, read, suc, sym, tokens, tokens-print, value-json_tokens, ◌∙◌, ◌≤◌, List, and_parts, cond, digit_glyph, digits, digits_onto, escape, escape_byte, float, is_line, nat_tests, negative, negsuc, not, number_text, pos, zero, ℕ, ◌%◌, ◌/◌, ◌==◌, EachAfter, EndAs, Expire, FaultKind, Hold, IfSome, IsAscii, IsAscii-name, None, Option, Role, Used, codes, end_as_word, fault_kind_word, filter, given, given_count, is_name_text, items_of, map, option_map_or, placed, role_word, ◌+◌, Configuration, EachAfter-from_all, Fault, IsFault, IsJob, IsLabel, IsOffer, IsPool, IsProvider, IsRequester, IsSem, IsSound, IsStart, IsTaken, IsTenant, IsWanted, Job, Label, LabelId, Offer, Pool, PoolId, Provider, Requester, Sem, SemId, StandsByOwner, Tenant, TenantId, configuration_data, count, fault_data, full_name, job_data, job_tenant, label-ascii, label_data, label_name, length, list_data, list_if_any, offer_data, pool_data, pool_name, pool_name-ascii, pools_of, priority_word, provider_data, requester-ascii, requester_data, role_name, semaphore-ascii, semaphore_data, semaphore_name, slice_get, tenant-ascii, tenant_data, tenant_name, tenant_of, Ok, canonical, configuration-depth, reads, reads-again, AllByRecursion, Entry, Event, HasEntryLine, Runs, State, after, append_assoc, bar, bytes_eq, entry_line, entry_line-injective, entry_line-no_bar, entry_lines, fate_lines, fates, flat_map, has_bar, is_line-entry, judge, line, lines_of, lines_of-lines, list_all, next, replayed, reply_of, sections_of, sections_of-bar, start, text_of}
+use Rattle.np_report.proofs.Prelude.{AllByRecursion, ArePrintable-json_tokens, Bool, Configuration, Data, EachAfter, EachAfter-from_all, EndAs, Entry, Fault, FaultKind, HasEntryLine, IfSome, IsAscii, IsAscii-decimal, IsAscii-name, IsFault, IsJob, IsLabel, IsNumber-decimal, IsOffer, IsPool, IsProvider, IsRequester, IsSem, IsSound, IsStart, IsTaken, IsTenant, IsUtf8, IsUtf8-append, IsUtf8-are_ascii, IsUtf8-from_ascii, IsUtf8-quoted, IsWanted, Items, Job, Label, LabelId, List, Members, None, Num, Offer, Ok, Option, Pool, PoolId, Provider, Requester, Role, Runs, Sem, SemId, Some, StandsByOwner, State, Tenant, TenantId, after, ap, append-nil, append_assoc, are_ascii, arith, array, bar, boolean, by_bool, bytes_eq, canonical, codes, comma_if, compact_text, cond, configuration-depth, configuration_data, count, decimal, depth, digit_glyph, digits, digits_onto, end_as_word, entry_line, entry_line-injective, entry_line-no_bar, entry_lines, escape, escape_byte, false, fate_lines, fates, fault_data, fault_kind_word, filter, flat_map, full_name, given, given_count, has_bar, is_line, is_line-entry, is_name_text, item, items_depth, items_of, items_outline, items_text, job_data, job_tenant, label-ascii, label_data, label_name, length, line, lines_of, lines_of-lines, list_all, list_all-append, list_data, list_if_any, map, max_depth, member, members_depth, members_outline, members_text, nat_tests, negative, negsuc, next, no_items, no_members, not, null, number, number_of-decimal, object, of_items, of_json, of_members, offer_data, option_map_or, outline, placed, pool_data, pool_name, pool_name-ascii, pools_of, pos, print-outline, priority_word, provider_data, put, quoted, read, reads, reads-again, refl, replayed, requester-ascii, requester_data, role_name, role_word, sections_of, sections_of-bar, semaphore-ascii, semaphore_data, semaphore_name, slice_get, start, string, suc, sym, tenant-ascii, tenant_data, tenant_name, tenant_of, text_of, tokens, tokens-print, true, unsigned, value-json_tokens, zero, ℕ, [], ◌%◌, ◌++◌, ◌+◌, ◌/◌, ◌<◌, ◌==◌, ◌^◌, ◌∙◌, ◌∷◌, ◌≡◌, ◌≤◌}
 use Rattle.json.specs.Tree as tree
+use Rattle.np_config_text.proofs.Prelude.{Limit}
+use Rattle.np_config.specs.Sound.{IsLimit}
 
 -- # values of whole numbers, strings and ASCII keys in order, whose compact text is UTF-8
 
@@ -123,35 +125,21 @@ read-compact_text d w shallow =
 -- # a compact JSON text is one line
 
 pub is_line-append : (xs ys : List ℕ) → is_line xs ≡ true → is_line ys ≡ true → is_line (xs ++ ys) ≡ true
-is_line-append [] ys front back = back
-is_line-append (x ∷ xs) ys front back =
-    let parts = and_parts (not (x == 10)) (is_line xs) front in
-    rw parts.0 (is_line-append xs ys parts.1 back)
+is_line-append xs ys front back = rw (list_all-append (λ b. not (b == 10)) xs ys, front) back
 
 -- ## numbers
-
-digit-line : (n : ℕ) → not (digit_glyph false (n % 10) == 10) ≡ true
-digit-line n = grind (arith, nat_tests)
-
-onto_cases : (b : Bool) (xs ys : List ℕ) → is_line xs ≡ true → is_line ys ≡ true → is_line (cond b xs ys) ≡ true
-onto_cases true xs ys front back = front
-onto_cases false xs ys front back = back
 
 digits_onto-line : (k n : ℕ) (acc : List ℕ) → is_line acc ≡ true → is_line (digits_onto k 10 false n acc) ≡ true
 digits_onto-line zero n acc is = is
 digits_onto-line (suc k) n acc is =
-    let more : is_line (digit_glyph false (n % 10) ∷ acc) ≡ true = rw (digit-line n) is in
-    onto_cases (n / 10 == 0) (digit_glyph false (n % 10) ∷ acc) (digits_onto k 10 false (n / 10) (digit_glyph false (n % 10) ∷ acc)) more (digits_onto-line k (n / 10) (digit_glyph false (n % 10) ∷ acc) more)
+    let one : not (digit_glyph false (n % 10) == 10) ≡ true = grind (arith, nat_tests) in
+    let more : is_line (digit_glyph false (n % 10) ∷ acc) ≡ true = rw one is in
+    by_bool (λ b. is_line (cond b (digit_glyph false (n % 10) ∷ acc) (digits_onto k 10 false (n / 10) (digit_glyph false (n % 10) ∷ acc))) ≡ true) (n / 10 == 0) (λ _. more)
+    (λ _. digits_onto-line k (n / 10) (digit_glyph false (n % 10) ∷ acc) more)
 
 pub is_line-decimal : (n : ℕ) → is_line (decimal n) ≡ true
 unfolding digits
 is_line-decimal n = digits_onto-line 64 n [] refl
-
-is_line-number : (n : Num) → is_line (number_text n) ≡ true
-is_line-number (unsigned n) = is_line-decimal n
-is_line-number (negative (pos n)) = is_line-decimal n
-is_line-number (negative (negsuc n)) = is_line-decimal (suc n)
-is_line-number (float x) = refl
 
 -- ## strings
 
@@ -159,22 +147,19 @@ escape_byte-line : (x : ℕ) → is_line (escape_byte x) ≡ true
 unfolding escape_byte
 escape_byte-line x = grind (arith, nat_tests)
 
-escape-line : (s : List ℕ) → is_line (escape s) ≡ true
-escape-line [] = refl
-escape-line (x ∷ s) = is_line-append (escape_byte x) (escape s) (escape_byte-line x) (escape-line s)
-
 quoted-line : (s : List ℕ) → is_line (quoted s) ≡ true
-quoted-line s = is_line-append (escape s) (34 ∷ []) (escape-line s) refl
-
-comma-line : (later : Bool) → is_line (comma_if later) ≡ true
-comma-line true = refl
-comma-line false = refl
+quoted-line s = is_line-append (escape s) (34 ∷ []) (escaped s) refl where
+  escaped : (xs : List ℕ) → is_line (escape xs) ≡ true
+  escaped [] = refl
+  escaped (x ∷ xs) = is_line-append (escape_byte x) (escape xs) (escape_byte-line x) (escaped xs)
 
 -- ## values
 
 mutual
   pub is_line-compact_text : (d : Data) → is_line (compact_text d) ≡ true
-  is_line-compact_text (number n) = is_line-number n
+  is_line-compact_text (number (unsigned n)) = is_line-decimal n
+  is_line-compact_text (number (negative (pos n))) = is_line-decimal n
+  is_line-compact_text (number (negative (negsuc n))) = is_line-decimal (suc n)
   is_line-compact_text (string s) = quoted-line s
   is_line-compact_text (array ds) = is_line-items false ds
   is_line-compact_text (object ms) = is_line-members false ms
@@ -184,13 +169,13 @@ mutual
   is_line-items : (later : Bool) (ds : Items) → is_line (items_text later ds) ≡ true
   is_line-items later no_items = refl
   is_line-items later (item d ds) =
-      is_line-append (comma_if later) (compact_text d ++ items_text true ds) (comma-line later)
+      is_line-append (comma_if later) (compact_text d ++ items_text true ds) (by_bool (λ b. is_line (comma_if b) ≡ true) later (λ _. refl) (λ _. refl))
       (is_line-append (compact_text d) (items_text true ds) (is_line-compact_text d) (is_line-items true ds))
 
   is_line-members : (later : Bool) (ms : Members) → is_line (members_text later ms) ≡ true
   is_line-members later no_members = refl
   is_line-members later (member k d ms) =
-      is_line-append (comma_if later) (quoted k ++ 58 ∷ (compact_text d ++ members_text true ms)) (comma-line later)
+      is_line-append (comma_if later) (quoted k ++ 58 ∷ (compact_text d ++ members_text true ms)) (by_bool (λ b. is_line (comma_if b) ≡ true) later (λ _. refl) (λ _. refl))
       (is_line-append (quoted k) (58 ∷ (compact_text d ++ members_text true ms)) (quoted-line k)
       (is_line-append (compact_text d) (members_text true ms) (is_line-compact_text d) (is_line-members true ms)))
 
@@ -206,23 +191,6 @@ pub IsUtf8-found : {T : Type 0} (name : T → List ℕ) (o : Option T) → ((x :
 IsUtf8-found name None some = IsUtf8-are_ascii [] refl
 IsUtf8-found name (Some x) some = IsUtf8-from_ascii (name x) (some x refl)
 
-pub are_ascii-priority : (a b : Bool) → are_ascii (cond a (codes "high") (cond b (codes "normal") (codes "low"))) ≡ true
-are_ascii-priority true b = refl
-are_ascii-priority false true = refl
-are_ascii-priority false false = refl
-
-pub are_ascii-end_word : (e : EndAs) → are_ascii (end_as_word e) ≡ true
-are_ascii-end_word Used = refl
-are_ascii-end_word Hold = refl
-
-pub are_ascii-kind_word : (k : FaultKind) → are_ascii (fault_kind_word k) ≡ true
-are_ascii-kind_word Expire = refl
-are_ascii-kind_word _ = refl
-
-pub are_ascii-role_word : (r : Role) → are_ascii (role_word r) ≡ true
-are_ascii-role_word Role.Reaper = refl
-are_ascii-role_word _ = refl
-
 -- ## members that may be absent
 
 pub HaveWhole-given : (key : List ℕ) (o : Option ℕ) (ms : Members) (most : ℕ) → are_ascii key ≡ true → most < 2 ^ 64 → IfSome o (λ n. n ≤ most) → HaveWhole ms → HaveWhole (given_count key o ms)
@@ -234,55 +202,12 @@ pub HaveWhole-value : (key : List ℕ) (o : Option Data) (ms : Members) → are_
 HaveWhole-value key None ms ascii is rest = rest
 HaveWhole-value key (Some d) ms ascii is rest = (ascii, is, rest)
 
-abbrev pool_members : Data → Data → Data → Option ℕ → Option ℕ → Option ℕ → Members
-pool_members starts offers name cores ram servers =
-    member (codes "fail-starts") starts (member (codes "labels") offers (given_count (codes "max-cores") cores (given_count (codes "max-ram") ram (given_count (codes "max-servers") servers (member (codes "name") name no_members)))))
-
-pub put_all-pool_members : (starts offers name : Data) (cores ram servers : Option ℕ) → put_all no_members (pool_members starts offers name cores ram servers) ≡ pool_members starts offers name cores ram servers
-put_all-pool_members starts offers name None None None = refl
-put_all-pool_members starts offers name None None (Some z) = refl
-put_all-pool_members starts offers name None (Some y) None = refl
-put_all-pool_members starts offers name None (Some y) (Some z) = refl
-put_all-pool_members starts offers name (Some x) None None = refl
-put_all-pool_members starts offers name (Some x) None (Some z) = refl
-put_all-pool_members starts offers name (Some x) (Some y) None = refl
-put_all-pool_members starts offers name (Some x) (Some y) (Some z) = refl
-
-abbrev provider_members : Data → Data → Data → Option ℕ → Members
-provider_members retries name pools concurrency = member (codes "launch-retries") retries (given_count (codes "max-concurrency") concurrency (member (codes "name") name (member (codes "pools") pools no_members)))
-
-pub put_all-provider_members : (retries name pools : Data) (concurrency : Option ℕ) → put_all no_members (provider_members retries name pools concurrency) ≡ provider_members retries name pools concurrency
-put_all-provider_members retries name pools None = refl
-put_all-provider_members retries name pools (Some x) = refl
-
-abbrev tenant_members : Data → Option ℕ → Option ℕ → Option ℕ → Members
-tenant_members name cores ram servers = given_count (codes "max-cores") cores (given_count (codes "max-ram") ram (given_count (codes "max-servers") servers (member (codes "name") name no_members)))
-
-pub put_all-tenant_members : (name : Data) (cores ram servers : Option ℕ) → put_all no_members (tenant_members name cores ram servers) ≡ tenant_members name cores ram servers
-put_all-tenant_members name None None None = refl
-put_all-tenant_members name None None (Some z) = refl
-put_all-tenant_members name None (Some y) None = refl
-put_all-tenant_members name None (Some y) (Some z) = refl
-put_all-tenant_members name (Some x) None None = refl
-put_all-tenant_members name (Some x) None (Some z) = refl
-put_all-tenant_members name (Some x) (Some y) None = refl
-put_all-tenant_members name (Some x) (Some y) (Some z) = refl
-
-abbrev job_members : Data → Data → Data → Data → Data → Data → Data → Option Data → Members
-job_members end labels name priority relative first semaphores tenant =
-    member (codes "end") end (member (codes "labels") labels (member (codes "name") name (member (codes "priority") priority (member (codes "relative-priority") relative (member (codes "resources-first") first (member (codes "semaphores") semaphores (given (codes "tenant") tenant no_members)))))))
-
-pub put_all-job_members : (end labels name priority relative first semaphores : Data) (tenant : Option Data) → put_all no_members (job_members end labels name priority relative first semaphores tenant) ≡ job_members end labels name priority relative first semaphores tenant
-put_all-job_members end labels name priority relative first semaphores None = refl
-put_all-job_members end labels name priority relative first semaphores (Some x) = refl
-
-abbrev top_members : Data → Data → Data → Data → Data → Data → Option Data → Members
-top_members faults labels age providers requesters semaphores tenants =
-    member (codes "faults") faults (member (codes "labels") labels (member (codes "max-hold-age") age (member (codes "providers") providers (member (codes "requesters") requesters (member (codes "semaphores") semaphores (given (codes "tenants") tenants no_members))))))
-
-pub put_all-top_members : (faults labels age providers requesters semaphores : Data) (tenants : Option Data) → put_all no_members (top_members faults labels age providers requesters semaphores tenants) ≡ top_members faults labels age providers requesters semaphores tenants
-put_all-top_members faults labels age providers requesters semaphores None = refl
-put_all-top_members faults labels age providers requesters semaphores (Some x) = refl
+-- the limits of a pool or a tenant
+HaveWhole-limits : (l : Limit) (ms : Members) → IsLimit l → HaveWhole ms → HaveWhole (given_count (codes "max-cores") l.cores (given_count (codes "max-ram") l.ram (given_count (codes "max-servers") l.instances ms)))
+HaveWhole-limits l ms is rest =
+    let servers = HaveWhole-given (codes "max-servers") l.instances ms 1000000 refl (omega arith) is.servers rest in
+    let ram = HaveWhole-given (codes "max-ram") l.ram (given_count (codes "max-servers") l.instances ms) 1000000000 refl (omega arith) is.ram servers in
+    HaveWhole-given (codes "max-cores") l.cores (given_count (codes "max-ram") l.ram (given_count (codes "max-servers") l.instances ms)) 1000000000 refl (omega arith) is.cores ram
 
 -- ## lists
 
@@ -295,13 +220,11 @@ module _ {T : Type 0} (P : List T → T → Type 0) where
   AreWhole-placed shown says k e [] each = tt
   AreWhole-placed shown says k e (x ∷ xs) each = (says e k x each.0, AreWhole-placed shown says (k + 1) (e ++ x ∷ []) xs each.1)
 
-  AreWhole-kept : (shown : T → Data) (b : Bool) (x : T) (xs : List T) → IsWhole (shown x) → AreWhole (items_of (map shown xs)) → AreWhole (items_of (map shown (cond b (x ∷ xs) xs)))
-  AreWhole-kept shown true x xs first rest = (first, rest)
-  AreWhole-kept shown false x xs first rest = rest
-
   pub AreWhole-filter : (shown : T → Data) (p : T → Bool) → ((e : List T) (x : T) → P e x → IsWhole (shown x)) → (e xs : List T) → EachAfter P e xs → AreWhole (items_of (map shown (filter p xs)))
   AreWhole-filter shown p says e [] each = tt
-  AreWhole-filter shown p says e (x ∷ xs) each = AreWhole-kept shown (p x) x (filter p xs) (says e x each.0) (AreWhole-filter shown p says (e ++ x ∷ []) xs each.1)
+  AreWhole-filter shown p says e (x ∷ xs) each =
+      let rest = AreWhole-filter shown p says (e ++ x ∷ []) xs each.1 in
+      by_bool (λ b. AreWhole (items_of (map shown (cond b (x ∷ filter p xs) (filter p xs))))) (p x) (λ _. (says e x each.0, rest)) (λ _. rest)
 
 -- # the value of a sound configuration is of whole numbers, strings and ASCII keys in order
 
@@ -314,15 +237,9 @@ IsWhole-label_data e l is =
 IsWhole-semaphore_data : (e : List Sem) (s : Sem) → IsSem e s → IsWhole (semaphore_data s)
 IsWhole-semaphore_data e s is = let most = is.max in (refl, (refl, omega arith, (refl, IsUtf8-name s.name is.name.named, tt)))
 
-IsWhole-start : (e : List ℕ) (n : ℕ) → IsStart e n → IsWhole (count n)
-IsWhole-start e n is = let most = is.most in omega arith
-
 module _ (c : Configuration) (sound : IsSound c) where
   IsUtf8-label_name : (l : LabelId) → IsUtf8 (label_name c l)
   IsUtf8-label_name l = IsUtf8-found (λ (r : Label). r.name) (slice_get c.labels l.0) (λ x there. label-ascii c l.0 x sound there)
-
-  IsUtf8-semaphore_name : (s : SemId) → IsUtf8 (semaphore_name c s)
-  IsUtf8-semaphore_name s = IsUtf8-found (λ (r : Sem). r.name) (slice_get c.semaphores s.0) (λ x there. semaphore-ascii c s.0 x sound there)
 
   IsUtf8-full_name : (p : PoolId) → IsUtf8 (full_name c p)
   IsUtf8-full_name p = IsUtf8-found (pool_name c.providers) (slice_get c.pools p.0) (λ x there. pool_name-ascii c p.0 x sound there)
@@ -344,46 +261,24 @@ module _ (c : Configuration) (sound : IsSound c) where
       let is = stands.own in
       let limit = p.limit in
       let last = member (codes "name") (string p.name) no_members in
-      let third = HaveWhole-given (codes "max-servers") limit.instances last 1000000 refl (omega arith) is.limit.servers (refl, IsUtf8-name p.name is.name.named, tt) in
-      let second = HaveWhole-given (codes "max-ram") limit.ram (given_count (codes "max-servers") limit.instances last) 1000000000 refl (omega arith) is.limit.ram third in
-      let first = HaveWhole-given (codes "max-cores") limit.cores (given_count (codes "max-ram") limit.ram (given_count (codes "max-servers") limit.instances last)) 1000000000 refl (omega arith) is.limit.cores second in (
-        put_all-pool_members (list_data count p.fail_starts) (list_data (offer_data c) p.offers) (string p.name) limit.cores limit.ram limit.instances,
-        (refl, AreWhole-list IsStart count IsWhole-start [] p.fail_starts is.starts, (refl, AreWhole-list (IsOffer (length c.labels)) (offer_data c) IsWhole-offer_data [] p.offers is.offers, first)),
+      let first = HaveWhole-limits limit last is.limit (refl, IsUtf8-name p.name is.name.named, tt) in (
+        grind arith,
+        (refl, AreWhole-list IsStart count (λ _ n start. let most = start.most in omega arith) [] p.fail_starts is.starts, (refl, AreWhole-list (IsOffer (length c.labels)) (offer_data c) IsWhole-offer_data [] p.offers is.offers, first)),
       )
 
   IsWhole-tenant_data : (e : List Tenant) (t : Tenant) → IsTenant e t → IsWhole (tenant_data t)
   IsWhole-tenant_data e t is =
       let limit = t.limit in
-      let last = member (codes "name") (string t.name) no_members in
-      let third = HaveWhole-given (codes "max-servers") limit.instances last 1000000 refl (omega arith) is.limit.servers (refl, IsUtf8-name t.name is.name.named, tt) in
-      let second = HaveWhole-given (codes "max-ram") limit.ram (given_count (codes "max-servers") limit.instances last) 1000000000 refl (omega arith) is.limit.ram third in (
-        put_all-tenant_members (string t.name) limit.cores limit.ram limit.instances,
-        HaveWhole-given (codes "max-cores") limit.cores (given_count (codes "max-ram") limit.ram (given_count (codes "max-servers") limit.instances last)) 1000000000 refl (omega arith) is.limit.cores second,
-      )
-
-  IsWhole-tenants : (ts : List Tenant) → EachAfter IsTenant [] ts → (b : Bool) → IfSome (cond b None (Some (list_data tenant_data ts))) IsWhole
-  IsWhole-tenants ts each true = tt
-  IsWhole-tenants ts each false = AreWhole-list IsTenant tenant_data IsWhole-tenant_data [] ts each
-
-  within : (o : Option ℕ) → IfSome o (λ n. (1 ≤ n) × (n ≤ 4096)) → IfSome o (λ n. n ≤ 4096)
-  within None is = tt
-  within (Some n) is = is.1
+      (grind arith, HaveWhole-limits limit _ is.limit (refl, IsUtf8-name t.name is.name.named, tt))
 
   IsWhole-provider_data : (e : List Provider) (k : ℕ) (p : Provider) → IsProvider e p → IsWhole (provider_data c k p)
   IsWhole-provider_data e k p is =
       let most = is.retries in
       let pools = AreWhole-filter (StandsByOwner (λ (q : Pool). q.provider) (IsPool (length c.labels))) (pool_data c) (λ (q : Pool). q.provider == k) IsWhole-pool_data [] c.pools sound.supply.each_pool in
       let last = member (codes "name") (string p.name) (member (codes "pools") (list_data (pool_data c) (pools_of c k)) no_members) in (
-        put_all-provider_members (count p.retries) (string p.name) (list_data (pool_data c) (pools_of c k)) p.concurrency,
-        (refl, omega arith, HaveWhole-given (codes "max-concurrency") p.concurrency last 4096 refl (omega arith) (within p.concurrency is.concurrency) (refl, IsUtf8-name p.name is.name.named, (refl, pools, tt))),
+        grind arith,
+        (refl, omega arith, HaveWhole-given (codes "max-concurrency") p.concurrency last 4096 refl (omega arith) (grind (arith, is.concurrency)) (refl, IsUtf8-name p.name is.name.named, (refl, pools, tt))),
       )
-
-  IsUtf8-tenant_name : (t : TenantId) → IsUtf8 (tenant_name c t)
-  IsUtf8-tenant_name t = IsUtf8-found (λ (r : Tenant). r.name) (tenant_of c t) (λ x there. tenant-ascii c t x sound there)
-
-  IsWhole-job_tenant : (t : TenantId) (b : Bool) → IfSome (cond b None (Some (string (tenant_name c t)))) IsWhole
-  IsWhole-job_tenant t true = tt
-  IsWhole-job_tenant t false = IsUtf8-tenant_name t
 
   IsWhole-job_data : (e : List Job) (j : Job) → StandsByOwner (λ (i : Job). i.requester.0) (IsJob (length c.labels) (length c.semaphores) (length c.tenants)) e j → IsWhole (job_data c j)
   IsWhole-job_data e j stands =
@@ -391,13 +286,13 @@ module _ (c : Configuration) (sound : IsSound c) where
       let relative = is.relative in
       let each = EachAfter-from_all (IsWanted (length c.labels)) [] j.labels is.wanted in
       let labels = AreWhole-list (λ (before : List LabelId) (l : LabelId). IsWanted (length c.labels) l) (λ (l : LabelId). string (label_name c l)) (λ before l wanted. IsUtf8-label_name l) [] j.labels each in
-      let semaphores = AreWhole-list (IsTaken (length c.semaphores)) (λ (s : SemId). string (semaphore_name c s)) (λ before s taken. IsUtf8-semaphore_name s) [] j.semaphores is.taken in
-      let tenant = HaveWhole-value (codes "tenant") (job_tenant c j.tenant) no_members refl (IsWhole-job_tenant j.tenant (j.tenant.0 == 0)) tt in (
-        put_all-job_members _ _ _ _ _ _ _ (job_tenant c j.tenant),
+      let semaphores = AreWhole-list (IsTaken (length c.semaphores)) (λ (s : SemId). string (semaphore_name c s)) (λ before s taken. IsUtf8-found (λ (r : Sem). r.name) (slice_get c.semaphores s.0) (λ x there. semaphore-ascii c s.0 x sound there)) [] j.semaphores is.taken in
+      let tenant = HaveWhole-value (codes "tenant") (job_tenant c j.tenant) no_members refl (by_bool (λ b. IfSome (cond b None (Some (string (tenant_name c j.tenant)))) IsWhole) (j.tenant.0 == 0) (λ _. tt) (λ _. IsUtf8-found (λ (r : Tenant). r.name) (tenant_of c j.tenant) (λ x there. tenant-ascii c j.tenant x sound there))) tt in (
+        grind arith,
         (
           refl,
-          IsUtf8-are_ascii (end_as_word j.end) (are_ascii-end_word j.end),
-          (refl, labels, (refl, IsUtf8-name j.name is.name.named, (refl, IsUtf8-are_ascii (priority_word j.priority) (are_ascii-priority (j.priority == 100) (j.priority == 200)), (refl, omega arith, (refl, tt, (refl, semaphores, tenant)))))),
+          IsUtf8-are_ascii (end_as_word j.end) (grind arith),
+          (refl, labels, (refl, IsUtf8-name j.name is.name.named, (refl, IsUtf8-are_ascii (priority_word j.priority) (grind arith), (refl, omega arith, (refl, tt, (refl, semaphores, tenant)))))),
         ),
       )
 
@@ -410,7 +305,7 @@ module _ (c : Configuration) (sound : IsSound c) where
   IsWhole-fault_data : (e : List Fault) (f : Fault) → IsFault (length c.pools) (length c.requesters) f → IsWhole (fault_data c f)
   IsWhole-fault_data e f is =
       let most = is.after in
-      (refl, (refl, omega arith, (refl, IsUtf8-are_ascii (fault_kind_word f.kind) (are_ascii-kind_word f.kind), (refl, IsUtf8-role_name f.role, (refl, IsUtf8-are_ascii (role_word f.role) (are_ascii-role_word f.role), tt)))))
+      (refl, (refl, omega arith, (refl, IsUtf8-are_ascii (fault_kind_word f.kind) (grind arith), (refl, IsUtf8-role_name f.role, (refl, IsUtf8-are_ascii (role_word f.role) (grind arith), tt)))))
 
   pub IsWhole-configuration_data : IsWhole (configuration_data c)
   IsWhole-configuration_data =
@@ -421,8 +316,8 @@ module _ (c : Configuration) (sound : IsSound c) where
       let providers = AreWhole-placed IsProvider (provider_data c) IsWhole-provider_data 0 [] c.providers sound.supply.each_provider in
       let requesters = AreWhole-placed IsRequester (requester_data c) IsWhole-requester_data 0 [] c.requesters sound.demand.each_requester in
       let semaphores = AreWhole-list IsSem semaphore_data IsWhole-semaphore_data [] c.semaphores sound.semaphores in
-      let tenants = HaveWhole-value (codes "tenants") (list_if_any tenant_data c.tenants) no_members refl (IsWhole-tenants c.tenants sound.tenants (length c.tenants == 0)) tt in
-      (put_all-top_members _ _ _ _ _ _ (list_if_any tenant_data c.tenants), (refl, faults, (refl, labels, (refl, omega arith, (refl, providers, (refl, requesters, (refl, semaphores, tenants)))))))
+      let tenants = HaveWhole-value (codes "tenants") (list_if_any tenant_data c.tenants) no_members refl (by_bool (λ b. IfSome (cond b None (Some (list_data tenant_data c.tenants))) IsWhole) (length c.tenants == 0) (λ _. tt) (λ _. AreWhole-list IsTenant tenant_data IsWhole-tenant_data [] c.tenants sound.tenants)) tt in
+      (grind arith, (refl, faults, (refl, labels, (refl, omega arith, (refl, providers, (refl, requesters, (refl, semaphores, tenants)))))))
 
 -- # the text of a sound configuration is read as that configuration
 
@@ -451,7 +346,7 @@ sections-injective ls ms x y lines_ls bar_ls lines_ms bar_ms same =
 
 entry_lines-map : (journal : List Entry) → entry_lines journal ≡ flat_map line (map entry_line journal)
 entry_lines-map [] = refl
-entry_lines-map (e ∷ journal) = ap (λ (t : List ℕ). line (entry_line e) ++ t) (entry_lines-map journal)
+entry_lines-map (e ∷ journal) = rw (entry_lines-map journal) refl
 
 entries-are_lines : (journal : List Entry) → AllByRecursion HasEntryLine journal → list_all is_line (map entry_line journal) ≡ true
 entries-are_lines [] all = refl
@@ -461,34 +356,22 @@ entries-no_bar : (journal : List Entry) → AllByRecursion HasEntryLine journal 
 entries-no_bar [] all = refl
 entries-no_bar (e ∷ journal) all = rw (entry_line-no_bar e all.0) (entries-no_bar journal all.1)
 
--- the events of lines that are the same are the same
-events-by_lines : (j k : List Entry) → AllByRecursion HasEntryLine j → AllByRecursion HasEntryLine k → map entry_line j ≡ map entry_line k → map (λ (e : Entry). e.event) j ≡ map (λ (e : Entry). e.event) k
-events-by_lines [] [] front back same = refl
-events-by_lines [] (b ∷ k) front back same = absurd cc
-events-by_lines (a ∷ j) [] front back same = absurd cc
-events-by_lines (a ∷ j) (b ∷ k) front back same =
+-- the machine's replies come from the events alone, and these from the lines
+replayed-by_lines : (c : Configuration) (s : State) (j k : List Entry) → AllByRecursion HasEntryLine j → AllByRecursion HasEntryLine k → map entry_line j ≡ map entry_line k → replayed c s j ≡ replayed c s k
+replayed-by_lines c s [] [] front back same = refl
+replayed-by_lines c s [] (b ∷ k) front back same = absurd cc
+replayed-by_lines c s (a ∷ j) [] front back same = absurd cc
+replayed-by_lines c s (a ∷ j) (b ∷ k) front back same =
     let head : entry_line a ≡ entry_line b = cc in
     let tail : map entry_line j ≡ map entry_line k = cc in
     let event : a.event ≡ b.event = ap (λ (e : Entry). e.event) (entry_line-injective a b front.0 back.0 head) in
-    let events = events-by_lines j k front.1 back.1 tail in
-    ap (λ (e : Event). e ∷ map (λ (x : Entry). x.event) j) event ∙ ap (λ (es : List Event). b.event ∷ es) events
-
--- the machine's replies come from the events alone
-replayed-by_events : (c : Configuration) (s : State) (j k : List Entry) → map (λ (e : Entry). e.event) j ≡ map (λ (e : Entry). e.event) k → replayed c s j ≡ replayed c s k
-replayed-by_events c s [] [] same = refl
-replayed-by_events c s [] (b ∷ k) same = absurd cc
-replayed-by_events c s (a ∷ j) [] same = absurd cc
-replayed-by_events c s (a ∷ j) (b ∷ k) same =
-    let head : a.event ≡ b.event = cc in
-    let tail : map (λ (e : Entry). e.event) j ≡ map (λ (e : Entry). e.event) k = cc in
-    ap (λ (e : Event). record { event = e; reply = reply_of (judge c s e) } ∷ replayed c (next c s e) j) head
-    ∙ ap (λ (es : List Entry). record { event = b.event; reply = reply_of (judge c s b.event) } ∷ es) (replayed-by_events c (next c s b.event) j k tail)
+    rw (event, replayed-by_lines c (next c s b.event) j k front.1 back.1 tail) refl
 
 -- ## the whole Text
 
-canonical-is_line : (c : Configuration) → is_line (canonical c) ≡ true
+pub is_line-canonical : (c : Configuration) → is_line (canonical c) ≡ true
 unfolding canonical
-canonical-is_line c = is_line-compact_text (configuration_data c)
+is_line-canonical c = is_line-compact_text (configuration_data c)
 
 canonical-no_bar : (c : Configuration) → bytes_eq (canonical c) bar ≡ false
 unfolding canonical
@@ -503,13 +386,12 @@ text_of-sections c journal = rw (entry_lines-map journal) (simp (append_assoc, a
 pub text_of-injective : (c d : Configuration) (j k : List Entry) (s t : State) → IsSound c → IsSound d → Runs c j s → Runs d k t →
     AllByRecursion HasEntryLine j → AllByRecursion HasEntryLine k → text_of c j ≡ text_of d k → (c ≡ d) × (j ≡ k)
 text_of-injective c d j k s t sound_c sound_d runs_c runs_d lines_j lines_k same =
-    let outer = sections-injective (canonical c ∷ []) (canonical d ∷ []) _ _ (rw (canonical-is_line c) refl) (rw (canonical-no_bar c) refl) (rw (canonical-is_line d) refl) (rw (canonical-no_bar d) refl)
+    let outer = sections-injective (canonical c ∷ []) (canonical d ∷ []) _ _ (rw (is_line-canonical c) refl) (rw (canonical-no_bar c) refl) (rw (is_line-canonical d) refl) (rw (canonical-no_bar d) refl)
     (sym (text_of-sections c j) ∙ same ∙ text_of-sections d k) in
     let inner = sections-injective (map entry_line j) (map entry_line k) _ _ (entries-are_lines j lines_j) (entries-no_bar j lines_j) (entries-are_lines k lines_k) (entries-no_bar k lines_k) outer.1 in
-    let texts : canonical c ∷ [] ≡ canonical d ∷ [] = lines-injective (canonical c ∷ []) (canonical d ∷ []) (rw (canonical-is_line c) refl) (rw (canonical-is_line d) refl) outer.0 in
+    let texts : canonical c ∷ [] ≡ canonical d ∷ [] = lines-injective (canonical c ∷ []) (canonical d ∷ []) (rw (is_line-canonical c) refl) (rw (is_line-canonical d) refl) outer.0 in
     let text : canonical c ≡ canonical d = cc in
     let read : Ok c ≡ Ok d = sym (reads-canonical c sound_c) ∙ ap reads text ∙ reads-canonical d sound_d in
     let site : c ≡ d = cc in
     let lines = lines-injective (map entry_line j) (map entry_line k) (entries-are_lines j lines_j) (entries-are_lines k lines_k) inner.0 in
-    let events = events-by_lines j k lines_j lines_k lines in
-    (site, sym runs_c.replies ∙ replayed-by_events c (start c) j k events ∙ ap (λ (x : Configuration). replayed x (start x) k) site ∙ runs_d.replies)
+    (site, sym runs_c.replies ∙ replayed-by_lines c (start c) j k lines_j lines_k lines ∙ ap (λ (x : Configuration). replayed x (start x) k) site ∙ runs_d.replies)

@@ -1,5 +1,5 @@
 -- the lines of a text are read as events and played, or the first fault is reported
-use Rattle.np_report.proofs.Prelude.{List, [], and_parts, ap, append-nil, append_assoc, arith, drop, drop_at, first_line, flat_map, is_line, later_lines, length, length_push, line, line_length, list_all, not, refl, sym, take, take_at, true, ℕ, ◌++◌, ◌+◌, ◌==◌, ◌∙◌, ◌∷◌, ◌≡◌, AllByRecursion, Bool, Err, Line, LinesFault, Ok, Result, TooMany, false, if◌then◌else◌, lines_read, nat_lt, nat_tests, subst, with_line, ◌<◌, ◌≤◌, Configuration, Event, HasEventLine, IsPlayable, event_in-spelled, event_said, events_of, lines_of, most_lines, reads, reads-takes, Entry, IsSound, None, Option, Some, entry_in, entry_in-told, event_told, events_told, leading_events, length-take, line_in, lines_of-walk, nil_from_length, option_map, suc, take_all, with_event, zero, ◌-◌, IsFirstFault, are_read, is_ok, Ran, State, after, applied, get_or, has_room, judge, next, played, played_from, ran, reply_of, start, state_after, state_after-push, take_more, HoldsThroughout, IsPrinted, Runs, Script, caused-every_step, fenced-every_step, kept-every_step, replayed, safe-every_step, text_of, HasEntryLine, bar, entry_in-line, entry_line, entry_lines, inl, inr, is_line-entry, map, sides_of, ◌⊎◌}
+use Rattle.np_report.proofs.Prelude.{AllByRecursion, Bool, Configuration, Entry, Err, Event, HasEntryLine, HasEventLine, IsFirstFault, IsPlayable, IsPrinted, IsSound, Line, LinesFault, List, None, Ok, Option, Ran, Result, Runs, Script, Some, State, TooMany, after, and_parts, ap, append-nil, append_assoc, applied, are_read, arith, bar, caused-every_step, drop, drop_at, entry_in, entry_in-line, entry_in-told, entry_line, entry_lines, event_in-spelled, event_said, event_told, events_of, events_told, false, fenced-every_step, first_line, flat_map, from-map_some, get_or, has_room, if◌then◌else◌, inl, inr, is_line, is_line-entry, judge, kept-every_step, later_lines, leading_events, length, length-take, length_push, line, line_in, line_length, lines_of, lines_of-walk, lines_read, list_all, list_all-append, map, most_lines, nat_lt, nat_tests, next, nil_from_length, option_map, played, played_from, ran, reads, reads-takes, refl, replayed, reply_of, safe-every_step, sides_of, start, state_after, state_after-push, subst, suc, sym, take, take_all, take_at, take_more, text_of, true, with_event, with_line, zero, ℕ, [], ◌++◌, ◌+◌, ◌-◌, ◌<◌, ◌==◌, ◌∙◌, ◌∷◌, ◌≡◌, ◌≤◌, ◌⊎◌}
 
 -- # the lines of a text are read as events and played, or the first fault is reported
 
@@ -8,10 +8,7 @@ use Rattle.np_report.proofs.Prelude.{List, [], and_parts, ap, append-nil, append
 -- the length of a line that comes first
 line_length-line : (bytes rest : List ℕ) → is_line bytes ≡ true → line_length (bytes ++ 10 ∷ rest) ≡ length bytes
 line_length-line [] rest plain = refl
-line_length-line (b ∷ bs) rest plain =
-    let parts = and_parts (not (b == 10)) (is_line bs) plain in
-    let later = line_length-line bs rest parts.1 in
-    rw (parts.0, later) (omega arith)
+line_length-line (b ∷ bs) rest plain = grind (arith, nat_tests, line_length-line bs rest)
 
 pub first_line-line : (bytes rest : List ℕ) → is_line bytes ≡ true → first_line (line bytes ++ rest) ≡ bytes
 first_line-line bytes rest plain =
@@ -43,10 +40,7 @@ flat_map-push [] l = append-nil (line l)
 flat_map-push (x ∷ ls) l = ap (λ (t : List ℕ). line x ++ t) (flat_map-push ls l) ∙ sym (append_assoc (line x) (flat_map line ls) (line l))
 
 pub are_lines-push : (ls : List (List ℕ)) (l : List ℕ) → list_all is_line ls ≡ true → is_line l ≡ true → list_all is_line (ls ++ l ∷ []) ≡ true
-are_lines-push [] l plain last = rw last refl
-are_lines-push (x ∷ ls) l plain last =
-    let parts = and_parts (is_line x) (list_all is_line ls) plain in
-    rw parts.0 (are_lines-push ls l parts.1 last)
+are_lines-push ls l plain last = rw (list_all-append is_line ls (l ∷ []), plain, last) refl
 
 -- # the lines of a text, one after another
 
@@ -55,93 +49,42 @@ abbrev pub read_before : {A F : Type 0} → List A → Result (List A) (LinesFau
 read_before before (Err fault) = Err fault
 read_before before (Ok rest) = Ok (before ++ rest)
 
-read_before-with_line : {A F : Type 0} (before : List A) (n : ℕ) (x : A) (r : Result (List A) (LinesFault F)) → read_before before (with_line n (Ok x) r) ≡ read_before (before ++ x ∷ []) r
-read_before-with_line before n x (Ok rest) = ap Ok (sym (append_assoc before (x ∷ []) rest))
-read_before-with_line before n x (Err fault) = refl
-
 -- a line that says something
 pub lines_read-said : {A F : Type 0} (said : List ℕ → Result A F) (most : ℕ) (before : List A) (n : ℕ) (line : List ℕ) (lines : List (List ℕ)) (x : A) → n ≤ most → said line ≡ Ok x →
     read_before before (lines_read said most n (line ∷ lines)) ≡ read_before (before ++ x ∷ []) (lines_read said most (n + 1) lines)
-lines_read-said said most before n line lines x few is =
-    let room : nat_lt most n ≡ false = grind (arith, nat_tests) in
-    rw (room, is) (read_before-with_line before n x (lines_read said most (n + 1) lines))
+lines_read-said said most before n line lines x few is = grind (arith, nat_tests, append_assoc before (x ∷ []))
 
 -- a line that is at fault
 pub lines_read-fault : {A F : Type 0} (said : List ℕ → Result A F) (most : ℕ) (before : List A) (n : ℕ) (line : List ℕ) (lines : List (List ℕ)) (fault : F) → n ≤ most → said line ≡ Err fault →
     read_before before (lines_read said most n (line ∷ lines)) ≡ Err (Line n fault)
-lines_read-fault said most before n line lines fault few is =
-    let room : nat_lt most n ≡ false = grind (arith, nat_tests) in
-    rw (room, is) refl
+lines_read-fault said most before n line lines fault few is = grind (arith, nat_tests)
 
 -- a line too many
 pub lines_read-many : {A F : Type 0} (said : List ℕ → Result A F) (most : ℕ) (before : List A) (n : ℕ) (line : List ℕ) (lines : List (List ℕ)) → most < n →
     read_before before (lines_read said most n (line ∷ lines)) ≡ Err (TooMany n)
-lines_read-many said most before n line lines many =
-    let none : nat_lt most n ≡ true = grind (arith, nat_tests) in
-    rw none refl
+lines_read-many said most before n line lines many = grind (arith, nat_tests)
 
 -- ## what holds of the lines that were read
-
-all-with_line : {A F : Type 0} (P : A → Type 0) (n : ℕ) (r : Result A F) (later : Result (List A) (LinesFault F)) (xs : List A) → ((x : A) → r ≡ Ok x → P x) → ((ys : List A) → later ≡ Ok ys → AllByRecursion P ys) →
-    with_line n r later ≡ Ok xs → AllByRecursion P xs
-all-with_line P n (Err fault) later xs one rest read = absurd cc
-all-with_line P n (Ok x) (Err fault) xs one rest read = absurd cc
-all-with_line {A} P n (Ok x) (Ok ys) xs one rest read =
-    let same : x ∷ ys ≡ xs = cc in
-    subst (λ (l : List A). AllByRecursion P l) same (one x refl, rest ys refl)
-
-all-counted : {A F : Type 0} (P : A → Type 0) (many : Bool) (n : ℕ) (r : Result (List A) (LinesFault F)) (xs : List A) → (r ≡ Ok xs → AllByRecursion P xs) →
-    (if many then Err (TooMany n) else r) ≡ Ok xs → AllByRecursion P xs
-all-counted P true n r xs rest read = absurd cc
-all-counted P false n r xs rest read = rest read
 
 -- what holds of each item that a line says holds of all that were read
 pub lines_read-all : {A F : Type 0} (P : A → Type 0) (said : List ℕ → Result A F) (most n : ℕ) (lines : List (List ℕ)) (xs : List A) → ((line : List ℕ) (x : A) → said line ≡ Ok x → P x) →
     lines_read said most n lines ≡ Ok xs → AllByRecursion P xs
-lines_read-all {A} P said most n [] xs one read =
-    let same : [] ≡ xs = cc in
-    subst (λ (l : List A). AllByRecursion P l) same tt
-lines_read-all P said most n (line ∷ lines) xs one read =
-    all-counted P (nat_lt most n) n (with_line n (said line) (lines_read said most (n + 1) lines)) xs
-    (all-with_line P n (said line) (lines_read said most (n + 1) lines) xs (one line) (λ ys. lines_read-all P said most (n + 1) lines ys one)) read
-
-few-with_line : {A F : Type 0} (most n : ℕ) (r : Result A F) (later : Result (List A) (LinesFault F)) (xs : List A) → ((ys : List A) → later ≡ Ok ys → length ys + (n + 1) ≤ most + 1) →
-    with_line n r later ≡ Ok xs → length xs + n ≤ most + 1
-few-with_line most n (Err fault) later xs rest read = absurd cc
-few-with_line most n (Ok x) (Err fault) xs rest read = absurd cc
-few-with_line {A} most n (Ok x) (Ok ys) xs rest read =
-    let same : x ∷ ys ≡ xs = cc in
-    let few = rest ys refl in
-    subst (λ (l : List A). length l + n ≤ most + 1) same (omega (arith, few))
-
-few-counted : {A F : Type 0} (most : ℕ) (many : Bool) (n : ℕ) (r : Result (List A) (LinesFault F)) (xs : List A) → nat_lt most n ≡ many → (n ≤ most → r ≡ Ok xs → length xs + n ≤ most + 1) →
-    (if many then Err (TooMany n) else r) ≡ Ok xs → length xs + n ≤ most + 1
-few-counted most true n r xs is rest read = absurd cc
-few-counted most false n r xs is rest read = rest (grind (arith, nat_tests)) read
+lines_read-all P said most n [] xs one read = grind arith
+lines_read-all P said most n (line ∷ lines) xs one read = grind (arith, one line, lines_read-all P said most (n + 1) lines)
 
 -- no more lines were read than there may be
 pub lines_read-few : {A F : Type 0} (said : List ℕ → Result A F) (most n : ℕ) (lines : List (List ℕ)) (xs : List A) → n ≤ most + 1 → lines_read said most n lines ≡ Ok xs → length xs + n ≤ most + 1
-lines_read-few {A} said most n [] xs room read =
-    let same : [] ≡ xs = cc in
-    subst (λ (l : List A). length l + n ≤ most + 1) same (omega (arith, room))
-lines_read-few said most n (line ∷ lines) xs room read =
-    few-counted most (nat_lt most n) n (with_line n (said line) (lines_read said most (n + 1) lines)) xs refl
-    (λ few. few-with_line most n (said line) (lines_read said most (n + 1) lines) xs (λ ys. lines_read-few said most (n + 1) lines ys (omega arith))) read
+lines_read-few said most n [] xs room read = grind arith
+lines_read-few said most n (line ∷ lines) xs room read = grind (arith, nat_tests, lines_read-few said most (n + 1) lines)
 
 -- # a script that is read can be played
-
-events_of-lines : (lines : List (List ℕ)) (events : List Event) → events_of lines ≡ Ok events → AllByRecursion HasEventLine events
-events_of-lines lines events read = lines_read-all HasEventLine event_said most_lines 1 lines events (λ line e is. (event_in-spelled line e is).0) read
-
-events_of-few : (lines : List (List ℕ)) (events : List Event) → events_of lines ≡ Ok events → length events ≤ most_lines
-events_of-few lines events read = omega (arith, lines_read-few event_said most_lines 1 lines events (omega arith) read)
 
 -- a configuration and events that were read
 pub playable-parts : (before after : List ℕ) (c : Configuration) (events : List Event) → reads before ≡ Ok c → events_of (lines_of after) ≡ Ok events → IsPlayable (record { config = c; events = events })
 playable-parts before after c events config lines = record {
   sound = reads-takes before c config;
-  few = events_of-few (lines_of after) events lines;
-  lines = events_of-lines (lines_of after) events lines;
+  few = omega (arith, lines_read-few event_said most_lines 1 (lines_of after) events (omega arith) lines);
+  lines = lines_read-all HasEventLine event_said most_lines 1 (lines_of after) events (λ line e is. (event_in-spelled line e is).0) lines;
 }
 
 -- # the events of a text's lines, one line after another
@@ -210,13 +153,9 @@ told-full text rest events full so_far = sym (take_at events (events_told (lines
 -- ## what was read can be played
 
 HasEventLine-told : (line : List ℕ) (e : Event) → event_told line ≡ Some e → HasEventLine e
-HasEventLine-told line e told = cases (entry_in line) refl told
-  where
-    cases : (o : Option Entry) → entry_in line ≡ o → option_map (λ (x : Entry). x.event) o ≡ Some e → HasEventLine e
-    cases None is said = absurd cc
-    cases (Some entry) is said =
-        let same : entry.event ≡ e = cc in
-        subst HasEventLine same (entry_in-told line entry is).has.event
+HasEventLine-told line e told =
+    let entry = from-map_some (λ (x : Entry). x.event) (entry_in line) e told in
+    subst HasEventLine entry.2 (entry_in-told line entry.0 entry.1).has.event
 
 with_event-lines : (o : Option Event) (events : List Event) → ((e : Event) → o ≡ Some e → HasEventLine e) → AllByRecursion HasEventLine events → AllByRecursion HasEventLine (with_event o events)
 with_event-lines None events one rest = tt
@@ -231,41 +170,20 @@ take-lines zero events all = tt
 take-lines (suc n) [] all = tt
 take-lines (suc n) (e ∷ events) all = (all.0, take-lines n events all.1)
 
-leading_events-lines : (text : List ℕ) → AllByRecursion HasEventLine (leading_events text)
-leading_events-lines text = take-lines 262144 (events_told (lines_of text)) (events_told-lines (lines_of text))
-
-leading_events-few : (text : List ℕ) → length (leading_events text) ≤ 262144
-leading_events-few text = omega (arith, length-take 262144 (events_told (lines_of text)))
-
 pub playable-read : (config : Configuration) (entries : List ℕ) (events : List Event) → IsSound config → events ≡ leading_events entries → IsPlayable (record { config = config; events = events })
 playable-read config entries events sound is = record {
   sound = sound;
-  few = rw is (leading_events-few entries);
-  lines = rw is (leading_events-lines entries);
+  few = rw is (omega (arith, length-take 262144 (events_told (lines_of entries))));
+  lines = rw is (take-lines 262144 (events_told (lines_of entries)) (events_told-lines (lines_of entries)));
 }
 
 -- # which line's fault is reported
 
--- a line that is read passes on the fault of the later ones
-told-later : {A F : Type 0} (said : List ℕ → Result A F) (most k : ℕ) (line : List ℕ) (lines : List (List ℕ)) (fault : LinesFault F) (r : Result A F) → said line ≡ r → is_ok r ≡ true → k ≤ most →
-    lines_read said most (k + 1) lines ≡ Err fault → lines_read said most k (line ∷ lines) ≡ Err fault
-told-later said most k line lines fault (Ok x) is ok few later =
-    let room : nat_lt most k ≡ false = grind (arith, nat_tests) in
-    rw (room, is, later) refl
-told-later said most k line lines fault (Err f) is ok few later = absurd cc
-
 -- the fault of the first line at fault is reported
 told-first : {A F : Type 0} (said : List ℕ → Result A F) (most k n : ℕ) (before : List (List ℕ)) (line : List ℕ) (later : List (List ℕ)) (fault : F) →
     n ≡ k + length before → n ≤ most → are_read said before ≡ true → said line ≡ Err fault → lines_read said most k (before ++ line ∷ later) ≡ Err (Line n fault)
-told-first said most k n [] line later fault number few read is =
-    let room : nat_lt most k ≡ false = grind (arith, nat_tests) in
-    let same : k ≡ n = omega (arith, number) in
-    rw (room, is) (ap (λ (m : ℕ). Err (Line m fault)) same)
-told-first said most k n (b ∷ before) line later fault number few read is =
-    let here : is_ok (said b) ≡ true = grind (arith, read) in
-    let rest : are_read said before ≡ true = grind (arith, read) in
-    told-later said most k b (before ++ line ∷ later) (Line n fault) (said b) refl here (omega (arith, number, few))
-    (told-first said most (k + 1) n before line later fault (omega (arith, number)) few rest is)
+told-first said most k n [] line later fault number few read is = grind (arith, nat_tests)
+told-first said most k n (b ∷ before) line later fault number few read is = grind (arith, nat_tests, told-first said most (k + 1) n before line later fault)
 
 pub first-told : {A F : Type 0} (said : List ℕ → Result A F) (most k n : ℕ) (lines : List (List ℕ)) (fault : F) → IsFirstFault said most k lines n fault → lines_read said most k lines ≡ Err (Line n fault)
 first-told said most k n lines fault first =
@@ -314,21 +232,11 @@ played_from-push c s (first ∷ events) e = ap (λ (t : List Entry). record { ev
 abbrev pub entry_of : Configuration → List Event → Event → Entry
 entry_of c events e = record { event = e; reply = reply_of (judge c (after c (played c events)) e) }
 
-ran-push : (c : Configuration) (events : List Event) (e : Event) → ran c (events ++ e ∷ []) ≡ record { configuration = c; journal = played c events ++ entry_of c events e ∷ []; state = next c (after c (played c events)) e }
-ran-push c events e =
-    let journal = played_from-push c (start c) events e in
-    let state = ap (after c) journal ∙ state_after-push c (start c) (played c events) (entry_of c events e) in
-    ap (λ (j : List Entry). record { configuration = c; journal = j; state = after c j }) journal
-    ∙ ap (λ (s : State). record { configuration = c; journal = played c events ++ entry_of c events e ∷ []; state = s }) (state_after-push c (start c) (played c events) (entry_of c events e))
-
-applied_with-room : (m : Ran) (e : Event) → has_room m ≡ true → applied m e ≡ record m { journal = m.journal ++ record { event = e; reply = reply_of (judge m.configuration m.state e) } ∷ []; state = next m.configuration m.state e }
-applied_with-room m e room = rw room refl
-
 pub applied-ran : (c : Configuration) (events : List Event) (e : Event) → length events < 262144 → applied (ran c events) e ≡ ran c (events ++ e ∷ [])
 applied-ran c events e few =
     let same = length-played_from c (start c) events in
     let room : has_room (ran c events) ≡ true = grind (arith, nat_tests) in
-    applied_with-room (ran c events) e room ∙ sym (ran-push c events e)
+    rw (room, played_from-push c (start c) events e, state_after-push c (start c) (played c events) (entry_of c events e)) refl
 
 -- the next of the events
 pub ran-next : (c : Configuration) (events : List Event) (i : ℕ) (d : Event) → i < length events → length events ≤ 262144 → applied (ran c (take i events)) (get_or events i d) ≡ ran c (take (i + 1) events)
@@ -359,24 +267,18 @@ runs-played c events few = record {
 
 -- what is read of a machine that has played the events is their run
 pub runs-same : (m : Ran) (c : Configuration) (events : List Event) (site : Configuration) (journal : List Entry) (s : State) → m ≡ ran c events → site ≡ m.configuration → journal ≡ m.journal → s ≡ m.state → length events ≤ 262144 → Runs site journal s
-runs-same m c events site journal s is site_is journal_is state_is few =
-    let same : m.configuration ≡ c = ap (λ (r : Ran). r.configuration) is in
-    let entries : m.journal ≡ played c events = ap (λ (r : Ran). r.journal) is in
-    let state : m.state ≡ after c (played c events) = ap (λ (r : Ran). r.state) is in
-    rw (site_is, same, journal_is, entries, state_is, state) (runs-played c events few)
-
--- what holds after every step of a run
-throughout-Runs : (c : Configuration) (journal : List Entry) (s : State) → Runs c journal s → HoldsThroughout c journal
-throughout-Runs c journal s runs = record {
-  safe = safe-every_step c journal s runs;
-  caused = caused-every_step c journal s runs;
-  kept = kept-every_step c journal s runs;
-  fenced = fenced-every_step c journal s runs;
-}
+runs-same m c events site journal s is site_is journal_is state_is few = rw (site_is, journal_is, state_is, is) (runs-played c events few)
 
 -- the Text of a run shows all that holds of it
 pub printed-Runs : (c : Configuration) (journal : List Entry) (s : State) (text : List ℕ) → IsSound c → Runs c journal s → AllByRecursion (λ (e : Entry). HasEventLine e.event) journal → text ≡ text_of c journal → IsPrinted c journal text
-printed-Runs c journal s text sound runs lines is = record { is = is; sound = sound; state = s; runs = runs; lines = lines; throughout = throughout-Runs c journal s runs }
+printed-Runs c journal s text sound runs lines is = record {
+  is = is;
+  sound = sound;
+  state = s;
+  runs = runs;
+  lines = lines;
+  throughout = record { safe = safe-every_step c journal s runs; caused = caused-every_step c journal s runs; kept = kept-every_step c journal s runs; fenced = fenced-every_step c journal s runs };
+}
 
 -- so does that of a script's events
 pub printed-script : (script : Script) → IsPlayable script → IsPrinted script.config (played script.config script.events) (text_of script.config (played script.config script.events))
@@ -392,16 +294,9 @@ events_told-entry : (e : Entry) (lines : List (List ℕ)) → HasEntryLine e →
 events_told-entry e lines has =
     ap (λ (o : Option Entry). with_event (option_map (λ x. x.event) o) (events_told lines)) (entry_in-line e has)
 
-event_told-bar : event_told bar ≡ None
-unfolding entry_in sides_of
-event_told-bar = refl
-
 events_told-bar : (lines : List (List ℕ)) → events_told (bar ∷ lines) ≡ []
-events_told-bar lines = ap (λ (o : Option Event). with_event o (events_told lines)) event_told-bar
-
-take-nil : (n : ℕ) → take {A = Event} n [] ≡ []
-take-nil zero = refl
-take-nil (suc n) = refl
+unfolding entry_in sides_of
+events_told-bar lines = refl
 
 -- ## what is played
 
@@ -419,7 +314,10 @@ played_lines-entry c s room e journal lines is has =
 -- the bar comes after the last entry
 played_lines-bar : (c : Configuration) (s : State) (room : ℕ) (lines : List (List ℕ)) → played_lines c s room (bar ∷ lines) ≡ []
 played_lines-bar c s room lines =
-    ap (λ (events : List Event). played_from c s (take room events)) (events_told-bar lines) ∙ ap (played_from c s) (take-nil room)
+    ap (λ (events : List Event). played_from c s (take room events)) (events_told-bar lines) ∙ by room where
+      by : (n : ℕ) → played_from c s (take {A = Event} n []) ≡ []
+      by zero = refl
+      by (suc n) = refl
 
 -- the lines of a whole journal
 pub played_lines-whole : (c : Configuration) (s : State) (room : ℕ) (journal : List Entry) (more : List (List ℕ)) → length journal ≤ room → replayed c s journal ≡ journal → AllByRecursion HasEntryLine journal →
@@ -434,10 +332,6 @@ played_lines-whole c s (suc room) (e ∷ journal) more few is has =
 -- the entries' lines begin with these lines, or the entries are the journal
 abbrev pub Shows : List Entry → List (List ℕ) → List Entry → Type 0
 Shows entries lines journal = ((r : List ℕ) × (entry_lines entries ≡ flat_map line lines ++ r)) ⊎ (entries ≡ journal)
-
-shows-bar : (c : Configuration) (s : State) (room : ℕ) (l : List ℕ) (lines more : List (List ℕ)) → l ≡ bar → Shows (played_lines c s room ((l ∷ lines) ++ more)) (l ∷ lines) []
-shows-bar c s room l lines more is =
-    inr (ap (λ (x : List ℕ). played_lines c s room (x ∷ (lines ++ more))) is ∙ played_lines-bar c s room (lines ++ more))
 
 shows-entry : (c : Configuration) (s : State) (room : ℕ) (l : List ℕ) (e : Entry) (lines more : List (List ℕ)) (journal : List Entry) → replayed c s (e ∷ journal) ≡ e ∷ journal → HasEntryLine e → l ≡ entry_line e →
     Shows (played_lines c (next c s e.event) room (lines ++ more)) lines journal → Shows (played_lines c s (suc room) ((l ∷ lines) ++ more)) (l ∷ lines) (e ∷ journal)
@@ -464,7 +358,7 @@ shows-lines c s room journal [] more r behind few is has plain same = inl (entry
 shows-lines c s room [] (l ∷ lines) more r behind few is has plain same =
     let parts = and_parts (is_line l) (list_all is_line lines) plain in
     let cut = line-injective l bar (flat_map line lines ++ r) behind parts.0 refl (sym (append_assoc (line l) (flat_map line lines) r) ∙ same) in
-    shows-bar c s room l lines more cut.0
+    inr (ap (λ (x : List ℕ). played_lines c s room (x ∷ (lines ++ more))) cut.0 ∙ played_lines-bar c s room (lines ++ more))
 shows-lines c s zero (e ∷ journal) (l ∷ lines) more r behind few is has plain same = absurd (omega arith)
 shows-lines c s (suc room) (e ∷ journal) (l ∷ lines) more r behind few is has plain same =
     let parts = and_parts (is_line l) (list_all is_line lines) plain in

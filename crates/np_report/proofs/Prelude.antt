@@ -48,7 +48,7 @@ unfoldable pub use Rattle.np_event.specs.Line.{entry_in, sides_of}
 pub use Rattle.np_event.specs.declared.event.Event.TheVariants.{Tick}
 pub use Rattle.np_json.specs.declared.fault.ConfigFault.{ConfigFault}
 pub use Rattle.np_lists.proofs.Changes.{EachAfter-from_all, all-at, all-change_first, all-filter, all-find, all-from_at, all-insert_before, all-mapped, all-push, all-remove_first, all-weaker, find-passes, length-change_at}
-pub use Rattle.np_lists.proofs.Plain.{drop-past, found-some, length-set, need-last}
+pub use Rattle.np_lists.proofs.Plain.{by_bool, drop-past, found-some, from-map_some, length-set, need-last}
 pub use Rattle.np_machine.proofs.Runs.{state_after-push}
 pub use Rattle.np_machine.specs.Node.{is_own, may_delete, owner_from}
 pub use Rattle.np_machine.specs.Reasons.{due_tick}
@@ -95,6 +95,7 @@ pub use Rattle.std.proofs.lemmas.Bool.Decides.{nat_tests}
 pub use Rattle.std.proofs.lemmas.Fmt.{IsAscii-decimal}
 pub use Rattle.std.proofs.lemmas.List.{append_cancel_left, drop_all, drop_min, drop_more, length-map, length_push, nil_from_length, take_more}
 pub use Rattle.std.proofs.lemmas.List.Elements.{All-head, All-tail}
+pub use Rattle.std.proofs.lemmas.List.Folds.{list_all-append}
 pub use Rattle.std.proofs.lemmas.List.Sums.{count_by-le-length, sum_by-append, sum_by-cons}
 pub use Rattle.std.proofs.lemmas.Option.{slice_get_within}
 pub use Rattle.std.proofs.lemmas.Str.{IsUtf8-append, IsUtf8-from_ascii}

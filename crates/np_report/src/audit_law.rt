@@ -1,4 +1,5 @@
 //! The law. Its function does nothing: its contract is the law.
+#![tactic(auto, using(crate::proofs::Findings::laws))]
 
 ghost use Rattle.std.specs.Prelude.{◌≡◌, ℕ, List};
 ghost use Rattle.np_report.specs.declared.finding.Finding.{Finding};

@@ -1,4 +1,5 @@
 //! The laws. Each function does nothing: its contract is the law.
+#![tactic(auto, using(crate::proofs::Rows::told))]
 
 ghost use Rattle.std.specs.Prelude.{◌≡◌, List, length};
 ghost use Rattle.np_changes.specs.Prelude.{AllByRecursion, Configuration, Entry, IsSound, Runs, State};

@@ -1,8 +1,6 @@
-use Rattle.np_config_text.proofs.Prelude.{IsAscii, sym}
+use Rattle.np_config_text.proofs.Prelude.{sym}
 use Rattle.np_config_text.proofs.Again.{label-ascii}
 use Rattle.np_config_text.proofs.names.label_name.Goals as goal
 
 pub returns-in-Some-clause-ascii : goal.returns-in-Some-clause-ascii
-returns-in-Some-clause-ascii c =
-    let named : IsAscii c.in-Some.label.now.name = label-ascii c.args.config.now c.args.id.0 c.in-Some.label.now c.know_soundness.ensures (sym c.in-Some.ensures) in
-    rw c.items.ensures named
+returns-in-Some-clause-ascii c = rw c.items.ensures (label-ascii c.args.config.now c.args.id.0 c.in-Some.label.now c.know_soundness.ensures (sym c.in-Some.ensures))

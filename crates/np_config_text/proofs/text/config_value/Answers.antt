@@ -1,21 +1,21 @@
-use Rattle.np_config_text.proofs.Prelude.{ap, object, view-Object, ◌∙◌}
-use Rattle.np_config_text.proofs.Again.{labels-ascii, providers-ascii, requesters-ascii, semaphores-ascii, tenants-ascii, top_members}
+use Rattle.np_config_text.proofs.Prelude.{IsLabel, IsProvider, IsRequester, IsSem, IsTenant, Label, Provider, Requester, Sem, Tenant, ap, object, view-Object, ◌∙◌}
+use Rattle.np_config_text.proofs.Again.{names-ascii, top_members}
 use Rattle.np_config_text.proofs.text.config_value.Goals as goal
 
 pub list_value-requires-2 : goal.list_value-requires-2
-list_value-requires-2 c = rw c.labels.ensures (labels-ascii _ c.know_soundness.ensures)
+list_value-requires-2 c = rw c.labels.ensures (names-ascii (λ (r : Label). r.name) IsLabel (λ e r is. is.name.named) _ c.know_soundness.ensures.labels)
 
 pub placed_value-requires-clause-shown : goal.placed_value-requires-clause-shown
-placed_value-requires-clause-shown c = rw c.providers.ensures (providers-ascii _ c.know_soundness.ensures)
+placed_value-requires-clause-shown c = rw c.providers.ensures (names-ascii (λ (r : Provider). r.name) IsProvider (λ e r is. is.name.named) _ c.know_soundness.ensures.supply.each_provider)
 
 pub placed_value-requires-2-clause-shown : goal.placed_value-requires-2-clause-shown
-placed_value-requires-2-clause-shown c = rw c.requesters.ensures (requesters-ascii _ c.know_soundness.ensures)
+placed_value-requires-2-clause-shown c = rw c.requesters.ensures (names-ascii (λ (r : Requester). r.name) IsRequester (λ e r is. is.name.named) _ c.know_soundness.ensures.demand.each_requester)
 
 pub list_value-requires-3 : goal.list_value-requires-3
-list_value-requires-3 c = rw c.semaphores.ensures (semaphores-ascii _ c.know_soundness.ensures)
+list_value-requires-3 c = rw c.semaphores.ensures (names-ascii (λ (r : Sem). r.name) IsSem (λ e r is. is.name.named) _ c.know_soundness.ensures.semaphores)
 
 pub list_if_any-requires : goal.list_if_any-requires
-list_if_any-requires c = rw c.tenants.ensures (tenants-ascii _ c.know_soundness.ensures)
+list_if_any-requires c = rw c.tenants.ensures (names-ascii (λ (r : Tenant). r.name) IsTenant (λ e r is. is.name.named) _ c.know_soundness.ensures.tenants)
 
 pub returns : goal.returns
 returns c =

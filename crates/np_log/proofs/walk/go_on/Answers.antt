@@ -1,5 +1,5 @@
-use Rattle.np_log.proofs.Prelude.{ap, arith, err_from_is_err_and, go_on, length, length-append, sym, walk_view, ℕ, ◌++◌, ◌∙◌, ◌∷◌}
-use Rattle.np_log.proofs.Walks.{fails_past, gate-open, gate-shut, go_on-closed, go_on-none, go_on-open, go_on-short, record_in-parts}
+use Rattle.np_log.proofs.Prelude.{ap, arith, err_from_is_err_and, go_on, length, sym, walk_view, ℕ, ◌∙◌, ◌∷◌}
+use Rattle.np_log.proofs.Walks.{fails_past, gate-open, gate-shut, go_on-closed, go_on-none, go_on-open, go_on-short, shorter}
 use Rattle.np_log.proofs.walk.go_on.Goals as goal
 
 pub returns-in_default-clause-walks : goal.returns-in_default-clause-walks
@@ -25,8 +25,7 @@ returns-in_err-go_past-clause-walks c =
 
 pub records-smaller : goal.records-smaller
 records-smaller c =
-    let parts = record_in-parts c.in-Some.body.now c.in-Some-record_in.payload.now c.in-Some-record_in.more.now (sym c.in-Some-record_in.ensures.parts) in
-    omega (arith, ap length c.in-Some.ensures.found, ap length parts.split, length-append parts.header (c.in-Some-record_in.payload.now ++ c.in-Some-record_in.more.now), length-append c.in-Some-record_in.payload.now c.in-Some-record_in.more.now)
+    omega (arith, ap length c.in-Some.ensures.found, shorter c.in-Some.body.now c.in-Some-record_in.payload.now c.in-Some-record_in.more.now (sym c.in-Some-record_in.ensures.parts))
 
 pub records-preserved : goal.records-preserved
 records-preserved c =

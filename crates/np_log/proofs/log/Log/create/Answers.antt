@@ -1,5 +1,5 @@
 use Rattle.np_log.proofs.Prelude.{◌∙◌}
-use Rattle.np_log.proofs.Writes.{create_content, create_moment, create_settled, create_walk}
+use Rattle.np_log.proofs.Writes.{create_content, create_moment, create_settled}
 use Rattle.np_log.proofs.log.Log.create.Goals as goal
 
 pub returns-in_err-write_first-clause-any_moment : goal.returns-in_err-write_first-clause-any_moment
@@ -19,6 +19,5 @@ returns-clause-content g c =
 
 pub returns-clause-settled : goal.returns-clause-settled
 returns-clause-settled g c =
-    create_settled (g.D.Disk.facts c.write_first.new.disk).now (g.D.Disk.facts c.write_first.new.disk).may_leave c.args.config.now
-    (create_walk (g.D.Disk.facts c.length.new.self).now (g.D.Disk.facts c.write_first.new.disk).now c.args.config.now c.deref.result.now (c.deref.ensures.value ∙ c.in_ok-record.ensures) c.in_ok-write_first.ensures.written c.requires)
-    c.in_ok-write_first.ensures.durable
+    create_settled (g.D.Disk.facts c.length.new.self).now (g.D.Disk.facts c.write_first.new.disk).now (g.D.Disk.facts c.write_first.new.disk).may_leave c.args.config.now c.deref.result.now
+    (c.deref.ensures.value ∙ c.in_ok-record.ensures) c.in_ok-write_first.ensures.written c.requires c.in_ok-write_first.ensures.durable
