@@ -351,8 +351,6 @@ Answers place kinds words f (Err UnknownEvent) = ⊥
 
 fields_from-answers : (place : ℕ) (kinds : List Kind) (words : List (List ℕ)) (f : Fields) → length words ≡ length kinds → Answers place kinds words f (fields_from place kinds words f)
 fields_from-answers place [] [] f same = record { says = λ apart. (refl, tt); kept = λ j absent. refl }
-fields_from-answers place [] (w ∷ ws) f same = absurd (omega arith)
-fields_from-answers place (k ∷ ks) [] f same = absurd (omega arith)
 fields_from-answers place (k ∷ ks) (w ∷ ws) f same = at_word (with_field k w f) refl (λ g. fields_from-answers (place + 1) ks ws g (omega arith))
   where
     more : (g : Fields) → Said k w f g → (r : Result Fields LineFault) → Answers (place + 1) ks ws g r → Answers place (k ∷ ks) (w ∷ ws) f r
@@ -371,6 +369,7 @@ fields_from-answers place (k ∷ ks) (w ∷ ws) f same = at_word (with_field k w
         → Answers place (k ∷ ks) (w ∷ ws) f (fitting (λ g. fields_from (place + 1) ks ws g) place (Some o))
     at_word None is later = (same, (zero, omega arith, λ says. with_field-unsaid k w f is says.0 says.1 says.2))
     at_word (Some g) is later = more g (with_field-told k w f g is) (fields_from (place + 1) ks ws g) (later g)
+fields_from-answers place kinds words f same = absurd (omega arith)
 
 -- with the count
 pub row_fields-answers : (kinds : List Kind) (rest : List (List ℕ)) (answer : Result Fields LineFault) → row_fields kinds rest ≡ answer → Answers 2 kinds rest blank answer

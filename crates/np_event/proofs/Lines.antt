@@ -265,8 +265,7 @@ entry_from-told : (o : Result Event LineFault) (p : Option Reply) (e : Entry) �
 entry_from-told (Ok event) (Some reply) e answer =
     let same = some_injective (record { event = event; reply = reply }) e answer in
     (ap (λ (x : Entry). Ok x.event) same, ap (λ (x : Entry). Some x.reply) same)
-entry_from-told (Ok event) None e answer = absurd (cc)
-entry_from-told (Err fault) p e answer = absurd (cc)
+entry_from-told o p e answer = absurd (cc)
 
 told_reply : (text : List ℕ) (r : Reply) → reply_in (words_of text) ≡ Some r → told r ≡ r
 told_reply text r answer =
@@ -325,8 +324,6 @@ HasEntryLine-read (Err fault) p text event reply is_event has is read = absurd (
 
 unfit-fields_from : (place : ℕ) (kinds : List Kind) (words : List (List ℕ)) (f : Fields) (k : ℕ) → IsFirstUnfit kinds words k
     → fields_from place kinds words f ≡ Err (BadArgument (k + place))
-unfit-fields_from place [] words f k unfit = absurd unfit
-unfit-fields_from place (kind ∷ kinds) [] f k unfit = absurd unfit
 unfit-fields_from place (kind ∷ kinds) (text ∷ rest) f zero unfit =
     let none = with_field-said kind text f (λ g has says. unfit (g, has, says)) in
     ap (λ o. fitting (λ more. fields_from (place + 1) kinds rest more) place (Some o)) none ∙ ap (λ n. Err (BadArgument n)) (omega arith)
@@ -335,6 +332,7 @@ unfit-fields_from place (kind ∷ kinds) (text ∷ rest) f (suc k) unfit =
     let some : with_field kind text f ≡ Some (copy kind (told_fields g) f) = ap (λ bytes. with_field kind bytes f) (sym unfit.0.2) ∙ with_field-text kind g f unfit.0.1 in
     ap (λ o. fitting (λ more. fields_from (place + 1) kinds rest more) place (Some o)) some
     ∙ unfit-fields_from (place + 1) kinds rest (copy kind (told_fields g) f) k unfit.1 ∙ ap (λ n. Err (BadArgument n)) (omega arith)
+unfit-fields_from place kinds words f k unfit = absurd unfit
 
 -- ## By a row: the count, and then the words from the left
 
@@ -454,15 +452,13 @@ undecided-count F rest decided none =
 
 -- only `open` has forms of one count that a word distinguishes
 no_role : (rest : List (List ℕ)) → IsOfNoForm (codes "open") rest → length rest ≡ 2 → row_fields (event_row EventForm.OpenLauncher).kinds rest ≡ Err (BadArgument 2)
-no_role [] none count = absurd (omega arith)
-no_role (w ∷ []) none count = absurd (omega arith)
-no_role (w ∷ x ∷ y ∷ ws) none count = absurd (omega arith)
 no_role (w ∷ x ∷ []) none count = cases (bytes_eq w (codes "launcher")) (none EventForm.OpenLauncher refl)
   where
     cases : (b : Bool) → (b && true) ≡ false
         → fitting (λ more. fields_from 3 (drop 1 (event_row EventForm.OpenLauncher).kinds) (x ∷ []) more) 2 (Some (if b then Some blank else None)) ≡ Err (BadArgument 2)
     cases true unknown = absurd (cc)
     cases false unknown = refl
+no_role rest none count = absurd (omega arith)
 
 undecided-word : (F : EventForm) (rest : List (List ℕ)) → (event_row F).decided_at ≡ None → IsOfNoForm (event_row F).head rest
     → length rest ≡ length (event_row F).kinds → row_fields (event_row (first_of F)).kinds rest ≡ Err (BadArgument 2)

@@ -4,12 +4,11 @@ unfoldable pub use Rattle.np_event.specs.EventForm.{event_forms}
 pub use Rattle.np_event.specs.Faults.{IsFirstUnfit, IsOfNoForm}
 pub use Rattle.np_event.specs.Kind.{HasWord, field_text, fixed_text, found_text, lettered, number_behind, told_ending, with_field}
 unfoldable pub use Rattle.np_event.specs.Kind.{found_of}
-pub use Rattle.np_event.specs.Line.{HasEntryLine, HasEventLine, HasReplyLine, OpensNoReaper, begins_reply, chosen, done_line, done_with, entry_from, entry_line, entry_with, event_form_of, event_line, is_agreed, is_headed, is_headed_done, is_headed_refusal, refusal_in, refusal_line, refusal_with, reply_line, told, told_entry, undecided, with_fields, with_form}
+pub use Rattle.np_event.specs.Line.{HasEntryLine, HasEventLine, HasReplyLine, OpensNoReaper, begins_reply, chosen, done_line, done_with, entry_from, entry_line, entry_with, event_form_of, event_line, is_agreed, is_headed, is_headed_done, is_headed_refusal, refusal_in, refusal_line, refusal_with, reply_line, told, told_entry, undecided, with_fields, with_form, HaveWords, fields_from, fitting, row_fields, row_line, stand, stands}
 unfoldable pub use Rattle.np_event.specs.Line.{entry_in, event_in, reply_in, sides_of}
-pub use Rattle.np_event.specs.Reading.{HaveWords, fields_from, fitting, row_fields, row_line, stand, stands}
-pub use Rattle.np_event.specs.ReplyForm.{done_fields, done_of, done_row, refusal_fields, refusal_of, refusal_row, told_found}
+pub use Rattle.np_event.specs.Lower.{EndAs, Ending, HasText, NodeState, Reason, ReasonKind, RequestState, Role, RoleKind, bar, behind, end_as_of, end_as_word, ending_of, ending_word, is_line, node_state_of, number_of, phase_of, request_of, request_state_of, ten_digits_of}
+pub use Rattle.np_event.specs.ReplyForm.{done_fields, done_of, done_row, refusal_fields, refusal_of, refusal_row, told_found, Row, blank}
 unfoldable pub use Rattle.np_event.specs.ReplyForm.{done_forms, refusal_forms}
-pub use Rattle.np_event.specs.Row.{Row, blank}
 pub use Rattle.np_event.specs.Words.{is_space, left_of, words_of}
 pub use Rattle.np_event.specs.declared.entry.Entry.{Entry}
 pub use Rattle.np_event.specs.declared.event.Event.{Event}
@@ -29,22 +28,9 @@ pub use Rattle.np_text.proofs.RequestLemmas.{request_of-spelled, request_of-text
 pub use Rattle.np_text.proofs.SectionLemmas.{behind-nil, behind_behind}
 pub use Rattle.np_text.proofs.SpellingLemmas.{model, number_of-decimal, number_of-spelled, some_injective, when_found, when_some}
 pub use Rattle.np_text.proofs.WordLemmas.{end_as_words, ending_words, node_state_words, phase_words, request_state_words}
-pub use Rattle.np_text.specs.Lines.{is_line}
-pub use Rattle.np_text.specs.Number.{number_of, ten_digits_of}
-pub use Rattle.np_text.specs.Request.{HasText, request_of}
 unfoldable pub use Rattle.np_text.specs.Request.{request_text_of}
-pub use Rattle.np_text.specs.Sections.{bar, behind}
-pub use Rattle.np_text.specs.Word.{end_as_of, end_as_word, ending_of, ending_word, node_state_of, phase_of, request_state_of}
 pub use Rattle.np_text.specs.declared.id.RequestId.{RequestId}
-pub use Rattle.np_text.specs.declared.id.Role.{Role}
-pub use Rattle.np_text.specs.declared.word.EndAs.{EndAs}
-pub use Rattle.np_text.specs.declared.word.Ending.{Ending}
-pub use Rattle.np_text.specs.declared.word.NodeState.{NodeState}
 pub use Rattle.np_text.specs.declared.word.Phase.{Phase}
-pub use Rattle.np_text.specs.declared.word.Reason.{Reason}
-pub use Rattle.np_text.specs.declared.word.ReasonKind.{ReasonKind}
-pub use Rattle.np_text.specs.declared.word.RequestState.{RequestState}
-pub use Rattle.np_text.specs.declared.word.RoleKind.{RoleKind}
 pub use Rattle.std.proofs.Common.{Bool, Err, List, None, Ok, Option, Result, Some, ap, append_assoc, arith, drop, false, get_or, length, length-append, map, not, refl, rules, subst, suc, sym, take, true, zero, ℕ, [], ◌&&◌, ◌++◌, ◌+◌, ◌<◌, ◌==◌, ◌^◌, ◌∙◌, ◌∷◌, ◌≡◌, ◌≢◌, ◌≤◌}
 pub use Rattle.std.proofs.lemmas.Bool.{and_from, and_left, and_parts, both_ways, cond-false, cond-true, cond_both, eq-eqb, eqb-false, eqb-true, false_from_ne_true, ne_eqb}
 pub use Rattle.std.proofs.lemmas.Bool.Decides.{nat_tests}

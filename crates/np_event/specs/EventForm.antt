@@ -4,14 +4,11 @@ use Rattle.np_event.specs.declared.event.Event.{Event}
 use Rattle.np_event.specs.declared.event_form.EventForm.{EventForm}
 use Rattle.np_event.specs.declared.event_form.TheConstants.{EVENT_FORMS}
 use Rattle.np_event.specs.declared.kind.Fields.{Fields}
-use Rattle.np_event.specs.Row.{Row, row, decided, blank}
-use Rattle.np_text.specs.declared.word.Reason.{Reason}
-use Rattle.np_text.specs.declared.word.ReasonKind.{ReasonKind}
-use Rattle.np_text.specs.declared.word.RoleKind.{RoleKind}
-use Rattle.np_text.specs.declared.id.Role.{Role}
+use Rattle.np_event.specs.ReplyForm.{Row, row, decided, blank}
 use Rattle.np_event.specs.declared.event.Outcome.{Outcome}
 use Rattle.np_event.specs.declared.kind.Fixed.{Fixed}
 use Rattle.np_event.specs.declared.kind.Kind.{Kind}
+use Rattle.np_event.specs.Lower.{Reason, ReasonKind, Role, RoleKind}
 
 -- the first word, and what follows it
 abbrev pub event_row : EventForm → Row

@@ -5,7 +5,7 @@ use Rattle.np_event.specs.declared.kind.Fields.{Fields}
 use Rattle.np_event.specs.declared.kind.Kind.{Kind}
 use Rattle.np_event.specs.EventForm.{event_row}
 use Rattle.np_event.specs.Kind.{HasWord, field_text}
-use Rattle.np_event.specs.Reading.{stand}
+use Rattle.np_event.specs.Line.{stand}
 
 -- the word says a value of this kind
 abbrev pub Says : Kind → List ℕ → Type 0

@@ -3,16 +3,12 @@ use Rattle.std.specs.Prelude.{◌≢◌, ℕ, ◌^◌, ◌<◌, ◌≤◌, ◌==
 use Rattle.std.specs.Fmt.{decimal}
 use Rattle.std.specs.Option.{option_map, option_or}
 use Rattle.std.specs.Str.{bytes_eq}
-use Rattle.np_text.specs.Number.{number_of}
-use Rattle.np_text.specs.Request.{HasText, request_of, request_text_of}
-use Rattle.np_text.specs.declared.limit.TheConstants.{RELATIVE_PRIORITY}
-use Rattle.np_text.specs.declared.word.Ending.{Ending}
-use Rattle.np_text.specs.Word.{end_as_of, end_as_word, ending_of, ending_word, node_state_of, node_state_word, phase_of, phase_word, reason_kind_word, request_state_of, request_state_word, role_kind_word}
 use Rattle.np_event.specs.declared.kind.TheConstants.{ATTEMPT, NUMBER, PLACE, WIDE}
 use Rattle.np_event.specs.declared.kind.Fields.{Fields}
 use Rattle.np_event.specs.declared.kind.Fixed.{Fixed}
 use Rattle.np_event.specs.declared.kind.Kind.{Kind}
 use Rattle.np_event.specs.declared.reply.Found.{Found}
+use Rattle.np_event.specs.Lower.{Ending, HasText, RELATIVE_PRIORITY, end_as_of, end_as_word, ending_of, ending_word, node_state_of, node_state_word, number_of, phase_of, phase_word, reason_kind_word, request_of, request_state_of, request_state_word, request_text_of, role_kind_word}
 
 -- ## Words of a few spellings
 

@@ -1,7 +1,6 @@
+pub mod Lower
 pub mod Words
 pub mod Kind
-pub mod Row
-pub mod Reading
 pub mod EventForm
 pub mod ReplyForm
 pub mod Line

@@ -1,15 +1,54 @@
--- The forms of replies, one row for each. A refusal's row comes after the word `refused` (own).
--- A reply also represents its form: its values do not count there.
-use Rattle.std.specs.Prelude.{List, [], ◌∷◌, codes}
-use Rattle.np_event.specs.declared.reply.Done.{Done}
+-- A form of a line: its first word, and what follows it.
+use Rattle.std.specs.Prelude.{ℕ, List, Option, Some, None, [], ◌∷◌, codes}
+use Rattle.np_event.specs.declared.kind.Fields.{Fields}
+use Rattle.np_event.specs.declared.kind.Kind.{Kind}
 use Rattle.np_event.specs.declared.reply.Found.{Found}
+use Rattle.np_event.specs.Lower.{EndAs, Ending, RequestState, NodeState}
+use Rattle.np_event.specs.declared.reply.Done.{Done}
 use Rattle.np_event.specs.declared.reply.Refusal.{Refusal}
 use Rattle.np_event.specs.declared.reply_form.TheConstants.{DONE_FORMS, REFUSAL_FORMS}
-use Rattle.np_event.specs.declared.kind.Fields.{Fields}
-use Rattle.np_event.specs.Row.{Row, row, blank}
-use Rattle.np_text.specs.declared.word.RequestState.{RequestState}
-use Rattle.np_text.specs.declared.word.NodeState.{NodeState}
-use Rattle.np_event.specs.declared.kind.Kind.{Kind}
+
+-- a row of a table of forms
+pub record Row : Type 0 where
+  pub head : List ℕ
+  pub kinds : List Kind
+  -- which of the words after the first chooses among the forms of this first word, if these have
+  -- different counts of words
+  pub decided_at : Option ℕ
+
+-- the row of a first word and of kinds, which no later word chooses
+abbrev pub row : List ℕ → List Kind → Row
+row head kinds = record { head = head; kinds = kinds; decided_at = None }
+
+-- the row of a first word and of kinds, which the word at this place chooses
+abbrev pub decided : ℕ → List ℕ → List Kind → Row
+decided place head kinds = record { head = head; kinds = kinds; decided_at = Some place }
+
+-- the fields before any word is read
+abbrev pub blank : Fields
+blank = record {
+  session = record { 0 = 0 };
+  request = record { priority = 0; seq = 0 };
+  node = record { 0 = 0 };
+  job = record { 0 = 0 };
+  label = record { 0 = 0 };
+  pool = record { 0 = 0 };
+  requester = record { 0 = 0 };
+  semaphore = record { 0 = 0 };
+  attempt = 0;
+  number = 0;
+  relative = 0;
+  server = 0;
+  instances = 0;
+  cores = 0;
+  ram = 0;
+  end = EndAs.Used;
+  ending = Ending.Served;
+  found = Found.Request RequestState.Requested;
+}
+
+-- The forms of replies, one row for each. A refusal's row comes after the word `refused` (own).
+-- A reply also represents its form: its values do not count there.
 
 -- ## Done
 

@@ -159,6 +159,7 @@ impl HasRow for EventForm {
 pub(crate) fn event_of(form: EventForm, said: Fields) -> Event
     ensures { result ≡ event_of form said }
 {
+    let (session, request, node, job) = (said.session, said.request, said.node, said.job);
     match form {
         Form::Tick => Event::Tick,
         Form::OpenLauncher => Event::OpenSession {
@@ -170,145 +171,82 @@ pub(crate) fn event_of(form: EventForm, said: Fields) -> Event
         Form::OpenRequester => Event::OpenSession {
             role: Role::Requester(said.requester),
         },
-        Form::Crash => Event::Crash {
-            session: said.session,
-        },
-        Form::Expire => Event::Expire {
-            session: said.session,
-        },
-        Form::Register => Event::Register {
-            session: said.session,
-        },
-        Form::Submit => Event::Submit {
-            session: said.session,
-            job: said.job,
-        },
+        Form::Crash => Event::Crash { session },
+        Form::Expire => Event::Expire { session },
+        Form::Register => Event::Register { session },
+        Form::Submit => Event::Submit { session, job },
         Form::Revise => Event::Revise {
-            session: said.session,
-            job: said.job,
+            session,
+            job,
             relative: said.relative,
         },
         Form::MinReady => Event::MinReady {
-            session: said.session,
+            session,
             label: said.label,
         },
-        Form::LockRequest => Event::LockRequest {
-            session: said.session,
-            request: said.request,
-        },
-        Form::UnlockRequest => Event::UnlockRequest {
-            session: said.session,
-            request: said.request,
-        },
-        Form::Accept => Event::Accept {
-            session: said.session,
-            request: said.request,
-        },
+        Form::LockRequest => Event::LockRequest { session, request },
+        Form::UnlockRequest => Event::UnlockRequest { session, request },
+        Form::Accept => Event::Accept { session, request },
         Form::DeclineNoLabel => Event::Decline {
-            session: said.session,
-            request: said.request,
+            session,
+            request,
             reason: Reason::NoLabel(said.label),
         },
         Form::DeclineNeverFits => Event::Decline {
-            session: said.session,
-            request: said.request,
+            session,
+            request,
             reason: Reason::NeverFits,
         },
         Form::DeclineTenantNeverFits => Event::Decline {
-            session: said.session,
-            request: said.request,
+            session,
+            request,
             reason: Reason::TenantNeverFits,
         },
         Form::DeclineSpent => Event::Decline {
-            session: said.session,
-            request: said.request,
+            session,
+            request,
             reason: Reason::Spent(said.node),
         },
         Form::TakeReady => Event::TakeReady {
-            session: said.session,
-            request: said.request,
-            node: said.node,
+            session,
+            request,
+            node,
         },
-        Form::Create => Event::Create {
-            session: said.session,
-            request: said.request,
-        },
-        Form::Start => Event::Start {
-            session: said.session,
-            node: said.node,
-        },
+        Form::Create => Event::Create { session, request },
+        Form::Start => Event::Start { session, node },
         Form::DoneOk => Event::Done {
-            session: said.session,
-            node: said.node,
+            session,
+            node,
             attempt: said.attempt,
             outcome: Outcome::Launched(said.server),
         },
         Form::DoneFailed => Event::Done {
-            session: said.session,
-            node: said.node,
+            session,
+            node,
             attempt: said.attempt,
             outcome: Outcome::Failed,
         },
-        Form::Fulfil => Event::Fulfil {
-            session: said.session,
-            request: said.request,
-        },
-        Form::LockNode => Event::LockNode {
-            session: said.session,
-            node: said.node,
-        },
-        Form::UnlockNode => Event::UnlockNode {
-            session: said.session,
-            node: said.node,
-        },
-        Form::Acquire => Event::Acquire {
-            session: said.session,
-            job: said.job,
-        },
-        Form::Take => Event::Take {
-            session: said.session,
-            job: said.job,
-        },
+        Form::Fulfil => Event::Fulfil { session, request },
+        Form::LockNode => Event::LockNode { session, node },
+        Form::UnlockNode => Event::UnlockNode { session, node },
+        Form::Acquire => Event::Acquire { session, job },
+        Form::Take => Event::Take { session, job },
         Form::EndNode => Event::EndNode {
-            session: said.session,
-            node: said.node,
+            session,
+            node,
             end: said.end,
         },
-        Form::Finish => Event::Finish {
-            session: said.session,
-            job: said.job,
-        },
-        Form::Withdraw => Event::Withdraw {
-            session: said.session,
-            job: said.job,
-        },
-        Form::Release => Event::Release {
-            session: said.session,
-            job: said.job,
-        },
-        Form::MarkDeleting => Event::MarkDeleting {
-            session: said.session,
-            node: said.node,
-        },
-        Form::Gone => Event::Gone {
-            session: said.session,
-            node: said.node,
-        },
-        Form::Reset => Event::Reset {
-            session: said.session,
-            request: said.request,
-        },
-        Form::FreeNode => Event::FreeNode {
-            session: said.session,
-            node: said.node,
-        },
-        Form::FailDeclined => Event::FailDeclined {
-            session: said.session,
-            request: said.request,
-        },
+        Form::Finish => Event::Finish { session, job },
+        Form::Withdraw => Event::Withdraw { session, job },
+        Form::Release => Event::Release { session, job },
+        Form::MarkDeleting => Event::MarkDeleting { session, node },
+        Form::Gone => Event::Gone { session, node },
+        Form::Reset => Event::Reset { session, request },
+        Form::FreeNode => Event::FreeNode { session, node },
+        Form::FailDeclined => Event::FailDeclined { session, request },
         Form::Sweep => Event::Sweep {
-            session: said.session,
-            node: said.node,
+            session,
+            node,
             server: said.server,
         },
     }
@@ -320,16 +258,12 @@ pub(crate) fn form_of(event: Event) -> EventForm
 {
     match event {
         Event::Tick => Form::Tick,
-        Event::OpenSession {
-            role: Role::Launcher(_),
-        } => Form::OpenLauncher,
-        Event::OpenSession {
-            role: Role::Janitor(_),
-        } => Form::OpenJanitor,
-        Event::OpenSession {
-            role: Role::Requester(_),
-        } => Form::OpenRequester,
-        Event::OpenSession { role: Role::Reaper } => Form::Tick,
+        Event::OpenSession { role } => match role {
+            Role::Launcher(_) => Form::OpenLauncher,
+            Role::Janitor(_) => Form::OpenJanitor,
+            Role::Requester(_) => Form::OpenRequester,
+            Role::Reaper => Form::Tick,
+        },
         Event::Crash { .. } => Form::Crash,
         Event::Expire { .. } => Form::Expire,
         Event::Register { .. } => Form::Register,
@@ -339,33 +273,19 @@ pub(crate) fn form_of(event: Event) -> EventForm
         Event::LockRequest { .. } => Form::LockRequest,
         Event::UnlockRequest { .. } => Form::UnlockRequest,
         Event::Accept { .. } => Form::Accept,
-        Event::Decline {
-            reason: Reason::NoLabel(_),
-            ..
-        } => Form::DeclineNoLabel,
-        Event::Decline {
-            reason: Reason::NeverFits,
-            ..
-        } => Form::DeclineNeverFits,
-        Event::Decline {
-            reason: Reason::TenantNeverFits,
-            ..
-        } => Form::DeclineTenantNeverFits,
-        Event::Decline {
-            reason: Reason::Spent(_),
-            ..
-        } => Form::DeclineSpent,
+        Event::Decline { reason, .. } => match reason {
+            Reason::NoLabel(_) => Form::DeclineNoLabel,
+            Reason::NeverFits => Form::DeclineNeverFits,
+            Reason::TenantNeverFits => Form::DeclineTenantNeverFits,
+            Reason::Spent(_) => Form::DeclineSpent,
+        },
         Event::TakeReady { .. } => Form::TakeReady,
         Event::Create { .. } => Form::Create,
         Event::Start { .. } => Form::Start,
-        Event::Done {
-            outcome: Outcome::Launched(_),
-            ..
-        } => Form::DoneOk,
-        Event::Done {
-            outcome: Outcome::Failed,
-            ..
-        } => Form::DoneFailed,
+        Event::Done { outcome, .. } => match outcome {
+            Outcome::Launched(_) => Form::DoneOk,
+            Outcome::Failed => Form::DoneFailed,
+        },
         Event::Fulfil { .. } => Form::Fulfil,
         Event::LockNode { .. } => Form::LockNode,
         Event::UnlockNode { .. } => Form::UnlockNode,
@@ -392,8 +312,7 @@ pub(crate) fn event_fields(event: Event) -> Fields
     match event {
         Event::Tick => {}
         Event::OpenSession { role } => match role {
-            Role::Launcher(pool) => said.pool = pool,
-            Role::Janitor(pool) => said.pool = pool,
+            Role::Launcher(pool) | Role::Janitor(pool) => said.pool = pool,
             Role::Requester(requester) => said.requester = requester,
             Role::Reaper => {}
         },
@@ -405,93 +324,64 @@ pub(crate) fn event_fields(event: Event) -> Fields
         | Event::Take { session, job }
         | Event::Finish { session, job }
         | Event::Withdraw { session, job }
-        | Event::Release { session, job } => {
-            said.session = session;
-            said.job = job;
-        }
+        | Event::Release { session, job } => (said.session, said.job) = (session, job),
         Event::Revise {
             session,
             job,
             relative,
-        } => {
-            said.session = session;
-            said.job = job;
-            said.relative = relative;
-        }
-        Event::MinReady { session, label } => {
-            said.session = session;
-            said.label = label;
-        }
+        } => (said.session, said.job, said.relative) = (session, job, relative),
+        Event::MinReady { session, label } => (said.session, said.label) = (session, label),
         Event::LockRequest { session, request }
         | Event::UnlockRequest { session, request }
         | Event::Accept { session, request }
         | Event::Create { session, request }
         | Event::Fulfil { session, request }
         | Event::Reset { session, request }
-        | Event::FailDeclined { session, request } => {
-            said.session = session;
-            said.request = request;
-        }
+        | Event::FailDeclined { session, request } => (said.session, said.request) = (
+            session, request,
+        ),
         Event::Decline {
             session,
             request,
             reason,
         } => {
-            said.session = session;
-            said.request = request;
+            (said.session, said.request) = (session, request);
             match reason {
                 Reason::NoLabel(label) => said.label = label,
                 Reason::Spent(node) => said.node = node,
-                Reason::NeverFits => {}
-                Reason::TenantNeverFits => {}
+                Reason::NeverFits | Reason::TenantNeverFits => {}
             }
         }
         Event::TakeReady {
             session,
             request,
             node,
-        } => {
-            said.session = session;
-            said.request = request;
-            said.node = node;
-        }
+        } => (said.session, said.request, said.node) = (session, request, node),
         Event::Start { session, node }
         | Event::LockNode { session, node }
         | Event::UnlockNode { session, node }
         | Event::MarkDeleting { session, node }
         | Event::Gone { session, node }
-        | Event::FreeNode { session, node } => {
-            said.session = session;
-            said.node = node;
-        }
+        | Event::FreeNode { session, node } => (said.session, said.node) = (session, node),
         Event::Done {
             session,
             node,
             attempt,
             outcome,
         } => {
-            said.session = session;
-            said.node = node;
-            said.attempt = attempt;
-            match outcome {
-                Outcome::Launched(server) => said.server = server,
-                Outcome::Failed => {}
+            (said.session, said.node, said.attempt) = (session, node, attempt);
+            if let Outcome::Launched(server) = outcome {
+                said.server = server;
             }
         }
-        Event::EndNode { session, node, end } => {
-            said.session = session;
-            said.node = node;
-            said.end = end;
-        }
+        Event::EndNode { session, node, end } => (said.session, said.node, said.end) = (
+            session, node, end,
+        ),
         Event::Sweep {
             session,
             node,
             server,
-        } => {
-            said.session = session;
-            said.node = node;
-            said.server = server;
-        }
+        } => (said.session, said.node, said.server) = (session, node, server),
     }
     said
 }

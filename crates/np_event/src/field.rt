@@ -2,14 +2,14 @@
 ghost use Rattle.std.specs.Prelude.{◌≡◌, ℕ, ◌≤◌, ◌↔◌, ◌++◌, IsTrue, IfSome, OnOk, OnErr};
 ghost use Rattle.std.specs.Io.{StartsWith};
 ghost use Rattle.std.specs.Option.{option_map};
-ghost use Rattle.np_text.specs.Word.{ending_of, node_state_of, phase_of, request_state_of};
+ghost use Rattle.np_event.specs.Lower.{ending_of, node_state_of, phase_of, request_state_of};
 ghost use Rattle.np_event.specs.declared.reply.Found.TheVariants.{Request, Node, Job};
 ghost use Rattle.np_event.specs.Kind.{HasWord, field_text, fixed_text, found_of, found_text, in_flight_of, lettered, number_behind, told_ending, with_field};
 
 use crate::Found;
 use crate::kind::{ATTEMPT, Fields, Fixed, Kind, NUMBER, PLACE, WIDE};
 use np_text::{
-    EndAs, Ending, JobId, LabelId, NoMemory, NodeId, NodeState, Phase, PoolId, RELATIVE_PRIORITY,
+    Ample, EndAs, Ending, JobId, LabelId, NodeId, NodeState, Phase, PoolId, RELATIVE_PRIORITY,
     RequestState, RequesterId, SemId, SessionId, put_number, read_number, read_request,
     request_text,
 };
@@ -87,7 +87,7 @@ fn read_u16(letter: u8, text: &[u8]) -> Option<u16>
     Some(n as u16)
 }
 
-fn put(out: &mut Vec<u8>, text: &[u8]) -> Result<(), NoMemory>
+fn put(out: &mut Vec<u8>, text: &[u8]) -> Ample
     ensures ok { OnOk result (out.new.items ≡ out.old.items ++ text.now) }
     ensures err { OnErr result (out.new.items ≡ out.old.items) }
 {
@@ -95,7 +95,7 @@ fn put(out: &mut Vec<u8>, text: &[u8]) -> Result<(), NoMemory>
     Ok(())
 }
 
-fn put_behind(out: &mut Vec<u8>, letter: u8, n: u64) -> Result<(), NoMemory>
+fn put_behind(out: &mut Vec<u8>, letter: u8, n: u64) -> Ample
     ensures ok { OnOk result (out.new.items ≡ out.old.items ++ lettered letter n) }
     ensures err { OnErr result (StartsWith out.new.items out.old.items) }
 {
@@ -137,7 +137,7 @@ pub(crate) fn with_field(kind: Kind, text: &[u8], fields: Fields) -> Option<Fiel
 }
 
 /// Appends what a line says at a place. If memory runs out, a part of it may have been appended.
-pub(crate) fn put_field(out: &mut Vec<u8>, kind: Kind, fields: &Fields) -> Result<(), NoMemory>
+pub(crate) fn put_field(out: &mut Vec<u8>, kind: Kind, fields: &Fields) -> Ample
     requires { HasWord kind fields.now }
     ensures ok { OnOk result (out.new.items ≡ out.old.items ++ field_text kind fields.now) }
     ensures err { OnErr result (StartsWith out.new.items out.old.items) }

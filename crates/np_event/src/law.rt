@@ -1,8 +1,7 @@
 //! Laws on the definitions. Nothing here runs: each function states a theorem.
 ghost use Rattle.std.specs.Prelude.{◌≡◌, ◌≢◌, ◌↔◌, ◌+◌, ◌<◌, ◌≤◌, ℕ, true, false, List, ◌∷◌, length, Ok, Err, None, Some};
 ghost use Rattle.std.specs.Str.{bytes_eq};
-ghost use Rattle.np_text.specs.Lines.{is_line};
-ghost use Rattle.np_text.specs.Sections.{bar};
+ghost use Rattle.np_event.specs.Lower.{bar, is_line};
 ghost use Rattle.np_event.specs.declared.entry.Entry.{Entry};
 ghost use Rattle.np_event.specs.declared.event.Event.{Event};
 ghost use Rattle.np_event.specs.declared.event_form.EventForm.{EventForm};
@@ -13,8 +12,7 @@ ghost use Rattle.np_event.specs.declared.reply.Reply.{Reply};
 ghost use Rattle.np_event.specs.EventForm.{event_row};
 ghost use Rattle.np_event.specs.Faults.{IsFirstUnfit, IsOfNoForm, Says};
 ghost use Rattle.np_event.specs.Kind.{with_field};
-ghost use Rattle.np_event.specs.Line.{HasEntryLine, HasEventLine, entry_in, entry_line, event_in, event_line, reply_line, told, told_entry};
-ghost use Rattle.np_event.specs.Reading.{stand};
+ghost use Rattle.np_event.specs.Line.{HasEntryLine, HasEventLine, entry_in, entry_line, event_in, event_line, reply_line, told, told_entry, stand};
 ghost use Rattle.np_event.specs.Words.{words_of};
 
 /// An event that has a line has exactly one, and no two events share one: the line reads as the

@@ -6,12 +6,7 @@ ghost use Rattle.std.specs.Option.{option_copied, option_map};
 ghost use Rattle.std.specs.Str.{bytes_eq};
 ghost use Rattle.np_event.specs.EventForm.{event_forms, event_row};
 ghost use Rattle.np_event.specs.Kind.{field_text};
-ghost use Rattle.np_event.specs.Line.{HasEntryLine, HasEventLine, HasReplyLine, OpensNoReaper};
-ghost use Rattle.np_event.specs.Line.{entry_line, event_line, reply_line};
-ghost use Rattle.np_event.specs.Line.{event_form_of, event_in, is_agreed, is_headed, undecided};
-ghost use Rattle.np_event.specs.Line.{begins_reply, done_with, entry_in, is_headed_done};
-ghost use Rattle.np_event.specs.Line.{is_headed_refusal, refusal_in, reply_in, sides_of};
-ghost use Rattle.np_event.specs.Reading.{HaveWords, row_fields, stand};
+ghost use Rattle.np_event.specs.Line.{HasEntryLine, HasEventLine, HasReplyLine, OpensNoReaper, begins_reply, done_with, entry_in, entry_line, event_form_of, event_in, event_line, is_agreed, is_headed, is_headed_done, is_headed_refusal, refusal_in, reply_in, reply_line, sides_of, undecided, HaveWords, row_fields, stand};
 ghost use Rattle.np_event.specs.ReplyForm.{done_forms, done_row, refusal_forms, refusal_row};
 ghost use Rattle.np_event.specs.Words.{left_of, words_of};
 
@@ -24,7 +19,7 @@ use crate::reply_form::{
 use crate::row::{HasRow, Row, have_words, put_kinds, read_fields, stand};
 use crate::words::{count_words, split_word};
 use crate::{Done, Entry, Event, Refusal, Reply};
-use np_text::{NoMemory, Role};
+use np_text::{Ample, Role};
 
 /// Room for any entry's line.
 const LINE_BYTES: usize = 160;
@@ -142,10 +137,8 @@ fn read_done(first: &[u8], rest: Option<&[u8]>) -> Option<Reply>
     ensures { result ≡ done_with (left_of (option_copied rest.entry)) (find (is_headed_done first.now) done_forms) }
 {
     let form = done_form_of(first)?;
-    match row_fields(form.row().kinds, rest) {
-        Ok(fields) => Some(Reply::Done(done_of(form, fields))),
-        Err(_) => None,
-    }
+    let fields = row_fields(form.row().kinds, rest).ok()?;
+    Some(Reply::Done(done_of(form, fields)))
 }
 
 fn read_refusal(words: Option<&[u8]>) -> Option<Reply>
@@ -153,10 +146,8 @@ fn read_refusal(words: Option<&[u8]>) -> Option<Reply>
 {
     let (first, rest) = split_word(words?);
     let form = refusal_form_of(first)?;
-    match row_fields(form.row().kinds, rest) {
-        Ok(fields) => Some(Reply::Refused(refusal_of(form, fields))),
-        Err(_) => None,
-    }
+    let fields = row_fields(form.row().kinds, rest).ok()?;
+    Some(Reply::Refused(refusal_of(form, fields)))
 }
 
 #[tactic(auto, unfolding(crate::specs::Line::reply_in))]
@@ -206,7 +197,7 @@ pub fn read_entry(line: &[u8]) -> Option<Entry>
     Some(Entry { event, reply })
 }
 
-fn put_row(out: &mut Vec<u8>, row: Row, fields: &Fields) -> Result<(), NoMemory>
+fn put_row(out: &mut Vec<u8>, row: Row, fields: &Fields) -> Ample
     requires { HaveWords row.kinds.now fields.now }
     ensures ok { OnOk result (out.new.items ≡ out.old.items ++ (row.head.now ++ flat_map (λ kind. 32 ∷ field_text kind fields.now) row.kinds.now)) }
     ensures err { OnErr result (StartsWith out.new.items out.old.items) }
@@ -215,7 +206,7 @@ fn put_row(out: &mut Vec<u8>, row: Row, fields: &Fields) -> Result<(), NoMemory>
     put_kinds(out, row.kinds, fields)
 }
 
-fn put_event_parts(out: &mut Vec<u8>, event: Event) -> Result<(), NoMemory>
+fn put_event_parts(out: &mut Vec<u8>, event: Event) -> Ample
     requires { HasEventLine event }
     ensures ok { OnOk result (out.new.items ≡ out.old.items ++ event_line event) }
     ensures err { OnErr result (StartsWith out.new.items out.old.items) }
@@ -223,13 +214,13 @@ fn put_event_parts(out: &mut Vec<u8>, event: Event) -> Result<(), NoMemory>
     put_row(out, form_of(event).row(), &event_fields(event))
 }
 
-fn put_reply_parts(out: &mut Vec<u8>, reply: Reply) -> Result<(), NoMemory>
+fn put_reply_parts(out: &mut Vec<u8>, reply: Reply) -> Ample
     requires { HasReplyLine reply }
     ensures ok { OnOk result (out.new.items ≡ out.old.items ++ reply_line reply) }
     ensures err { OnErr result (StartsWith out.new.items out.old.items) }
 {
     match reply {
-        Reply::Done(done) => { put_row(out, done.row(), &done_fields(done)) }
+        Reply::Done(done) => put_row(out, done.row(), &done_fields(done)),
         Reply::Refused(refusal) => {
             out.extend_from_slice(b"refused ")?;
             put_row(out, refusal.row(), &refusal_fields(refusal))
@@ -237,7 +228,7 @@ fn put_reply_parts(out: &mut Vec<u8>, reply: Reply) -> Result<(), NoMemory>
     }
 }
 
-fn put_entry_parts(out: &mut Vec<u8>, entry: Entry) -> Result<(), NoMemory>
+fn put_entry_parts(out: &mut Vec<u8>, entry: Entry) -> Ample
     requires { HasEntryLine entry }
     ensures ok { OnOk result (out.new.items ≡ out.old.items ++ entry_line entry) }
     ensures err { OnErr result (StartsWith out.new.items out.old.items) }
@@ -250,10 +241,7 @@ fn put_entry_parts(out: &mut Vec<u8>, entry: Entry) -> Result<(), NoMemory>
 fn opens_no_reaper(event: Event) -> bool
     ensures { IsTrue result ↔ OpensNoReaper event }
 {
-    match event {
-        Event::OpenSession { role: Role::Reaper } => false,
-        _ => true,
-    }
+    !matches!(event, Event::OpenSession { role: Role::Reaper })
 }
 
 /// Whether an event has a line: a reaper's session has none, nor has a request whose priority is
@@ -268,8 +256,8 @@ fn reply_has_line(reply: Reply) -> bool
     ensures { IsTrue result ↔ HasReplyLine reply }
 {
     match reply {
-        Reply::Done(done) => { have_words(done.row().kinds, done_fields(done)) }
-        Reply::Refused(refusal) => { have_words(refusal.row().kinds, refusal_fields(refusal)) }
+        Reply::Done(done) => have_words(done.row().kinds, done_fields(done)),
+        Reply::Refused(refusal) => have_words(refusal.row().kinds, refusal_fields(refusal)),
     }
 }
 
@@ -282,7 +270,7 @@ pub fn entry_has_line(entry: Entry) -> bool
 }
 
 /// Appends an event's line, without a newline.
-pub fn put_event(out: &mut Vec<u8>, event: Event) -> Result<(), NoMemory>
+pub fn put_event(out: &mut Vec<u8>, event: Event) -> Ample
     requires { HasEventLine event }
     ensures ok { OnOk result (out.new.items ≡ out.old.items ++ event_line event) }
     ensures err { OnErr result (out.new.items ≡ out.old.items) }
@@ -297,7 +285,7 @@ pub fn put_event(out: &mut Vec<u8>, event: Event) -> Result<(), NoMemory>
 }
 
 /// Appends an entry's line, without a newline. Room is made once for the whole line.
-pub fn put_entry(out: &mut Vec<u8>, entry: Entry) -> Result<(), NoMemory>
+pub fn put_entry(out: &mut Vec<u8>, entry: Entry) -> Ample
     requires { HasEntryLine entry }
     ensures ok { OnOk result (out.new.items ≡ out.old.items ++ entry_line entry) }
     ensures err { OnErr result (out.new.items ≡ out.old.items) }

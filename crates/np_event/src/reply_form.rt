@@ -4,6 +4,7 @@
 ghost use Rattle.std.specs.Prelude.{◌≡◌};
 ghost use Rattle.np_event.specs.ReplyForm.{done_of, done_fields, done_row, refusal_fields, refusal_of, refusal_row};
 
+use crate::kind::Kind::{Cores, Instances, Ram};
 use crate::kind::{BLANK, BLANK_FOUND, BLANK_REQUEST, Fields, Kind};
 use crate::row::{HasRow, Row};
 use crate::{Done, Refusal};
@@ -114,10 +115,7 @@ pub(crate) fn done_fields(done: Done) -> Fields
         Done::Session(session) => said.session = session,
         Done::Request(request) => said.request = request,
         Done::Node(node) => said.node = node,
-        Done::Started { attempt, start } => {
-            said.attempt = attempt;
-            said.number = start;
-        }
+        Done::Started { attempt, start } => (said.attempt, said.number) = (attempt, start),
         Done::Queued { ahead } => said.number = ahead,
         Done::Ended(ending) => said.ending = ending,
         _ => {}
@@ -149,10 +147,7 @@ impl HasRow for Refusal {
             Refusal::FalseReason => Row::of(b"false-reason", &[]),
             Refusal::NoLabel(_) => Row::of(b"no-label", &[Kind::Label]),
             Refusal::NeverFits => Row::of(b"never-fits", &[]),
-            Refusal::QuotaShort { .. } => Row::of(
-                b"quota-short",
-                &[Kind::Instances, Kind::Cores, Kind::Ram],
-            ),
+            Refusal::QuotaShort { .. } => Row::of(b"quota-short", &[Instances, Cores, Ram]),
             Refusal::Allocated(_) => Row::of(b"allocated", &[Kind::Request]),
             Refusal::WrongAttempt(_) => Row::of(b"wrong-attempt", &[Kind::Attempt]),
             Refusal::NotAll(_) => Row::of(b"not-all", &[Kind::Number]),
@@ -161,10 +156,7 @@ impl HasRow for Refusal {
             Refusal::Enough(_) => Row::of(b"enough", &[Kind::Number]),
             Refusal::Spent => Row::of(b"spent", &[]),
             Refusal::Full => Row::of(b"full", &[]),
-            Refusal::TenantShort { .. } => Row::of(
-                b"tenant-short",
-                &[Kind::Instances, Kind::Cores, Kind::Ram],
-            ),
+            Refusal::TenantShort { .. } => Row::of(b"tenant-short", &[Instances, Cores, Ram]),
             Refusal::TenantNeverFits => Row::of(b"tenant-never-fits", &[]),
         }
     }
@@ -224,11 +216,7 @@ pub(crate) fn refusal_fields(refusal: Refusal) -> Fields
             instances,
             cores,
             ram,
-        } => {
-            said.instances = instances;
-            said.cores = cores;
-            said.ram = ram;
-        }
+        } => (said.instances, said.cores, said.ram) = (instances, cores, ram),
         _ => {}
     }
     said

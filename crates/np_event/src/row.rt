@@ -4,15 +4,15 @@ ghost use Rattle.std.specs.Io.{StartsWith};
 ghost use Rattle.std.specs.List.{flat_map};
 ghost use Rattle.std.specs.Option.{option_copied};
 ghost use Rattle.np_event.specs.Kind.{HasWord, field_text};
-ghost use Rattle.np_event.specs.Reading.{HaveWords, fields_from, stand, stands};
-ghost use Rattle.np_event.specs.Row.{Row as SpecRow, blank};
+ghost use Rattle.np_event.specs.Line.{HaveWords, fields_from, stand, stands};
+ghost use Rattle.np_event.specs.ReplyForm.{Row as SpecRow, blank};
 ghost use Rattle.np_event.specs.Words.{left_of};
 
 use crate::fault::LineFault;
 use crate::field::{fixed_text, has_word, put_field, with_field};
 use crate::kind::{BLANK, Fields, Kind};
 use crate::words::next_word;
-use np_text::NoMemory;
+use np_text::Ample;
 
 /// A form of a line: its first word, and what follows it.
 #[derive(Clone, Copy)]
@@ -120,7 +120,7 @@ pub(crate) fn read_fields(kinds: &[Kind], words: Option<&[u8]>) -> Result<Fields
 }
 
 /// Appends a space and what a line says, for each kind.
-pub(crate) fn put_kinds(out: &mut Vec<u8>, kinds: &[Kind], fields: &Fields) -> Result<(), NoMemory>
+pub(crate) fn put_kinds(out: &mut Vec<u8>, kinds: &[Kind], fields: &Fields) -> Ample
     requires { HaveWords kinds.now fields.now }
     ensures ok { OnOk result (out.new.items ≡ out.old.items ++ flat_map (λ kind. 32 ∷ field_text kind fields.now) kinds.now) }
     ensures err { OnErr result (StartsWith out.new.items out.old.items) }

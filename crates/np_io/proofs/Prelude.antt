@@ -1,9 +1,7 @@
 -- The names from elsewhere that the proofs cite, passed on from one place. Declares nothing.
-pub use Rattle.np_io.specs.Bytes.{Appends, Takes}
-pub use Rattle.np_io.specs.Counts.{Rose, counted}
-pub use Rattle.np_io.specs.Disk.{AfterTornWrite, DiskFacts, Elapses, IsDisk, LeavesOnly, Only, Reads, Settles, Stays, Tears, TornWrite, put_at}
+pub use Rattle.np_io.specs.Memory.{Appends, Takes, Rose, counted}
+pub use Rattle.np_io.specs.Disk.{AfterTornWrite, DiskFacts, Elapses, IsDisk, LeavesOnly, Only, Reads, Settles, Stays, Tears, TornWrite, put_at, unknown_disk}
 pub use Rattle.np_io.specs.DiskCalls.{IsImageAt, LeftSince, images_after, images_then, left_after, left_then, now_at}
-pub use Rattle.np_io.specs.Files.{unknown_disk}
 pub use Rattle.np_io.specs.MemDisk.{facts_of}
 pub use Rattle.np_io.specs.declared.disk_calls.Call.{Call}
 pub use Rattle.np_io.specs.declared.disk_calls.Written.{Written}

@@ -1,5 +1,6 @@
 -- What contracts know of a disk with one file: what reads give, what a crash leaves, and what each call does to both.
-use Rattle.std.specs.Prelude.{◌≡◌, ◌⊎◌, ◌↔◌, ℕ, ◌+◌, ◌≤◌, max, List, ◌++◌, length, take, drop, Option, IfSome}
+use Rattle.std.specs.Prelude.{◌≡◌, ◌⊎◌, ◌↔◌, ℕ, ◌+◌, ◌≤◌, max, List, ◌++◌, length, take, drop, Option, IfSome, None}
+use Rattle.np_io.specs.declared.file_disk.FileDisk.{FileDisk}
 
 -- a disk at one moment (own)
 pub record DiskFacts : Type 1 where
@@ -75,3 +76,32 @@ pub record LeavesOnly (old new : DiskFacts) (P : List ℕ → Type 0) : Type 0 w
   pub each : (c : List ℕ) → new.left_since old.moment c → P c
   -- so that a run that began earlier can go on with this one
   pub before : (t : ℕ) (c : List ℕ) → t ≤ old.moment → new.left_since t c → old.left_since t c ⊎ P c
+
+-- A real file as a disk, as its contracts see it: the open file, and the count of failures.
+
+-- the open file, if there is one (own)
+abbrev pub file_of : {R F D : Type 0} → FileDisk R F D → Option F
+file_of disk = disk.file
+
+-- how many calls failed (own)
+abbrev pub file_faults : {R F D : Type 0} → FileDisk R F D → ℕ
+file_faults disk = disk.faults
+
+-- a disk of unknown content: a crash may leave anything (own)
+abbrev pub unknown_disk : ℕ → DiskFacts
+unknown_disk faults =
+    record {
+      now = None;
+      may_leave = λ c. Unit {0};
+      moment = 0;
+      left_since = λ t c. Unit {0};
+      faults = faults;
+    }
+
+-- the content of a real file is unknown
+abbrev pub file_facts : {R F D : Type 0} → FileDisk R F D → DiskFacts
+file_facts disk = unknown_disk (file_faults disk)
+
+-- a disk of unknown content is a disk
+pub file_lawful : {R F D : Type 0} (disk : FileDisk R F D) → IsDisk (file_facts disk)
+file_lawful disk = record { reads = tt; counts_now = λ t c le left. tt; only_now = λ c left. tt }

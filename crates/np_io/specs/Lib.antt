@@ -1,11 +1,6 @@
-pub mod Counts
-pub mod Bytes
 pub mod Ends
-pub mod Facts
 pub mod Memory
 pub mod Streams
 pub mod Disk
-pub mod DiskPlans
 pub mod DiskCalls
 pub mod MemDisk
-pub mod Files

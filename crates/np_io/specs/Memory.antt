@@ -1,6 +1,57 @@
+-- What a call does to the bytes that a source has left, and to those that a sink has written.
+-- `None` is a stream of unknown content, which stays unknown.
+use Rattle.std.specs.Prelude.{◌≡◌, ℕ, List, ◌++◌, Option, ◌+◌, ◌-◌, ◌^◌, ◌≤◌, min, Bool, true, length, take, ◌==◌, false, [], drop}
+use Rattle.std.specs.Option.{option_map}
+
+-- what was left begins with these bytes, and the rest is left now (own)
+abbrev pub Takes : Option (List ℕ) → Option (List ℕ) → List ℕ → Type 0
+Takes before now bytes = before ≡ option_map (λ rest. bytes ++ rest) now
+
+-- what was written stays, and these bytes come after it (own)
+abbrev pub Appends : Option (List ℕ) → Option (List ℕ) → List ℕ → Type 0
+Appends before now bytes = now ≡ option_map (λ written. written ++ bytes) before
+
+-- Counts of faults and of calls.
+
+-- the count after one more, which stops at the end of `u64` (own)
+abbrev pub counted : ℕ → ℕ
+counted before = min (before + 1) (2 ^ 64 - 1)
+
+-- a count rose; one at the end of `u64` is taken as risen (own)
+abbrev pub Rose : ℕ → ℕ → Type 0
+Rose before now = counted before ≤ now
+
+-- What contracts know of a stream.
+
+-- a source (own)
+pub record SourceFacts : Type 0 where
+  -- the bytes still to come, if they are known
+  pub left : Option (List ℕ)
+  -- how many reads failed; it never falls
+  pub faults : ℕ
+  -- the last read that succeeded returned no byte
+  pub at_end : Bool
+
+-- a sink (own)
+pub record SinkFacts : Type 0 where
+  -- the bytes written so far, if they are known
+  pub written : Option (List ℕ)
+  -- how many calls failed; it never falls
+  pub faults : ℕ
+  -- `finish` succeeded, and nothing was written after it
+  pub finished : Bool
+
+-- all of these bytes were written, and the sink was finished after them (own)
+pub record IsWritten (before now : SinkFacts) (bytes : List ℕ) : Type 0 where
+  pub all : Appends before.written now.written bytes
+  pub finished : now.finished ≡ true
+
+-- a call of the sink failed: a prefix of these bytes was written, and no more (own)
+pub record IsCutShort (before now : SinkFacts) (bytes : List ℕ) : Type 0 where
+  pub failed : Rose before.faults now.faults
+  pub part : (n : ℕ) × (n ≤ length bytes) × Appends before.written now.written (take n bytes)
+
 -- The source and the sink in memory, as their contracts see them.
-use Rattle.std.specs.Prelude.{ℕ, ◌==◌, Bool, true, false, List, [], ◌++◌, drop}
-use Rattle.np_io.specs.Counts.{counted}
 
 -- a source in memory (own)
 pub record Input : Type 0 where

@@ -1,7 +1,7 @@
 //! The calls of a stream in memory, and which of them fail.
 
 ghost use Rattle.std.specs.Prelude.{◌≡◌, ◌↔◌, IsTrue, Contains};
-ghost use Rattle.np_io.specs.Counts.{counted};
+ghost use Rattle.np_io.specs.Memory.{counted};
 
 /// The calls so far, and the plan of those that fail.
 #[derive(Drop)]

@@ -2,7 +2,7 @@
 
 ghost use Rattle.std.specs.Prelude.{◌≡◌, ◌≤◌, ◌<◌, length, take, IfOk, IfSome, OnOk, OnErr};
 ghost use Rattle.std.specs.Option.{option_map};
-ghost use Rattle.np_io.specs.Counts.{Rose};
+ghost use Rattle.np_io.specs.Memory.{Rose};
 ghost use Rattle.np_io.specs.Disk.{DiskFacts, IsDisk, Only, Reads, Settles, Stays, Tears, put_at};
 
 /// A call of a disk failed. The disk's count of faults rose.

@@ -5,7 +5,7 @@
 //! `open_file` succeeds while no file is open.
 
 ghost use Rattle.std.specs.Prelude.{◌≡◌, ◌≤◌, ◌<◌, None, length, is_ok, if◌then◌else◌, IsErr, IsSome, IfOk, OnOk, OnErr};
-ghost use Rattle.np_io.specs.Counts.{counted};
+ghost use Rattle.np_io.specs.Memory.{counted};
 
 use crate::disk::{Disk, DiskFailed};
 use std::fs::{Files, OpenFile, OpenOptions};
@@ -76,7 +76,7 @@ fn write_whole<F: Write + Seek>(file: &mut F, at: u64, bytes: &[u8]) -> io::Resu
 }
 
 impl<'a, R: Files> FileDisk<'a, R> {
-    ghost use Rattle.np_io.specs.Files.{file_of, file_faults};
+    ghost use Rattle.np_io.specs.Disk.{file_of, file_faults};
 
     /// A disk that has no file open. It opens its file by `files`.
     pub fn new(files: &'a R) -> FileDisk<'a, R>
@@ -102,7 +102,7 @@ impl<'a, R: Files> FileDisk<'a, R> {
 }
 
 impl<'a, R: Files> Disk for FileDisk<'a, R> {
-    ghost use Rattle.np_io.specs.Files.{file_of, file_faults, file_facts, file_lawful};
+    ghost use Rattle.np_io.specs.Disk.{file_of, file_faults, file_facts, file_lawful};
 
     ghost facts = { file_facts };
 

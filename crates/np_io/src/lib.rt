@@ -2,8 +2,8 @@
 //!
 //! Sources and sinks of bytes are read and written as a whole. `Source` and `Sink` are the traits.
 //! `MemSource` and `MemSink` keep their bytes in memory and fail at planned calls; `StdSource` and
-//! `StdSink` are adapters over the real streams, and the trusted edge. Read `specs/Counts`,
-//! `specs/Bytes`, `specs/Ends` and `specs/Facts` first, then `source`, `sink`, `whole`.
+//! `StdSink` are adapters over the real streams, and the trusted edge. Read `specs/Memory`
+//! and `specs/Ends` first, then `source`, `sink`, `whole`.
 //!
 //! A stream counts its faults, and a fault is answered only if that count rose in the call. The
 //! stream then has its bytes as before: none is lost and none is added. A source is at its end only

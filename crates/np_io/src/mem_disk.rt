@@ -5,7 +5,7 @@ ghost use Rattle.std.specs.Option.{option_map};
 ghost use Rattle.np_io.specs.DiskCalls.{now_at};
 ghost use Rattle.np_io.specs.Disk.{Only, Reads, Settles, Stays, Tears, put_at};
 ghost use Rattle.np_io.specs.MemDisk.{image_by, mem_facts, mem_lawful, plan_of};
-ghost use Rattle.np_io.specs.DiskPlans.{Stops, after_call};
+ghost use Rattle.np_io.specs.Streams.{Stops, after_call};
 
 use crate::disk::{Disk, DiskFailed};
 use crate::disk_calls::{Call, image_after, keep, keep_write, put_at};

@@ -1,8 +1,7 @@
 //! A sink in memory.
 
 ghost use Rattle.std.specs.Prelude.{◌≡◌, ◌≤◌, ◌<◌, ◌↔◌, Some, length, take, min, Contains, IsErr, IfOk, OnOk, OnErr};
-ghost use Rattle.np_io.specs.Counts.{counted};
-ghost use Rattle.np_io.specs.Memory.{empty_output, after_write, after_finish, after_failed_call};
+ghost use Rattle.np_io.specs.Memory.{counted, empty_output, after_write, after_finish, after_failed_call};
 
 use crate::calls::Calls;
 use crate::sink::{Sink, WriteFailed};

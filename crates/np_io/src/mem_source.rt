@@ -1,8 +1,7 @@
 //! A source in memory.
 
 ghost use Rattle.std.specs.Prelude.{◌≡◌, ◌≤◌, ◌<◌, ◌↔◌, [], ◌++◌, Some, length, take, drop, min, Contains, IsErr, IfOk, OnErr};
-ghost use Rattle.np_io.specs.Counts.{counted};
-ghost use Rattle.np_io.specs.Memory.{input_of, after_read, after_failed_read};
+ghost use Rattle.np_io.specs.Memory.{counted, input_of, after_read, after_failed_read};
 
 use crate::calls::Calls;
 use crate::source::{ReadFailed, Source};

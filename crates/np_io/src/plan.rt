@@ -1,8 +1,8 @@
 //! The calls of a disk in memory, and from which on they fail.
 
 ghost use Rattle.std.specs.Prelude.{◌≡◌, ◌≤◌, ◌↔◌, IsTrue};
-ghost use Rattle.np_io.specs.Counts.{counted};
-ghost use Rattle.np_io.specs.DiskPlans.{Stops, after_count};
+ghost use Rattle.np_io.specs.Memory.{counted};
+ghost use Rattle.np_io.specs.Streams.{Stops, after_count};
 
 use crate::disk::DiskFailed;
 
@@ -34,10 +34,7 @@ impl Plan {
         ensures counts { self.new ≡ after_count self.old }
     {
         self.made = self.made.saturating_add(1);
-        match self.stop_at {
-            Some(stop) => u64::from(stop) <= self.made,
-            None => false,
-        }
+        matches!(self.stop_at, Some(stop) if u64::from(stop) <= self.made)
     }
 
     /// Counts a fault, and answers it.

@@ -1,10 +1,8 @@
 //! What bytes are written to.
 
 ghost use Rattle.std.specs.Prelude.{◌≡◌, ◌≤◌, ◌<◌, ℕ, Bool, List, length, take, Option, IfOk, OnErr};
-ghost use Rattle.np_io.specs.Bytes.{Appends};
-ghost use Rattle.np_io.specs.Counts.{Rose};
+ghost use Rattle.np_io.specs.Memory.{Appends, Rose, SinkFacts};
 ghost use Rattle.np_io.specs.Ends.{opened_by, finished_by};
-ghost use Rattle.np_io.specs.Facts.{SinkFacts};
 
 /// A call of a sink failed. The sink's count of faults rose, and the call wrote no byte.
 #[derive(Clone, Copy, Debug, PartialEq, Eq)]

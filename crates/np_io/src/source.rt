@@ -1,10 +1,8 @@
 //! What bytes are read from.
 
 ghost use Rattle.std.specs.Prelude.{◌≡◌, ◌≤◌, ◌<◌, ◌↔◌, ℕ, Bool, List, [], length, take, Option, IfOk, IfSome, OnErr};
-ghost use Rattle.np_io.specs.Bytes.{Takes};
-ghost use Rattle.np_io.specs.Counts.{Rose};
+ghost use Rattle.np_io.specs.Memory.{Takes, Rose, SourceFacts};
 ghost use Rattle.np_io.specs.Ends.{ended_by};
-ghost use Rattle.np_io.specs.Facts.{SourceFacts};
 
 /// A read failed. The source's count of faults rose, and it has the same bytes left as before.
 #[derive(Clone, Copy, Debug, PartialEq, Eq)]

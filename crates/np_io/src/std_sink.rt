@@ -6,7 +6,7 @@
 
 ghost use Rattle.std.specs.Prelude.{◌≡◌, ◌≤◌, ◌<◌, length, is_ok, if◌then◌else◌, IfOk, false};
 ghost use Rattle.std.specs.Io.KnownBytes.{WriteAppends, Keeps};
-ghost use Rattle.np_io.specs.Counts.{counted};
+ghost use Rattle.np_io.specs.Memory.{counted};
 ghost use Rattle.np_io.specs.Ends.{opened_by, finished_by};
 
 use crate::sink::{Sink, WriteFailed};

@@ -5,7 +5,7 @@
 
 ghost use Rattle.std.specs.Prelude.{◌≡◌, ◌≤◌, ◌<◌, length, is_ok, if◌then◌else◌, IfOk, false};
 ghost use Rattle.std.specs.Io.KnownBytes.{ReadConsumes};
-ghost use Rattle.np_io.specs.Counts.{counted};
+ghost use Rattle.np_io.specs.Memory.{counted};
 ghost use Rattle.np_io.specs.Ends.{ended_by};
 
 use crate::source::{ReadFailed, Source};

@@ -1,9 +1,7 @@
 //! Reading to the end, and writing all.
 
 ghost use Rattle.std.specs.Prelude.{◌≡◌, ◌+◌, ◌≤◌, ◌<◌, ℕ, true, List, [], Some, length, take, drop, IfOk, IfSome, OnOk, OnErr, IsErrOf, vec_len};
-ghost use Rattle.np_io.specs.Bytes.{Takes};
-ghost use Rattle.np_io.specs.Counts.{Rose};
-ghost use Rattle.np_io.specs.Facts.{IsWritten, IsCutShort};
+ghost use Rattle.np_io.specs.Memory.{Takes, Rose, IsWritten, IsCutShort};
 
 use crate::sink::{Sink, WriteFailed};
 use crate::source::{ReadFailed, Source};

@@ -2,7 +2,7 @@
 
 ghost use Rattle.std.specs.Prelude.{◌≡◌, ◌≤◌, ◌^◌, length, take, drop, IfOk, IfSome, OnOk, OnErr};
 ghost use Rattle.std.specs.Option.{option_map};
-ghost use Rattle.np_io.specs.Counts.{Rose};
+ghost use Rattle.np_io.specs.Memory.{Rose};
 ghost use Rattle.np_io.specs.Disk.{LeavesOnly, Only, Stays, AfterTornWrite, put_at};
 
 use crate::disk::{Disk, DiskFailed};

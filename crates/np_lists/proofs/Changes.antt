@@ -1,6 +1,6 @@
 -- what stays true of a list and its members when members are changed, put in, taken out or left out
-use Rattle.np_lists.proofs.Prelude.{All, All-cons, All-head, All-nil, All-tail, AllByRecursion, AllWithin, Bool, EachAfter, IsPartitionPoint, List, None, NonePass, Option, Rises, Some, ap, append-nil, append_assoc, arith, cases_lt, change_at, change_first, cond, drop, false, filter, find, get_or, get_or_from_slice_get, inl, inr, insert, insert_before, length, length-filter_more, list_any, map, nat_tests, not, option_map, or_right, prefix_len, refl, remove, remove_first, slice_get, slice_get_past, slice_get_within, slice_set, subst, suc, sym, take, take_all, true, zero, ℕ, [], ◌&&◌, ◌++◌, ◌+◌, ◌-◌, ◌<◌, ◌==◌, ◌||◌, ◌∙◌, ◌∷◌, ◌≡◌, ◌≢◌, ◌≤◌, ◌⊎◌}
-use Rattle.np_lists.proofs.Plain.{or_swap, less-by, rest-by}
+use Rattle.np_lists.proofs.Prelude.{All, All-cons, All-head, All-nil, All-tail, AllByRecursion, AllWithin, Bool, EachAfter, IsPartitionPoint, List, None, NonePass, Option, Rises, Some, ap, append-nil, append_assoc, arith, change_at, change_first, cond, drop, false, filter, find, get_or, get_or_from_slice_get, insert, insert_before, length, length-filter_more, list_any, map, nat_tests, not, option_map, prefix_len, refl, remove, remove_first, slice_get, slice_get-get_or, slice_get_past, slice_get_within, slice_set, subst, suc, sym, take, take_all, true, zero, ℕ, [], ◌&&◌, ◌++◌, ◌+◌, ◌-◌, ◌<◌, ◌==◌, ◌||◌, ◌∙◌, ◌∷◌, ◌≡◌, ◌≢◌, ◌≤◌}
+use Rattle.np_lists.proofs.Plain.{by_bool}
 
 -- # what a change of one member is, and what it leaves of a list
 
@@ -21,28 +21,24 @@ slice_get-change_at (suc i) f (x ∷ xs) = slice_get-change_at i f xs
 pub slice_get-change_at_other : {X : Type 0} (i j : ℕ) (f : X → X) (xs : List X) → j ≢ i → slice_get (change_at i f xs) j ≡ slice_get xs j
 slice_get-change_at_other i j f [] other = refl
 slice_get-change_at_other zero zero f (x ∷ xs) other = absurd (other refl)
-slice_get-change_at_other zero (suc j) f (x ∷ xs) other = refl
-slice_get-change_at_other (suc i) zero f (x ∷ xs) other = refl
 slice_get-change_at_other (suc i) (suc j) f (x ∷ xs) other = slice_get-change_at_other i j f xs (λ same. other (ap suc same))
+slice_get-change_at_other i j f (x ∷ xs) other = refl
 
 -- a measure that the change keeps is the same at each place
 pub kept-change_at : {X Y : Type 0} (measure : Option X → Y) (i j : ℕ) (f : X → X) (xs : List X) → ((x : X) → measure (Some (f x)) ≡ measure (Some x)) → measure (slice_get (change_at i f xs) j) ≡ measure (slice_get xs j)
 kept-change_at measure i j f [] keeps = refl
 kept-change_at measure zero zero f (x ∷ xs) keeps = keeps x
-kept-change_at measure zero (suc j) f (x ∷ xs) keeps = refl
-kept-change_at measure (suc i) zero f (x ∷ xs) keeps = refl
 kept-change_at measure (suc i) (suc j) f (x ∷ xs) keeps = kept-change_at measure i j f xs keeps
+kept-change_at measure i j f (x ∷ xs) keeps = refl
 
 -- ## a change of the first that passes
-
-same_cases : {X : Type 0} (f g : X → X) (x : X) (xs ys zs : List X) (later : Option X) (b : Bool) → ((e : X) → cond b (Some x) later ≡ Some e → f e ≡ g e) → (((e : X) → later ≡ Some e → f e ≡ g e) → ys ≡ zs) → cond b (f x ∷ xs) (x ∷ ys) ≡ cond b (g x ∷ xs) (x ∷ zs)
-same_cases f g x xs ys zs later true here there = ap (λ t. t ∷ xs) (here x refl)
-same_cases f g x xs ys zs later false here there = ap (λ t. x ∷ t) (there here)
 
 -- two changes that agree on the member found
 pub change_first-same : {X : Type 0} (p : X → Bool) (f g : X → X) (xs : List X) → ((e : X) → find p xs ≡ Some e → f e ≡ g e) → change_first p f xs ≡ change_first p g xs
 change_first-same p f g [] same = refl
-change_first-same p f g (x ∷ xs) same = same_cases f g x xs (change_first p f xs) (change_first p g xs) (find p xs) (p x) same (λ later. change_first-same p f g xs later)
+change_first-same p f g (x ∷ xs) same =
+    by_bool (λ b. ((e : _) → cond b (Some x) (find p xs) ≡ Some e → f e ≡ g e) → cond b (f x ∷ xs) (x ∷ change_first p f xs) ≡ cond b (g x ∷ xs) (x ∷ change_first p g xs)) (p x)
+    (λ _ here. ap (λ y. y ∷ xs) (here x refl)) (λ _ there. ap (λ ys. x ∷ ys) (change_first-same p f g xs there)) same
 
 -- at each place a member that a measure can't tell from the one that was there
 pub record AtKept {X Y : Type 0} (measure : X → Y) (xs : List X) (i : ℕ) (x : X) : Type 0 where
@@ -51,15 +47,14 @@ pub record AtKept {X Y : Type 0} (measure : X → Y) (xs : List X) (i : ℕ) (x 
   pub same : measure member ≡ measure x
 
 module _ {X Y : Type 0} (measure : X → Y) (p : X → Bool) (f : X → X) (kept : (x : X) → measure (f x) ≡ measure x) where
-  kept-by : (b : Bool) (y : X) (xs : List X) (i : ℕ) (x : X) → slice_get (y ∷ xs) i ≡ Some x → ((j : ℕ) → slice_get xs j ≡ Some x → AtKept measure (change_first p f xs) j x) → AtKept measure (cond b (f y ∷ xs) (y ∷ change_first p f xs)) i x
-  kept-by true y xs zero x there later = record { member = f y; there = refl; same = kept y ∙ ap measure (let same : y ≡ x = cc in same) }
-  kept-by true y xs (suc i) x there later = record { member = x; there = there; same = refl }
-  kept-by false y xs zero x there later = record { member = y; there = refl; same = ap measure (let same : y ≡ x = cc in same) }
-  kept-by false y xs (suc i) x there later = let found = later i there in record { member = found.member; there = found.there; same = found.same }
-
   pub slice_get-change_first : (xs : List X) (i : ℕ) (x : X) → slice_get xs i ≡ Some x → AtKept measure (change_first p f xs) i x
   slice_get-change_first [] i x there = absurd cc
-  slice_get-change_first (y ∷ xs) i x there = kept-by (p y) y xs i x there (λ j at. slice_get-change_first xs j x at)
+  slice_get-change_first (y ∷ xs) zero x there =
+      let here : measure y ≡ measure x = ap measure (let same : y ≡ x = cc in same) in
+      by_bool (λ b. AtKept measure (cond b (f y ∷ xs) (y ∷ change_first p f xs)) zero x) (p y) (λ _. record { member = f y; there = refl; same = kept y ∙ here }) (λ _. record { member = y; there = refl; same = here })
+  slice_get-change_first (y ∷ xs) (suc i) x there =
+      let found = slice_get-change_first xs i x there in
+      by_bool (λ b. AtKept measure (cond b (f y ∷ xs) (y ∷ change_first p f xs)) (suc i) x) (p y) (λ _. record { member = x; there = there; same = refl }) (λ _. record { member = found.member; there = found.there; same = found.same })
 
 -- the member at a place that is there
 pub change_at-set : {X : Type 0} (i : ℕ) (f : X → X) (xs : List X) (d : X) → i < length xs → change_at i f xs ≡ slice_set xs i (f (get_or xs i d))
@@ -69,9 +64,9 @@ change_at-set (suc i) f (x ∷ xs) d within = ap (λ t. x ∷ t) (change_at-set 
 
 -- two changes that agree on the member there
 pub change_at-same : {X : Type 0} (f g : X → X) (i : ℕ) (xs : List X) (x : X) → slice_get xs i ≡ Some x → f x ≡ g x → change_at i f xs ≡ change_at i g xs
-change_at-same f g i [] x there same = refl
-change_at-same f g zero (y ∷ xs) x there same = let is : y ≡ x = cc in rw is (ap (λ (z : _). z ∷ xs) same)
-change_at-same f g (suc i) (y ∷ xs) x there same = ap (λ (ys : List _). y ∷ ys) (change_at-same f g i xs x there same)
+change_at-same f g i xs x there same =
+    let within = slice_get_within xs i x there in
+    change_at-set i f xs x within ∙ rw (get_or_from_slice_get xs i x x there, same) refl ∙ sym (change_at-set i g xs x within)
 
 -- a change that is undone
 pub change_at-back : {X : Type 0} (f g : X → X) (i : ℕ) (xs : List X) (x : X) → slice_get xs i ≡ Some x → g (f x) ≡ x → change_at i g (change_at i f xs) ≡ xs
@@ -90,24 +85,42 @@ pub insert_before-end : {X : Type 0} (p : X → Bool) (new : X) (xs : List X) �
 insert_before-end p new [] none = refl
 insert_before-end p new (x ∷ xs) none = rw (none.0) (ap (λ t. x ∷ t) (insert_before-end p new xs none.1))
 
-absent_cases : {X : Type 0} (f : X → X) (x : X) (xs ys : List X) (later : Option X) (b : Bool) → cond b (Some x) later ≡ None → (later ≡ None → ys ≡ xs) → cond b (f x ∷ xs) (x ∷ ys) ≡ x ∷ xs
-absent_cases f x xs ys later true none there = absurd cc
-absent_cases f x xs ys later false none there = ap (λ t. x ∷ t) (there none)
-
 -- if none passes, nothing changes
 pub change_first-absent : {X : Type 0} (p : X → Bool) (f : X → X) (xs : List X) → find p xs ≡ None → change_first p f xs ≡ xs
 change_first-absent p f [] none = refl
-change_first-absent p f (x ∷ xs) none = absent_cases f x xs (change_first p f xs) (find p xs) (p x) none (λ later. change_first-absent p f xs later)
-
-removed_cases : {X : Type 0} (x : X) (xs ys : List X) (later : Option X) (b : Bool) → cond b (Some x) later ≡ None → (later ≡ None → ys ≡ xs) → cond b xs (x ∷ ys) ≡ x ∷ xs
-removed_cases x xs ys later true none there = absurd cc
-removed_cases x xs ys later false none there = ap (λ t. x ∷ t) (there none)
+change_first-absent p f (x ∷ xs) none = grind (arith, change_first-absent p f xs)
 
 pub remove_first-absent : {X : Type 0} (p : X → Bool) (xs : List X) → find p xs ≡ None → remove_first p xs ≡ xs
 remove_first-absent p [] none = refl
-remove_first-absent p (x ∷ xs) none = removed_cases x xs (remove_first p xs) (find p xs) (p x) none (λ later. remove_first-absent p xs later)
+remove_first-absent p (x ∷ xs) none = grind (arith, remove_first-absent p xs)
 
 -- # what is true of each member, after a change of the list
+
+-- ## a weaker fact
+
+-- the members that pass a test, with another fact
+pub all-filter_to : {X : Type 0} (P Q : X → Type 0) (p : X → Bool) (xs : List X) → ((x : X) → p x ≡ true → P x → Q x) → AllByRecursion P xs → AllByRecursion Q (filter p xs)
+all-filter_to P Q p [] each all = tt
+all-filter_to P Q p (x ∷ xs) each all =
+    let rest = all-filter_to P Q p xs each all.1 in
+    by_bool (λ b. AllByRecursion Q (cond b (x ∷ filter p xs) (filter p xs))) (p x) (λ passes. (each x passes all.0, rest)) (λ _. rest)
+
+module _ {X : Type 0} (P Q : X → Type 0) (weaker : (x : X) → P x → Q x) where
+  pub all-weaker : (xs : List X) → AllByRecursion P xs → AllByRecursion Q xs
+  all-weaker [] all = tt
+  all-weaker (x ∷ xs) all = (weaker x all.0, all-weaker xs all.1)
+
+  -- the first that passes is changed so that the weaker fact is true of it
+  pub all-change_first_to : (p : X → Bool) (f : X → X) (xs : List X) → ((x : X) → P x → Q (f x)) → AllByRecursion P xs → AllByRecursion Q (change_first p f xs)
+  all-change_first_to p f [] new all = tt
+  all-change_first_to p f (x ∷ xs) new all =
+      by_bool (λ b. AllByRecursion Q (cond b (f x ∷ xs) (x ∷ change_first p f xs))) (p x)
+      (λ _. (new x all.0, all-weaker xs all.1)) (λ _. (weaker x all.0, all-change_first_to p f xs new all.1))
+
+  pub all-change_at_to : (i : ℕ) (f : X → X) (xs : List X) → ((x : X) → P x → Q (f x)) → AllByRecursion P xs → AllByRecursion Q (change_at i f xs)
+  all-change_at_to i f [] new all = tt
+  all-change_at_to zero f (x ∷ xs) new all = (new x all.0, all-weaker xs all.1)
+  all-change_at_to (suc i) f (x ∷ xs) new all = (weaker x all.0, all-change_at_to i f xs new all.1)
 
 -- ## one fact
 
@@ -120,21 +133,13 @@ module _ {X : Type 0} (P : X → Type 0) where
   all-map f [] each = tt
   all-map f (y ∷ ys) each = (each y, all-map f ys each)
 
-  filter_cases : (x : X) (xs : List X) (b : Bool) → P x → AllByRecursion P xs → AllByRecursion P (cond b (x ∷ xs) xs)
-  filter_cases x xs true first all = (first, all)
-  filter_cases x xs false first all = all
-
   pub all-filter : (p : X → Bool) (xs : List X) → AllByRecursion P xs → AllByRecursion P (filter p xs)
-  all-filter p [] all = tt
-  all-filter p (x ∷ xs) all = filter_cases x (filter p xs) (p x) all.0 (all-filter p xs all.1)
-
-  find_cases : (y x : X) (later : Option X) (b : Bool) → P y → (later ≡ Some x → P x) → cond b (Some y) later ≡ Some x → P x
-  find_cases y x later true here there e = let same : y ≡ x = cc in subst P same here
-  find_cases y x later false here there e = there e
+  all-filter p xs all = all-filter_to P P p xs (λ x _ here. here) all
 
   pub all-find : (p : X → Bool) (xs : List X) (x : X) → AllByRecursion P xs → find p xs ≡ Some x → P x
   all-find p [] x all e = cc
-  all-find p (y ∷ xs) x all e = find_cases y x (find p xs) (p y) all.0 (all-find p xs x all.1) e
+  all-find p (y ∷ xs) x all e =
+      by_bool (λ b. cond b (Some y) (find p xs) ≡ Some x → P x) (p y) (λ _ here. let same : y ≡ x = cc in subst P same all.0) (λ _ later. all-find p xs x all.1 later) e
 
   pub all-at : (xs : List X) (i : ℕ) (x : X) → AllByRecursion P xs → slice_get xs i ≡ Some x → P x
   all-at [] i x all e = cc
@@ -146,14 +151,11 @@ module _ {X : Type 0} (P : X → Type 0) where
   all-from_at (x ∷ xs) each = (each 0 x refl, all-from_at xs (λ i y is. each (suc i) y is))
 
   pub all-get_or : (xs : List X) (i : ℕ) (d : X) → AllByRecursion P xs → i < length xs → P (get_or xs i d)
-  all-get_or [] i d all within = absurd (omega arith)
-  all-get_or (x ∷ xs) zero d all within = all.0
-  all-get_or (x ∷ xs) (suc i) d all within = all-get_or xs i d all.1 (omega arith)
+  all-get_or xs i d all within = all-at xs i (get_or xs i d) all (slice_get-get_or xs i d within)
 
   pub all-insert : (new : X) (xs : List X) (i : ℕ) → P new → AllByRecursion P xs → AllByRecursion P (insert xs i new)
-  all-insert new [] zero at_new all = (at_new, tt)
+  all-insert new xs zero at_new all = (at_new, all)
   all-insert new [] (suc i) at_new all = (at_new, tt)
-  all-insert new (x ∷ xs) zero at_new all = (at_new, all)
   all-insert new (x ∷ xs) (suc i) at_new all = (all.0, all-insert new xs i at_new all.1)
 
   pub all-remove : (xs : List X) (i : ℕ) → AllByRecursion P xs → AllByRecursion P (remove xs i)
@@ -162,21 +164,14 @@ module _ {X : Type 0} (P : X → Type 0) where
   all-remove (x ∷ xs) zero all = all.1
   all-remove (x ∷ xs) (suc i) all = (all.0, all-remove xs i all.1)
 
-  remove_cases : (x : X) (xs ys : List X) (b : Bool) → P x → AllByRecursion P xs → AllByRecursion P ys → AllByRecursion P (cond b xs (x ∷ ys))
-  remove_cases x xs ys true first all rest = all
-  remove_cases x xs ys false first all rest = (first, rest)
-
   pub all-remove_first : (p : X → Bool) (xs : List X) → AllByRecursion P xs → AllByRecursion P (remove_first p xs)
   all-remove_first p [] all = tt
-  all-remove_first p (x ∷ xs) all = remove_cases x xs (remove_first p xs) (p x) all.0 all.1 (all-remove_first p xs all.1)
-
-  insert_cases : (new x : X) (xs ys : List X) (b : Bool) → P new → P x → AllByRecursion P xs → AllByRecursion P ys → AllByRecursion P (cond b (new ∷ x ∷ xs) (x ∷ ys))
-  insert_cases new x xs ys true at_new first all rest = (at_new, (first, all))
-  insert_cases new x xs ys false at_new first all rest = (first, rest)
+  all-remove_first p (x ∷ xs) all = by_bool (λ b. AllByRecursion P (cond b xs (x ∷ remove_first p xs))) (p x) (λ _. all.1) (λ _. (all.0, all-remove_first p xs all.1))
 
   pub all-insert_before : (p : X → Bool) (new : X) (xs : List X) → P new → AllByRecursion P xs → AllByRecursion P (insert_before p new xs)
   all-insert_before p new [] at_new all = (at_new, tt)
-  all-insert_before p new (x ∷ xs) at_new all = insert_cases new x xs (insert_before p new xs) (p x) at_new all.0 all.1 (all-insert_before p new xs at_new all.1)
+  all-insert_before p new (x ∷ xs) at_new all =
+      by_bool (λ b. AllByRecursion P (cond b (new ∷ x ∷ xs) (x ∷ insert_before p new xs))) (p x) (λ _. (at_new, all)) (λ _. (all.0, all-insert_before p new xs at_new all.1))
 
   pub all-set : (xs : List X) (i : ℕ) (x : X) → P x → AllByRecursion P xs → AllByRecursion P (slice_set xs i x)
   all-set [] i x new all = tt
@@ -184,48 +179,11 @@ module _ {X : Type 0} (P : X → Type 0) where
   all-set (y ∷ xs) (suc i) x new all = (all.0, all-set xs i x new all.1)
 
   -- it stays true of a member that is changed
-  first_cases : (x y : X) (xs ys : List X) (b : Bool) → P x → P y → AllByRecursion P xs → AllByRecursion P ys → AllByRecursion P (cond b (y ∷ xs) (x ∷ ys))
-  first_cases x y xs ys true old new all rest = (new, all)
-  first_cases x y xs ys false old new all rest = (old, rest)
-
   pub all-change_first : (p : X → Bool) (f : X → X) (xs : List X) → ((x : X) → P x → P (f x)) → AllByRecursion P xs → AllByRecursion P (change_first p f xs)
-  all-change_first p f [] keeps all = tt
-  all-change_first p f (x ∷ xs) keeps all = first_cases x (f x) xs (change_first p f xs) (p x) all.0 (keeps x all.0) all.1 (all-change_first p f xs keeps all.1)
+  all-change_first p f xs keeps all = all-change_first_to P P (λ x here. here) p f xs keeps all
 
   pub all-change_at : (i : ℕ) (f : X → X) (xs : List X) → ((x : X) → P x → P (f x)) → AllByRecursion P xs → AllByRecursion P (change_at i f xs)
-  all-change_at i f [] keeps all = tt
-  all-change_at zero f (x ∷ xs) keeps all = (keeps x all.0, all.1)
-  all-change_at (suc i) f (x ∷ xs) keeps all = (all.0, all-change_at i f xs keeps all.1)
-
--- ## a weaker fact
-
-module _ {X : Type 0} (P Q : X → Type 0) (weaker : (x : X) → P x → Q x) where
-  pub all-weaker : (xs : List X) → AllByRecursion P xs → AllByRecursion Q xs
-  all-weaker [] all = tt
-  all-weaker (x ∷ xs) all = (weaker x all.0, all-weaker xs all.1)
-
-  both_cases : (x y : X) (xs ys : List X) (b : Bool) → Q x → Q y → AllByRecursion Q xs → AllByRecursion Q ys → AllByRecursion Q (cond b (y ∷ xs) (x ∷ ys))
-  both_cases x y xs ys true old new all rest = (new, all)
-  both_cases x y xs ys false old new all rest = (old, rest)
-
-  -- the first that passes is changed so that the weaker fact is true of it
-  pub all-change_first_to : (p : X → Bool) (f : X → X) (xs : List X) → ((x : X) → P x → Q (f x)) → AllByRecursion P xs → AllByRecursion Q (change_first p f xs)
-  all-change_first_to p f [] new all = tt
-  all-change_first_to p f (x ∷ xs) new all = both_cases x (f x) xs (change_first p f xs) (p x) (weaker x all.0) (new x all.0) (all-weaker xs all.1) (all-change_first_to p f xs new all.1)
-
-  pub all-change_at_to : (i : ℕ) (f : X → X) (xs : List X) → ((x : X) → P x → Q (f x)) → AllByRecursion P xs → AllByRecursion Q (change_at i f xs)
-  all-change_at_to i f [] new all = tt
-  all-change_at_to zero f (x ∷ xs) new all = (new x all.0, all-weaker xs all.1)
-  all-change_at_to (suc i) f (x ∷ xs) new all = (weaker x all.0, all-change_at_to i f xs new all.1)
-
--- the members that pass a test, with another fact
-filter_to-by : {X : Type 0} (Q : X → Type 0) (x : X) (xs : List X) (b : Bool) → (b ≡ true → Q x) → AllByRecursion Q xs → AllByRecursion Q (cond b (x ∷ xs) xs)
-filter_to-by Q x xs true first all = (first refl, all)
-filter_to-by Q x xs false first all = all
-
-pub all-filter_to : {X : Type 0} (P Q : X → Type 0) (p : X → Bool) (xs : List X) → ((x : X) → p x ≡ true → P x → Q x) → AllByRecursion P xs → AllByRecursion Q (filter p xs)
-all-filter_to P Q p [] each all = tt
-all-filter_to P Q p (x ∷ xs) each all = filter_to-by Q x (filter p xs) (p x) (λ passes. each x passes all.0) (all-filter_to P Q p xs each all.1)
+  all-change_at i f xs keeps all = all-change_at_to P P (λ x here. here) i f xs keeps all
 
 -- each member is changed so that another fact is true of it
 pub all-mapped : {X Y : Type 0} (P : X → Type 0) (Q : Y → Type 0) (f : X → Y) (xs : List X) → ((x : X) → P x → Q (f x)) → AllByRecursion P xs → AllByRecursion Q (map f xs)
@@ -253,17 +211,15 @@ length-insert_before p new (x ∷ xs) = grind (arith, nat_tests, length-insert_b
 -- # rows of which each may follow those before it
 
 module _ {T : Type 0} (P : List T → T → Type 0) where
-  -- one row more
-  pub EachAfter-push : (earlier xs : List T) (x : T) → EachAfter P earlier xs → P (earlier ++ xs) x → EachAfter P earlier (xs ++ x ∷ [])
-  EachAfter-push earlier [] x each last = (subst (λ (e : List T). P e x) (append-nil earlier) last, tt)
-  EachAfter-push earlier (y ∷ xs) x each last =
-      (each.0, EachAfter-push (earlier ++ y ∷ []) xs x each.1 (subst (λ (e : List T). P e x) (sym (append_assoc earlier (y ∷ []) xs)) last))
-
   -- rows after rows
   pub EachAfter-append : (earlier xs ys : List T) → EachAfter P earlier xs → EachAfter P (earlier ++ xs) ys → EachAfter P earlier (xs ++ ys)
   EachAfter-append earlier [] ys each more = subst (λ (e : List T). EachAfter P e ys) (append-nil earlier) more
   EachAfter-append earlier (x ∷ xs) ys each more =
       (each.0, EachAfter-append (earlier ++ x ∷ []) xs ys each.1 (subst (λ (e : List T). EachAfter P e ys) (sym (append_assoc earlier (x ∷ []) xs)) more))
+
+  -- one row more
+  pub EachAfter-push : (earlier xs : List T) (x : T) → EachAfter P earlier xs → P (earlier ++ xs) x → EachAfter P earlier (xs ++ x ∷ [])
+  EachAfter-push earlier xs x each last = EachAfter-append earlier xs (x ∷ []) each (last, tt)
 
   -- what each row alone says
   pub All-from_each : (Q : T → Type 0) → ((e : List T) (x : T) → P e x → Q x) → (earlier xs : List T) → EachAfter P earlier xs → All Q xs
@@ -307,7 +263,7 @@ remove-insert (y ∷ xs) (suc k) x within = ap (λ rest. y ∷ rest) (remove-ins
 pub list_any-insert : {X : Type 0} (p : X → Bool) (xs : List X) (k : ℕ) (y : X) → list_any p (insert xs k y) ≡ (p y || list_any p xs)
 list_any-insert p xs zero y = refl
 list_any-insert p [] (suc k) y = refl
-list_any-insert p (x ∷ xs) (suc k) y = ap (λ (b : Bool). p x || b) (list_any-insert p xs k y) ∙ or_swap (p x) (p y) (list_any p xs)
+list_any-insert p (x ∷ xs) (suc k) y = grind (arith, list_any-insert p xs k y)
 
 pub list_any-remove : {X : Type 0} (p : X → Bool) (xs : List X) (k : ℕ) (x : X) → slice_get xs k ≡ Some x → p x ≡ false → list_any p (remove xs k) ≡ list_any p xs
 list_any-remove p [] k x is fails = absurd cc
@@ -317,7 +273,7 @@ list_any-remove p (y ∷ xs) (suc k) x is fails = ap (λ (b : Bool). p y || b) (
 pub list_any-there : {X : Type 0} (p : X → Bool) (xs : List X) (k : ℕ) (x : X) → slice_get xs k ≡ Some x → p x ≡ true → list_any p xs ≡ true
 list_any-there p [] k x is passes = absurd cc
 list_any-there p (y ∷ xs) zero x is passes = let same : y ≡ x = cc in rw (ap p same ∙ passes) refl
-list_any-there p (y ∷ xs) (suc k) x is passes = or_right (p y) (list_any p xs) (list_any-there p xs k x is passes)
+list_any-there p (y ∷ xs) (suc k) x is passes = grind (arith, list_any-there p xs k x is passes)
 
 -- ## the members that pass
 
@@ -326,57 +282,34 @@ filter-remove p [] k x is fails = absurd cc
 filter-remove p (y ∷ xs) zero x is fails = let same : y ≡ x = cc in rw (ap p same ∙ fails) refl
 filter-remove p (y ∷ xs) (suc k) x is fails = ap (λ (ys : List _). cond (p y) (y ∷ ys) ys) (filter-remove p xs k x is fails)
 
-more-by : {X : Type 0} (p : X → Bool) (y : X) (xs : List X) (b : Bool) → length (cond b (y ∷ filter p xs) (filter p xs)) ≡ length (filter p xs) + cond b 1 0
-more-by p y xs true = omega arith
-more-by p y xs false = omega arith
-
-past-by : {X : Type 0} (x : X) (xs ys : List X) (n : ℕ) (b : Bool) → length xs ≡ length ys + n → length (cond b (x ∷ xs) xs) ≡ length (cond b (x ∷ ys) ys) + n
-past-by x xs ys n true same = omega arith
-past-by x xs ys n false same = same
-
 pub length-filter-insert : {X : Type 0} (p : X → Bool) (y : X) (k : ℕ) (xs : List X) → length (filter p (insert xs k y)) ≡ length (filter p xs) + cond (p y) 1 0
-length-filter-insert p y zero xs = more-by p y xs (p y)
-length-filter-insert p y (suc k) [] = more-by p y [] (p y)
-length-filter-insert p y (suc k) (x ∷ xs) = past-by x (filter p (insert xs k y)) (filter p xs) (cond (p y) 1 0) (p x) (length-filter-insert p y k xs)
+length-filter-insert p y zero xs = grind (arith, nat_tests)
+length-filter-insert p y (suc k) [] = grind (arith, nat_tests)
+length-filter-insert p y (suc k) (x ∷ xs) = grind (arith, nat_tests, length-filter-insert p y k xs)
 
 pub length-filter-remove : {X : Type 0} (p : X → Bool) (k : ℕ) (xs : List X) → length (filter p (remove xs k)) ≤ length (filter p xs)
 length-filter-remove p zero [] = omega arith
 length-filter-remove p (suc k) [] = omega arith
-length-filter-remove p zero (x ∷ xs) = rest-by x (filter p xs) (p x)
-length-filter-remove p (suc k) (x ∷ xs) = less-by x (filter p (remove xs k)) (filter p xs) (p x) (length-filter-remove p k xs)
+length-filter-remove p zero (x ∷ xs) = grind (arith, nat_tests)
+length-filter-remove p (suc k) (x ∷ xs) = grind (arith, nat_tests, length-filter-remove p k xs)
 
 -- # the first member that passes, after a change of the list
 
 module _ {X : Type 0} (p : X → Bool) where
-  passes-by : (x y : X) (xs : List X) (b : Bool) → p y ≡ b → (find p xs ≡ Some x → p x ≡ true) → cond b (Some y) (find p xs) ≡ Some x → p x ≡ true
-  passes-by x y xs true is later there = let same : y ≡ x = cc in ap p (sym same) ∙ is
-  passes-by x y xs false is later there = later there
-
   pub find-passes : (xs : List X) (x : X) → find p xs ≡ Some x → p x ≡ true
   find-passes [] x there = absurd cc
-  find-passes (y ∷ xs) x there = passes-by x y xs (p y) refl (find-passes xs x) there
+  find-passes (y ∷ xs) x there = by_bool (λ b. p y ≡ b → cond b (Some y) (find p xs) ≡ Some x → p x ≡ true) (p y) (λ _ is here. let same : y ≡ x = cc in ap p (sym same) ∙ is) (λ _ is later. find-passes xs x later) refl there
 
   -- ## one member more
-
-  found-front_by : (x y : X) (xs : List X) (b c : Bool) → p x ≡ b → p y ≡ c → (p y ≡ true → p x ≡ false) → cond b (Some x) (cond c (Some y) (find p xs)) ≡ cond c (Some y) (cond b (Some x) (find p xs))
-  found-front_by x y xs true true this that apart = absurd (let none = apart that in cc)
-  found-front_by x y xs true false this that apart = refl
-  found-front_by x y xs false c this that apart = refl
 
   pub find-insert : (xs : List X) (k : ℕ) (y : X) → (p y ≡ true → NonePass p xs) → find p (insert xs k y) ≡ cond (p y) (Some y) (find p xs)
   find-insert xs zero y new = refl
   find-insert [] (suc k) y new = refl
-  find-insert (x ∷ xs) (suc k) y new =
-      ap (λ (o : Option X). cond (p x) (Some x) o) (find-insert xs k y (λ is. (new is).1))
-      ∙ found-front_by x y xs (p x) (p y) refl refl (λ is. (new is).0)
-
-  before-by : (new x : X) (xs ys : List X) (b : Bool) → p new ≡ false → find p ys ≡ find p xs → find p (cond b (new ∷ x ∷ xs) (x ∷ ys)) ≡ find p (x ∷ xs)
-  before-by new x xs ys true other later = rw other refl
-  before-by new x xs ys false other later = ap (λ (o : Option X). cond (p x) (Some x) o) later
+  find-insert (x ∷ xs) (suc k) y new = grind (arith, find-insert xs k y (λ is. (new is).1), λ (is : p y ≡ true). (new is).0)
 
   pub find-insert_before : (before : X → Bool) (new : X) (xs : List X) → p new ≡ false → find p (insert_before before new xs) ≡ find p xs
   find-insert_before before new [] other = rw other refl
-  find-insert_before before new (x ∷ xs) other = before-by new x xs (insert_before before new xs) (before x) other (find-insert_before before new xs other)
+  find-insert_before before new (x ∷ xs) other = grind (arith, find-insert_before before new xs other)
 
   -- ## one member less
 
@@ -385,56 +318,26 @@ module _ {X : Type 0} (p : X → Bool) where
   find-remove (y ∷ xs) zero x is fails = let same : y ≡ x = cc in rw (ap p same ∙ fails) refl
   find-remove (y ∷ xs) (suc k) x is fails = ap (λ (o : Option X). cond (p y) (Some y) o) (find-remove xs k x is fails)
 
-  found-filter_by : (keep : X → Bool) (x y : X) (xs : List X) (b c : Bool) → p y ≡ b → keep y ≡ c → keep x ≡ true → (find p xs ≡ Some x → find p (filter keep xs) ≡ Some x) → cond b (Some y) (find p xs) ≡ Some x →
-      find p (cond c (y ∷ filter keep xs) (filter keep xs)) ≡ Some x
-  found-filter_by keep x y xs true true is kept keeps later there = rw is there
-  found-filter_by keep x y xs true false is kept keeps later there = let same : y ≡ x = cc in absurd (let e : keep x ≡ false = ap keep (sym same) ∙ kept in cc)
-  found-filter_by keep x y xs false true is kept keeps later there = rw is (later there)
-  found-filter_by keep x y xs false false is kept keeps later there = later there
-
   pub find-filter : (keep : X → Bool) (x : X) (xs : List X) → keep x ≡ true → find p xs ≡ Some x → find p (filter keep xs) ≡ Some x
   find-filter keep x [] keeps there = absurd cc
-  find-filter keep x (y ∷ xs) keeps there = found-filter_by keep x y xs (p y) (keep y) refl refl keeps (find-filter keep x xs keeps) there
+  find-filter keep x (y ∷ xs) keeps there = grind (arith, find-filter keep x xs keeps)
 
   -- ## members changed
 
-  found-map_by : (f : X → X) (x : X) (xs : List X) (b : Bool) → p x ≡ b → p (f x) ≡ b → find p (map f xs) ≡ option_map f (find p xs) → find p (map f (x ∷ xs)) ≡ option_map f (find p (x ∷ xs))
-  found-map_by f x xs true is kept later = rw (is, kept) refl
-  found-map_by f x xs false is kept later = rw (is, kept) later
-
   pub find-map : (f : X → X) → ((x : X) → p (f x) ≡ p x) → (xs : List X) → find p (map f xs) ≡ option_map f (find p xs)
   find-map f same [] = refl
-  find-map f same (x ∷ xs) = found-map_by f x xs (p x) refl (same x) (find-map f same xs)
-
-  here-by : (f : X → X) → ((x : X) → p (f x) ≡ p x) → (x y : X) (xs : List X) (b : Bool) → p y ≡ b → (find p xs ≡ Some x → find p (change_first p f xs) ≡ Some (f x)) → find p (y ∷ xs) ≡ Some x → find p (change_first p f (y ∷ xs)) ≡ Some (f x)
-  here-by f keeps x y xs true is later there =
-      let same : y ≡ x = let e : Some y ≡ Some x = sym (rw is refl) ∙ there in cc in
-      let kept : p (f y) ≡ true = keeps y ∙ is in
-      rw is (rw kept (ap (λ (z : X). Some (f z)) same))
-  here-by f keeps x y xs false is later there = rw is (rw is (later (sym (rw is refl) ∙ there)))
+  find-map f same (x ∷ xs) = grind (arith, same x, find-map f same xs)
 
   -- the changed member is found in its place
   pub find-change_first : (f : X → X) → ((x : X) → p (f x) ≡ p x) → (xs : List X) (x : X) → find p xs ≡ Some x → find p (change_first p f xs) ≡ Some (f x)
   find-change_first f keeps [] x there = absurd cc
-  find-change_first f keeps (y ∷ xs) x there = here-by f keeps x y xs (p y) refl (find-change_first f keeps xs x) there
+  find-change_first f keeps (y ∷ xs) x there = grind (arith, keeps y, find-change_first f keeps xs x)
 
 -- a measure that the change keeps stays the same for what another test finds
 module _ {X Y : Type 0} (measure : Option X → Y) (p q : X → Bool) (f : X → X) (same : (x : X) → q (f x) ≡ q x) (kept : (x : X) → measure (Some (f x)) ≡ measure (Some x)) where
-  found-by : (x : X) (xs : List X) (c : Bool) → q (f x) ≡ c → q x ≡ c → measure (find q (f x ∷ xs)) ≡ measure (find q (x ∷ xs))
-  found-by x xs true this that = rw (this, that) (kept x)
-  found-by x xs false this that = rw (this, that) refl
-
-  later-by : (x : X) (xs ys : List X) (c : Bool) → q x ≡ c → measure (find q ys) ≡ measure (find q xs) → measure (find q (x ∷ ys)) ≡ measure (find q (x ∷ xs))
-  later-by x xs ys true is later = rw is refl
-  later-by x xs ys false is later = rw is later
-
-  first-by : (x : X) (xs : List X) (b : Bool) → measure (find q (change_first p f xs)) ≡ measure (find q xs) → measure (find q (cond b (f x ∷ xs) (x ∷ change_first p f xs))) ≡ measure (find q (x ∷ xs))
-  first-by x xs true later = found-by x xs (q x) (same x) refl
-  first-by x xs false later = later-by x xs (change_first p f xs) (q x) refl later
-
   pub found-change_first : (xs : List X) → measure (find q (change_first p f xs)) ≡ measure (find q xs)
   found-change_first [] = refl
-  found-change_first (x ∷ xs) = first-by x xs (p x) (found-change_first xs)
+  found-change_first (x ∷ xs) = grind (arith, same x, kept x, found-change_first xs)
 
 -- # lists of which members are left out, or each member is changed
 
@@ -444,13 +347,9 @@ pub list_any-map : {X : Type 0} (p : X → Bool) (f : X → X) (xs : List X) →
 list_any-map p f [] same = refl
 list_any-map p f (x ∷ xs) same = rw (same x, list_any-map p f xs same) refl
 
-map-by : {X : Type 0} (f : X → X) (x : X) (xs ys : List X) (b : Bool) → xs ≡ map f ys → cond b (f x ∷ xs) xs ≡ map f (cond b (x ∷ ys) ys)
-map-by f x xs ys true same = ap (λ (zs : List _). f x ∷ zs) same
-map-by f x xs ys false same = same
-
 pub filter-map : {X : Type 0} (p : X → Bool) (f : X → X) (xs : List X) → ((x : X) → p (f x) ≡ p x) → filter p (map f xs) ≡ map f (filter p xs)
 filter-map p f [] same = refl
-filter-map p f (x ∷ xs) same = rw (same x) (map-by f x (filter p (map f xs)) (filter p xs) (p x) (filter-map p f xs same))
+filter-map p f (x ∷ xs) same = grind (arith, same x, filter-map p f xs same)
 
 pub map-map : {X : Type 0} (f g h : X → X) (xs : List X) → ((x : X) → g (f x) ≡ h x) → map g (map f xs) ≡ map h xs
 map-map f g h [] same = refl
@@ -470,13 +369,9 @@ pub list_any-none : {X : Type 0} (p : X → Bool) (xs : List X) → NonePass p x
 list_any-none p [] none = refl
 list_any-none p (x ∷ xs) none = rw (none.0) (list_any-none p xs none.1)
 
-any-by : {X : Type 0} (p : X → Bool) (x : X) (xs : List X) (b : Bool) → p x ≡ b → (b || list_any p xs) ≡ false → (list_any p xs ≡ false → NonePass p xs) → NonePass p (x ∷ xs)
-any-by p x xs true is none later = absurd cc
-any-by p x xs false is none later = (is, later none)
-
 pub none-list_any : {X : Type 0} (p : X → Bool) (xs : List X) → list_any p xs ≡ false → NonePass p xs
 none-list_any p [] none = tt
-none-list_any p (x ∷ xs) none = any-by p x xs (p x) refl none (none-list_any p xs)
+none-list_any p (x ∷ xs) none = (grind (arith, nat_tests), none-list_any p xs (grind (arith, nat_tests)))
 
 pub filter-not_none : {X : Type 0} (p : X → Bool) (xs : List X) → NonePass p xs → filter (λ x. not (p x)) xs ≡ xs
 filter-not_none p [] none = refl
@@ -488,13 +383,9 @@ filter-nothing p (x ∷ xs) none = rw (none.0) (filter-nothing p xs none.1)
 
 -- ## of those that pass one test, those that pass another
 
-keep-by : {X : Type 0} (p : X → Bool) (x : X) (xs ys : List X) (c : Bool) → length (filter p ys) ≤ length (filter p xs) → length (filter p (cond c (x ∷ ys) ys)) ≤ length (filter p (x ∷ xs))
-keep-by p x xs ys true less = less-by x (filter p ys) (filter p xs) (p x) less
-keep-by p x xs ys false less = let more = rest-by x (filter p xs) (p x) in omega arith
-
 pub length-filter-filter : {X : Type 0} (p keep : X → Bool) (xs : List X) → length (filter p (filter keep xs)) ≤ length (filter p xs)
 length-filter-filter p keep [] = omega arith
-length-filter-filter p keep (x ∷ xs) = keep-by p x xs (filter keep xs) (keep x) (length-filter-filter p keep xs)
+length-filter-filter p keep (x ∷ xs) = grind (arith, nat_tests, length-filter-filter p keep xs)
 
 -- ## between two probes
 
@@ -505,12 +396,8 @@ pub record IsBetween {X : Type 0} (low high wanted : X → Bool) (x : X) : Type 
   pub is : wanted x ≡ (not (low x) && high x)
 
 module _ {X : Type 0} (before : X → X → Bool) (less : X → Bool) (down : (x y : X) → before x y ≡ true → less y ≡ true → less x ≡ true) where
-  down-not : (x y : X) (b : Bool) → less y ≡ b → before x y ≡ true → less x ≡ false → less y ≡ false
-  down-not x y true is order not_less = absurd (let this : less x ≡ true = down x y order is in cc)
-  down-not x y false is order not_less = is
-
   pub none-later : (x : X) (xs : List X) → less x ≡ false → AllByRecursion (λ y. before x y ≡ true) xs → NonePass less xs
-  none-later x xs not_less all = all-weaker (λ y. before x y ≡ true) (λ y. less y ≡ false) (λ y order. down-not x y (less y) refl order not_less) xs all
+  none-later x xs not_less all = all-weaker (λ y. before x y ≡ true) (λ y. less y ≡ false) (λ y order. grind (arith, down x y order)) xs all
 
 module _ {X : Type 0} (before : X → X → Bool) (low high wanted : X → Bool)
     (low-down : (x y : X) → before x y ≡ true → low y ≡ true → low x ≡ true)
@@ -521,82 +408,60 @@ module _ {X : Type 0} (before : X → X → Bool) (low high wanted : X → Bool)
       let not_wanted : wanted x ≡ false = all.0.is ∙ grind (arith, none.0) in
       rw not_wanted (filter-none xs all.1 none.1)
 
-  front-by : (x : X) (xs : List X) (b : Bool) → high x ≡ b → low x ≡ false → AllByRecursion (IsBetween low high wanted) (x ∷ xs) → Rises before (x ∷ xs) →
-      filter wanted xs ≡ take (prefix_len high xs) xs → filter wanted (x ∷ xs) ≡ take (prefix_len high (x ∷ xs)) (x ∷ xs)
-  front-by x xs true is not_low all rises later =
-      let is_wanted : wanted x ≡ true = all.0.is ∙ rw (not_low, is) refl in
-      let step : 1 + prefix_len high xs ≡ suc (prefix_len high xs) = omega arith in
-      rw (is, is_wanted, step) (ap (λ (ys : List X). x ∷ ys) later)
-  front-by x xs false is not_low all rises later =
-      let not_wanted : wanted x ≡ false = all.0.is ∙ rw (not_low, is) refl in
-      rw (is, not_wanted) (filter-none xs all.1 (none-later before high high-down x xs is rises.0))
-
   -- if the first probe passes nothing
   filter-front : (xs : List X) → AllByRecursion (IsBetween low high wanted) xs → Rises before xs → NonePass low xs → filter wanted xs ≡ take (prefix_len high xs) xs
   filter-front [] all rises none = refl
-  filter-front (x ∷ xs) all rises none = front-by x xs (high x) refl none.0 all rises (filter-front xs all.1 rises.1 none.1)
+  filter-front (x ∷ xs) all rises none =
+      by_bool (λ b. high x ≡ b → filter wanted (x ∷ xs) ≡ take (cond b (1 + prefix_len high xs) 0) (x ∷ xs)) (high x)
+      (λ _ is.
+      let is_wanted : wanted x ≡ true = all.0.is ∙ rw (none.0, is) refl in
+      let step : 1 + prefix_len high xs ≡ suc (prefix_len high xs) = omega arith in
+      rw (is_wanted, step) (ap (λ (ys : List X). x ∷ ys) (filter-front xs all.1 rises.1 none.1)))
+      (λ _ is. filter-none (x ∷ xs) all (is, none-later before high high-down x xs is rises.0)) refl
 
-  between-by : (x : X) (xs : List X) (b : Bool) → low x ≡ b → AllByRecursion (IsBetween low high wanted) (x ∷ xs) → Rises before (x ∷ xs) →
-      filter wanted xs ≡ take (prefix_len high xs - prefix_len low xs) (drop (prefix_len low xs) xs) →
-      filter wanted (x ∷ xs) ≡ take (prefix_len high (x ∷ xs) - prefix_len low (x ∷ xs)) (drop (prefix_len low (x ∷ xs)) (x ∷ xs))
-  between-by x xs true is all rises later =
+  pub filter-between : (xs : List X) → AllByRecursion (IsBetween low high wanted) xs → Rises before xs → filter wanted xs ≡ take (prefix_len high xs - prefix_len low xs) (drop (prefix_len low xs) xs)
+  filter-between [] all rises = refl
+  filter-between (x ∷ xs) all rises =
+      by_bool (λ b. low x ≡ b → filter wanted (x ∷ xs) ≡ take (prefix_len high (x ∷ xs) - cond b (1 + prefix_len low xs) 0) (drop (cond b (1 + prefix_len low xs) 0) (x ∷ xs))) (low x)
+      (λ _ is.
       let is_high : high x ≡ true = all.0.both is in
       let not_wanted : wanted x ≡ false = all.0.is ∙ rw is refl in
       let step : 1 + prefix_len low xs ≡ suc (prefix_len low xs) = omega arith in
       let less : 1 + prefix_len high xs - suc (prefix_len low xs) ≡ prefix_len high xs - prefix_len low xs = omega arith in
-      rw (is, is_high, not_wanted, step, less) later
-  between-by x xs false is all rises later =
+      rw (is_high, not_wanted, step, less) (filter-between xs all.1 rises.1))
+      (λ _ is.
       let whole : prefix_len high (x ∷ xs) - 0 ≡ prefix_len high (x ∷ xs) = omega arith in
-      let none = none-later before low low-down x xs is rises.0 in
-      filter-front (x ∷ xs) all rises (is, none)
-      ∙ sym (ap (λ (k : ℕ). take (prefix_len high (x ∷ xs) - k) (drop k (x ∷ xs))) (ap (λ (b : Bool). cond b (1 + prefix_len low xs) 0) is) ∙ ap (λ (k : ℕ). take k (x ∷ xs)) whole)
-
-  pub filter-between : (xs : List X) → AllByRecursion (IsBetween low high wanted) xs → Rises before xs → filter wanted xs ≡ take (prefix_len high xs - prefix_len low xs) (drop (prefix_len low xs) xs)
-  filter-between [] all rises = refl
-  filter-between (x ∷ xs) all rises = between-by x xs (low x) refl all rises (filter-between xs all.1 rises.1)
+      rw whole (filter-front (x ∷ xs) all rises (is, none-later before low low-down x xs is rises.0))) refl
 
 -- a probe that passes no more counts no more
-le-by : {X : Type 0} (low high : X → Bool) (x : X) (xs : List X) (b : Bool) → low x ≡ b → (low x ≡ true → high x ≡ true) → prefix_len low xs ≤ prefix_len high xs → prefix_len low (x ∷ xs) ≤ prefix_len high (x ∷ xs)
-le-by low high x xs true is both later = rw (is, both is) (omega arith)
-le-by low high x xs false is both later = rw is (omega arith)
-
 pub prefix_len-le : {X : Type 0} (low high : X → Bool) (xs : List X) → ((x : X) → low x ≡ true → high x ≡ true) → prefix_len low xs ≤ prefix_len high xs
 prefix_len-le low high [] both = omega arith
-prefix_len-le low high (x ∷ xs) both = le-by low high x xs (low x) refl (both x) (prefix_len-le low high xs both)
+prefix_len-le low high (x ∷ xs) both = grind (arith, nat_tests, both x, prefix_len-le low high xs both)
 
 -- ## one member more
 
-insert-by : {X : Type 0} (q : X → Bool) (new x : X) (xs ys : List X) (b : Bool) → list_any q ys ≡ (q new || list_any q xs) → list_any q (cond b (new ∷ x ∷ xs) (x ∷ ys)) ≡ (q new || (q x || list_any q xs))
-insert-by q new x xs ys true later = refl
-insert-by q new x xs ys false later = ap (λ (b : Bool). q x || b) later ∙ or_swap (q x) (q new) (list_any q xs)
-
 pub list_any-insert_before : {X : Type 0} (q p : X → Bool) (new : X) (xs : List X) → list_any q (insert_before p new xs) ≡ (q new || list_any q xs)
 list_any-insert_before q p new [] = refl
-list_any-insert_before q p new (x ∷ xs) = insert-by q new x xs (insert_before p new xs) (p x) (list_any-insert_before q p new xs)
+list_any-insert_before q p new (x ∷ xs) = grind (arith, list_any-insert_before q p new xs)
 
 -- # lists of which a test keeps all, nothing, or the members with one number
 
 module _ {T : Type 0} where
   pub filter-keeps_all : (p : T → Bool) (xs : List T) → All (λ x. p x ≡ true) xs → filter p xs ≡ xs
   filter-keeps_all p [] each = refl
-  filter-keeps_all p (x ∷ xs) each =
-      let here : p x ≡ true = All-head (λ (y : T). p y ≡ true) x xs each in
-      rw here (ap (λ zs. x ∷ zs) (filter-keeps_all p xs (All-tail (λ (y : T). p y ≡ true) x xs each)))
+  filter-keeps_all p (x ∷ xs) each = rw (All-head (λ (y : T). p y ≡ true) x xs each) (ap (λ zs. x ∷ zs) (filter-keeps_all p xs (All-tail (λ (y : T). p y ≡ true) x xs each)))
 
   pub filter-keeps_none : (p : T → Bool) (xs : List T) → All (λ x. p x ≡ false) xs → filter p xs ≡ []
   filter-keeps_none p [] each = refl
-  filter-keeps_none p (x ∷ xs) each =
-      let here : p x ≡ false = All-head (λ (y : T). p y ≡ false) x xs each in
-      rw here (filter-keeps_none p xs (All-tail (λ (y : T). p y ≡ false) x xs each))
+  filter-keeps_none p (x ∷ xs) each = rw (All-head (λ (y : T). p y ≡ false) x xs each) (filter-keeps_none p xs (All-tail (λ (y : T). p y ≡ false) x xs each))
 
   -- each member that a number keeps has it
   pub All-filter_number : (number : T → ℕ) (k : ℕ) (xs : List T) → All (λ x. number x ≡ k) (filter (λ x. number x == k) xs)
   All-filter_number number k [] = All-nil (λ (x : T). number x ≡ k)
-  All-filter_number number k (x ∷ xs) = by (number x == k) refl (All-filter_number number k xs)
-    where
-      by : (b : Bool) → (number x == k) ≡ b → All (λ y. number y ≡ k) (filter (λ y. number y == k) xs) → All (λ y. number y ≡ k) (cond b (x ∷ filter (λ y. number y == k) xs) (filter (λ y. number y == k) xs))
-      by true is rest = let same : number x ≡ k = grind (arith, nat_tests) in All-cons (λ (y : T). number y ≡ k) x (filter (λ y. number y == k) xs) same rest
-      by false is rest = rest
+  All-filter_number number k (x ∷ xs) =
+      let rest = All-filter_number number k xs in
+      by_bool (λ b. All (λ y. number y ≡ k) (cond b (x ∷ filter (λ y. number y == k) xs) (filter (λ y. number y == k) xs))) (number x == k)
+      (λ is. All-cons (λ (y : T). number y ≡ k) x (filter (λ y. number y == k) xs) (grind (arith, nat_tests)) rest) (λ _. rest)
 
 -- # a list of members with different numbers below n is not longer than n
 
@@ -615,10 +480,10 @@ module _ {X : Type 0} (number : X → ℕ) where
 
   without_below : (n : ℕ) (xs : List X) → AllByRecursion (λ x. number x < suc n) xs → AllByRecursion (λ x. number x < n) (without n xs)
   without_below n [] all = tt
-  without_below n (x ∷ xs) all = by (number x == n) refl (without_below n xs all.1) where
-    by : (b : Bool) → (number x == n) ≡ b → AllByRecursion (λ x. number x < n) (without n xs) → AllByRecursion (λ x. number x < n) (without n (x ∷ xs))
-    by true is rest = rw is rest
-    by false is rest = let first : number x < suc n = all.0 in let below : number x < n = grind (arith, nat_tests) in rw is (below, rest)
+  without_below n (x ∷ xs) all =
+      let rest = without_below n xs all.1 in
+      let first : number x < suc n = all.0 in
+      by_bool (λ b. AllByRecursion (λ y. number y < n) (cond (not b) (x ∷ without n xs) (without n xs))) (number x == n) (λ _. rest) (λ is. (grind (arith, nat_tests), rest))
 
   still_out : (k n : ℕ) (xs : List X) → is_in k xs ≡ false → is_in k (without n xs) ≡ false
   still_out k n [] out = refl
@@ -626,10 +491,9 @@ module _ {X : Type 0} (number : X → ℕ) where
 
   without_differ : (n : ℕ) (xs : List X) → Differ xs → Differ (without n xs)
   without_differ n [] differ = tt
-  without_differ n (x ∷ xs) differ = by (number x == n) refl (without_differ n xs differ.1) where
-    by : (b : Bool) → (number x == n) ≡ b → Differ (without n xs) → Differ (without n (x ∷ xs))
-    by true is rest = rw is rest
-    by false is rest = rw is (still_out (number x) n xs differ.0, rest)
+  without_differ n (x ∷ xs) differ =
+      let rest = without_differ n xs differ.1 in
+      by_bool (λ b. Differ (cond (not b) (x ∷ without n xs) (without n xs))) (number x == n) (λ _. rest) (λ _. (still_out (number x) n xs differ.0, rest))
 
   all_without : (n : ℕ) (xs : List X) → is_in n xs ≡ false → length (without n xs) ≡ length xs
   all_without n [] out = refl
@@ -637,13 +501,10 @@ module _ {X : Type 0} (number : X → ℕ) where
 
   one_less : (n : ℕ) (xs : List X) → Differ xs → length xs ≤ suc (length (without n xs))
   one_less n [] differ = omega arith
-  one_less n (x ∷ xs) differ = by (number x == n) refl (one_less n xs differ.1) where
-    by : (b : Bool) → (number x == n) ≡ b → length xs ≤ suc (length (without n xs)) → length (x ∷ xs) ≤ suc (length (without n (x ∷ xs)))
-    by true is rest =
-        let same : number x ≡ n = grind (arith, nat_tests) in
-        let out : is_in n xs ≡ false = subst (λ (k : ℕ). is_in k xs ≡ false) same differ.0 in
-        rw is (omega (arith, all_without n xs out))
-    by false is rest = rw is (omega arith)
+  one_less n (x ∷ xs) differ =
+      by_bool (λ b. length (x ∷ xs) ≤ suc (length (cond (not b) (x ∷ without n xs) (without n xs)))) (number x == n)
+      (λ is. let same : number x ≡ n = grind (arith, nat_tests) in omega (arith, all_without n xs (subst (λ (k : ℕ). is_in k xs ≡ false) same differ.0)))
+      (λ _. omega (arith, one_less n xs differ.1))
 
   pub few : (n : ℕ) (xs : List X) → AllByRecursion (λ x. number x < n) xs → Differ xs → length xs ≤ n
   few n [] all differ = omega arith
@@ -671,39 +532,31 @@ module _ {X : Type 0} (number : X → ℕ) where
 module _ {X K : Type 0} (key : X → K) where
   pub all-keys : (P : K → Type 0) (xs ys : List X) → map key xs ≡ map key ys → AllByRecursion (λ x. P (key x)) xs → AllByRecursion (λ x. P (key x)) ys
   all-keys P [] [] same all = tt
-  all-keys P [] (y ∷ ys) same all = absurd cc
-  all-keys P (x ∷ xs) [] same all = absurd cc
-  all-keys P (x ∷ xs) (y ∷ ys) same all =
-      let head : key x ≡ key y = cc in
-      let tail : map key xs ≡ map key ys = cc in
-      (subst P head all.0, all-keys P xs ys tail all.1)
+  all-keys P (x ∷ xs) (y ∷ ys) same all = let head : key x ≡ key y = cc in (subst P head all.0, all-keys P xs ys (cc) all.1)
+  all-keys P xs ys same all = absurd cc
 
 module _ {X K : Type 0} (lt : K → K → Bool) (key : X → K) where
   pub Rises-keys : (xs ys : List X) → map key xs ≡ map key ys → Rises (λ a b. lt (key a) (key b)) xs → Rises (λ a b. lt (key a) (key b)) ys
   Rises-keys [] [] same rises = tt
-  Rises-keys [] (y ∷ ys) same rises = absurd cc
-  Rises-keys (x ∷ xs) [] same rises = absurd cc
   Rises-keys (x ∷ xs) (y ∷ ys) same rises =
       let head : key x ≡ key y = cc in
       let tail : map key xs ≡ map key ys = cc in
-      let all : AllByRecursion (λ z. lt (key x) (key z) ≡ true) ys = all-keys key (λ k. lt (key x) k ≡ true) xs ys tail rises.0 in
-      (subst (λ (k : K). AllByRecursion (λ z. lt k (key z) ≡ true) ys) head all, Rises-keys xs ys tail rises.1)
+      (subst (λ (k : K). AllByRecursion (λ z. lt k (key z) ≡ true) ys) head (all-keys key (λ k. lt (key x) k ≡ true) xs ys tail rises.0), Rises-keys xs ys tail rises.1)
+  Rises-keys xs ys same rises = absurd cc
 
   pub keys-set : (xs : List X) (i : ℕ) (y d : X) → i < length xs → key (get_or xs i d) ≡ key y → map key xs ≡ map key (slice_set xs i y)
   keys-set [] i y d within same = refl
-  keys-set (x ∷ xs) zero y d within same = ap (λ (k : K). k ∷ map key xs) same
-  keys-set (x ∷ xs) (suc i) y d within same = ap (λ (ks : List K). key x ∷ ks) (keys-set xs i y d (omega arith) same)
+  keys-set (x ∷ xs) zero y d within same = λ i. same i ∷ map key xs
+  keys-set (x ∷ xs) (suc i) y d within same = λ j. key x ∷ keys-set xs i y d (omega arith) same j
 
 -- ## one member less
 
 module _ {X : Type 0} (before : X → X → Bool) where
-  filter-by : (p : X → Bool) (x : X) (xs : List X) (b : Bool) → AllByRecursion (λ y. before x y ≡ true) xs → Rises before xs → Rises before (cond b (x ∷ xs) xs)
-  filter-by p x xs true first rises = (first, rises)
-  filter-by p x xs false first rises = rises
-
   pub Rises-filter : (p : X → Bool) (xs : List X) → Rises before xs → Rises before (filter p xs)
   Rises-filter p [] rises = tt
-  Rises-filter p (x ∷ xs) rises = filter-by p x (filter p xs) (p x) (all-filter (λ y. before x y ≡ true) p xs rises.0) (Rises-filter p xs rises.1)
+  Rises-filter p (x ∷ xs) rises =
+      let rest = Rises-filter p xs rises.1 in
+      by_bool (λ b. Rises before (cond b (x ∷ filter p xs) (filter p xs))) (p x) (λ _. (all-filter (λ y. before x y ≡ true) p xs rises.0, rest)) (λ _. rest)
 
   pub Rises-remove : (xs : List X) (i : ℕ) → Rises before xs → Rises before (remove xs i)
   Rises-remove [] zero rises = tt
@@ -711,21 +564,14 @@ module _ {X : Type 0} (before : X → X → Bool) where
   Rises-remove (x ∷ xs) zero rises = rises.1
   Rises-remove (x ∷ xs) (suc i) rises = (all-remove (λ y. before x y ≡ true) xs i rises.0, Rises-remove xs i rises.1)
 
-  none-by : (same : X → Bool) (x : X) → ((y : X) → before x y ≡ true → same y ≡ false) → (xs : List X) → AllByRecursion (λ y. before x y ≡ true) xs → NonePass same xs
-  none-by same x later xs all = all-weaker (λ y. before x y ≡ true) (λ y. same y ≡ false) later xs all
-
   -- if no member before or after the one that is taken out passes, none passes without it
   pub none-remove : (same : X → Bool) (xs : List X) (i : ℕ) (x : X) → Rises before xs → slice_get xs i ≡ Some x → ((y : X) → before y x ≡ true → same y ≡ false) → ((y : X) → before x y ≡ true → same y ≡ false) → NonePass same (remove xs i)
   none-remove same [] i x rises is earlier later = absurd cc
   none-remove same (y ∷ xs) zero x rises is earlier later =
       let here : y ≡ x = cc in
-      none-by same y (λ z order. later z (subst (λ (w : X). before w z ≡ true) here order)) xs rises.0
+      all-weaker (λ z. before y z ≡ true) (λ z. same z ≡ false) (λ z order. later z (subst (λ (w : X). before w z ≡ true) here order)) xs rises.0
   none-remove same (y ∷ xs) (suc i) x rises is earlier later =
       (earlier y (all-at (λ z. before y z ≡ true) xs i x rises.0 is), none-remove same xs i x rises.1 is earlier later)
-
--- by a key
-pub Rises-without : {X K : Type 0} (lt : K → K → Bool) (key : X → K) (xs : List X) (i : ℕ) → Rises (λ a b. lt (key a) (key b)) xs → Rises (λ a b. lt (key a) (key b)) (take i xs ++ drop (suc i) xs)
-Rises-without lt key xs i rises = Rises-remove (λ a b. lt (key a) (key b)) xs i rises
 
 -- ## a new member
 
@@ -773,7 +619,7 @@ module _ {X : Type 0} (before same : X → X → Bool)
 
 pub map-keys : {X K : Type 0} (key : X → K) (f : X → X) (xs : List X) → ((x : X) → key (f x) ≡ key x) → map key xs ≡ map key (map f xs)
 map-keys key f [] keeps = refl
-map-keys {K = K} key f (x ∷ xs) keeps = ap (λ (k : K). k ∷ map key xs) (sym (keeps x)) ∙ ap (λ (ks : List K). key (f x) ∷ ks) (map-keys key f xs keeps)
+map-keys key f (x ∷ xs) keeps = λ i. sym (keeps x) i ∷ map-keys key f xs keeps i
 
 -- # how many items of a list pass a test before a place, and which one has a rank
 
@@ -787,15 +633,10 @@ module _ {X : Type 0} (p : X → Bool) where
   -- one that passes has as its rank the number of those before it that pass
   pub find-rank : (xs : List X) (k : ℕ) (x : X) → slice_get xs k ≡ Some x → p x ≡ true → slice_get (filter p xs) (rank xs k) ≡ Some x
   find-rank [] k x there is = absurd cc
-  find-rank (y ∷ ys) zero x there is =
-      let here : y ≡ x = cc in
-      let first : p y ≡ true = subst (λ (z : X). p z ≡ true) (sym here) is in
-      rw first there
-  find-rank (y ∷ ys) (suc k) x there is = by (p y) (find-rank ys k x there is) where
-    by : (b : Bool) → slice_get (filter p ys) (rank ys k) ≡ Some x
-        → slice_get (cond b (y ∷ filter p ys) (filter p ys)) (length (cond b (y ∷ filter p (take k ys)) (filter p (take k ys)))) ≡ Some x
-    by true later = later
-    by false later = later
+  find-rank (y ∷ ys) zero x there is = let here : y ≡ x = cc in rw (ap p here ∙ is) there
+  find-rank (y ∷ ys) (suc k) x there is =
+      let later = find-rank ys k x there is in
+      by_bool (λ b. slice_get (cond b (y ∷ filter p ys) (filter p ys)) (length (cond b (y ∷ filter p (take k ys)) (filter p (take k ys)))) ≡ Some x) (p y) (λ _. later) (λ _. later)
 
   -- past the end it is the number of all that pass
   pub past-rank : (xs : List X) (k : ℕ) → length xs ≤ k → rank xs k ≡ length (filter p xs)
@@ -808,32 +649,15 @@ pub record IsLastPlace {X : Type 0} (p : X → Bool) (xs : List X) (at k : ℕ) 
   pub most : rank p xs k ≤ at
   pub last : k + 1 < length xs → at < rank p xs (k + 1)
 
-module _ {X : Type 0} (p : X → Bool) (xs : List X) (at k : ℕ) (place : IsLastPlace p xs at k) where
-  module _ (x : X) (there : slice_get xs k ≡ Some x) where
-    -- the one at the place has that rank
-    pub one-there : rank p xs k ≡ at → p x ≡ true → slice_get (filter p xs) at ≡ Some x
-    one-there same is = subst (λ (n : ℕ). slice_get (filter p xs) n ≡ Some x) same (find-rank p xs k x there is)
+module _ {X : Type 0} (p : X → Bool) (xs : List X) (at k : ℕ) (place : IsLastPlace p xs at k) (x : X) (there : slice_get xs k ≡ Some x) where
+  one-more : rank p xs (k + 1) ≡ rank p xs k + cond (p x) 1 0
+  one-more =
+      length-filter_more p xs k x (slice_get_within xs k x there)
+      ∙ ap (λ (y : X). rank p xs k + cond (p y) 1 0) (get_or_from_slice_get xs k x x there)
 
-    one-more : rank p xs (k + 1) ≡ rank p xs k + cond (p x) 1 0
-    one-more =
-        length-filter_more p xs k x (slice_get_within xs k x there)
-        ∙ ap (λ (y : X). rank p xs k + cond (p y) 1 0) (get_or_from_slice_get xs k x x there)
+  none-after : rank p xs (k + 1) ≤ at → slice_get (filter p xs) at ≡ None
+  none-after few = slice_get_past (filter p xs) at (grind (arith, place.last, past-rank p xs (k + 1)))
 
-    none-after : rank p xs (k + 1) ≤ at → slice_get (filter p xs) at ≡ None
-    none-after few = slice_get_past (filter p xs) at (by (cases_lt (k + 1) (length xs))) where
-      by : (k + 1 < length xs) ⊎ (length xs ≤ k + 1) → length (filter p xs) ≤ at
-      by (inl more) = absurd (omega (arith, place.last more))
-      by (inr past) = omega (arith, past-rank p xs (k + 1) past)
-
-    -- if it does not pass, none has that rank
-    pub none-there : p x ≡ false → slice_get (filter p xs) at ≡ None
-    none-there fails =
-        let same : rank p xs (k + 1) ≡ rank p xs k + 0 = one-more ∙ ap (λ (b : Bool). rank p xs k + cond b 1 0) fails in
-        none-after (omega (arith, place.most))
-
-    -- nor if its rank is another
-    pub none-other : rank p xs k ≢ at → slice_get (filter p xs) at ≡ None
-    none-other other = none-after (by (p x) one-more) where
-      by : (b : Bool) → rank p xs (k + 1) ≡ rank p xs k + cond b 1 0 → rank p xs (k + 1) ≤ at
-      by true more = omega (arith, place.most)
-      by false more = omega (arith, place.most)
+  -- the one at the place has the rank, if it passes and there are that many before it, and else none has it
+  pub at-last : slice_get (filter p xs) at ≡ cond (rank p xs k == at) (cond (p x) (Some x) None) None
+  at-last = let more = one-more in grind (arith, nat_tests, place.most, find-rank p xs k x there, none-after)

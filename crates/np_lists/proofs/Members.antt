@@ -1,7 +1,7 @@
 -- the members of groups: their order, which there are after a change, and the groups one after another
-use Rattle.np_lists.proofs.Prelude.{AllByRecursion, AreRanked, Bool, Group, List, Member, None, NonePass, Option, Placed, Rises, Some, any-filter_same, ap, arith, cond, false, false_from_ne_true, filter, find, group_after, group_from, has_member, ids_in, inl, inr, insert_before, is_among, is_group_before, is_member_before, is_place, length, length-filter_both, length-take-le, list_any, map, member, nat_lt, nat_tests, not, option_map, prefix_len, refl, remove_first, same_group, same_member, shift, slice_get, slice_get_within, subst, suc, sym, take, true, with_all_moved, with_group, with_groups, with_member, with_moved, without_group, without_groups, without_member, zero, ℕ, [], ◌&&◌, ◌+◌, ◌-◌, ◌==◌, ◌||◌, ◌∙◌, ◌∷◌, ◌≡◌, ◌≢◌, ◌⊎◌}
-use Rattle.np_lists.proofs.Changes.{IsLastPlace, Rises-filter, all-at, all-filter, all-insert_before, all-remove_first, all-weaker, list_any-insert_before, list_any-none, none-list_any, none-other, none-there, one-there, rank}
-use Rattle.np_lists.proofs.Plain.{and_false}
+use Rattle.np_lists.proofs.Prelude.{AllByRecursion, AreRanked, Bool, Group, List, Member, None, NonePass, Option, Placed, Rises, Some, any-filter_same, ap, arith, cond, false, filter, find, group_after, group_from, has_member, ids_in, insert_before, is_among, is_group_before, is_member_before, is_place, length, length-filter_both, length-take-le, list_any, map, member, nat_lt, nat_tests, not, option_map, prefix_len, refl, remove_first, same_group, same_member, shift, slice_get, slice_get_within, subst, suc, sym, take, true, with_all_moved, with_group, with_groups, with_member, with_moved, without_group, without_groups, without_member, zero, ℕ, [], ◌&&◌, ◌+◌, ◌-◌, ◌==◌, ◌||◌, ◌∙◌, ◌∷◌, ◌≡◌}
+use Rattle.np_lists.proofs.Changes.{IsLastPlace, Rises-filter, all-at, all-filter, all-insert_before, all-remove_first, all-weaker, at-last, list_any-insert_before, list_any-none, none-list_any, rank}
+use Rattle.np_lists.proofs.Plain.{and_false, by_bool, or_true}
 
 -- # the order of members, from that of their ids
 
@@ -13,8 +13,7 @@ group-equal a b same =
     let first : a.first ≡ b.first = grind (arith, nat_tests) in
     let second : a.second ≡ b.second = grind (arith, nat_tests) in
     let third : a.third ≡ b.third = grind (arith, nat_tests) in
-    let group : record { class = a.class; first = a.first; second = a.second; third = a.third } ≡ record { class = b.class; first = b.first; second = b.second; third = b.third } = rw (class, first, second, third) refl in
-    group
+    λ i. record { class = class i; first = first i; second = second i; third = third i }
 
 pub group-itself : (a : Group) → same_group a a ≡ true
 group-itself a = grind (arith, nat_tests)
@@ -64,53 +63,27 @@ module _ {K : Type 0} (before : K → K → Bool) where
 
   pub member-one_way : ((a b : K) → before a b ≡ true → before b a ≡ false)
       → (a b : Member K) → is_member_before before a b ≡ true → is_member_before before b a ≡ false
-  member-one_way one_way a b = by (same_group a.group b.group) refl where
-    by : (x : Bool) → same_group a.group b.group ≡ x → cond x (before a.id b.id) (is_group_before a.group b.group) ≡ true → is_member_before before b a ≡ false
-    by true same first = rw (group-turned a.group b.group true same) (one_way a.id b.id first)
-    by false other first = rw (group-turned a.group b.group false other) (group-one_way a.group b.group first)
+  member-one_way one_way a b first = grind (arith, group-turned a.group b.group _ refl, one_way a.id b.id, group-one_way a.group b.group)
 
   pub member-some_way : (same : K → K → Bool) → ((a b : K) → before a b ≡ false → same a b ≡ false → before b a ≡ true)
       → (a b : Member K) → is_member_before before a b ≡ false → same_member same a b ≡ false → is_member_before before b a ≡ true
-  member-some_way same some_way a b = by (same_group a.group b.group) refl where
-    by : (x : Bool) → same_group a.group b.group ≡ x → cond x (before a.id b.id) (is_group_before a.group b.group) ≡ false → (x && same a.id b.id) ≡ false
-        → is_member_before before b a ≡ true
-    by true is past other = rw (group-turned a.group b.group true is) (some_way a.id b.id past other)
-    by false is past other = rw (group-turned a.group b.group false is) (group-some_way a.group b.group past is)
+  member-some_way same some_way a b past other = grind (arith, group-turned a.group b.group _ refl, some_way a.id b.id, group-some_way a.group b.group)
 
 pub member-equal : {K : Type 0} (same : K → K → Bool) → ((a b : K) → same a b ≡ true → a ≡ b)
     → (a b : Member K) → same_member same a b ≡ true → a ≡ b
-member-equal {K = K} same equal a b = by (same_group a.group b.group) refl where
-  by : (x : Bool) → same_group a.group b.group ≡ x → (x && same a.id b.id) ≡ true → a ≡ b
-  by true is alike =
-      let member : record { group = a.group; id = a.id } ≡ record { group = b.group; id = b.id } = rw (group-equal a.group b.group is, equal a.id b.id alike) refl in
-      member
-  by false is alike = absurd cc
+member-equal same equal a b alike = let group = group-equal a.group b.group (grind arith) in let id = equal a.id b.id (grind arith) in λ i. record { group = group i; id = id i }
 
 -- ## before or after a group
 
 -- what is before a member of an earlier group is in an earlier group
 pub down-low : {K : Type 0} (before : K → K → Bool) (g : Group) (a b : Member K) → is_member_before before a b ≡ true
     → is_group_before b.group g ≡ true → is_group_before a.group g ≡ true
-down-low before g a b = by (same_group a.group b.group) refl where
-  by : (x : Bool) → same_group a.group b.group ≡ x → cond x (before a.id b.id) (is_group_before a.group b.group) ≡ true
-      → is_group_before b.group g ≡ true → is_group_before a.group g ≡ true
-  by true is order low = rw (group-equal a.group b.group is) low
-  by false is order low = group-transitive a.group b.group g order low
-
-not-after : (a b g : Group) → is_group_before a b ≡ true → not (is_group_before g b) ≡ true → not (is_group_before g a) ≡ true
-not-after a b g order upto = by (is_group_before g a) refl where
-  by : (x : Bool) → is_group_before g a ≡ x → not x ≡ true
-  by true is = absurd (let after : is_group_before g b ≡ true = group-transitive g a b is order in let out : not true ≡ true = rw after at upto in cc)
-  by false is = refl
+down-low before g a b order low = grind (arith, group-equal a.group b.group, group-transitive a.group b.group g)
 
 -- what is before a member of no later group is in no later group
 pub down-high : {K : Type 0} (before : K → K → Bool) (g : Group) (a b : Member K) → is_member_before before a b ≡ true
     → not (is_group_before g b.group) ≡ true → not (is_group_before g a.group) ≡ true
-down-high before g a b = by (same_group a.group b.group) refl where
-  by : (x : Bool) → same_group a.group b.group ≡ x → cond x (before a.id b.id) (is_group_before a.group b.group) ≡ true
-      → not (is_group_before g b.group) ≡ true → not (is_group_before g a.group) ≡ true
-  by true is order upto = rw (group-equal a.group b.group is) upto
-  by false is order upto = not-after a.group b.group g order upto
+down-high before g a b order upto = grind (arith, group-equal a.group b.group, group-transitive g a.group b.group)
 
 -- an earlier group is no later one
 pub group-between : (a g : Group) → is_group_before a g ≡ true → not (is_group_before g a) ≡ true
@@ -127,97 +100,41 @@ group-is a g = grind (arith, nat_tests)
 abbrev has : {X : Type 0} → (X → X → Bool) → X → List X → Bool
 has same x xs = list_any (λ other. same other x) xs
 
-abbrev with_it : {X : Type 0} → (X → X → Bool) → (X → X → Bool) → X → List X → List X
-with_it before same i xs = cond (has same i xs) xs (insert_before (λ other. before i other) i xs)
-
-abbrev without_it : {X : Type 0} → (X → X → Bool) → X → List X → List X
-without_it same i xs = remove_first (λ other. same other i) xs
-
 module _ {X : Type 0} (before same : X → X → Bool) (equal : (a b : X) → same a b ≡ true → a ≡ b) (i x : X) where
-  among : (xs : List X) → has same i xs ≡ true → (b : Bool) → same i x ≡ b → has same x xs ≡ (b || has same x xs)
-  among xs there true is = subst (λ (y : X). has same y xs ≡ true) (equal i x is) there
-  among xs there false other = refl
-
-  has-with_it : (xs : List X) → has same x (with_it before same i xs) ≡ (same i x || has same x xs)
-  has-with_it xs = by (has same i xs) refl where
-    by : (b : Bool) → has same i xs ≡ b → has same x (cond b xs (insert_before (λ other. before i other) i xs)) ≡ (same i x || has same x xs)
-    by true there = among xs there (same i x) refl
-    by false out = list_any-insert_before (λ other. same other x) (λ other. before i other) i xs
+  has-with_it : (xs : List X) → has same x (cond (has same i xs) xs (insert_before (λ other. before i other) i xs)) ≡ (same i x || has same x xs)
+  has-with_it xs = grind (arith, equal i x, list_any-insert_before (λ other. same other x) (λ other. before i other) i xs)
 
 module _ {X : Type 0} (before same : X → X → Bool)
     (one_way : (a b : X) → before a b ≡ true → before b a ≡ false)
     (equal : (a b : X) → same a b ≡ true → a ≡ b) where
-  -- one after another is not that other
-  later_other : (a b : X) → before a b ≡ true → same b a ≡ false
-  later_other a b first = by (same b a) refl where
-    by : (c : Bool) → same b a ≡ c → c ≡ false
-    by true is =
-        let back : before b a ≡ false = one_way a b first in
-        let alike : b ≡ a = equal b a is in
-        let here : before a a ≡ true = subst (λ (y : X). before a y ≡ true) alike first in
-        let not_here : before a a ≡ false = subst (λ (y : X). before y a ≡ false) alike back in
-        absurd cc
-    by false is = refl
-
   -- one is none of those after it
   pub none-after : (k : X) (ks : List X) → AllByRecursion (λ y. before k y ≡ true) ks → has same k ks ≡ false
   none-after k ks all =
       list_any-none (λ other. same other k) ks
-      (all-weaker (λ y. before k y ≡ true) (λ y. same y k ≡ false) (λ y first. later_other k y first) ks all)
+      (all-weaker (λ y. before k y ≡ true) (λ y. same y k ≡ false) (λ y first. grind (arith, one_way k y, equal y k)) ks all)
 
-  has-without_it : (i x : X) (xs : List X) → Rises before xs → has same x (without_it same i xs) ≡ (not (same i x) && has same x xs)
-  has-without_it i x [] rises = by (same i x) where
-    by : (b : Bool) → false ≡ (not b && false)
-    by true = refl
-    by false = refl
-  has-without_it i x (k ∷ ks) rises = by (same k i) (same i x) refl refl (has-without_it i x ks rises.1) where
-    here : (b : Bool) → k ≡ i → same i x ≡ b → has same x ks ≡ (not b && (same k x || has same x ks))
-    here true is alike = subst (λ (y : X). has same y ks ≡ false) (is ∙ equal i x alike) (none-after k ks rises.0)
-    here false is other = let out : same k x ≡ false = subst (λ (y : X). same y x ≡ false) (sym is) other in rw out refl
-
-    past : (b : Bool) → same k i ≡ false → same i x ≡ b → (same k x || (not b && has same x ks)) ≡ (not b && (same k x || has same x ks))
-    past true differs alike = let out : same k x ≡ false = subst (λ (y : X). same k y ≡ false) (equal i x alike) differs in rw out refl
-    past false differs other = refl
-
-    by : (a b : Bool) → same k i ≡ a → same i x ≡ b → has same x (without_it same i ks) ≡ (not b && has same x ks)
-        → has same x (cond a ks (k ∷ without_it same i ks)) ≡ (not b && (same k x || has same x ks))
-    by true b at is later = here b (equal k i at) is
-    by false b at is later = ap (λ (y : Bool). same k x || y) later ∙ past b at is
+  has-without_it : (i x : X) (xs : List X) → Rises before xs → has same x (remove_first (λ other. same other i) xs) ≡ (not (same i x) && has same x xs)
+  has-without_it i x [] rises = grind arith
+  has-without_it i x (k ∷ ks) rises = grind (arith, has-without_it i x ks rises.1, equal k i, equal i x, none-after k ks rises.0)
 
 module _ {X : Type 0} (before : X → X → Bool) where
-  rises-remove_first : (p : X → Bool) (xs : List X) → Rises before xs → Rises before (remove_first p xs)
-  rises-remove_first p [] rises = tt
-  rises-remove_first p (x ∷ xs) rises = by (p x) (rises-remove_first p xs rises.1) where
-    by : (b : Bool) → Rises before (remove_first p xs) → Rises before (cond b xs (x ∷ remove_first p xs))
-    by true later = rises.1
-    by false later = (all-remove_first (λ y. before x y ≡ true) p xs rises.0, later)
-
   -- inserted before the first member that it is before, if each other one is before it
   rises-insert_before : ((a b k : X) → before a b ≡ true → before b k ≡ true → before a k ≡ true) → (new : X) (xs : List X)
       → AllByRecursion (λ x. before new x ≡ false → before x new ≡ true) xs → Rises before xs → Rises before (insert_before (λ x. before new x) new xs)
   rises-insert_before through new [] apart rises = (tt, tt)
-  rises-insert_before through new (x ∷ xs) apart rises = by (before new x) refl (rises-insert_before through new xs apart.1 rises.1) where
-    by : (b : Bool) → before new x ≡ b → Rises before (insert_before (λ y. before new y) new xs) → Rises before (cond b (new ∷ x ∷ xs) (x ∷ insert_before (λ y. before new y) new xs))
-    by true first rest = ((first, all-weaker (λ y. before x y ≡ true) (λ y. before new y ≡ true) (λ y order. through new x y first order) xs rises.0), rises)
-    by false later rest = (all-insert_before (λ y. before x y ≡ true) (λ y. before new y) new xs (apart.0 later) rises.0, rest)
+  rises-insert_before through new (x ∷ xs) apart rises =
+      by_bool (λ b. Rises before (cond b (new ∷ x ∷ xs) (x ∷ insert_before (λ y. before new y) new xs))) (before new x)
+      (λ first. ((first, all-weaker (λ y. before x y ≡ true) (λ y. before new y ≡ true) (λ y order. through new x y first order) xs rises.0), rises))
+      (λ later. (all-insert_before (λ y. before x y ≡ true) (λ y. before new y) new xs (apart.0 later) rises.0, rises-insert_before through new xs apart.1 rises.1))
 
 module _ {X : Type 0} (before same : X → X → Bool)
     (transitive : (a b k : X) → before a b ≡ true → before b k ≡ true → before a k ≡ true)
     (some_way : (a b : X) → before a b ≡ false → same a b ≡ false → before b a ≡ true) where
-  follows : (i y : X) → same y i ≡ false → before i y ≡ false → before y i ≡ true
-  follows i y other past = by (before y i) refl where
-    by : (b : Bool) → before y i ≡ b → b ≡ true
-    by true first = refl
-    by false not_first = let first : before i y ≡ true = some_way y i not_first other in absurd cc
-
-  rises-with_it : (i : X) (xs : List X) → Rises before xs → Rises before (with_it before same i xs)
-  rises-with_it i xs rises = by (has same i xs) refl where
-    by : (b : Bool) → has same i xs ≡ b → Rises before (cond b xs (insert_before (λ other. before i other) i xs))
-    by true there = rises
-    by false out =
-        rises-insert_before before transitive i xs
-        (all-weaker (λ y. same y i ≡ false) (λ y. before i y ≡ false → before y i ≡ true) (λ y other past. follows i y other past) xs
-        (none-list_any (λ other. same other i) xs out)) rises
+  rises-with_it : (i : X) (xs : List X) → Rises before xs → Rises before (cond (has same i xs) xs (insert_before (λ other. before i other) i xs))
+  rises-with_it i xs rises =
+      by_bool (λ b. Rises before (cond b xs (insert_before (λ other. before i other) i xs))) (has same i xs) (λ _. rises)
+      (λ out. rises-insert_before before transitive i xs
+      (all-weaker (λ y. same y i ≡ false) (λ y. before i y ≡ false → before y i ≡ true) (λ y other past. grind (arith, some_way y i)) xs (none-list_any (λ other. same other i) xs out)) rises)
 
 -- ## members of groups
 
@@ -246,8 +163,10 @@ rises-with before same transitive some_way h j ms rises =
 -- and with one less
 pub rises-without : {K : Type 0} (before same : K → K → Bool) (h : Group) (j : K) (ms : List (Member K))
     → Rises (is_member_before before) ms → Rises (is_member_before before) (without_member same h j ms)
-rises-without before same h j ms rises =
-    rises-remove_first (is_member_before before) (λ m. same_member same m (member h j)) ms rises
+rises-without before same h j [] rises = tt
+rises-without before same h j (x ∷ xs) rises =
+    by_bool (λ b. Rises (is_member_before before) (cond b xs (x ∷ without_member same h j xs))) (same_member same x (member h j)) (λ _. rises.1)
+    (λ _. (all-remove_first (λ y. is_member_before before x y ≡ true) (λ m. same_member same m (member h j)) xs rises.0, rises-without before same h j xs rises.1))
 
 -- # the ids of one group
 
@@ -256,59 +175,37 @@ rises-without before same h j ms rises =
 module _ {K : Type 0} (g : Group) where
   -- the ids of one member and those after it
   pub step : (x : Member K) (xs : List (Member K)) → ids_in g (x ∷ xs) ≡ cond (same_group x.group g) (x.id ∷ ids_in g xs) (ids_in g xs)
-  step x xs = by (same_group x.group g) where
-    by : (b : Bool) → map (λ (m : Member K). m.id) (cond b (x ∷ filter (λ m. same_group m.group g) xs) (filter (λ m. same_group m.group g) xs)) ≡ cond b (x.id ∷ ids_in g xs) (ids_in g xs)
-    by true = refl
-    by false = refl
+  step x xs = grind arith
 
   module _ (before : K → K → Bool) where
     -- of members of one group the ids come in order
-    one-group : (x y : Member K) → same_group x.group g ≡ true → same_group y.group g ≡ true → is_member_before before x y ≡ true → before x.id y.id ≡ true
-    one-group x y here there order =
-        let both : same_group x.group y.group ≡ true = rw (group-equal x.group g here, group-equal y.group g there) (group-itself g) in
-        rw both at order
-
     ids-after : (x : Member K) (xs : List (Member K)) → same_group x.group g ≡ true → AllByRecursion (λ y. is_member_before before x y ≡ true) xs
         → AllByRecursion (λ k. before x.id k ≡ true) (ids_in g xs)
     ids-after x [] here all = tt
-    ids-after x (y ∷ ys) here all = subst (λ (ids : List K). AllByRecursion (λ k. before x.id k ≡ true) ids) (sym (step y ys)) (by (same_group y.group g) refl (ids-after x ys here all.1)) where
-      by : (b : Bool) → same_group y.group g ≡ b → AllByRecursion (λ k. before x.id k ≡ true) (ids_in g ys)
-          → AllByRecursion (λ k. before x.id k ≡ true) (cond b (y.id ∷ ids_in g ys) (ids_in g ys))
-      by true there later = (one-group x y here there all.0, later)
-      by false other later = later
+    ids-after x (y ∷ ys) here all =
+        let rest = ids-after x ys here all.1 in
+        rw (step y ys) (
+        by_bool (λ b. AllByRecursion (λ k. before x.id k ≡ true) (cond b (y.id ∷ ids_in g ys) (ids_in g ys))) (same_group y.group g)
+        (λ there. (let both : same_group x.group y.group ≡ true = grind (arith, nat_tests) in rw both at all.0, rest)) (λ _. rest))
 
     -- the ids of a group rise
     pub ids-rise : (ms : List (Member K)) → Rises (is_member_before before) ms → Rises before (ids_in g ms)
     ids-rise [] rises = tt
-    ids-rise (x ∷ xs) rises = subst (λ (ids : List K). Rises before ids) (sym (step x xs)) (by (same_group x.group g) refl (ids-rise xs rises.1)) where
-      by : (b : Bool) → same_group x.group g ≡ b → Rises before (ids_in g xs) → Rises before (cond b (x.id ∷ ids_in g xs) (ids_in g xs))
-      by true here later = (ids-after x xs here rises.0, later)
-      by false other later = later
+    ids-rise (x ∷ xs) rises =
+        let rest = ids-rise xs rises.1 in
+        rw (step x xs) (by_bool (λ b. Rises before (cond b (x.id ∷ ids_in g xs) (ids_in g xs))) (same_group x.group g) (λ here. (ids-after x xs here rises.0, rest)) (λ _. rest))
 
 -- an id is among those of the group if it is a member
 pub ids-has : {K : Type 0} (same : K → K → Bool) (g : Group) (i : K) (ms : List (Member K)) → list_any (λ k. same k i) (ids_in g ms) ≡ has_member same g i ms
 ids-has same g i [] = refl
-ids-has {K = K} same g i (x ∷ xs) = ap (λ (ids : List K). list_any (λ k. same k i) ids) (step g x xs) ∙ by (same_group x.group g) (ids-has same g i xs) where
-  by : (b : Bool) → list_any (λ k. same k i) (ids_in g xs) ≡ has_member same g i xs
-      → list_any (λ k. same k i) (cond b (x.id ∷ ids_in g xs) (ids_in g xs)) ≡ ((b && same x.id i) || has_member same g i xs)
-  by true later = ap (λ (c : Bool). same x.id i || c) later
-  by false later = later
+ids-has same g i (x ∷ xs) = grind (arith, step g x xs, ids-has same g i xs)
 
 -- ## two lists of ids
 
 -- each key is the same as itself
 pub same-itself : {K : Type 0} (before same : K → K → Bool) → ((a b : K) → before a b ≡ true → before b a ≡ false)
     → ((a b : K) → before a b ≡ false → same a b ≡ false → before b a ≡ true) → (a : K) → same a a ≡ true
-same-itself before same one_way some_way a = by (same a a) refl where
-  not_before : before a a ≡ false
-  not_before = false_from_ne_true (before a a) (λ is. let out : before a a ≡ false = one_way a a is in cc)
-
-  by : (b : Bool) → same a a ≡ b → b ≡ true
-  by true is = refl
-  by false is =
-      let first : before a a ≡ true = some_way a a not_before is in
-      let out : before a a ≡ false = not_before in
-      absurd cc
+same-itself before same one_way some_way a = grind (arith, one_way a a, some_way a a)
 
 module _ {K : Type 0} (before same : K → K → Bool)
     (one_way : (a b : K) → before a b ≡ true → before b a ≡ false)
@@ -320,52 +217,28 @@ module _ {K : Type 0} (before same : K → K → Bool)
   -- an id that is there comes after another, if all others do
   after-first : (x : K) (xs : List K) (i : K) → AllByRecursion (λ y. before x y ≡ true) xs → has_id i xs ≡ true → before x i ≡ true
   after-first x [] i all there = absurd cc
-  after-first x (y ∷ ys) i all there = by (same y i) refl (after-first x ys i all.1) there where
-    by : (b : Bool) → same y i ≡ b → (has_id i ys ≡ true → before x i ≡ true) → (b || has_id i ys) ≡ true → before x i ≡ true
-    by true is later found = subst (λ (k : K). before x k ≡ true) (equal y i is) all.0
-    by false is later found = later found
-
-  -- so it is the first or comes after it
-  first-of : (x : K) (xs : List K) (i : K) → AllByRecursion (λ y. before x y ≡ true) xs → has_id i (x ∷ xs) ≡ true → (same x i ≡ true) ⊎ (before x i ≡ true)
-  first-of x xs i all there = by (same x i) refl there where
-    by : (b : Bool) → same x i ≡ b → (b || has_id i xs) ≡ true → (same x i ≡ true) ⊎ (before x i ≡ true)
-    by true is found = inl is
-    by false is found = inr (after-first x xs i all found)
-
-  has-head : (x : K) (xs : List K) → has_id x (x ∷ xs) ≡ true
-  has-head x xs = rw (itself x) refl
+  after-first x (y ∷ ys) i all there = grind (arith, equal y i, all.0, after-first x ys i all.1)
 
   -- two lists that rise begin with the same id if they have the same ids
   same-head : (x : K) (xs : List K) (y : K) (ys : List K) → Rises before (x ∷ xs) → Rises before (y ∷ ys)
       → ((i : K) → has_id i (x ∷ xs) ≡ has_id i (y ∷ ys)) → x ≡ y
-  same-head x xs y ys rise_x rise_y alike =
-      by (first-of x xs y rise_x.0 (alike y ∙ has-head y ys)) (first-of y ys x rise_y.0 (sym (alike x) ∙ has-head x xs)) where
-        by : (same x y ≡ true) ⊎ (before x y ≡ true) → (same y x ≡ true) ⊎ (before y x ≡ true) → x ≡ y
-        by (inl is) other = equal x y is
-        by (inr first) (inl is) = sym (equal y x is)
-        by (inr first) (inr second) = let back : before y x ≡ false = one_way x y first in absurd cc
+  same-head x xs y ys rise_x rise_y alike = grind (arith, alike x, alike y, itself x, itself y, equal x y, equal y x, after-first x xs y rise_x.0, after-first y ys x rise_y.0, one_way x y)
 
   -- and go on with the same ids
-  same-tail : (x : K) (xs ys : List K) → Rises before (x ∷ xs) → Rises before (x ∷ ys)
-      → ((i : K) → has_id i (x ∷ xs) ≡ has_id i (x ∷ ys)) → (i : K) → has_id i xs ≡ has_id i ys
-  same-tail x xs ys rise_x rise_y alike i = by (same x i) refl (alike i) where
-    none : (zs : List K) → x ≡ i → AllByRecursion (λ z. before x z ≡ true) zs → has_id i zs ≡ false
-    none zs is all = subst (λ (k : K). has_id k zs ≡ false) is (none-after before same one_way equal x zs all)
-
-    by : (b : Bool) → same x i ≡ b → (b || has_id i xs) ≡ (b || has_id i ys) → has_id i xs ≡ has_id i ys
-    by true is both = none xs (equal x i is) rise_x.0 ∙ sym (none ys (equal x i is) rise_y.0)
-    by false is both = both
+  same-tail : (x : K) (xs : List K) (y : K) (ys : List K) → x ≡ y → Rises before (x ∷ xs) → Rises before (y ∷ ys)
+      → ((i : K) → has_id i (x ∷ xs) ≡ has_id i (y ∷ ys)) → (i : K) → has_id i xs ≡ has_id i ys
+  same-tail x xs y ys head rise_x rise_y alike i =
+      grind (arith, head, alike i, equal x i, none-after before same one_way equal x xs rise_x.0, none-after before same one_way equal y ys rise_y.0)
 
   -- two lists that rise are equal if they have the same ids
   pub same-list : (xs ys : List K) → Rises before xs → Rises before ys → ((i : K) → list_any (λ k. same k i) xs ≡ list_any (λ k. same k i) ys) → xs ≡ ys
   same-list [] [] rise_x rise_y alike = refl
-  same-list [] (y ∷ ys) rise_x rise_y alike = let out : false ≡ true = alike y ∙ has-head y ys in absurd cc
-  same-list (x ∷ xs) [] rise_x rise_y alike = let out : false ≡ true = sym (alike x) ∙ has-head x xs in absurd cc
+  same-list [] (y ∷ ys) rise_x rise_y alike = grind (arith, alike y, itself y)
+  same-list (x ∷ xs) [] rise_x rise_y alike = grind (arith, alike x, itself x)
   same-list (x ∷ xs) (y ∷ ys) rise_x rise_y alike =
       let head : x ≡ y = same-head x xs y ys rise_x rise_y alike in
-      let rise_z : Rises before (x ∷ ys) = subst (λ (k : K). Rises before (k ∷ ys)) (sym head) rise_y in
-      let alike_z : (i : K) → has_id i (x ∷ xs) ≡ has_id i (x ∷ ys) = subst (λ (k : K). (i : K) → has_id i (x ∷ xs) ≡ has_id i (k ∷ ys)) (sym head) alike in
-      ap (λ (k : K). k ∷ xs) head ∙ ap (λ (zs : List K). y ∷ zs) (same-list xs ys rise_x.1 rise_y.1 (same-tail x xs ys rise_x rise_z alike_z))
+      let tail = same-list xs ys rise_x.1 rise_y.1 (same-tail x xs y ys head rise_x rise_y alike) in
+      λ i. head i ∷ tail i
 
 -- # how many ids of a list are outside a group, by those of the group before an id
 
@@ -375,36 +248,19 @@ prefix-none : {X : Type 0} (p : X → Bool) (xs : List X) → NonePass p xs → 
 prefix-none p [] none = refl
 prefix-none p (x ∷ xs) none = rw none.0 refl
 
-module _ {K : Type 0} (before : K → K → Bool) (one_way : (a b : K) → before a b ≡ true → before b a ≡ false) where
-  -- none is before itself
-  not_before : (a : K) → before a a ≡ false
-  not_before a = false_from_ne_true (before a a) (λ is. let out : before a a ≡ false = one_way a a is in cc)
+module _ {K : Type 0} (before : K → K → Bool) (one_way : (a b : K) → before a b ≡ true → before b a ≡ false) (q : K → Bool) where
+  none-first : (x : K) (xs : List K) → AllByRecursion (λ y. before x y ≡ true) xs → prefix_len (λ y. before y x) (filter q (x ∷ xs)) ≡ 0
+  none-first x xs all =
+      let out : before x x ≡ false = grind (arith, one_way x x) in
+      let later = all-filter (λ y. before y x ≡ false) q xs (all-weaker (λ y. before x y ≡ true) (λ y. before y x ≡ false) (λ y order. one_way x y order) xs all) in
+      by_bool (λ b. prefix_len (λ y. before y x) (cond b (x ∷ filter q xs) (filter q xs)) ≡ 0) (q x) (λ _. rw out refl) (λ _. prefix-none (λ y. before y x) (filter q xs) later)
 
-  module _ (q : K → Bool) where
-    none-first : (x : K) (xs : List K) → AllByRecursion (λ y. before x y ≡ true) xs → prefix_len (λ y. before y x) (filter q (x ∷ xs)) ≡ 0
-    none-first x xs all = prefix-none (λ y. before y x) (filter q (x ∷ xs)) (by (q x)) where
-      later : NonePass (λ y. before y x) (filter q xs)
-      later = all-filter (λ y. before y x ≡ false) q xs (all-weaker (λ y. before x y ≡ true) (λ y. before y x ≡ false) (λ y order. one_way x y order) xs all)
-
-      by : (b : Bool) → NonePass (λ y. before y x) (cond b (x ∷ filter q xs) (filter q xs))
-      by true = (not_before x, later)
-      by false = later
-
-    -- of those that pass, the ones before an id of the list are at earlier places
-    pub prefix-rank : (xs : List K) (k : ℕ) (x : K) → Rises before xs → slice_get xs k ≡ Some x
-        → prefix_len (λ y. before y x) (filter q xs) ≡ rank q xs k
-    prefix-rank [] k x rises there = absurd cc
-    prefix-rank (y ∷ ys) zero x rises there =
-        let here : y ≡ x = cc in
-        subst (λ (z : K). prefix_len (λ w. before w z) (filter q (y ∷ ys)) ≡ 0) here (none-first y ys rises.0)
-    prefix-rank (y ∷ ys) (suc k) x rises there = by (q y) (prefix-rank ys k x rises.1 there) where
-      earlier : before y x ≡ true
-      earlier = all-at (λ z. before y z ≡ true) ys k x rises.0 there
-
-      by : (b : Bool) → prefix_len (λ z. before z x) (filter q ys) ≡ rank q ys k
-          → prefix_len (λ z. before z x) (cond b (y ∷ filter q ys) (filter q ys)) ≡ length (cond b (y ∷ filter q (take k ys)) (filter q (take k ys)))
-      by true rest = rw earlier (omega (arith, rest))
-      by false rest = rest
+  -- of those that pass, the ones before an id of the list are at earlier places
+  pub prefix-rank : (xs : List K) (k : ℕ) (x : K) → Rises before xs → slice_get xs k ≡ Some x
+      → prefix_len (λ y. before y x) (filter q xs) ≡ rank q xs k
+  prefix-rank [] k x rises there = absurd cc
+  prefix-rank (y ∷ ys) zero x rises there = let here : y ≡ x = cc in rw (← here) (none-first y ys rises.0)
+  prefix-rank (y ∷ ys) (suc k) x rises there = grind (arith, nat_tests, prefix-rank ys k x rises.1 there, all-at (λ z. before y z ≡ true) ys k x rises.0 there)
 
 -- ## the ids of a group among those of a list
 
@@ -420,10 +276,7 @@ module _ {K : Type 0} (before same : K → K → Bool)
   is_outer i = not (has_member same inner i ms)
 
   both-has : (i : K) → list_any (λ k. same k i) (filter is_inner ids) ≡ list_any (λ k. same k i) (ids_in inner ms)
-  both-has i = any-filter_same (λ k. same k i) is_inner (is_inner i) (λ k alike. ap is_inner (equal k i alike)) ids ∙ by (is_inner i) refl ∙ sym (ids-has same inner i ms) where
-    by : (b : Bool) → is_inner i ≡ b → (b && list_any (λ k. same k i) ids) ≡ b
-    by true is = ranked.all_there i is
-    by false is = refl
+  both-has i = any-filter_same (λ k. same k i) is_inner (is_inner i) (λ k alike. ap is_inner (equal k i alike)) ids ∙ grind (arith, ranked.all_there i, ids-has same inner i ms)
 
   -- the ids of the group are those of the list that are in it
   inner-ids : filter is_inner ids ≡ ids_in inner ms
@@ -444,41 +297,13 @@ module _ {K : Type 0} (before same : K → K → Bool)
   -- the id at the last place with a rank of at most `at`, and the rank there
   module _ (at k : ℕ) (place : IsLastPlace is_outer ids at k) (x : K) (there : slice_get ids k ≡ Some x)
       (count : ℕ) (is : count ≡ k - prefix_len (λ y. before y x) (ids_in inner ms)) where
-    -- it is the id wanted
-    pub id-wanted : count ≡ at → has_member same inner x ms ≡ false → Some x ≡ slice_get (filter is_outer ids) at
-    id-wanted same_rank out =
-        sym (one-there is_outer ids at k place x there (sym (is ∙ outside-rank k x there) ∙ same_rank) (ap not out))
-
-    -- or no id has this rank
-    pub no_id-other : count ≢ at → None ≡ slice_get (filter is_outer ids) at
-    no_id-other other = sym (none-other is_outer ids at k place x there (λ same_rank. other (is ∙ outside-rank k x there ∙ same_rank)))
-
-    pub no_id-inner : has_member same inner x ms ≡ true → None ≡ slice_get (filter is_outer ids) at
-    no_id-inner inside = sym (none-there is_outer ids at k place x there (ap not inside))
+    -- it is the id wanted if it has the rank and is not of the group, and else no id is
+    pub id-wanted : (cond (count == at) (cond (is_outer x) (Some x) None) None ≡ slice_get (filter is_outer ids) at) × (has_member same inner x ms ≡ true → None ≡ slice_get (filter is_outer ids) at)
+    id-wanted =
+        let wanted : cond (count == at) (cond (is_outer x) (Some x) None) None ≡ slice_get (filter is_outer ids) at = rw (is, outside-rank k x there) (sym (at-last is_outer ids at k place x there)) in
+        (wanted, λ inside. grind (arith, wanted, inside))
 
 -- # which members there are after ids move
-
--- ## truth values
-
--- one group more that is put
-put_more : (s r h : Bool) → ((s && (r && true)) || (s || h)) ≡ ((s && true) || h)
-put_more true true h = refl
-put_more true false h = refl
-put_more false r h = refl
-
--- or that is left
-left_more : (s r h : Bool) → (not (s && (r && true)) && (not s && h)) ≡ (not (s && true) && h)
-left_more true true h = refl
-left_more true false h = refl
-left_more false r h = refl
-
--- an id that is listed twice moves once
-again : (l w n h : Bool) → cond l (shift w n (shift w n h)) (shift w n h) ≡ shift w n h
-again false w n h = refl
-again true true true h = refl
-again true true false h = refl
-again true false true h = refl
-again true false false h = refl
 
 module _ {K : Type 0} (before same : K → K → Bool)
     (transitive : (a b k : K) → before a b ≡ true → before b k ≡ true → before a k ≡ true)
@@ -490,10 +315,7 @@ module _ {K : Type 0} (before same : K → K → Bool)
   rises-with_group : (i : K) (there : List (Option Group)) (group : Option Group) (ms : List (Member K)) → Rises (is_member_before before) ms
       → Rises (is_member_before before) (with_group before same i there group ms)
   rises-with_group i there None ms rises = rises
-  rises-with_group i there (Some g) ms rises = by (is_among g there) where
-    by : (b : Bool) → Rises (is_member_before before) (cond b ms (with_member before same g i ms))
-    by true = rises
-    by false = rises-with before same transitive some_way g i ms rises
+  rises-with_group i there (Some g) ms rises = by_bool (λ b. Rises (is_member_before before) (cond b ms (with_member before same g i ms))) (is_among g there) (λ _. rises) (λ _. rises-with before same transitive some_way g i ms rises)
 
   rises-with_groups : (i : K) (there groups : List (Option Group)) (ms : List (Member K)) → Rises (is_member_before before) ms
       → Rises (is_member_before before) (with_groups before same i there groups ms)
@@ -503,10 +325,7 @@ module _ {K : Type 0} (before same : K → K → Bool)
   rises-without_group : (i : K) (staying : List (Option Group)) (group : Option Group) (ms : List (Member K)) → Rises (is_member_before before) ms
       → Rises (is_member_before before) (without_group same i staying group ms)
   rises-without_group i staying None ms rises = rises
-  rises-without_group i staying (Some g) ms rises = by (is_among g staying) where
-    by : (b : Bool) → Rises (is_member_before before) (cond b ms (without_member same g i ms))
-    by true = rises
-    by false = rises-without before same g i ms rises
+  rises-without_group i staying (Some g) ms rises = by_bool (λ b. Rises (is_member_before before) (cond b ms (without_member same g i ms))) (is_among g staying) (λ _. rises) (λ _. rises-without before same g i ms rises)
 
   rises-without_groups : (i : K) (staying groups : List (Option Group)) (ms : List (Member K)) → Rises (is_member_before before) ms
       → Rises (is_member_before before) (without_groups same i staying groups ms)
@@ -530,20 +349,7 @@ module _ {K : Type 0} (before same : K → K → Bool)
     with-group : (j : K) (there : List (Option Group)) (group : Option Group) (ms : List (Member K)) (rest : Bool)
         → ((same j i && (rest && not (is_among g there))) || has_placed (with_group before same j there group ms)) ≡ ((same j i && ((is_place g group || rest) && not (is_among g there))) || has_placed ms)
     with-group j there None ms rest = refl
-    with-group j there (Some h) ms rest = by (is_among h there) (same_group h g) refl refl where
-      by : (a q : Bool) → is_among h there ≡ a → same_group h g ≡ q
-          → ((same j i && (rest && not (is_among g there))) || has_placed (cond a ms (with_member before same h j ms))) ≡ ((same j i && ((q || rest) && not (is_among g there))) || has_placed ms)
-      by true true at is =
-          let is_there : is_among g there ≡ true = subst (λ (k : Group). is_among k there ≡ true) (group-equal h g is) at in
-          rw is_there (ap (λ (b : Bool). (same j i && b) || has_placed ms) (and_false rest))
-      by true false at other = refl
-      by false true at is =
-          let out : is_among g there ≡ false = subst (λ (k : Group). is_among k there ≡ false) (group-equal h g is) at in
-          ap (λ (b : Bool). (same j i && (rest && not (is_among g there))) || b) (has-with before same equal g i h j ms)
-          ∙ rw (is, out) (put_more (same j i) rest (has_placed ms))
-      by false false at other =
-          ap (λ (b : Bool). (same j i && (rest && not (is_among g there))) || b) (has-with before same equal g i h j ms)
-          ∙ rw other refl
+    with-group j there (Some h) ms rest = grind (arith, group-equal h g, has-with before same equal g i h j ms)
 
     pub with-groups : (j : K) (there groups : List (Option Group)) (ms : List (Member K))
         → has_placed (with_groups before same j there groups ms) ≡ ((same j i && (is_among g groups && not (is_among g there))) || has_placed ms)
@@ -555,20 +361,7 @@ module _ {K : Type 0} (before same : K → K → Bool)
     without-group : (j : K) (staying : List (Option Group)) (group : Option Group) (ms : List (Member K)) (rest : Bool) → Rises (is_member_before before) ms
         → (not (same j i && (rest && not (is_among g staying))) && has_placed (without_group same j staying group ms)) ≡ (not (same j i && ((is_place g group || rest) && not (is_among g staying))) && has_placed ms)
     without-group j staying None ms rest rises = refl
-    without-group j staying (Some h) ms rest rises = by (is_among h staying) (same_group h g) refl refl where
-      by : (a q : Bool) → is_among h staying ≡ a → same_group h g ≡ q
-          → (not (same j i && (rest && not (is_among g staying))) && has_placed (cond a ms (without_member same h j ms))) ≡ (not (same j i && ((q || rest) && not (is_among g staying))) && has_placed ms)
-      by true true at is =
-          let stays : is_among g staying ≡ true = subst (λ (k : Group). is_among k staying ≡ true) (group-equal h g is) at in
-          rw stays (ap (λ (b : Bool). not (same j i && b) && has_placed ms) (and_false rest))
-      by true false at other = refl
-      by false true at is =
-          let out : is_among g staying ≡ false = subst (λ (k : Group). is_among k staying ≡ false) (group-equal h g is) at in
-          ap (λ (b : Bool). not (same j i && (rest && not (is_among g staying))) && b) (has-without before same one_way equal g i h j ms rises)
-          ∙ rw (is, out) (left_more (same j i) rest (has_placed ms))
-      by false false at other =
-          ap (λ (b : Bool). not (same j i && (rest && not (is_among g staying))) && b) (has-without before same one_way equal g i h j ms rises)
-          ∙ rw other refl
+    without-group j staying (Some h) ms rest rises = grind (arith, group-equal h g, has-without before same one_way equal g i h j ms rises)
 
     without-groups : (j : K) (staying groups : List (Option Group)) (ms : List (Member K)) → Rises (is_member_before before) ms
         → has_placed (without_groups same j staying groups ms) ≡ (not (same j i && (is_among g groups && not (is_among g staying))) && has_placed ms)
@@ -580,14 +373,7 @@ module _ {K : Type 0} (before same : K → K → Bool)
     -- after one id is moved
     pub has-moved : (j : K) (was now : List (Option Group)) (ms : List (Member K)) → Rises (is_member_before before) ms
         → has_placed (with_moved before same j was now ms) ≡ cond (same j i) (shift (is_among g was) (is_among g now) (has_placed ms)) (has_placed ms)
-    has-moved j was now ms rises =
-        with-groups j was now (without_groups same j now was ms)
-        ∙ ap (λ (b : Bool). (same j i && (is_among g now && not (is_among g was))) || b) (without-groups j now was ms rises)
-        ∙ by (same j i)
-      where
-        by : (s : Bool) → ((s && (is_among g now && not (is_among g was))) || (not (s && (is_among g was && not (is_among g now))) && has_placed ms)) ≡ cond s (shift (is_among g was) (is_among g now) (has_placed ms)) (has_placed ms)
-        by true = refl
-        by false = refl
+    has-moved j was now ms rises = grind (arith, with-groups j was now (without_groups same j now was ms), without-groups j now was ms rises)
 
     -- after those of a list are
     pub all-moved : (old new : K → List (Option Group)) (ids : List K) (ms : List (Member K)) → Rises (is_member_before before) ms
@@ -596,49 +382,20 @@ module _ {K : Type 0} (before same : K → K → Bool)
     all-moved old new [] ms rises = refl
     all-moved old new (j ∷ ids) ms rises =
         all-moved old new ids (with_moved before same j (old j) (new j) ms) (rises-moved j (old j) (new j) ms rises)
-        ∙ by (same j i) refl (has-moved j (old j) (new j) ms rises)
-      where
-        later : Bool
-        later = has_placed (with_moved before same j (old j) (new j) ms)
-
-        by : (s : Bool) → same j i ≡ s → later ≡ cond s (shift (is_among g (old j)) (is_among g (new j)) (has_placed ms)) (has_placed ms)
-            → cond (list_any (λ k. same k i) ids) (shift (is_among g (old i)) (is_among g (new i)) later) later
-            ≡ cond (s || list_any (λ k. same k i) ids) (shift (is_among g (old i)) (is_among g (new i)) (has_placed ms)) (has_placed ms)
-        by true is moves =
-            let here : later ≡ shift (is_among g (old i)) (is_among g (new i)) (has_placed ms) = subst (λ (k : K). later ≡ shift (is_among g (old k)) (is_among g (new k)) (has_placed ms)) (equal j i is) moves in
-            subst (λ (b : Bool). cond (list_any (λ k. same k i) ids) (shift (is_among g (old i)) (is_among g (new i)) b) b ≡ shift (is_among g (old i)) (is_among g (new i)) (has_placed ms)) (sym here)
-            (again (list_any (λ k. same k i) ids) (is_among g (old i)) (is_among g (new i)) (has_placed ms))
-        by false other stays = ap (λ (b : Bool). cond (list_any (λ k. same k i) ids) (shift (is_among g (old i)) (is_among g (new i)) b) b) stays
+        ∙ grind (arith, equal j i, has-moved j (old j) (new j) ms rises)
 
     -- if it was where its groups before say, it is where those now do
     pub each-moved : (old new : K → List (Option Group)) (ids : List K) (ms : List (Member K)) → Rises (is_member_before before) ms
         → has_placed ms ≡ is_among g (old i) → (list_any (λ j. same j i) ids ≡ false → is_among g (new i) ≡ is_among g (old i))
         → has_placed (with_all_moved before same new (map (λ j. record { id = j; groups = old j }) ids) ms) ≡ is_among g (new i)
-    each-moved old new ids ms rises was stays =
-        all-moved old new ids ms rises
-        ∙ ap (λ (b : Bool). cond (list_any (λ j. same j i) ids) (shift (is_among g (old i)) (is_among g (new i)) b) b) was
-        ∙ by (list_any (λ j. same j i) ids) (is_among g (old i)) (is_among g (new i)) stays
-      where
-        by : (l w n : Bool) → (l ≡ false → n ≡ w) → cond l (shift w n w) w ≡ n
-        by true true true same = refl
-        by true true false same = refl
-        by true false true same = refl
-        by true false false same = refl
-        by false w n same = sym (same refl)
+    each-moved old new ids ms rises was stays = grind (arith, all-moved old new ids ms rises)
 
 -- # the groups that have members, one after another
 
 -- the member after those that pass is the first that does not
 pub past-prefix : {X : Type 0} (p q : X → Bool) → ((x : X) → q x ≡ not (p x)) → (xs : List X) → slice_get xs (prefix_len p xs) ≡ find q xs
 past-prefix p q other [] = refl
-past-prefix p q other (x ∷ xs) = rw (other x) (by (p x) (past-prefix p q other xs)) where
-  by : (b : Bool) → slice_get xs (prefix_len p xs) ≡ find q xs → slice_get (x ∷ xs) (cond b (1 + prefix_len p xs) 0) ≡ cond (not b) (Some x) (find q xs)
-  by true later = let one_more : 1 + prefix_len p xs ≡ suc (prefix_len p xs) = omega arith in rw one_more later
-  by false later = refl
-
-not_not : (b : Bool) → b ≡ not (not b)
-not_not true = refl
-not_not false = refl
+past-prefix p q other (x ∷ xs) = grind (arith, nat_tests, other x, past-prefix p q other xs)
 
 module _ {K : Type 0} (g : Group) (ms : List (Member K)) (place : ℕ) (found : Option (Member K)) (there : found ≡ slice_get ms place) where
   -- the member after those of earlier groups is in the first group from this one on
@@ -651,14 +408,11 @@ module _ {K : Type 0} (g : Group) (ms : List (Member K)) (place : ℕ) (found : 
   pub after-there : place ≡ prefix_len (λ m. not (is_group_before g m.group)) ms → option_map (λ (m : Member K). m.group) found ≡ group_after g ms
   after-there is =
       ap (option_map (λ (m : Member K). m.group))
-      (there ∙ ap (slice_get ms) is ∙ past-prefix (λ (m : Member K). not (is_group_before g m.group)) (λ (m : Member K). is_group_before g m.group) (λ m. not_not (is_group_before g m.group)) ms)
+      (there ∙ ap (slice_get ms) is ∙ past-prefix (λ (m : Member K). not (is_group_before g m.group)) (λ (m : Member K). is_group_before g m.group) (λ m. grind arith) ms)
 
 -- no group is before itself
 pub group-not_before : (g : Group) → is_group_before g g ≡ false
-group-not_before g = by (is_group_before g g) refl where
-  by : (b : Bool) → is_group_before g g ≡ b → b ≡ false
-  by true first = sym first ∙ group-one_way g g first
-  by false past = refl
+group-not_before g = grind (arith, nat_tests)
 
 -- the group of the first member that passes: no member that passes is of an earlier group
 pub record IsLeast {K : Type 0} (q : Group → Bool) (ms : List (Member K)) (g : Group) : Type 0 where
@@ -669,35 +423,20 @@ pub record IsLeast {K : Type 0} (q : Group → Bool) (ms : List (Member K)) (g :
 module _ {K : Type 0} (before : K → K → Bool) where
   -- a later member is in no earlier group
   later-group : (x y : Member K) → is_member_before before x y ≡ true → is_group_before y.group x.group ≡ false
-  later-group x y = by (same_group x.group y.group) refl where
-    by : (b : Bool) → same_group x.group y.group ≡ b → cond b (before x.id y.id) (is_group_before x.group y.group) ≡ true → is_group_before y.group x.group ≡ false
-    by true same order = rw (group-equal x.group y.group same) (group-not_before y.group)
-    by false other order = group-one_way x.group y.group order
+  later-group x y order = grind (arith, nat_tests, group-equal x.group y.group, group-not_before x.group, group-one_way x.group y.group)
 
   module _ (q : Group → Bool) where
-    or_true : (a : Bool) → (a || true) ≡ true
-    or_true true = refl
-    or_true false = refl
-
-    -- one member more
-    least-by : (x : Member K) (xs : List (Member K)) (g : Group) (b : Bool) → q x.group ≡ b → AllByRecursion (λ y. is_member_before before x y ≡ true) xs
-        → (option_map (λ (m : Member K). m.group) (find (λ (m : Member K). q m.group) xs) ≡ Some g → IsLeast q xs g)
-        → option_map (λ (m : Member K). m.group) (cond b (Some x) (find (λ (m : Member K). q m.group) xs)) ≡ Some g → IsLeast q (x ∷ xs) g
-    least-by x xs g true is later rest found =
-        let here : x.group ≡ g = cc in
-        subst (λ (h : Group). IsLeast q (x ∷ xs) h) here (record {
+    pub least-found : (ms : List (Member K)) → Rises (is_member_before before) ms → (g : Group) → option_map (λ (m : Member K). m.group) (find (λ (m : Member K). q m.group) ms) ≡ Some g → IsLeast q ms g
+    least-found [] rises g found = absurd cc
+    least-found (x ∷ xs) rises g found =
+        by_bool (λ b. q x.group ≡ b → option_map (λ (m : Member K). m.group) (cond b (Some x) (find (λ (m : Member K). q m.group) xs)) ≡ Some g → IsLeast q (x ∷ xs) g) (q x.group)
+        (λ _ is here. let same : x.group ≡ g = cc in subst (λ (h : Group). IsLeast q (x ∷ xs) h) same (record {
           passes = is;
           member = rw (group-itself x.group) refl;
           least = (
             rw (group-not_before x.group) (or_true (not (q x.group))),
             all-weaker (λ y. is_member_before before x y ≡ true) (λ (y : Member K). (not (q y.group) || not (is_group_before y.group x.group)) ≡ true)
-                (λ y order. rw (later-group x y order) (or_true (not (q y.group)))) xs later,
+                (λ y order. rw (later-group x y order) (or_true (not (q y.group)))) xs rises.0,
           );
-        })
-    least-by x xs g false is later rest found =
-        let least = rest found in
-        record { passes = least.passes; member = rw least.member (or_true (same_group x.group g)); least = (rw is refl, least.least) }
-
-    pub least-found : (ms : List (Member K)) → Rises (is_member_before before) ms → (g : Group) → option_map (λ (m : Member K). m.group) (find (λ (m : Member K). q m.group) ms) ≡ Some g → IsLeast q ms g
-    least-found [] rises g found = absurd cc
-    least-found (x ∷ xs) rises g found = least-by x xs g (q x.group) refl rises.0 (least-found xs rises.1 g) found
+        }))
+        (λ _ is later. let least = least-found xs rises.1 g later in record { passes = least.passes; member = rw least.member (or_true (same_group x.group g)); least = (rw is refl, least.least) }) refl found

@@ -13,7 +13,7 @@ pub use Rattle.std.proofs.Common.{Bool, Err, List, None, Ok, Option, Result, Som
 pub use Rattle.std.proofs.lemmas.Bool.{OnFalse_from, OnTrue_from, cases_lt, false_from_ne_true, or_right}
 pub use Rattle.std.proofs.lemmas.Bool.Decides.{nat_tests}
 pub use Rattle.std.proofs.lemmas.Fmt.{length-decimal-le}
-pub use Rattle.std.proofs.lemmas.List.{get_or-append-add, length-drop, length-map, length-take, length-take-le, take_all}
+pub use Rattle.std.proofs.lemmas.List.{drop_all, get_or-append-add, get_or_append_left, length-drop, length-map, length-take, length-take-le, take_all}
 pub use Rattle.std.proofs.lemmas.List.Edits.{insert-append_left, insert-append_right, length-insert, length-remove, map_over_more, remove-append_left, remove-append_right}
 pub use Rattle.std.proofs.lemmas.List.Elements.{All-cons, All-head, All-nil, All-tail}
 pub use Rattle.std.proofs.lemmas.List.Filters.{length-filter_both, length-filter_more}
@@ -22,11 +22,11 @@ pub use Rattle.std.proofs.lemmas.List.Quantifiers.{position-Some}
 pub use Rattle.std.proofs.lemmas.List.Sorted.{IsPartitionPoint-from_clause}
 pub use Rattle.std.proofs.lemmas.List.Sums.{prefix_len-le-length, prefix_len_passes, prefix_len_stops}
 pub use Rattle.std.proofs.lemmas.Map.Views.{any-filter_same}
-pub use Rattle.std.proofs.lemmas.Option.{get_or_from_slice_get, slice_get-get_or, slice_get_past, slice_get_within}
+pub use Rattle.std.proofs.lemmas.Option.{get_or_from_slice_get, slice_get-get_or, slice_get-map, slice_get_past, slice_get_within}
 pub use Rattle.std.proofs.lemmas.Slice.Eq.{bytes_eq-Decides}
 pub use Rattle.std.specs.Fmt.{decimal}
 pub use Rattle.std.specs.List.{AllByRecursion, AllWithin, insert, list_any, position, position_or_len, prefix_len, remove}
 pub use Rattle.std.specs.List.Sorted.{IsPartitionPoint, IsPartitionedBy}
-pub use Rattle.std.specs.Option.{option_copied, option_map}
+pub use Rattle.std.specs.Option.{option_copied, option_map, option_map_or}
 pub use Rattle.std.specs.Prelude.{All, filter, find, is_none, is_some, map, min, nat_le, nat_lt, slice_get, slice_set, ◌&&◌, ◌==◌, ◌||◌, ◌⊎◌}
 pub use Rattle.std.specs.Str.{bytes_eq}

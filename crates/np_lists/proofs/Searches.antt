@@ -1,7 +1,8 @@
 -- searching a list that is in order, and the two sides of a split of it
-use Rattle.np_lists.proofs.Prelude.{AllByRecursion, AreFilled, Bool, FirstAt, Group, IsPartitionPoint, IsPartitionedBy, IsSplit, List, Member, None, NonePass, Option, Rises, Some, ap, arith, cases_lt, change_at, change_first, cond, drop, false, false_from_ne_true, filter, find, get_or, get_or-append-add, id_if, ids_in, insert, insert-append_left, insert-append_right, insert_before, is_group_before, is_member_before, items_of, length, length-append, length-drop, length-map, length-take, list_any, map, member, nat_tests, not, position, position-Some, position_or_len, prefix_len, prefix_len-append, prefix_len-le-length, prefix_len_passes, prefix_len_stops, refl, remove, remove-append_left, remove-append_right, remove_first, row_is_before, same_group, same_member, slice_get, slice_get_past, slice_set, subst, suc, sym, take, true, with_member, zero, ℕ, [], ⊎_elim, ◌&&◌, ◌++◌, ◌+◌, ◌-◌, ◌<◌, ◌∙◌, ◌∷◌, ◌≡◌, ◌≤◌}
-use Rattle.np_lists.proofs.Changes.{IsBetween, Rises-insert, all-get_or, all-weaker, filter-between, filter-nothing, insert_before-at, list_any-none, none-later, prefix_len-le}
-use Rattle.np_lists.proofs.Members.{down-high, down-low, group-apart, group-between, group-is, member-equal, member-one_way, member-some_way, member-transitive, step}
+use Rattle.np_lists.proofs.Prelude.{AllByRecursion, AreFilled, Bool, FirstAt, Group, IsPartitionPoint, IsPartitionedBy, IsSplit, List, Member, None, NonePass, Option, Rises, Some, ap, arith, change_at, change_first, cond, drop, false, false_from_ne_true, filter, find, get_or, get_or-append-add, get_or_append_left, id_if, ids_in, insert, insert-append_left, insert-append_right, insert_before, is_group_before, is_member_before, items_of, length, length-append, length-drop, length-map, length-take, list_any, map, member, nat_tests, not, option_map_or, position, position-Some, position_or_len, prefix_len, prefix_len-append, prefix_len-le-length, prefix_len_passes, prefix_len_stops, refl, remove, remove-append_left, remove-append_right, remove_first, row_is_before, same_group, same_member, slice_get, slice_set, suc, sym, take, true, with_member, zero, ℕ, [], ◌++◌, ◌+◌, ◌-◌, ◌<◌, ◌∙◌, ◌∷◌, ◌≡◌, ◌≤◌}
+use Rattle.np_lists.proofs.Changes.{IsBetween, all-from_at, all-get_or, all-weaker, change_at-set, filter-between, filter-nothing, list_any-none, none-later}
+use Rattle.np_lists.proofs.Members.{down-high, down-low, group-apart, group-between, group-is, step}
+use Rattle.np_lists.proofs.Plain.{by_bool}
 
 -- # in a list in order, binary search finds the first member that passes
 
@@ -16,28 +17,22 @@ pub find-none : {X : Type 0} (p : X → Bool) (xs : List X) → NonePass p xs �
 find-none p [] none = refl
 find-none p (x ∷ xs) none = rw (none.0) (find-none p xs none.1)
 
-none-find-by : {X : Type 0} (p : X → Bool) (x : X) (xs : List X) (b : Bool) → p x ≡ b → (find p xs ≡ None → NonePass p xs) → cond b (Some x) (find p xs) ≡ None → NonePass p (x ∷ xs)
-none-find-by p x xs true is later none = absurd cc
-none-find-by p x xs false is later none = (is, later none)
-
 pub none-find : {X : Type 0} (p : X → Bool) (xs : List X) → find p xs ≡ None → NonePass p xs
 none-find p [] none = tt
-none-find p (x ∷ xs) none = none-find-by p x xs (p x) refl (none-find p xs) none
+none-find p (x ∷ xs) none = (grind arith, none-find p xs (grind arith))
 
 pub first-within : {X : Type 0} (p : X → Bool) (xs : List X) (i : ℕ) → FirstAt p xs i → i < length xs
 first-within p [] i first = absurd first
 first-within p (x ∷ xs) zero first = omega arith
 first-within p (x ∷ xs) (suc i) first = omega (arith, first-within p xs i first.1)
 
-pub change_first-first : {X : Type 0} (p : X → Bool) (f : X → X) (xs : List X) (i : ℕ) (d : X) → FirstAt p xs i → change_first p f xs ≡ slice_set xs i (f (get_or xs i d))
-change_first-first p f [] i d first = absurd first
-change_first-first p f (x ∷ xs) zero d first = rw first refl
-change_first-first p f (x ∷ xs) (suc i) d first = rw (first.0) (ap (λ t. x ∷ t) (change_first-first p f xs i d first.1))
-
 pub change_first-at : {X : Type 0} (p : X → Bool) (f : X → X) (xs : List X) (i : ℕ) → FirstAt p xs i → change_first p f xs ≡ change_at i f xs
 change_first-at p f [] i first = absurd first
 change_first-at p f (x ∷ xs) zero first = rw first refl
 change_first-at p f (x ∷ xs) (suc i) first = rw (first.0) (ap (λ t. x ∷ t) (change_first-at p f xs i first.1))
+
+pub change_first-first : {X : Type 0} (p : X → Bool) (f : X → X) (xs : List X) (i : ℕ) (d : X) → FirstAt p xs i → change_first p f xs ≡ slice_set xs i (f (get_or xs i d))
+change_first-first p f xs i d first = change_first-at p f xs i first ∙ change_at-set i f xs d (first-within p xs i first)
 
 pub change_first-none : {X : Type 0} (p : X → Bool) (f : X → X) (xs : List X) → NonePass p xs → change_first p f xs ≡ xs
 change_first-none p f [] none = refl
@@ -62,30 +57,27 @@ parted before less down (x ∷ xs) rises zero (suc j) d order within passes = do
 parted before less down (x ∷ xs) rises (suc i) zero d order within passes = absurd (omega arith)
 parted before less down (x ∷ xs) rises (suc i) (suc j) d order within passes = parted before less down xs rises.1 i j d (omega arith) (omega arith) passes
 
+-- the member at the point is what is searched for
+pub found : {X : Type 0} (less same : X → Bool) → ((x : X) → less x ≡ true → same x ≡ false) → (xs : List X) (i : ℕ) (d : X) → IsPartitionPoint (λ y. less y ≡ true) (λ y. less y ≡ false) xs i → i < length xs → same (get_or xs i d) ≡ true → FirstAt same xs i
+found less same apart [] i d point within is = absurd (omega arith)
+found less same apart (x ∷ xs) zero d point within is = is
+found less same apart (x ∷ xs) (suc i) d point within is = (
+  apart x (point.0 0 d (omega arith) (omega arith)),
+  found less same apart xs i d (λ k e low high. point.0 (suc k) e (omega arith) (omega arith), λ k e low high. point.1 (suc k) e (omega arith) (omega arith)) (omega arith) is,
+)
+
 -- less: the member is before what is searched for; same: it is what is searched for
 module _ {X : Type 0} (before : X → X → Bool) (less same : X → Bool)
     (down : (x y : X) → before x y ≡ true → less y ≡ true → less x ≡ true)
     (apart : (x : X) → less x ≡ true → same x ≡ false)
     (beyond : (x y : X) → before x y ≡ true → less x ≡ false → same y ≡ false) where
-  pub partitioned : (xs : List X) → Rises before xs → IsPartitionedBy less xs
-  partitioned xs rises = parted before less down xs rises
-
-  none_beyond : (x : X) (xs : List X) → less x ≡ false → AllByRecursion (λ y. before x y ≡ true) xs → NonePass same xs
-  none_beyond x xs not_less all = all-weaker (λ y. before x y ≡ true) (λ y. same y ≡ false) (λ y order. beyond x y order not_less) xs all
-
-  -- the member at the point is what is searched for
-  pub found : (xs : List X) (i : ℕ) (d : X) → IsPartitionPoint (λ y. less y ≡ true) (λ y. less y ≡ false) xs i → i < length xs → same (get_or xs i d) ≡ true → FirstAt same xs i
-  found [] i d point within is = absurd (omega arith)
-  found (x ∷ xs) zero d point within is = is
-  found (x ∷ xs) (suc i) d point within is = (
-    apart x (point.0 0 d (omega arith) (omega arith)),
-    found xs i d (λ k e low high. point.0 (suc k) e (omega arith) (omega arith), λ k e low high. point.1 (suc k) e (omega arith) (omega arith)) (omega arith) is,
-  )
-
   -- it is not, or there is none at the point
   pub absent : (xs : List X) (i : ℕ) → Rises before xs → IsPartitionPoint (λ y. less y ≡ true) (λ y. less y ≡ false) xs i → (i < length xs → (d : X) × (same (get_or xs i d) ≡ false)) → NonePass same xs
   absent [] i rises point other = tt
-  absent (x ∷ xs) zero rises point other = ((other (omega arith)).1, none_beyond x xs (point.1 0 x (omega arith) (omega arith)) rises.0)
+  absent (x ∷ xs) zero rises point other = (
+    (other (omega arith)).1,
+    all-weaker (λ y. before x y ≡ true) (λ y. same y ≡ false) (λ y order. beyond x y order (point.1 0 x (omega arith) (omega arith))) xs rises.0,
+  )
   absent (x ∷ xs) (suc i) rises point other = (
     apart x (point.0 0 x (omega arith) (omega arith)),
     absent xs i rises.1 (λ k e low high. point.0 (suc k) e (omega arith) (omega arith), λ k e low high. point.1 (suc k) e (omega arith) (omega arith)) (λ within. other (omega arith)),
@@ -132,39 +124,20 @@ module _ {X : Type 0} (before : X → X → Bool) (less : X → Bool) (down : (x
 
 -- # a list split by a probe is split on each side of the item in the middle
 
--- if an item of the front fails, what comes behind does not matter
-prefix_len-append_short : {T : Type 0} (p : T → Bool) (left rest : List T) → prefix_len p left < length left → prefix_len p (left ++ rest) ≡ prefix_len p left
-prefix_len-append_short p left rest short = let all = prefix_len-append p left rest in grind (arith, nat_tests)
-
--- if the whole front passes, what comes behind is counted too
-prefix_len-append_whole : {T : Type 0} (p : T → Bool) (left rest : List T) → prefix_len p left ≡ length left → prefix_len p (left ++ rest) ≡ length left + prefix_len p rest
-prefix_len-append_whole p left rest whole = let all = prefix_len-append p left rest in grind (arith, nat_tests)
-
 -- the item in the middle is where the left side ends
 at-middle : {T : Type 0} (left right : List T) (item : T) → get_or (left ++ item ∷ right) (length left) item ≡ item
-at-middle [] right item = refl
-at-middle (x ∷ left) right item = at-middle left right item
+at-middle left right item = let here : length left + 0 ≡ length left = omega arith in let all = get_or-append-add left (item ∷ right) 0 item in rw here at all
 
 -- if an item passes, each item before it passes
 whole-left : {T : Type 0} (p : T → Bool) (left right : List T) (item : T) → IsSplit p (left ++ item ∷ right) → p item ≡ true → prefix_len p left ≡ length left
 whole-left p left right item split passes =
-    ⊎_elim
-    (λ short.
-    let before = prefix_len-append_short p left (item ∷ right) short in
-    let many = length-append left (item ∷ right) in
-    let fails = split (length left) item (omega arith) (omega arith) in
-    let stands = at-middle left right item in
-    let both : true ≡ false = sym passes ∙ ap p (sym stands) ∙ fails in
-    cc)
-    (λ long. let most = prefix_len-le-length p left in omega arith)
-    (cases_lt (prefix_len p left) (length left))
+    grind (arith, nat_tests, prefix_len-append p left (item ∷ right), prefix_len-le-length p left, length-append left (item ∷ right), split (length left) item, at-middle left right item)
 
 -- how many items pass, if the item in the middle does
 pub prefix_len-passed : {T : Type 0} (p : T → Bool) (left right : List T) (item : T) → IsSplit p (left ++ item ∷ right) → p item ≡ true → length left + 1 + prefix_len p right ≡ prefix_len p (left ++ item ∷ right)
 prefix_len-passed p left right item split passes =
-    let whole = prefix_len-append_whole p left (item ∷ right) (whole-left p left right item split passes) in
-    let one : prefix_len p (item ∷ right) ≡ 1 + prefix_len p right = rw passes refl in
-    omega arith
+    let whole = whole-left p left right item split passes in
+    grind (arith, nat_tests, prefix_len-append p left (item ∷ right))
 
 -- the items after it are split too
 pub IsSplit-right : {T : Type 0} (p : T → Bool) (left right : List T) (item : T) → IsSplit p (left ++ item ∷ right) → p item ≡ true → IsSplit p right
@@ -177,21 +150,7 @@ IsSplit-right p left right item split passes k d from within =
 
 -- how many items pass, if the item in the middle does not
 pub prefix_len-stopped : {T : Type 0} (p : T → Bool) (left right : List T) (item : T) → p item ≡ false → prefix_len p left ≡ prefix_len p (left ++ item ∷ right)
-prefix_len-stopped p left right item fails =
-    ⊎_elim
-    (λ short. sym (prefix_len-append_short p left (item ∷ right) short))
-    (λ long.
-    let most = prefix_len-le-length p left in
-    let whole = prefix_len-append_whole p left (item ∷ right) (omega arith) in
-    let none : prefix_len p (item ∷ right) ≡ 0 = rw fails refl in
-    omega arith)
-    (cases_lt (prefix_len p left) (length left))
-
--- the items of the front are where they were
-at-left : {T : Type 0} (left rest : List T) (k : ℕ) (d : T) → k < length left → get_or (left ++ rest) k d ≡ get_or left k d
-at-left [] rest k d within = absurd (omega arith)
-at-left (x ∷ left) rest zero d within = refl
-at-left (x ∷ left) rest (suc k) d within = at-left left rest k d (omega arith)
+prefix_len-stopped p left right item fails = grind (arith, nat_tests, prefix_len-append p left (item ∷ right))
 
 -- the items before it are split too
 pub IsSplit-left : {T : Type 0} (p : T → Bool) (left right : List T) (item : T) → IsSplit p (left ++ item ∷ right) → p item ≡ false → IsSplit p left
@@ -199,7 +158,7 @@ IsSplit-left p left right item split fails k d from within =
     let same = prefix_len-stopped p left right item fails in
     let many = length-append left (item ∷ right) in
     let after = split k d (omega arith) (omega arith) in
-    ap p (sym (at-left left (item ∷ right) k d within)) ∙ after
+    ap p (sym (get_or_append_left left (item ∷ right) d k within)) ∙ after
 
 -- # searching rows that are in the order of their keys
 
@@ -208,49 +167,18 @@ module _ {K : Type 0} (before same : K → K → Bool)
     (equal : (a b : K) → same a b ≡ true → a ≡ b) where
   -- a key that is before another is not the same
   pub apart : (a k : K) → before a k ≡ true → same a k ≡ false
-  apart a k first = by (same a k) refl where
-    by : (b : Bool) → same a k ≡ b → same a k ≡ false
-    by true is =
-        let other : before k a ≡ false = one_way a k first in
-        let alike : a ≡ k = equal a k is in
-        let turned : before k k ≡ true = subst (λ (x : K). before x k ≡ true) alike first in
-        let back : before k k ≡ false = subst (λ (x : K). before k x ≡ false) alike other in
-        absurd cc
-    by false is = is
+  apart a k first = grind (arith, one_way a k, equal a k)
 
   -- a key after one that is not before another is not that other
   pub beyond : (a b k : K) → before a b ≡ true → before a k ≡ false → same b k ≡ false
-  beyond a b k first past = by (same b k) refl where
-    by : (x : Bool) → same b k ≡ x → same b k ≡ false
-    by true is =
-        let there : before a k ≡ true = subst (λ (x : K). before a x ≡ true) (equal b k is) first in
-        absurd cc
-    by false is = is
+  beyond a b k first past = grind (arith, equal b k)
 
 module _ {X K : Type 0} (key : X → K) (before same : K → K → Bool)
     (transitive : (a b k : K) → before a b ≡ true → before b k ≡ true → before a k ≡ true)
     (one_way : (a b : K) → before a b ≡ true → before b a ≡ false)
     (equal : (a b : K) → same a b ≡ true → a ≡ b)
     (k : K) where
-  -- the rows before the key come before the others
-  pub keys_partitioned : (xs : List X) → Rises (λ a b. before (key a) (key b)) xs → IsPartitionedBy (λ x. before (key x) k) xs
-  keys_partitioned xs rises =
-      partitioned (λ a b. before (key a) (key b)) (λ x. before (key x) k) (λ x. same (key x) k)
-      (λ x y first second. transitive (key x) (key y) k first second)
-      (λ x first. apart before same one_way equal (key x) k first)
-      (λ x y first past. beyond before same one_way equal (key x) (key y) k first past)
-      xs rises
-
-  -- the row where they end has the key
-  pub key_found : (xs : List X) (i : ℕ) (d : X) → IsPartitionPoint (λ x. before (key x) k ≡ true) (λ x. before (key x) k ≡ false) xs i → i < length xs → same (key (get_or xs i d)) k ≡ true → FirstAt (λ x. same (key x) k) xs i
-  key_found xs i d point within is =
-      found (λ a b. before (key a) (key b)) (λ x. before (key x) k) (λ x. same (key x) k)
-      (λ x y first second. transitive (key x) (key y) k first second)
-      (λ x first. apart before same one_way equal (key x) k first)
-      (λ x y first past. beyond before same one_way equal (key x) (key y) k first past)
-      xs i d point within is
-
-  -- it does not, or there is none
+  -- no row has the key if the one where those before it end does not, or if there is none
   pub key_absent : (xs : List X) (i : ℕ) → Rises (λ a b. before (key a) (key b)) xs → IsPartitionPoint (λ x. before (key x) k ≡ true) (λ x. before (key x) k ≡ false) xs i → (i < length xs → (d : X) × (same (key (get_or xs i d)) k ≡ false)) → NonePass (λ x. same (key x) k) xs
   key_absent xs i rises point other =
       absent (λ a b. before (key a) (key b)) (λ x. before (key x) k) (λ x. same (key x) k)
@@ -266,112 +194,30 @@ any-first p [] i first = absurd first
 any-first p (x ∷ xs) zero first = rw first refl
 any-first p (x ∷ xs) (suc i) first = rw (first.0) (any-first p xs i first.1)
 
--- ## a new row
-
-module _ {X K : Type 0} (key : X → K) (before same : K → K → Bool)
-    (transitive : (a b k : K) → before a b ≡ true → before b k ≡ true → before a k ≡ true)
-    (one_way : (a b : K) → before a b ≡ true → before b a ≡ false)
-    (some_way : (a b : K) → before a b ≡ false → same a b ≡ false → before b a ≡ true)
-    (new : X) (xs : List X) (i : ℕ) (within : i ≤ length xs)
-    (point : IsPartitionPoint (λ x. before (key x) (key new) ≡ true) (λ x. before (key x) (key new) ≡ false) xs i)
-    (none : NonePass (λ x. same (key x) (key new)) xs) where
-  -- it is put before the first row of a later key
-  pub key_insert : insert_before (λ x. before (key new) (key x)) new xs ≡ insert xs i new
-  key_insert =
-      insert_before-at (λ a b. before (key a) (key b)) (λ a b. same (key a) (key b))
-      (λ a b k. transitive (key a) (key b) (key k)) (λ a k. one_way (key a) (key k)) (λ a k. some_way (key a) (key k))
-      new xs i within point none
-
-  -- the rows stay in order
-  pub key_insert-rises : Rises (λ a b. before (key a) (key b)) xs → Rises (λ a b. before (key a) (key b)) (insert xs i new)
-  key_insert-rises rises =
-      Rises-insert (λ a b. before (key a) (key b)) (λ a b. same (key a) (key b))
-      (λ a b k. transitive (key a) (key b) (key k)) (λ a k. one_way (key a) (key k)) (λ a k. some_way (key a) (key k))
-      new xs i within point none rises
-
 -- # searching members in order
-
--- ## one member
-
-module _ {K : Type 0} (before same : K → K → Bool)
-    (transitive : (a b k : K) → before a b ≡ true → before b k ≡ true → before a k ≡ true)
-    (one_way : (a b : K) → before a b ≡ true → before b a ≡ false)
-    (equal : (a b : K) → same a b ≡ true → a ≡ b) (one : Member K) (ms : List (Member K)) where
-  -- the members before it come first
-  pub members-partitioned : Rises (is_member_before before) ms → IsPartitionedBy (λ m. is_member_before before m one) ms
-  members-partitioned rises =
-      keys_partitioned (λ m. m) (is_member_before before) (same_member same)
-      (member-transitive before transitive) (member-one_way before one_way) (member-equal same equal) one ms rises
-
-  -- where they end it is
-  pub member-found : (i : ℕ) (d : Member K) → IsPartitionPoint (λ m. is_member_before before m one ≡ true) (λ m. is_member_before before m one ≡ false) ms i
-      → i < length ms → same_member same (get_or ms i d) one ≡ true → FirstAt (λ m. same_member same m one) ms i
-  member-found i d point within is =
-      key_found (λ m. m) (is_member_before before) (same_member same)
-      (member-transitive before transitive) (member-one_way before one_way) (member-equal same equal) one ms i d point within is
-
-  -- or it is not there
-  pub member-absent : (i : ℕ) → Rises (is_member_before before) ms
-      → IsPartitionPoint (λ m. is_member_before before m one ≡ true) (λ m. is_member_before before m one ≡ false) ms i
-      → (i < length ms → (d : Member K) × (same_member same (get_or ms i d) one ≡ false)) → NonePass (λ m. same_member same m one) ms
-  member-absent i rises point other =
-      key_absent (λ m. m) (is_member_before before) (same_member same)
-      (member-transitive before transitive) (member-one_way before one_way) (member-equal same equal) one ms i rises point other
-
-module _ {K : Type 0} (before same : K → K → Bool)
-    (transitive : (a b k : K) → before a b ≡ true → before b k ≡ true → before a k ≡ true)
-    (one_way : (a b : K) → before a b ≡ true → before b a ≡ false)
-    (some_way : (a b : K) → before a b ≡ false → same a b ≡ false → before b a ≡ true)
-    (g : Group) (j : K) (ms : List (Member K)) (i : ℕ) (within : i ≤ length ms)
-    (point : IsPartitionPoint (λ m. is_member_before before m (member g j) ≡ true) (λ m. is_member_before before m (member g j) ≡ false) ms i)
-    (none : NonePass (λ m. same_member same m (member g j)) ms) where
-  -- a new member at its place
-  pub member-insert : insert ms i (member g j) ≡ with_member before same g j ms
-  member-insert =
-      rw (list_any-none (λ m. same_member same m (member g j)) ms none)
-      (sym (key_insert (λ m. m) (is_member_before before) (same_member same)
-      (member-transitive before transitive) (member-one_way before one_way) (member-some_way before same some_way) (member g j) ms i within point none))
-
-  pub member-insert-rises : Rises (is_member_before before) ms → Rises (is_member_before before) (insert ms i (member g j))
-  member-insert-rises rises =
-      key_insert-rises (λ m. m) (is_member_before before) (same_member same)
-      (member-transitive before transitive) (member-one_way before one_way) (member-some_way before same some_way) (member g j) ms i within point none rises
 
 -- a member that is there is not put again
 pub member-there : {K : Type 0} (before same : K → K → Bool) (g : Group) (j : K) (ms : List (Member K)) (i : ℕ)
     → FirstAt (λ m. same_member same m (member g j)) ms i → ms ≡ with_member before same g j ms
 member-there before same g j ms i first = rw (any-first (λ m. same_member same m (member g j)) ms i first) refl
 
+-- one that is not comes before the first member that it is before
+pub member-new : {K : Type 0} (before same : K → K → Bool) (g : Group) (j : K) (ms : List (Member K)) → NonePass (λ m. same_member same m (member g j)) ms
+    → with_member before same g j ms ≡ insert_before (λ m. is_member_before before (member g j) m) (member g j) ms
+member-new before same g j ms none = rw (list_any-none (λ m. same_member same m (member g j)) ms none) refl
+
 -- ## one group
 
--- the number of those that pass is a point between them and the others
-pub prefix-point : {X : Type 0} (p : X → Bool) (xs : List X) → IsPartitionedBy p xs → IsPartitionPoint (λ x. p x ≡ true) (λ x. p x ≡ false) xs (prefix_len p xs)
-prefix-point p xs parts = (λ k d low high. prefix_len_passes p xs k d high, IsSplit-partitioned p xs parts)
-
 module _ {K : Type 0} (before : K → K → Bool) (g : Group) where
-  -- the members of earlier groups come first
-  pub low-partitioned : (ms : List (Member K)) → Rises (is_member_before before) ms → IsPartitionedBy (λ m. is_group_before m.group g) ms
-  low-partitioned ms rises = parted (is_member_before before) (λ m. is_group_before m.group g) (down-low before g) ms rises
-
-  -- those of later groups last
-  pub high-partitioned : (ms : List (Member K)) → Rises (is_member_before before) ms → IsPartitionedBy (λ m. not (is_group_before g m.group)) ms
-  high-partitioned ms rises = parted (is_member_before before) (λ m. not (is_group_before g m.group)) (down-high before g) ms rises
-
-  all-between : (ms : List (Member K)) → AllByRecursion (IsBetween (λ m. is_group_before m.group g) (λ m. not (is_group_before g m.group)) (λ m. same_group m.group g)) ms
-  all-between [] = tt
-  all-between (m ∷ ms) = (record { both = group-between m.group g; is = group-is m.group g }, all-between ms)
-
-  pub start-le-end : (ms : List (Member K)) → prefix_len (λ m. is_group_before m.group g) ms ≤ prefix_len (λ m. not (is_group_before g m.group)) ms
-  start-le-end ms = prefix_len-le (λ m. is_group_before m.group g) (λ m. not (is_group_before g m.group)) ms (λ m first. group-between m.group g first)
-
-  -- so the group is between
+  -- the group is between
   pub length-ids : (ms : List (Member K)) → Rises (is_member_before before) ms
       → prefix_len (λ m. not (is_group_before g m.group)) ms - prefix_len (λ m. is_group_before m.group g) ms ≡ length (ids_in g ms)
   length-ids ms rises =
       let low = prefix_len (λ (m : Member K). is_group_before m.group g) ms in
       let high = prefix_len (λ (m : Member K). not (is_group_before g m.group)) ms in
       let part = filter-between (is_member_before before) (λ m. is_group_before m.group g) (λ m. not (is_group_before g m.group)) (λ m. same_group m.group g)
-      (down-low before g) (down-high before g) ms (all-between ms) rises in
+      (down-low before g) (down-high before g) ms (all-from_at (IsBetween (λ m. is_group_before m.group g) (λ m. not (is_group_before g m.group)) (λ m. same_group m.group g)) ms
+      (λ _ m _. record { both = group-between m.group g; is = group-is m.group g })) rises in
       let most : high ≤ length ms = prefix_len-le-length (λ m. not (is_group_before g m.group)) ms in
       let long : length (take (high - low) (drop low ms)) ≡ high - low = simp (length-take, length-drop) (omega arith) in
       sym (length-map (filter (λ m. same_group m.group g) ms) (λ m. m.id) ∙ ap length part ∙ long)
@@ -379,11 +225,11 @@ module _ {K : Type 0} (before : K → K → Bool) (g : Group) where
 -- ## the place in a group
 
 module _ {K : Type 0} (before : K → K → Bool) (g : Group) where
-  past-end : (a : Group) → not (is_group_before g a) ≡ false → same_group a g ≡ false
-  past-end a past = group-is a g ∙ rw past (by (not (is_group_before a g))) where
-    by : (b : Bool) → (b && false) ≡ false
-    by true = refl
-    by false = refl
+  -- in order, after a member that is of no earlier group and not of this one, no member is of this one
+  others : (x : Member K) (xs : List (Member K)) → AllByRecursion (λ y. is_member_before before x y ≡ true) xs → is_group_before x.group g ≡ false → same_group x.group g ≡ false
+      → NonePass (λ m. same_group m.group g) xs
+  others x xs after low other =
+      all-weaker (λ y. is_member_before before x y ≡ true) (λ y. same_group y.group g ≡ false) (λ y order. grind (arith, down-high before g x y order, group-is x.group g, group-is y.group g)) xs after
 
   none-ids : (ms : List (Member K)) → AllByRecursion (λ m. same_group m.group g ≡ false) ms → ids_in g ms ≡ []
   none-ids ms none = ap (map (λ (m : Member K). m.id)) (filter-nothing (λ m. same_group m.group g) ms none)
@@ -397,41 +243,26 @@ module _ {K : Type 0} (before : K → K → Bool) (g : Group) where
   front : (ms : List (Member K)) → Rises (is_member_before before) ms → NonePass (λ m. is_group_before m.group g) ms
       → (k : ℕ) → slice_get (ids_in g ms) k ≡ id_if g (slice_get ms k)
   front [] rises none k = refl
-  front (x ∷ xs) rises none k = ap (λ (ids : List K). slice_get ids k) (step g x xs) ∙ by (same_group x.group g) refl k (front xs rises.1 none.1) where
-    later : same_group x.group g ≡ false → not (is_group_before g x.group) ≡ false
-    later other = sym (rw (none.0) refl) ∙ sym (group-is x.group g) ∙ other
-
-    by : (b : Bool) → same_group x.group g ≡ b → (k : ℕ) → ((k : ℕ) → slice_get (ids_in g xs) k ≡ id_if g (slice_get xs k))
-        → slice_get (cond b (x.id ∷ ids_in g xs) (ids_in g xs)) k ≡ id_if g (slice_get (x ∷ xs) k)
-    by true is zero rest = rw is refl
-    by true is (suc k) rest = rest k
-    by false other k rest =
-        let past = none-later (is_member_before before) (λ m. not (is_group_before g m.group)) (down-high before g) x xs (later other) rises.0 in
-        let others : AllByRecursion (λ m. same_group m.group g ≡ false) xs =
-        all-weaker (λ m. not (is_group_before g m.group) ≡ false) (λ m. same_group m.group g ≡ false) (λ m. past-end m.group) xs past in
-        ap (λ (ids : List K). slice_get ids k) (none-ids xs others) ∙ sym (none-id (x ∷ xs) k (other, others))
+  front (x ∷ xs) rises none zero =
+      let out = λ (other : same_group x.group g ≡ false). none-ids xs (others x xs rises.0 none.0 other) in
+      grind (arith, step g x xs, out)
+  front (x ∷ xs) rises none (suc k) =
+      let out = λ (other : same_group x.group g ≡ false). none-ids xs (others x xs rises.0 none.0 other) in
+      let past = λ (other : same_group x.group g ≡ false). none-id xs k (others x xs rises.0 none.0 other) in
+      grind (arith, step g x xs, front xs rises.1 none.1 k, out, past)
 
   -- the id at a place of the group is that of the member so far after the group's start
   pub id-at : (ms : List (Member K)) → Rises (is_member_before before) ms → (k : ℕ)
       → slice_get (ids_in g ms) k ≡ id_if g (slice_get ms (prefix_len (λ m. is_group_before m.group g) ms + k))
   id-at [] rises k = refl
-  id-at (x ∷ xs) rises k = by (is_group_before x.group g) refl (id-at xs rises.1 k) where
-    by : (b : Bool) → is_group_before x.group g ≡ b → slice_get (ids_in g xs) k ≡ id_if g (slice_get xs (prefix_len (λ m. is_group_before m.group g) xs + k))
-        → slice_get (ids_in g (x ∷ xs)) k ≡ id_if g (slice_get (x ∷ xs) (cond b (1 + prefix_len (λ m. is_group_before m.group g) xs) 0 + k))
-    by true first rest =
-        let one_more : 1 + prefix_len (λ m. is_group_before m.group g) xs + k ≡ suc (prefix_len (λ m. is_group_before m.group g) xs + k) = omega arith in
-        let other : same_group x.group g ≡ false = group-apart x.group g first in
-        rw (other, one_more) rest
-    by false not_first rest =
-        let none = none-later (is_member_before before) (λ m. is_group_before m.group g) (down-low before g) x xs not_first rises.0 in
-        let same : 0 + k ≡ k = omega arith in
-        front (x ∷ xs) rises (not_first, none) k ∙ ap (λ (n : ℕ). id_if g (slice_get (x ∷ xs) n)) (sym same)
-
-  -- past all members there is no id
-  pub id-past : (ms : List (Member K)) → Rises (is_member_before before) ms → (start k : ℕ) → start ≡ prefix_len (λ m. is_group_before m.group g) ms
-      → length ms ≤ start + k → None ≡ slice_get (ids_in g ms) k
-  id-past ms rises start k is past =
-      sym (id-at ms rises k ∙ ap (λ (n : ℕ). id_if g (slice_get ms (n + k))) (sym is) ∙ ap (id_if g) (slice_get_past ms (start + k) past))
+  id-at (x ∷ xs) rises k =
+      by_bool (λ b. is_group_before x.group g ≡ b → slice_get (ids_in g (x ∷ xs)) k ≡ id_if g (slice_get (x ∷ xs) (cond b (1 + prefix_len (λ m. is_group_before m.group g) xs) 0 + k))) (is_group_before x.group g)
+      (λ _ first.
+      let one_more : 1 + prefix_len (λ m. is_group_before m.group g) xs + k ≡ suc (prefix_len (λ m. is_group_before m.group g) xs + k) = omega arith in
+      rw (group-apart x.group g first, one_more) (id-at xs rises.1 k))
+      (λ _ not_first.
+      let same : 0 + k ≡ k = omega arith in
+      rw same (front (x ∷ xs) rises (not_first, none-later (is_member_before before) (λ m. is_group_before m.group g) (down-low before g) x xs not_first rises.0) k)) refl
 
   -- the member there is of the group, or of another, or there is none
   pub id-there : (ms : List (Member K)) → Rises (is_member_before before) ms → (start k : ℕ) → start ≡ prefix_len (λ m. is_group_before m.group g) ms
@@ -450,42 +281,24 @@ module _ {K : Type 0} (before : K → K → Bool) (g : Group) (i : K) where
   front-before : (ms : List (Member K)) → Rises (is_member_before before) ms → NonePass (λ m. is_group_before m.group g) ms
       → prefix_len is_earlier ms ≡ prefix_len (λ k. before k i) (ids_in g ms)
   front-before [] rises none = refl
-  front-before (x ∷ xs) rises none = by (same_group x.group g) refl (front-before xs rises.1 none.1) ∙ ap (prefix_len (λ k. before k i)) (sym (step g x xs)) where
-    later : same_group x.group g ≡ false → not (is_group_before g x.group) ≡ false
-    later other = sym (rw (none.0) refl) ∙ sym (group-is x.group g) ∙ other
-
-    by : (b : Bool) → same_group x.group g ≡ b → prefix_len is_earlier xs ≡ prefix_len (λ k. before k i) (ids_in g xs)
-        → cond (cond b (before x.id i) (is_group_before x.group g)) (1 + prefix_len is_earlier xs) 0 ≡ prefix_len (λ k. before k i) (cond b (x.id ∷ ids_in g xs) (ids_in g xs))
-    by true is rest = ap (λ (n : ℕ). cond (before x.id i) (1 + n) 0) rest
-    by false other rest =
-        let past = none-later (is_member_before before) (λ m. not (is_group_before g m.group)) (down-high before g) x xs (later other) rises.0 in
-        let others : AllByRecursion (λ m. same_group m.group g ≡ false) xs =
-        all-weaker (λ m. not (is_group_before g m.group) ≡ false) (λ m. same_group m.group g ≡ false) (λ m. past-end before g m.group) xs past in
-        rw (none.0, none-ids before g xs others) refl
+  front-before (x ∷ xs) rises none =
+      let out = λ (other : same_group x.group g ≡ false). none-ids before g xs (others before g x xs rises.0 none.0 other) in
+      grind (arith, nat_tests, step g x xs, none.0, front-before xs rises.1 none.1, out)
 
   -- the members before one of the group's are those of earlier groups, and the group's ids before it
   pub count-before : (ms : List (Member K)) → Rises (is_member_before before) ms
       → prefix_len is_earlier ms ≡ prefix_len (λ m. is_group_before m.group g) ms + prefix_len (λ k. before k i) (ids_in g ms)
   count-before [] rises = refl
-  count-before (x ∷ xs) rises = by (is_group_before x.group g) refl (count-before xs rises.1) where
-    by : (b : Bool) → is_group_before x.group g ≡ b
-        → prefix_len is_earlier xs ≡ prefix_len (λ m. is_group_before m.group g) xs + prefix_len (λ k. before k i) (ids_in g xs)
-        → prefix_len is_earlier (x ∷ xs) ≡ cond b (1 + prefix_len (λ m. is_group_before m.group g) xs) 0 + prefix_len (λ k. before k i) (ids_in g (x ∷ xs))
-    by true first rest =
-        let other : same_group x.group g ≡ false = group-apart x.group g first in
-        rw (other, first) (omega (arith, rest))
-    by false not_first rest =
-        let none = none-later (is_member_before before) (λ m. is_group_before m.group g) (down-low before g) x xs not_first rises.0 in
-        front-before (x ∷ xs) rises (not_first, none) ∙ omega arith
+  count-before (x ∷ xs) rises =
+      by_bool (λ b. is_group_before x.group g ≡ b → prefix_len is_earlier (x ∷ xs) ≡ cond b (1 + prefix_len (λ m. is_group_before m.group g) xs) 0 + prefix_len (λ k. before k i) (ids_in g (x ∷ xs))) (is_group_before x.group g)
+      (λ _ first. rw (group-apart x.group g first, first) (omega (arith, count-before xs rises.1)))
+      (λ _ not_first.
+      front-before (x ∷ xs) rises (not_first, none-later (is_member_before before) (λ m. is_group_before m.group g) (down-low before g) x xs not_first rises.0) ∙ omega arith) refl
 
   -- so they are counted from the group's start
   pub length-before : (ms : List (Member K)) → Rises (is_member_before before) ms
       → prefix_len is_earlier ms - prefix_len (λ m. is_group_before m.group g) ms ≡ prefix_len (λ k. before k i) (ids_in g ms)
   length-before ms rises = omega (arith, count-before ms rises)
-
-  pub start-le-before : (ms : List (Member K)) → Rises (is_member_before before) ms
-      → prefix_len (λ m. is_group_before m.group g) ms ≤ prefix_len is_earlier ms
-  start-le-before ms rises = omega (arith, count-before ms rises)
 
 -- # rows with an item each: a change of the rows is that change of the items
 
@@ -494,19 +307,12 @@ length-items_of [] filled = refl
 length-items_of (None ∷ rows) filled = absurd filled
 length-items_of (Some item ∷ rows) filled = let rest = length-items_of rows filled in omega arith
 
--- the row at a place has the item at that place
-pub row-at : {T : Type 0} (rows : List (Option T)) (place : ℕ) (row : Option T) → AreFilled rows → slice_get rows place ≡ Some row → row ≡ slice_get (items_of rows) place
-row-at [] place row filled there = absurd cc
-row-at (None ∷ rows) place row filled there = absurd filled
-row-at (Some item ∷ rows) zero row filled there = cc
-row-at (Some item ∷ rows) (suc place) row filled there = row-at rows place row filled there
-
--- past the rows there is no item
-pub no_row-at : {T : Type 0} (rows : List (Option T)) (place : ℕ) → AreFilled rows → slice_get rows place ≡ None → None ≡ slice_get (items_of rows) place
-no_row-at [] place filled there = refl
-no_row-at (None ∷ rows) place filled there = absurd filled
-no_row-at (Some item ∷ rows) zero filled there = absurd cc
-no_row-at (Some item ∷ rows) (suc place) filled there = no_row-at rows place filled there
+-- the row at a place has the item at that place, and past the rows there is no item
+pub row-at : {T : Type 0} (rows : List (Option T)) (place : ℕ) → AreFilled rows → option_map_or (λ row. row) (slice_get rows place) None ≡ slice_get (items_of rows) place
+row-at [] place filled = refl
+row-at (None ∷ rows) place filled = absurd filled
+row-at (Some item ∷ rows) zero filled = refl
+row-at (Some item ∷ rows) (suc place) filled = row-at rows place filled
 
 -- ## a search
 
@@ -533,38 +339,21 @@ module _ {T : Type 0} (before : T → Bool) where
 
 -- ## a change
 
-module _ {T : Type 0} (item : T) where
-  -- a row put in and then filled
-  pub insert-items_of : (rows : List (Option T)) (place : ℕ) (row : Option T) → AreFilled rows → place ≤ length rows
-      → items_of (change_at place (λ _. Some item) (insert rows place row)) ≡ insert (items_of rows) place item
-  insert-items_of [] zero row filled within = refl
-  insert-items_of [] (suc place) row filled within = absurd (omega arith)
-  insert-items_of (None ∷ rows) place row filled within = absurd filled
-  insert-items_of (Some other ∷ rows) zero row filled within = refl
-  insert-items_of (Some other ∷ rows) (suc place) row filled within = ap (λ items. other ∷ items) (insert-items_of rows place row filled (omega arith))
-
-  pub filled-insert : (rows : List (Option T)) (place : ℕ) (row : Option T) → AreFilled rows → place ≤ length rows
-      → AreFilled (change_at place (λ _. Some item) (insert rows place row))
-  filled-insert [] zero row filled within = tt
-  filled-insert [] (suc place) row filled within = absurd (omega arith)
-  filled-insert (None ∷ rows) place row filled within = absurd filled
-  filled-insert (Some other ∷ rows) zero row filled within = filled
-  filled-insert (Some other ∷ rows) (suc place) row filled within = filled-insert rows place row filled (omega arith)
+-- a row put in and then filled
+pub row-put : {T : Type 0} (item : T) (rows : List (Option T)) (place : ℕ) (row : Option T) → AreFilled rows → place ≤ length rows
+    → AreFilled (change_at place (λ _. Some item) (insert rows place row)) × (items_of (change_at place (λ _. Some item) (insert rows place row)) ≡ insert (items_of rows) place item)
+row-put item rows zero row filled within = (filled, refl)
+row-put item [] (suc place) row filled within = absurd (omega arith)
+row-put item (None ∷ rows) (suc place) row filled within = absurd filled
+row-put item (Some other ∷ rows) (suc place) row filled within = let rest = row-put item rows place row filled (omega arith) in (rest.0, ap (λ items. other ∷ items) rest.1)
 
 -- a row taken out
-pub remove-items_of : {T : Type 0} (rows : List (Option T)) (place : ℕ) → AreFilled rows → items_of (remove rows place) ≡ remove (items_of rows) place
-remove-items_of [] zero filled = refl
-remove-items_of [] (suc place) filled = refl
-remove-items_of (None ∷ rows) place filled = absurd filled
-remove-items_of (Some other ∷ rows) zero filled = refl
-remove-items_of (Some other ∷ rows) (suc place) filled = ap (λ items. other ∷ items) (remove-items_of rows place filled)
-
-pub filled-remove : {T : Type 0} (rows : List (Option T)) (place : ℕ) → AreFilled rows → AreFilled (remove rows place)
-filled-remove [] zero filled = tt
-filled-remove [] (suc place) filled = tt
-filled-remove (None ∷ rows) place filled = absurd filled
-filled-remove (Some other ∷ rows) zero filled = filled
-filled-remove (Some other ∷ rows) (suc place) filled = filled-remove rows place filled
+pub row-taken : {T : Type 0} (rows : List (Option T)) (place : ℕ) → AreFilled rows → AreFilled (remove rows place) × (items_of (remove rows place) ≡ remove (items_of rows) place)
+row-taken [] zero filled = (tt, refl)
+row-taken [] (suc place) filled = (tt, refl)
+row-taken (None ∷ rows) place filled = absurd filled
+row-taken (Some other ∷ rows) zero filled = (filled, refl)
+row-taken (Some other ∷ rows) (suc place) filled = let rest = row-taken rows place filled in (rest.0, ap (λ items. other ∷ items) rest.1)
 
 -- # edits of a list around the item in the middle are edits of one side
 
@@ -598,7 +387,7 @@ pub remove-middle : {T : Type 0} (left right : List T) (item : T) (place : ℕ) 
 remove-middle [] right item place there = rw there refl
 remove-middle (x ∷ left) right item place there = rw there (ap (λ rest. x ∷ rest) (remove-middle left right item (length left) refl))
 
--- the item at a place on the left, in the middle, on the right
+-- the item at a place on the left and in the middle
 pub slice_get-left : {T : Type 0} (left right : List T) (item : T) (place : ℕ) → place < length left → slice_get (left ++ item ∷ right) place ≡ slice_get left place
 slice_get-left [] right item place within = absurd (omega arith)
 slice_get-left (x ∷ left) right item zero within = refl
@@ -608,12 +397,7 @@ pub slice_get-middle : {T : Type 0} (left right : List T) (item : T) (place : �
 slice_get-middle [] right item place there = rw there refl
 slice_get-middle (x ∷ left) right item place there = rw there (slice_get-middle left right item (length left) refl)
 
-pub slice_get-right : {T : Type 0} (left right : List T) (item : T) (place below : ℕ) → place ≡ length left + suc below → slice_get (left ++ item ∷ right) place ≡ slice_get right below
-slice_get-right [] right item place below past = let there : place ≡ suc below = omega arith in rw there refl
-slice_get-right (x ∷ left) right item zero below past = absurd (omega arith)
-slice_get-right (x ∷ left) right item (suc place) below past = slice_get-right left right item place below (omega arith)
-
--- an item changed on the left, in the middle, on the right
+-- an item changed on the left and in the middle
 pub change_at-left : {T : Type 0} (f : T → T) (left right : List T) (item : T) (place : ℕ) → place < length left → change_at place f left ++ item ∷ right ≡ change_at place f (left ++ item ∷ right)
 change_at-left f [] right item place within = absurd (omega arith)
 change_at-left f (x ∷ left) right item zero within = refl
@@ -623,10 +407,12 @@ pub change_at-middle : {T : Type 0} (f : T → T) (left right : List T) (item : 
 change_at-middle f [] right item place there = rw there refl
 change_at-middle f (x ∷ left) right item place there = rw there (ap (λ rest. x ∷ rest) (change_at-middle f left right item (length left) refl))
 
-pub change_at-right : {T : Type 0} (f : T → T) (left right : List T) (item : T) (place below : ℕ) → place ≡ length left + suc below → left ++ item ∷ change_at below f right ≡ change_at place f (left ++ item ∷ right)
-change_at-right f [] right item place below past = let there : place ≡ suc below = omega arith in rw there refl
-change_at-right f (x ∷ left) right item zero below past = absurd (omega arith)
-change_at-right f (x ∷ left) right item (suc place) below past = ap (λ rest. x ∷ rest) (change_at-right f left right item place below (omega arith))
+-- the item at a place on the right, and that item changed
+pub at-right : {T : Type 0} (f : T → T) (left right : List T) (item : T) (place below : ℕ) → place ≡ length left + suc below
+    → (slice_get (left ++ item ∷ right) place ≡ slice_get right below) × (left ++ item ∷ change_at below f right ≡ change_at place f (left ++ item ∷ right))
+at-right f [] right item place below past = let there : place ≡ suc below = omega arith in rw there (refl, refl)
+at-right f (x ∷ left) right item zero below past = absurd (omega arith)
+at-right f (x ∷ left) right item (suc place) below past = let rest = at-right f left right item place below (omega arith) in (rest.0, ap (λ items. x ∷ items) rest.1)
 
 -- the first item on the right takes the place of the item in the middle
 pub remove-first_up : {T : Type 0} (left right : List T) (item first : T) (place : ℕ) → place ≡ length left → slice_get right 0 ≡ Some first → left ++ first ∷ drop 1 right ≡ remove (left ++ item ∷ right) place

@@ -10,10 +10,7 @@ use crate::{Group, Groups, Order};
 fn is_place(group: Group, place: &Option<Group>) -> bool
     ensures { result ≡ is_place group place.now }
 {
-    match place {
-        None => false,
-        Some(other) => is_same_group(*other, group),
-    }
+    matches!(place, Some(other) if is_same_group(*other, group))
 }
 
 /// Whether the group is among these.

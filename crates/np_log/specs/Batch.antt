@@ -3,10 +3,7 @@ use Rattle.std.specs.Prelude.{◌≡◌, ◌≤◌, ℕ, ◌-◌, Bool, false, �
 use Rattle.std.specs.List.{AllByRecursion, flat_map}
 use Rattle.std.specs.Option.{option_and_then, option_map}
 use Rattle.std.specs.Result.{result_ok}
-use Rattle.np_text.specs.Lines.{line, lines_of}
-use Rattle.np_event.specs.declared.event.Event.{Event}
-use Rattle.np_event.specs.Line.{HasEventLine, event_in, event_line}
-use Rattle.np_event.specs.Words.{words_of}
+use Rattle.np_log.specs.Lower.{Event, HasEventLine, event_in, event_line, line, lines_of, words_of}
 
 -- the event of a line, if an event has this line
 abbrev pub event_of_line : List ℕ → Option Event

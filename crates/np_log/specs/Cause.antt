@@ -1,14 +1,12 @@
 -- Why a call of a log gives up, and what it leaves.
 use Rattle.std.specs.Prelude.{◌≡◌, ◌≤◌, ◌<◌, ℕ, ◌+◌, List, length, take, IfSome, Err}
 use Rattle.std.specs.Option.{option_map}
-use Rattle.np_io.specs.Counts.{Rose}
-use Rattle.np_io.specs.Disk.{DiskFacts, Stays}
-use Rattle.np_event.specs.declared.event.Event.{Event}
 use Rattle.np_log.specs.declared.fault.AppendFault.{AppendFault}
 use Rattle.np_log.specs.declared.fault.CreateFault.{CreateFault}
 use Rattle.np_log.specs.declared.fault.LoadFault.{LoadFault}
 use Rattle.np_log.specs.Log.{content_of, content_with}
 use Rattle.np_log.specs.Place.{IsSettled, Place}
+use Rattle.np_log.specs.Lower.{DiskFacts, Event, Rose, Stays}
 
 -- the file has bytes, and what reads give and what a crash leaves stay; or the disk failed; or memory
 -- ran out, and then the disk is as it was

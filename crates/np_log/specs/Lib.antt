@@ -1,3 +1,4 @@
+pub mod Lower
 pub mod Batch
 pub mod Log
 pub mod Place

@@ -3,10 +3,9 @@
 -- further record is a batch of events. The log ends at the first closed gate, whatever follows it.
 use Rattle.std.specs.Prelude.{ℕ, zero, suc, ◌+◌, Bool, ◌==◌, nat_le, if◌then◌else◌, List, [], ◌∷◌, ◌++◌, length, take, drop, Option, Some, None, Result, Ok, Err}
 use Rattle.std.specs.Int.{w32, from_be_bytes, to_be_bytes}
-use Rattle.np_lists.specs.Refusals.{◌>>=◌, ◌>>◌, found, need}
-use Rattle.np_text.specs.declared.limit.TheConstants.{JOURNAL_ENTRIES}
-use Rattle.np_event.specs.declared.event.Event.{Event}
+use Rattle.np_lists.specs.Refusals.{◌>>=◌, ◌>>◌}
 use Rattle.np_log.specs.Batch.{batch_of}
+use Rattle.np_log.specs.Lower.{Event, JOURNAL_ENTRIES, found, need}
 
 -- what a log says: the bytes of its configuration, and its events in order
 pub record Content : Type 0 where

@@ -1,8 +1,7 @@
 -- Where a log is on a disk, and what a crash may leave of it.
 use Rattle.std.specs.Prelude.{◌≡◌, ◌≤◌, ◌⊎◌, ℕ, List, [], length, take, IfSome, Result, Ok, Err}
-use Rattle.np_io.specs.Disk.{DiskFacts, Only}
-use Rattle.np_event.specs.declared.event.Event.{Event}
 use Rattle.np_log.specs.Log.{Content, Walk, content_of, content_with, walk_of}
+use Rattle.np_log.specs.Lower.{DiskFacts, Event, Only}
 
 -- the place of a log: how many bytes are before its last gate, and how many events
 pub record Place : Type 0 where

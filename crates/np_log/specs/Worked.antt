@@ -1,7 +1,7 @@
 -- A worked log: the configuration `{}` and one tick (own).
 use Rattle.std.specs.Prelude.{ℕ, List, [], ◌∷◌}
-use Rattle.np_event.specs.declared.event.Event.{Event}
 use Rattle.np_log.specs.Log.{Content}
+use Rattle.np_log.specs.Lower.{Event}
 
 -- `{}`
 abbrev pub worked_config : List ℕ

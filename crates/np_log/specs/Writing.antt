@@ -1,7 +1,7 @@
 -- How a record comes behind a closed gate, which is then opened.
 use Rattle.std.specs.Prelude.{◌⊎◌, ℕ, ◌+◌, List, [], ◌∷◌, ◌++◌, length, IfSome}
-use Rattle.np_io.specs.Disk.{AfterTornWrite, DiskFacts, TornWrite, put_at}
 use Rattle.np_log.specs.Log.{record_text}
+use Rattle.np_log.specs.Lower.{AfterTornWrite, DiskFacts, TornWrite, put_at}
 
 -- a record with this payload, and a closed gate behind it
 abbrev pub record_and_gate : List ℕ → List ℕ

@@ -3,8 +3,7 @@
 ghost use Rattle.std.specs.Prelude.{◌≡◌, ◌≤◌, ◌+◌, length, IfOk, IfErr, IfSome, OnOk};
 ghost use Rattle.std.specs.List.{AllByRecursion};
 ghost use Rattle.std.specs.Option.{option_map};
-ghost use Rattle.np_io.specs.Disk.{LeavesOnly};
-ghost use Rattle.np_event.specs.Line.{HasEventLine};
+ghost use Rattle.np_log.specs.Lower.{HasEventLine, LeavesOnly};
 ghost use Rattle.np_log.specs.Cause.{AppendCause};
 ghost use Rattle.np_log.specs.Log.{content_of, content_with};
 ghost use Rattle.np_log.specs.Place.{IsSettled, SaysAllOrNone};

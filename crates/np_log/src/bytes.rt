@@ -2,7 +2,7 @@
 
 ghost use Rattle.std.specs.Prelude.{◌≡◌, ◌≤◌, ◌<◌, ◌^◌, length, IfOk, OnOk};
 ghost use Rattle.std.specs.List.{AllByRecursion};
-ghost use Rattle.np_event.specs.Line.{HasEventLine};
+ghost use Rattle.np_log.specs.Lower.{HasEventLine};
 ghost use Rattle.np_log.specs.Batch.{batch_text};
 ghost use Rattle.np_log.specs.Writing.{record_and_gate};
 

@@ -2,7 +2,7 @@
 
 ghost use Rattle.std.specs.Prelude.{◌≡◌, ◌≤◌, ◌<◌, ◌^◌, [], length, Ok, IfOk, IfErr, IfSome, OnOk};
 ghost use Rattle.std.specs.Option.{option_map};
-ghost use Rattle.np_io.specs.Disk.{LeavesOnly};
+ghost use Rattle.np_log.specs.Lower.{LeavesOnly};
 ghost use Rattle.np_log.specs.Cause.{CreateCause};
 ghost use Rattle.np_log.specs.Log.{content_of};
 ghost use Rattle.np_log.specs.Place.{IsSettled, SaysNewLog};

@@ -2,8 +2,7 @@
 
 ghost use Rattle.std.specs.Prelude.{◌≡◌, ◌≤◌, ◌+◌, [], ◌∷◌, length, IfSome, OnOk, OnErr};
 ghost use Rattle.std.specs.Option.{option_map};
-ghost use Rattle.np_io.specs.Counts.{Rose};
-ghost use Rattle.np_io.specs.Disk.{LeavesOnly, Only};
+ghost use Rattle.np_log.specs.Lower.{LeavesOnly, Only, Rose};
 ghost use Rattle.np_log.specs.Writing.{TornBehindOrAt, TornFirst, behind_open_gate};
 
 use np_io::{Disk, DiskFailed, write_through};

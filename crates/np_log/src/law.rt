@@ -2,8 +2,7 @@
 
 ghost use Rattle.std.specs.Prelude.{◌≡◌, ◌≤◌, ◌<◌, ℕ, ◌+◌, ◌*◌, List, [], ◌∷◌, ◌++◌, length, take, Some, Ok, Err};
 ghost use Rattle.std.specs.List.{AllByRecursion};
-ghost use Rattle.np_event.specs.declared.event.Event.{Event};
-ghost use Rattle.np_event.specs.Line.{HasEventLine, event_line};
+ghost use Rattle.np_log.specs.Lower.{Event, HasEventLine, event_line};
 ghost use Rattle.np_log.specs.Batch.{IsBatch, batch_of, batch_text};
 ghost use Rattle.np_log.specs.Log.{Walk, after_record, content_of};
 ghost use Rattle.np_log.specs.Worked.{worked_config, worked_content, worked_events, worked_start, worked_tick};

@@ -2,8 +2,7 @@
 
 ghost use Rattle.std.specs.Prelude.{◌≡◌, ◌≤◌, Ok, length, IfOk, IfErr, IfSome, OnOk};
 ghost use Rattle.std.specs.List.{AllByRecursion};
-ghost use Rattle.np_io.specs.Disk.{LeavesOnly, Only, Stays};
-ghost use Rattle.np_event.specs.Line.{HasEventLine};
+ghost use Rattle.np_log.specs.Lower.{HasEventLine, LeavesOnly, Only, Stays};
 ghost use Rattle.np_log.specs.Cause.{LoadCause, ReadCause};
 ghost use Rattle.np_log.specs.Log.{content_of};
 ghost use Rattle.np_log.specs.Place.{IsSettled};

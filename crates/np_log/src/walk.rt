@@ -2,7 +2,7 @@
 
 ghost use Rattle.std.specs.Prelude.{◌≡◌, ◌≤◌, ◌<◌, ◌-◌, ◌^◌, [], ◌∷◌, Ok, length, take, drop, IfOk, IfErr, IfNone, IfSome, OnOk};
 ghost use Rattle.std.specs.Option.{option_map};
-ghost use Rattle.np_text.specs.Lines.{lines_of};
+ghost use Rattle.np_log.specs.Lower.{lines_of};
 ghost use Rattle.np_log.specs.Batch.{batch_of, ends_in_newline, events_of};
 ghost use Rattle.np_log.specs.Log.{after_record, first_bytes, first_record, go_on, is_open, record_in, walk_of};
 ghost use Rattle.np_log.specs.Walking.{Fails, IsNear, Walks, walk_view};
@@ -93,10 +93,7 @@ fn events_of(alloc: Global, text: &[u8]) -> Result<Option<Vec<Event>>, AllocErro
 fn ends_in_newline(text: &[u8]) -> bool
     ensures { result ≡ ends_in_newline text.now }
 {
-    match text.last() {
-        Some(byte) => *byte == b'\n',
-        None => false,
-    }
+    matches!(text.last(), Some(byte) if *byte == b'\n')
 }
 
 /// The events of a payload of 1 to 64 event lines, each with its newline, and `None` for any other

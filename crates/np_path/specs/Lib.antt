@@ -1,4 +1,2 @@
 pub mod Grammar
-pub mod Faults
-pub mod Parts
 pub mod Makes

@@ -3,9 +3,7 @@
 ghost use Rattle.std.specs.Prelude.{◌≡◌, None, Some, IfErr, IfOk};
 ghost use Rattle.std.specs.List.{list_all};
 ghost use Rattle.std.specs.Result.{result_err};
-ghost use Rattle.np_path.specs.Faults.{path_fault};
-ghost use Rattle.np_path.specs.Grammar.{is_control, is_dots, is_element, is_kept};
-ghost use Rattle.np_path.specs.Parts.{IsNameAt};
+ghost use Rattle.np_path.specs.Grammar.{path_fault, is_control, is_dots, is_element, is_kept, IsNameAt};
 
 /// Whether no element may have the byte: it is below the blank, or DEL.
 fn is_control(byte: u8) -> bool

@@ -3,9 +3,7 @@
 ghost use Rattle.std.specs.Prelude.{◌≡◌, ℕ, List, ◌∷◌, ◌++◌, None, Some, true};
 ghost use Rattle.std.specs.List.{before_last, list_any};
 ghost use Rattle.std.specs.Option.{is_none};
-ghost use Rattle.np_path.specs.Faults.{path_fault};
-ghost use Rattle.np_path.specs.Grammar.{is_element, is_path, is_slash};
-ghost use Rattle.np_path.specs.Parts.{below, name_of, parent_of, root};
+ghost use Rattle.np_path.specs.Grammar.{path_fault, is_element, is_path, is_slash, below, name_of, parent_of, root};
 
 /// A text is a path if and only if it has no fault.
 pub fn paths_have_no_fault()

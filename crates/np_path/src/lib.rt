@@ -1,7 +1,7 @@
 //! Paths of the tree's nodes: texts in one grammar, with a node's parent and name in constant time.
 //!
-//! `specs/Grammar` says which texts are paths, `specs/Faults` where the first fault of another text
-//! is, `specs/Parts` what parent, name and child are. Contracts see a `Path` as the list of its bytes.
+//! `specs/Grammar` says which texts are paths, where the first fault of another text is, and what
+//! parent, name and child are. Contracts see a `Path` as the list of its bytes.
 //!
 //! A `Path` is always in the grammar, and never changes.
 #![tactic(auto)]

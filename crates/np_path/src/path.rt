@@ -5,10 +5,8 @@ ghost use Rattle.std.specs.List.{before_last, list_all, list_any};
 ghost use Rattle.std.specs.String.{string_bytes};
 ghost use Rattle.std.specs.Option.{option_copied};
 ghost use Rattle.np_text.specs.Number.{ten_digits_of};
-ghost use Rattle.np_path.specs.Faults.{name_fault, path_fault};
-ghost use Rattle.np_path.specs.Grammar.{is_element, is_kept, is_path, is_slash};
+ghost use Rattle.np_path.specs.Grammar.{name_fault, path_fault, is_element, is_kept, is_path, is_slash, below, name_of, parent_of, slashed};
 ghost use Rattle.np_path.specs.Makes.{Makes};
-ghost use Rattle.np_path.specs.Parts.{below, name_of, parent_of, slashed};
 
 use crate::fault::PathFault;
 use crate::grammar::{are_kept, is_element, name_place};
@@ -28,7 +26,7 @@ pub struct Path {
 impl Model for Path {
     ghost use Rattle.std.specs.Prelude.{List, ℕ};
     ghost use Rattle.std.specs.String.{string_bytes};
-    ghost use Rattle.np_path.specs.Parts.{IsNameAt};
+    ghost use Rattle.np_path.specs.Grammar.{IsNameAt};
 
     ghost Value = { List ℕ };
 

@@ -1,4 +1,5 @@
 //! The table of sessions.
+#![tactic(auto, using(crate::proofs::NumbersLemmas::seen))]
 
 ghost use Rattle.std.specs.Prelude.{◌≡◌, ◌<◌, ◌≤◌, ◌+◌, ◌&&◌, not, [], length, IfErr, OnOk, OnErr};
 ghost use Rattle.std.specs.Bool.{OnTrue, OnFalse};
@@ -31,10 +32,7 @@ impl Life {
     fn is_mute(self) -> bool
         ensures { result ≡ is_mute self }
     {
-        match self {
-            Life::Mute => true,
-            Life::Live | Life::Over => false,
-        }
+        matches!(self, Life::Mute)
     }
 }
 

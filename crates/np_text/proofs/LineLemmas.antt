@@ -1,14 +1,10 @@
 -- Lemmas on lines.
-use Rattle.np_text.proofs.Prelude.{Bool, List, None, Option, Some, and_parts, ap, append_assoc, arith, cond, drop, drop-drop, drop_all, eqb-true, false, flat_map, is_line, length, length-drop, line, line_in, line_length, lines_of, list_all, ltb, nat_tests, not, one-add, onto_first, position, position_or_len, prefix_len-le-length, refl, suc, sym, take, true, unwrap_or, ℕ, [], ◌++◌, ◌+◌, ◌-◌, ◌<◌, ◌==◌, ◌∙◌, ◌∷◌, ◌≡◌, ◌≤◌}
+use Rattle.np_text.proofs.Prelude.{Bool, List, None, Option, Some, and_parts, ap, append_assoc, arith, cond, drop, drop-drop, drop_all, eqb-true, false, flat_map, is_line, length, length-drop, line, line_in, line_length, lines_of, list_all, nat_tests, not, one-add, onto_first, position, position_or_len, prefix_len-le-length, refl, suc, sym, take, true, unwrap_or, ℕ, [], ◌++◌, ◌+◌, ◌-◌, ◌<◌, ◌==◌, ◌∙◌, ◌∷◌, ◌≡◌, ◌≤◌}
 use Rattle.np_text.proofs.SpellingLemmas.{some_injective}
 
 -- where the first line ends
 pub unwrap_or-position : (p : ℕ → Bool) (xs : List ℕ) → unwrap_or (position p xs) (length xs) ≡ position_or_len p xs
-unwrap_or-position p xs = cases (ltb (position_or_len p xs) (length xs)) refl
-  where
-    cases : (b : Bool) → ltb (position_or_len p xs) (length xs) ≡ b → unwrap_or (cond b (Some (position_or_len p xs)) None) (length xs) ≡ position_or_len p xs
-    cases true before = refl
-    cases false past = grind (arith, nat_tests, prefix_len-le-length (λ x. not (p x)) xs)
+unwrap_or-position p xs = grind (arith, nat_tests, prefix_len-le-length (λ x. not (p x)) xs)
 
 -- ## The lines of a text
 

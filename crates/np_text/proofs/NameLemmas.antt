@@ -1,14 +1,11 @@
 -- Lemmas on names.
-use Rattle.np_text.proofs.Prelude.{IsAscii, IsAscii-cons, IsAscii-nil, List, and_parts, arith, is_name_byte, is_name_text, length, list_all, nat_le, nat_tests, true, ℕ, [], ◌&&◌, ◌<◌, ◌∷◌, ◌≡◌}
-
-name_byte_ascii : (b : ℕ) → is_name_byte b ≡ true → b < 128
-name_byte_ascii b named = grind (arith, nat_tests)
+use Rattle.np_text.proofs.Prelude.{IsAscii, IsAscii-cons, IsAscii-nil, List, and_parts, arith, is_name_byte, is_name_text, length, list_all, nat_le, nat_tests, true, ℕ, [], ◌&&◌, ◌∷◌, ◌≡◌}
 
 IsAscii-name_bytes : (text : List ℕ) → list_all is_name_byte text ≡ true → IsAscii text
 IsAscii-name_bytes [] named = IsAscii-nil
 IsAscii-name_bytes (b ∷ bs) named =
     let parts = and_parts (is_name_byte b) (list_all is_name_byte bs) named in
-    IsAscii-cons b bs (name_byte_ascii b parts.0) (IsAscii-name_bytes bs parts.1)
+    IsAscii-cons b bs (grind (arith, nat_tests, parts.0)) (IsAscii-name_bytes bs parts.1)
 
 -- a name's bytes are ASCII
 pub IsAscii-name : (text : List ℕ) → is_name_text text ≡ true → IsAscii text

@@ -1,5 +1,5 @@
 -- Digits of one length are in byte order as their numbers are.
-use Rattle.np_text.proofs.Prelude.{Bool, Equal, Greater, HasText, Less, List, Ordering, RequestId, all_ascii_digits, and_parts, ap, arith, cases_lt, cond, decimal, digit_glyph, digit_value, digits, digits_decimal, digits_onto, digits_value, digits_value-decimal, digits_value_after, false, inl, inr, is_ascii_digit, length, length-append, length-replicate, nat_cmp, nat_cmp_is, nat_tests, ordering_then, refl, request_cmp, request_text_of, slice_cmp, suc, sym, ten_digits_of, true, zero, ℕ, [], ◌%◌, ◌*◌, ◌++◌, ◌+◌, ◌-◌, ◌/◌, ◌<◌, ◌==◌, ◌^◌, ◌∙◌, ◌∷◌, ◌≡◌, ◌≤◌, ◌⊎◌}
+use Rattle.np_text.proofs.Prelude.{Equal, Greater, HasText, Less, List, Ordering, RequestId, all_ascii_digits, and_parts, ap, arith, cases_lt, cond_both, decimal, digit_glyph, digit_value, digits, digits_decimal, digits_onto, digits_value, digits_value-decimal, digits_value_after, false, inl, inr, is_ascii_digit, length, length-append, length-replicate, nat_cmp, nat_cmp_is, nat_tests, ordering_then, refl, request_cmp, request_text_of, slice_cmp, suc, sym, ten_digits_of, true, zero, ℕ, [], ◌%◌, ◌*◌, ◌++◌, ◌+◌, ◌-◌, ◌/◌, ◌<◌, ◌==◌, ◌^◌, ◌∙◌, ◌∷◌, ◌≡◌, ◌≤◌, ◌⊎◌}
 use Rattle.np_text.proofs.NumberLemmas.{digit_value_digit}
 use Rattle.np_text.proofs.SpellingLemmas.{model, length-padded, all_ascii_digits-zeros, digits_value-zeros}
 use Rattle.np_text.proofs.RequestLemmas.{decimal_three}
@@ -17,18 +17,16 @@ nat_cmp-more m n more = sym (nat_cmp_is m n Greater more)
 
 pub then-assoc : (o p q : Ordering) → ordering_then o (ordering_then p q) ≡ ordering_then (ordering_then o p) q
 then-assoc Less p q = refl
-then-assoc Equal p q = refl
-then-assoc Greater p q = refl
+then-assoc o p q = refl
 
 -- parts of one length are compared in turn
 pub slice_cmp-append : (xs ys us vs : List ℕ) → length xs ≡ length ys
     → slice_cmp nat_cmp (xs ++ us) (ys ++ vs) ≡ ordering_then (slice_cmp nat_cmp xs ys) (slice_cmp nat_cmp us vs)
 slice_cmp-append [] [] us vs same = refl
-slice_cmp-append [] (y ∷ ys) us vs same = absurd (omega arith)
-slice_cmp-append (x ∷ xs) [] us vs same = absurd (omega arith)
 slice_cmp-append (x ∷ xs) (y ∷ ys) us vs same =
     ap (ordering_then (nat_cmp x y)) (slice_cmp-append xs ys us vs (omega arith))
     ∙ then-assoc (nat_cmp x y) (slice_cmp nat_cmp xs ys) (slice_cmp nat_cmp us vs)
+slice_cmp-append xs ys us vs same = absurd (omega arith)
 
 -- ## Digits of one length
 
@@ -39,20 +37,17 @@ digit_below c digit = (digit_value_digit c digit, grind (arith, nat_tests), grin
 after-less : (m n : ℕ) (xs ys : List ℕ) → m < n → length xs ≡ length ys → all_ascii_digits xs ≡ true → all_ascii_digits ys ≡ true
     → digits_value_after 10 m xs < digits_value_after 10 n ys
 after-less m n [] [] less same xs_digits ys_digits = less
-after-less m n [] (y ∷ ys) less same xs_digits ys_digits = absurd (omega arith)
-after-less m n (x ∷ xs) [] less same xs_digits ys_digits = absurd (omega arith)
 after-less m n (x ∷ xs) (y ∷ ys) less same xs_digits ys_digits =
     let x_parts = and_parts (is_ascii_digit x) (all_ascii_digits xs) xs_digits in
     let y_parts = and_parts (is_ascii_digit y) (all_ascii_digits ys) ys_digits in
     let x_digit = digit_below x x_parts.0 in
     after-less (m * 10 + digit_value x) (n * 10 + digit_value y) xs ys (omega (arith, x_digit)) (omega arith) x_parts.1 y_parts.1
+after-less m n xs ys less same xs_digits ys_digits = absurd (omega arith)
 
 -- digits of one length, behind one front, are in order as their numbers are
 slice_cmp-after : (n : ℕ) (xs ys : List ℕ) → length xs ≡ length ys → all_ascii_digits xs ≡ true → all_ascii_digits ys ≡ true
     → slice_cmp nat_cmp xs ys ≡ nat_cmp (digits_value_after 10 n xs) (digits_value_after 10 n ys)
 slice_cmp-after n [] [] same xs_digits ys_digits = sym (nat_cmp-same n n refl)
-slice_cmp-after n [] (y ∷ ys) same xs_digits ys_digits = absurd (omega arith)
-slice_cmp-after n (x ∷ xs) [] same xs_digits ys_digits = absurd (omega arith)
 slice_cmp-after n (x ∷ xs) (y ∷ ys) same xs_digits ys_digits =
     cases (and_parts (is_ascii_digit x) (all_ascii_digits xs) xs_digits) (and_parts (is_ascii_digit y) (all_ascii_digits ys) ys_digits)
     (λ m x_rest y_rest. slice_cmp-after m xs ys (omega arith) x_rest y_rest) (cases_lt x y) (cases_lt y x)
@@ -74,6 +69,7 @@ slice_cmp-after n (x ∷ xs) (y ∷ ys) same xs_digits ys_digits =
     cases x_parts y_parts rest (inr least) (inr most) =
         let same_digit : x ≡ y = omega arith in
         rw (nat_cmp-same x y same_digit) (rest (n * 10 + digit_value x) x_parts.1 y_parts.1 ∙ ap (λ d. nat_cmp (digits_value_after 10 (n * 10 + digit_value x) xs) (digits_value_after 10 (n * 10 + digit_value d) ys)) same_digit)
+slice_cmp-after n xs ys same xs_digits ys_digits = absurd (omega arith)
 
 -- ## Ten digits
 
@@ -82,14 +78,9 @@ digit_glyph-digit n = grind (arith, nat_tests)
 
 digits_onto-digits : (k n : ℕ) (acc : List ℕ) → all_ascii_digits acc ≡ true → all_ascii_digits (digits_onto k 10 false n acc) ≡ true
 digits_onto-digits zero n acc digits = digits
-digits_onto-digits (suc k) n acc digits = cases (n / 10 == 0) _ _ more (digits_onto-digits k (n / 10) (digit_glyph false (n % 10) ∷ acc) more)
-  where
-    more : all_ascii_digits (digit_glyph false (n % 10) ∷ acc) ≡ true
-    more = rw (digit_glyph-digit n) digits
-
-    cases : (b : Bool) (xs ys : List ℕ) → all_ascii_digits xs ≡ true → all_ascii_digits ys ≡ true → all_ascii_digits (cond b xs ys) ≡ true
-    cases true xs ys xs_digits ys_digits = xs_digits
-    cases false xs ys xs_digits ys_digits = ys_digits
+digits_onto-digits (suc k) n acc digits =
+    let more : all_ascii_digits (digit_glyph false (n % 10) ∷ acc) ≡ true = rw (digit_glyph-digit n) digits in
+    cond_both (n / 10 == 0) _ _ (λ (ds : List ℕ). all_ascii_digits ds ≡ true) (λ _. more) (λ _. digits_onto-digits k (n / 10) (digit_glyph false (n % 10) ∷ acc) more)
 
 pub all_ascii_digits-ten : (n : ℕ) → all_ascii_digits (ten_digits_of n) ≡ true
 unfolding ten_digits_of digits

@@ -25,7 +25,7 @@ pub use Rattle.np_text.specs.declared.word.TheConstants.RequestState.{ALL as req
 pub use Rattle.np_text.specs.declared.word.TheConstants.RoleKind.{ALL as role_kinds}
 pub use Rattle.std.proofs.Common.{Bool, Equal, Greater, Less, List, None, Option, Ordering, Some, add-one, ap, append_assoc, arith, cond, drop, false, get_or, inl, inr, length, length-append, ltb, not, refl, replicate, set, suc, sym, take, true, zero, ℕ, [], ◌%◌, ◌&&◌, ◌*◌, ◌++◌, ◌+◌, ◌-◌, ◌/◌, ◌<◌, ◌==◌, ◌^◌, ◌∙◌, ◌∷◌, ◌≡◌, ◌≢◌, ◌≤◌, ◌⊎◌}
 pub use Rattle.std.proofs.Math.Numerals.{one-add}
-pub use Rattle.std.proofs.lemmas.Bool.{and_parts, and_right, cases_eq, cases_lt, eq-eqb, eqb-true, or_parts}
+pub use Rattle.std.proofs.lemmas.Bool.{and_parts, and_right, cases_eq, cases_lt, cond_both, eq-eqb, eqb-true, or_parts}
 pub use Rattle.std.proofs.lemmas.Bool.Decides.{nat_tests}
 pub use Rattle.std.proofs.lemmas.Fmt.{decimal-digits_value, decimal_digit, decimal_injective, decimal_nonempty, decimal_step, digits_decimal, digits_value-decimal, first_decimal, length-decimal-le}
 pub use Rattle.std.proofs.lemmas.List.{append-nil, drop-drop, drop-set, drop_all, drop_at, drop_more, length-drop, length-replicate, length_push, replicate_more, take_more}

@@ -1,5 +1,5 @@
 -- Lemmas on the texts of requests.
-use Rattle.np_text.proofs.Prelude.{HasText, List, None, Option, RequestId, Some, ap, append-nil, arith, cases_lt, decimal, decimal_digit, decimal_step, drop, eqb-true, inl, inr, length, length-decimal-le, number_of, padded, put_mid, refl, replicate, request_from, request_of, request_text_of, sequence_of, sym, take, ten_digits_of, ℕ, [], ◌%◌, ◌++◌, ◌+◌, ◌/◌, ◌<◌, ◌==◌, ◌^◌, ◌∙◌, ◌∷◌, ◌≡◌, ◌≤◌, ◌⊎◌}
+use Rattle.np_text.proofs.Prelude.{HasText, List, Option, RequestId, Some, ap, append-nil, arith, cases_lt, decimal, decimal_digit, decimal_step, drop, eqb-true, inl, inr, length, length-decimal-le, number_of, padded, put_mid, refl, replicate, request_from, request_of, request_text_of, sequence_of, sym, take, ten_digits_of, ℕ, [], ◌%◌, ◌++◌, ◌+◌, ◌/◌, ◌<◌, ◌==◌, ◌^◌, ◌∙◌, ◌∷◌, ◌≡◌, ◌≤◌, ◌⊎◌}
 use Rattle.np_text.proofs.SpellingLemmas.{when_found, some_injective, number_of-decimal, number_of-spelled, sequence_of-ten_digits_of, sequence_of-spelled}
 
 -- three digits
@@ -14,17 +14,11 @@ padded_three n least most = rw (decimal_three n least most) refl
 
 request_bytes : (x y : List ℕ) → length x ≡ 3 → put_mid 4 10 (x ++ replicate 11 45) y ≡ x ++ 45 ∷ y
 request_bytes (a ∷ b ∷ c ∷ []) y three = ap (λ ys. a ∷ b ∷ c ∷ 45 ∷ ys) (append-nil y)
-request_bytes [] y three = absurd (omega arith)
-request_bytes (a ∷ []) y three = absurd (omega arith)
-request_bytes (a ∷ b ∷ []) y three = absurd (omega arith)
-request_bytes (a ∷ b ∷ c ∷ d ∷ xs) y three = absurd (omega arith)
+request_bytes x y three = absurd (omega arith)
 
 ten_behind : (x : List ℕ) → length x ≡ 3 → length (take 10 (drop 4 (x ++ replicate 11 45))) ≡ 10
 ten_behind (a ∷ b ∷ c ∷ []) three = refl
-ten_behind [] three = absurd (omega arith)
-ten_behind (a ∷ []) three = absurd (omega arith)
-ten_behind (a ∷ b ∷ []) three = absurd (omega arith)
-ten_behind (a ∷ b ∷ c ∷ d ∷ xs) three = absurd (omega arith)
+ten_behind x three = absurd (omega arith)
 
 -- what `request_text` leaves: the priority before the dash, the sequence number behind it
 pub request_written : (id : RequestId) (x y : List ℕ) → 100 ≤ id.priority → id.priority ≤ 999
@@ -57,10 +51,6 @@ three_digits n small three = cases (cases_lt n 100)
 
 pub request_of-spelled : (id : RequestId) (text : List ℕ) → request_of text ≡ Some id → HasText id × (request_text_of id ≡ text)
 unfolding request_of request_text_of
-request_of-spelled id [] answer = absurd (cc)
-request_of-spelled id (a ∷ []) answer = absurd (cc)
-request_of-spelled id (a ∷ b ∷ []) answer = absurd (cc)
-request_of-spelled id (a ∷ b ∷ c ∷ []) answer = absurd (cc)
 request_of-spelled id (a ∷ b ∷ c ∷ dash ∷ digits) answer =
     let found = when_found (dash == 45) (request_from (number_of 999 (a ∷ b ∷ c ∷ [])) (sequence_of digits)) id answer in
     let parts = request_from-told id (number_of 999 (a ∷ b ∷ c ∷ [])) (sequence_of digits) found.1 in
@@ -72,13 +62,11 @@ request_of-spelled id (a ∷ b ∷ c ∷ dash ∷ digits) answer =
     )
   where
     request_from-told : (id : RequestId) (p s : Option ℕ) → request_from p s ≡ Some id → (p ≡ Some id.priority) × (s ≡ Some id.seq)
-    request_from-told id None s answer = absurd (cc)
-    request_from-told id (Some priority) None answer = absurd (cc)
     request_from-told id (Some priority) (Some seq) answer =
         let told = some_injective (record { priority = priority; seq = seq }) id answer in
-        let same_priority : priority ≡ id.priority = ap (λ (r : RequestId). r.priority) told in
-        let same_seq : seq ≡ id.seq = ap (λ (r : RequestId). r.seq) told in
-        (ap Some same_priority, ap Some same_seq)
+        (ap (λ (r : RequestId). Some r.priority) told, ap (λ (r : RequestId). Some r.seq) told)
+    request_from-told id p s answer = absurd (cc)
+request_of-spelled id text answer = absurd (cc)
 
 pub request_text_of-injective : (a b : RequestId) → HasText a → HasText b → request_text_of a ≡ request_text_of b → a ≡ b
 request_text_of-injective a b a_has b_has same =

@@ -1,5 +1,5 @@
 -- Lemmas on a text's sections.
-use Rattle.np_text.proofs.Prelude.{Bool, List, None, Option, Some, and_parts, ap, append-nil, append_assoc, arith, bar, begins_with_bar, behind, bytes_eq, drop, drop_all, drop_more, false, flat_map, get_or, has_bar, is_line, length, line, list_all, nat_tests, not, or_parts, refl, sections_from, sections_of, sym, take, take_more, true, ℕ, [], ◌&&◌, ◌++◌, ◌+◌, ◌<◌, ◌==◌, ◌∙◌, ◌∷◌, ◌≡◌, ◌≤◌}
+use Rattle.np_text.proofs.Prelude.{Bool, List, None, Option, Some, and_parts, and_right, ap, append-nil, append_assoc, arith, bar, begins_with_bar, behind, bytes_eq, drop, drop_all, drop_more, false, flat_map, get_or, has_bar, is_line, length, line, list_all, nat_tests, not, or_parts, refl, sections_from, sections_of, sym, take, take_more, true, ℕ, [], ◌&&◌, ◌++◌, ◌+◌, ◌<◌, ◌==◌, ◌∙◌, ◌∷◌, ◌≡◌, ◌≤◌}
 
 pub behind_behind : (front next : List ℕ) (o : Option (List ℕ × List ℕ)) → behind front (behind next o) ≡ behind (front ++ next) o
 behind_behind front next None = refl
@@ -35,32 +35,24 @@ pub ruleset parting = (sections_from-other, sections_from-bar, sections_from_end
 
 -- ## Sections and lines
 
+and_assoc : (s t u : Bool) → ((s && t) && u) ≡ (s && (t && u))
+and_assoc s t u = grind arith
+
+and_true : (s t : Bool) → (s && t) ≡ (s && (t && true))
+and_true s t = grind arith
+
 -- a text begins with `%%` if and only if its first line is `%%`
 begins_with_bar-line : (bytes rest : List ℕ) → is_line bytes ≡ true → begins_with_bar (bytes ++ 10 ∷ rest) ≡ bytes_eq bytes bar
 begins_with_bar-line [] [] plain = refl
 begins_with_bar-line [] (c ∷ []) plain = refl
 begins_with_bar-line [] (c ∷ d ∷ rest) plain = refl
 begins_with_bar-line (a ∷ []) [] plain = refl
-begins_with_bar-line (a ∷ []) (c ∷ rest) plain = cases (a == 37)
-  where
-    cases : (t : Bool) → ((t && false) && (c == 10)) ≡ (t && false)
-    cases true = refl
-    cases false = refl
-begins_with_bar-line (a ∷ b ∷ []) rest plain = cases (a == 37) (b == 37)
-  where
-    cases : (s t : Bool) → ((s && t) && true) ≡ (s && (t && true))
-    cases true true = refl
-    cases true false = refl
-    cases false t = refl
+begins_with_bar-line (a ∷ []) (c ∷ rest) plain = rw (and_right (a == 37) false refl) refl
+begins_with_bar-line (a ∷ b ∷ []) rest plain = and_assoc (a == 37) (b == 37) true
 begins_with_bar-line (a ∷ b ∷ c ∷ cs) rest plain =
     let parts = and_parts (not (b == 10)) (is_line (c ∷ cs)) (and_parts (not (a == 10)) (is_line (b ∷ c ∷ cs)) plain).1 in
     let other : (c == 10) ≡ false = grind (arith, nat_tests, (and_parts (not (c == 10)) (is_line cs) parts.1).0) in
-    rw other (cases (a == 37) (b == 37))
-  where
-    cases : (s t : Bool) → ((s && t) && false) ≡ (s && (t && false))
-    cases true true = refl
-    cases true false = refl
-    cases false t = refl
+    rw other (and_assoc (a == 37) (b == 37) false)
 
 sections_from-inside : (bytes rest : List ℕ) → is_line bytes ≡ true → sections_from false (bytes ++ 10 ∷ rest) ≡ behind (line bytes) (sections_from true rest)
 unfolding sections_from
@@ -92,26 +84,12 @@ sections_of-bar_alone = refl
 -- a last line without its newline
 begins_with_bar-last : (bytes : List ℕ) → is_line bytes ≡ true → begins_with_bar bytes ≡ bytes_eq bytes bar
 begins_with_bar-last [] plain = refl
-begins_with_bar-last (a ∷ []) plain = cases (a == 37)
-  where
-    cases : (t : Bool) → false ≡ (t && false)
-    cases true = refl
-    cases false = refl
-begins_with_bar-last (a ∷ b ∷ []) plain = cases (a == 37) (b == 37)
-  where
-    cases : (s t : Bool) → (s && t) ≡ (s && (t && true))
-    cases true true = refl
-    cases true false = refl
-    cases false t = refl
+begins_with_bar-last (a ∷ []) plain = sym (and_right (a == 37) false refl)
+begins_with_bar-last (a ∷ b ∷ []) plain = and_true (a == 37) (b == 37)
 begins_with_bar-last (a ∷ b ∷ c ∷ cs) plain =
     let parts = and_parts (not (b == 10)) (is_line (c ∷ cs)) (and_parts (not (a == 10)) (is_line (b ∷ c ∷ cs)) plain).1 in
     let other : (c == 10) ≡ false = grind (arith, nat_tests, (and_parts (not (c == 10)) (is_line cs) parts.1).0) in
-    rw other (cases (a == 37) (b == 37))
-  where
-    cases : (s t : Bool) → ((s && t) && false) ≡ (s && (t && false))
-    cases true true = refl
-    cases true false = refl
-    cases false t = refl
+    rw other (and_assoc (a == 37) (b == 37) false)
 
 sections_from-rest : (bytes : List ℕ) → is_line bytes ≡ true → sections_from false bytes ≡ None
 unfolding sections_from

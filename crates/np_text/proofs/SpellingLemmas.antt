@@ -99,11 +99,8 @@ begins-first (c ∷ []) first = refl
 begins-first (c ∷ d ∷ cs) first = let other : (c == 48) ≡ false = grind (arith, nat_tests) in rw other refl
 
 begins-decimal : (n : ℕ) → n < 2 ^ 64 → begins_as_number (decimal n) ≡ true
-begins-decimal n small = cases (cases_eq n 0)
-  where
-    cases : (n ≡ 0) ⊎ (n ≢ 0) → begins_as_number (decimal n) ≡ true
-    cases (inl nothing) = ap (λ m. begins_as_number (decimal m)) nothing ∙ ap begins_as_number (decimal_digit 0 (omega arith))
-    cases (inr some) = begins-first (decimal n) (first_decimal n (omega arith) small)
+begins-decimal zero small = ap begins_as_number (decimal_digit 0 (omega arith))
+begins-decimal (suc n) small = begins-first (decimal (suc n)) (first_decimal (suc n) (omega arith) small)
 
 begins-no_zero : (text : List ℕ) → begins_as_number text ≡ true → (0 < length text) × (get_or text 0 0 ≡ 48 → length text ≡ 1)
 begins-no_zero [] begins = absurd (cc)
@@ -173,8 +170,5 @@ only_zeros =
 
 -- twenty digits are room for each number below 2 ^ 64
 pub without_zeros-padded : (n : ℕ) → n < 2 ^ 64 → without_zeros (padded 20 n) ≡ decimal n
-without_zeros-padded n small = cases (cases_eq n 0)
-  where
-    cases : (n ≡ 0) ⊎ (n ≢ 0) → without_zeros (padded 20 n) ≡ decimal n
-    cases (inl nothing) = ap (λ m. without_zeros (padded 20 m)) nothing ∙ only_zeros ∙ ap decimal (sym nothing)
-    cases (inr above) = zeros_dropped (20 - length (decimal n)) (decimal n) (first_decimal n (omega arith) small) (decimal_nonempty n small)
+without_zeros-padded zero small = only_zeros
+without_zeros-padded (suc n) small = zeros_dropped (20 - length (decimal (suc n))) (decimal (suc n)) (first_decimal (suc n) (omega arith) small) (decimal_nonempty (suc n) small)

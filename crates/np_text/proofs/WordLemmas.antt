@@ -1,5 +1,5 @@
 -- Words read back.
-use Rattle.np_text.proofs.Prelude.{AreWords, Bool, EndAs, Ending, List, NodeState, Option, Phase, RequestState, RoleKind, Some, ap, bytes_eq, bytes_eq-Decides, cond, end_as_of, end_as_word, ending_of, ending_word, endings, ends, false, find, node_state_of, node_state_word, node_states, phase_of, phase_word, phases, refl, request_state_of, request_state_word, request_states, role_kind_of, role_kind_word, role_kinds, sym, true, ℕ, [], ◌∙◌, ◌∷◌, ◌≡◌}
+use Rattle.np_text.proofs.Prelude.{AreWords, Bool, List, Option, Some, ap, arith, bytes_eq, bytes_eq-Decides, cond, end_as_of, end_as_word, ending_of, ending_word, endings, ends, false, find, node_state_of, node_state_word, node_states, phase_of, phase_word, phases, refl, request_state_of, request_state_word, request_states, role_kind_of, role_kind_word, role_kinds, sym, true, ℕ, [], ◌∙◌, ◌∷◌, ◌≡◌}
 use Rattle.np_text.proofs.SpellingLemmas.{some_injective}
 
 -- if a value is found for a text, the text is its word
@@ -18,43 +18,19 @@ AreWords-found : {X : Type 0} (word : X → List ℕ) (xs : List X) → ((x : X)
 AreWords-found word xs again = record { reads_back = again; spelled = find-word word xs }
 
 pub request_state_words : AreWords request_state_word request_state_of
-request_state_words = AreWords-found request_state_word request_states again
-  where
-    again : (x : RequestState) → request_state_of (request_state_word x) ≡ Some x
-    again RequestState.Requested = refl
-    again x = refl
+request_state_words = AreWords-found request_state_word request_states (λ x. grind arith)
 
 pub node_state_words : AreWords node_state_word node_state_of
-node_state_words = AreWords-found node_state_word node_states again
-  where
-    again : (x : NodeState) → node_state_of (node_state_word x) ≡ Some x
-    again NodeState.Building = refl
-    again x = refl
+node_state_words = AreWords-found node_state_word node_states (λ x. grind arith)
 
 pub end_as_words : AreWords end_as_word end_as_of
-end_as_words = AreWords-found end_as_word ends again
-  where
-    again : (x : EndAs) → end_as_of (end_as_word x) ≡ Some x
-    again EndAs.Used = refl
-    again x = refl
+end_as_words = AreWords-found end_as_word ends (λ x. grind arith)
 
 pub phase_words : AreWords phase_word phase_of
-phase_words = AreWords-found phase_word phases again
-  where
-    again : (x : Phase) → phase_of (phase_word x) ≡ Some x
-    again Phase.New = refl
-    again x = refl
+phase_words = AreWords-found phase_word phases (λ x. grind arith)
 
 pub ending_words : AreWords ending_word ending_of
-ending_words = AreWords-found ending_word endings again
-  where
-    again : (x : Ending) → ending_of (ending_word x) ≡ Some x
-    again Ending.Served = refl
-    again x = refl
+ending_words = AreWords-found ending_word endings (λ x. grind arith)
 
 pub role_kind_words : AreWords role_kind_word role_kind_of
-role_kind_words = AreWords-found role_kind_word role_kinds again
-  where
-    again : (x : RoleKind) → role_kind_of (role_kind_word x) ≡ Some x
-    again RoleKind.Launcher = refl
-    again x = refl
+role_kind_words = AreWords-found role_kind_word role_kinds (λ x. grind arith)

@@ -32,7 +32,7 @@ pub use limit::{
     SEMAPHORES, SEQUENCE, START_NUMBER, TENANTS, WINDOW, ZNODE_BYTES,
 };
 pub use lines::{line_at, split_sections};
-pub use memory::NoMemory;
+pub use memory::{Ample, NoMemory};
 pub use name::is_name;
 pub use number::{put_number, read_number, ten_digits};
 pub use request::{read_request, request_text};

@@ -6,6 +6,9 @@ use std::alloc::{AllocError, AllocFailed};
 #[derive(Clone, Copy, Debug, PartialEq, Eq)]
 pub struct NoMemory;
 
+/// Whether memory was ample: what a call that only does something comes to.
+pub type Ample = Result<(), NoMemory>;
+
 impl From<AllocError> for NoMemory {
     fn from(_: AllocError) -> NoMemory {
         NoMemory

@@ -3,7 +3,7 @@ ghost use Rattle.std.specs.Prelude.{◌≡◌, ℕ, ◌+◌, ◌*◌, ◌^◌, �
 ghost use Rattle.std.specs.Fmt.{decimal};
 ghost use Rattle.np_text.specs.Number.{digits_within, number_of, padded, ten_digits_of, without_zeros};
 
-use crate::memory::NoMemory;
+use crate::memory::Ample;
 
 /// `value` with one more digit behind it, if that is still a `u64`.
 fn with_digit(value: u64, digit: u8) -> Option<u64>
@@ -86,7 +86,7 @@ fn without_zeros(digits: &[u8]) -> &[u8]
 }
 
 /// Appends the decimal spelling of `n`.
-pub fn put_number(out: &mut Vec<u8>, n: u64) -> Result<(), NoMemory>
+pub fn put_number(out: &mut Vec<u8>, n: u64) -> Ample
     ensures ok { OnOk result (out.new.items ≡ out.old.items ++ decimal n) }
     ensures err { OnErr result (out.new.items ≡ out.old.items) }
 {

@@ -7,7 +7,7 @@ ghost use Rattle.std.specs.Io.{StartsWith};
 ghost use Rattle.np_text.specs.Word.{end_as_of, end_as_word, ending_of, ending_word, node_state_of, node_state_word, phase_of, phase_word, reason_kind_word, reason_text_of, request_state_of, request_state_word, role_kind_of, role_kind_word};
 
 use crate::id::{LabelId, NodeId};
-use crate::memory::NoMemory;
+use crate::memory::Ample;
 use crate::number::put_number;
 
 /// Why a pool declines a request (Nodepool).
@@ -46,7 +46,7 @@ impl ReasonKind {
     }
 }
 
-fn put_kind(out: &mut Vec<u8>, kind: ReasonKind) -> Result<(), NoMemory>
+fn put_kind(out: &mut Vec<u8>, kind: ReasonKind) -> Ample
     ensures ok { OnOk result (out.new.items ≡ out.old.items ++ reason_kind_word kind) }
     ensures err { OnErr result (StartsWith out.new.items out.old.items) }
 {
@@ -54,7 +54,7 @@ fn put_kind(out: &mut Vec<u8>, kind: ReasonKind) -> Result<(), NoMemory>
     Ok(())
 }
 
-fn put_numbered(out: &mut Vec<u8>, kind: ReasonKind, letter: &[u8], n: u64) -> Result<(), NoMemory>
+fn put_numbered(out: &mut Vec<u8>, kind: ReasonKind, letter: &[u8], n: u64) -> Ample
     ensures ok { OnOk result (out.new.items ≡ out.old.items ++ (reason_kind_word kind ++ letter.now ++ decimal n)) }
     ensures err { OnErr result (StartsWith out.new.items out.old.items) }
 {
@@ -63,7 +63,7 @@ fn put_numbered(out: &mut Vec<u8>, kind: ReasonKind, letter: &[u8], n: u64) -> R
     put_number(out, n)
 }
 
-fn put_reason_parts(out: &mut Vec<u8>, reason: Reason) -> Result<(), NoMemory>
+fn put_reason_parts(out: &mut Vec<u8>, reason: Reason) -> Ample
     ensures ok { OnOk result (out.new.items ≡ out.old.items ++ reason_text_of reason) }
     ensures err { OnErr result (StartsWith out.new.items out.old.items) }
 {
@@ -76,7 +76,7 @@ fn put_reason_parts(out: &mut Vec<u8>, reason: Reason) -> Result<(), NoMemory>
 }
 
 /// Appends a reason's text: its kind, and behind it the label or the node, as in `no-label-l0`.
-pub fn put_reason(out: &mut Vec<u8>, reason: Reason) -> Result<(), NoMemory>
+pub fn put_reason(out: &mut Vec<u8>, reason: Reason) -> Ample
     ensures ok { OnOk result (out.new.items ≡ out.old.items ++ reason_text_of reason) }
     ensures err { OnErr result (out.new.items ≡ out.old.items) }
 {

@@ -1,6 +1,6 @@
 use Rattle.np_lists.proofs.Prelude.{sym, ◌∙◌}
 use Rattle.np_lists.proofs.Searches.{remove_first-first, remove_first-none}
-use Rattle.np_lists.proofs.Changes.{Rises-without}
+use Rattle.np_lists.proofs.Changes.{Rises-remove}
 use Rattle.np_lists.proofs.rows.remove_row.Goals as goal
 
 pub place_of-requires : goal.place_of-requires
@@ -15,4 +15,4 @@ returns-clause-rows g c =
     c.remove-row.ensures.items ∙ sym (remove_first-first _ c.args.rows.now.items c.in-Some.at first)
 
 pub returns-clause-rises : goal.returns-clause-rises
-returns-clause-rises g c = rw c.remove-row.ensures.items (Rises-without g.O.Order.before g.O.Order.key c.args.rows.now.items c.in-Some.at c.requires)
+returns-clause-rises g c = rw c.remove-row.ensures.items (Rises-remove (λ a b. g.O.Order.before (g.O.Order.key a) (g.O.Order.key b)) c.args.rows.now.items c.in-Some.at c.requires)

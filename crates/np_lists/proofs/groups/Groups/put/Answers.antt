@@ -1,5 +1,7 @@
-use Rattle.np_lists.proofs.Prelude.{ap, sym, with_member, ◌∙◌}
-use Rattle.np_lists.proofs.Searches.{member-there, member-insert, member-insert-rises}
+use Rattle.np_lists.proofs.Prelude.{ap, is_member_before, member, same_member, sym, with_member, ◌∙◌}
+use Rattle.np_lists.proofs.Changes.{Rises-insert, insert_before-at}
+use Rattle.np_lists.proofs.Members.{member-one_way, member-some_way, member-transitive}
+use Rattle.np_lists.proofs.Searches.{member-new, member-there}
 use Rattle.np_lists.proofs.groups.Groups.put.Goals as goal
 
 pub returns-then-is_at-clause-members : goal.returns-then-is_at-clause-members
@@ -11,12 +13,15 @@ returns-then-is_at-clause-members g c =
 pub invariant_of-self : goal.invariant_of-self
 invariant_of-self g c =
     rw c.insert.ensures.items (
-    member-insert-rises g.O.Order.before g.O.Order.same g.met.O.Order.transitive g.met.O.Order.one_way g.met.O.Order.some_way
-    c.args.group c.args.id c.self.inside.rows.items c.split_of-at.result c.split_of-at.ensures.within c.split_of-at.ensures.point c.if-is_at.ensures.no c.self.invariant)
+    Rises-insert (is_member_before g.O.Order.before) (same_member g.O.Order.same) (member-transitive g.O.Order.before g.met.O.Order.transitive)
+    (member-one_way g.O.Order.before g.met.O.Order.one_way) (member-some_way g.O.Order.before g.O.Order.same g.met.O.Order.some_way)
+    (member c.args.group c.args.id) c.self.inside.rows.items c.split_of-at.result c.split_of-at.ensures.within c.split_of-at.ensures.point c.if-is_at.ensures.no c.self.invariant)
 
 pub returns-clause-members : goal.returns-clause-members
 returns-clause-members g c =
     c.insert.ensures.items
-    ∙ member-insert g.O.Order.before g.O.Order.same g.met.O.Order.transitive g.met.O.Order.one_way g.met.O.Order.some_way
-    c.args.group c.args.id c.self.inside.rows.items c.split_of-at.result c.split_of-at.ensures.within c.split_of-at.ensures.point c.if-is_at.ensures.no
+    ∙ sym (insert_before-at (is_member_before g.O.Order.before) (same_member g.O.Order.same) (member-transitive g.O.Order.before g.met.O.Order.transitive)
+    (member-one_way g.O.Order.before g.met.O.Order.one_way) (member-some_way g.O.Order.before g.O.Order.same g.met.O.Order.some_way)
+    (member c.args.group c.args.id) c.self.inside.rows.items c.split_of-at.result c.split_of-at.ensures.within c.split_of-at.ensures.point c.if-is_at.ensures.no)
+    ∙ sym (member-new g.O.Order.before g.O.Order.same c.args.group c.args.id c.self.inside.rows.items c.if-is_at.ensures.no)
     ∙ ap (λ known. with_member g.O.Order.before g.O.Order.same c.args.group c.args.id known.members) c.self.view_is

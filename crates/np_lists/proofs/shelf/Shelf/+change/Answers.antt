@@ -1,6 +1,6 @@
 use Rattle.np_lists.proofs.Prelude.{arith, length, refl, ◌-◌, ◌≡◌}
 use Rattle.np_lists.proofs.Changes.{length-change_at}
-use Rattle.np_lists.proofs.Searches.{change_at-left, change_at-middle, change_at-right, slice_get-left, slice_get-middle, slice_get-right}
+use Rattle.np_lists.proofs.Searches.{at-right, change_at-left, change_at-middle, slice_get-left, slice_get-middle}
 use Rattle.np_lists.proofs.shelf.Shelf.+change.Goals.{then-place-left, else-place-left+then-place-left-2, else-place-left+else-place-left-2}
 use Rattle.np_lists.proofs.shelf.Shelf.+change.Goals as goal
 
@@ -24,7 +24,7 @@ returns-clause-items g t c =
     elim c.if-place-left.branch [
       | then-place-left w ↦ let changed = change_at-left f knot.left knot.right knot.item c.args.place (omega arith) in rw (w.self-inside-is, w.deref_mut.ensures.value, w.change.ensures.items, w.deref_mut.ensures.value, ← was) changed
       | else-place-left+then-place-left-2 w ↦ let changed = change_at-middle f knot.left knot.right knot.item c.args.place (omega arith) in rw (w.self-inside-is, w.make.ensures.item, w.deref_mut-then-place-left-2.ensures.value, ← was) changed
-      | else-place-left+else-place-left-2 w ↦ let changed = change_at-right f knot.left knot.right knot.item c.args.place (c.args.place - c.len-left.result - 1) (omega arith) in rw (w.self-inside-is, w.deref_mut-else-place-left-2.ensures.value, w.change-else-place-left-2.ensures.items, w.deref_mut-else-place-left-2.ensures.value, ← was) changed
+      | else-place-left+else-place-left-2 w ↦ let changed = at-right f knot.left knot.right knot.item c.args.place (c.args.place - c.len-left.result - 1) (omega arith) in rw (w.self-inside-is, w.deref_mut-else-place-left-2.ensures.value, w.change-else-place-left-2.ensures.items, w.deref_mut-else-place-left-2.ensures.value, ← was) changed.1
     ]
 
 pub returns-clause-kept : goal.returns-clause-kept
@@ -35,5 +35,5 @@ returns-clause-kept g t c =
     elim c.if-place-left.branch [
       | then-place-left w ↦ let there = slice_get-left knot.left knot.right knot.item c.args.place (omega arith) in rw (w.change-is, ← was, there) (rw w.deref_mut.ensures.value at w.change.ensures.kept)
       | else-place-left+then-place-left-2 w ↦ let there = slice_get-middle knot.left knot.right knot.item c.args.place (omega arith) in rw (w.change-is, ← was, there, w.make.ensures.kept, w.deref_mut-then-place-left-2.ensures.value) refl
-      | else-place-left+else-place-left-2 w ↦ let there = slice_get-right knot.left knot.right knot.item c.args.place (c.args.place - c.len-left.result - 1) (omega arith) in rw (w.change-is, ← was, there) (rw w.deref_mut-else-place-left-2.ensures.value at w.change-else-place-left-2.ensures.kept)
+      | else-place-left+else-place-left-2 w ↦ let there = at-right (g.C.Change.after c.args.change.now) knot.left knot.right knot.item c.args.place (c.args.place - c.len-left.result - 1) (omega arith) in rw (w.change-is, ← was, there.0) (rw w.deref_mut-else-place-left-2.ensures.value at w.change-else-place-left-2.ensures.kept)
     ]
