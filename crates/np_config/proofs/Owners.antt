@@ -5,7 +5,7 @@ use Rattle.std.proofs.lemmas.Bool.Decides.{nat_tests}
 use Rattle.std.proofs.lemmas.List.Elements.{filter-append, All-nil, All-cons, All-head, All-tail, All-append, All-weaker}
 use Rattle.np_lists.proofs.Changes.{filter-keeps_all, filter-keeps_none}
 use Rattle.np_lists.specs.EachAfter.{EachAfter}
-use Rattle.np_config.specs.Sound.{StandsByOwner}
+use Rattle.np_config.specs.Configuration.{StandsByOwner}
 use Rattle.np_lists.proofs.Plain.{same_number, below-apart}
 
 module _ {T : Type 0} (owner : T → ℕ) (P : List T → T → Type 0) where

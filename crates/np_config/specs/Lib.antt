@@ -1,3 +1,2 @@
 pub mod Configuration
-pub mod Sound
 pub mod Word

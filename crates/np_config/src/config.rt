@@ -28,8 +28,7 @@ pub struct Config {
 
 impl Model for Config {
     ghost use Rattle.std.specs.Prelude.{◌≡◌};
-    ghost use Rattle.np_config.specs.Configuration.{Configuration, configuration, default_tenant};
-    ghost use Rattle.np_config.specs.Sound.{IsSound};
+    ghost use Rattle.np_config.specs.Configuration.{Configuration, configuration, default_tenant, IsSound};
 
     ghost Value = { Configuration };
 
@@ -42,8 +41,7 @@ impl Model for Config {
         c.faults.items c.max_hold_age) × (c.unlisted ≡ default_tenant) };
 }
 
-ghost use Rattle.np_config.specs.Configuration.{configuration, tenant_of};
-ghost use Rattle.np_config.specs.Sound.{IsSound};
+ghost use Rattle.np_config.specs.Configuration.{configuration, tenant_of, IsSound};
 ghost use Rattle.std.specs.Prelude.{IfOk};
 
 impl Config {

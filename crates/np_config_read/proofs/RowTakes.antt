@@ -1,5 +1,5 @@
 -- the rows of a configuration that were read are sound, from labels and semaphores to pools, tenants and jobs
-use Rattle.np_config_read.proofs.Prelude.{AGE, All, All-append, All-nil, All-push, All-weaker, Amount, AreProviders, AreRequesters, Bool, CONCURRENCY, ConfigFault, Data, Demand, EachAfter, EachAfter-append, EachAfter-push, EndAs, FAIL_STARTS, HANDLES, HasNewName, IfSome, IsJob, IsLabel, IsLimit, IsOffer, IsPool, IsPriority, IsProvider, IsRequester, IsSem, IsStart, IsTaken, IsTenant, IsWanted, JOBS, JOB_LABELS, JOB_SEMAPHORES, Job, JobsOf, LABELS, LAUNCHES, Label, LabelId, Length, Limit, List, MIN_READY, NODE_CORES, NODE_RAM, None, Offer, Ok, Option, OutOfRange, POOLS, POOL_CORES, POOL_RAM, POOL_SERVERS, Pool, PoolsOf, Provider, Providers, RELATIVE_PRIORITY, Repeated, Requester, RequesterId, Requesters, Result, START_NUMBER, Sem, SemId, Some, StandsByOwner, Tenant, TenantId, UnknownName, Used, WINDOW, after_earlier, ap, append-nil, arith, at_most, behind, below, bind-ok, bytes_eq, cases_lt, codes, cond, default_name, demand_at, end_as_of, false, fault, filter, filter-append, filter-keeps_all, flag_or, found-ok, found-some, get, inl, inr, is_above, is_name_text, is_unoffered, is_untaken, job_at, job_keys, job_row, jobs_at, label_at, label_for, label_keys, label_named, label_row, label_value, length, length-append, limit_at, list_any, list_maybe-takes, list_required-takes, meaning_of, named_at, named_at-takes, nat_tests, need, need-ok, not, not-true, object_at, offer_amount, offer_at, offer_keys, offer_label, offers_at, ok, one_to, option_map, option_map_or, pool_at, pool_keys, pool_row, pools_at, position, position-Some, priority_of, provider_at, provider_keys, provider_row, refl, requester_at, requester_keys, requester_row, required, rest-ok, same_ok, semaphore_at, semaphore_for, semaphore_keys, semaphore_named, start_at, starts_at, subst, sym, taken_at, takes_at, tenant_at, tenant_id, tenant_keys, tenant_named, text_value, true, wanted_at, wants_at, whole_maybe, whole_maybe-takes, whole_or, whole_or-takes, whole_value, whole_value-takes, word_or, word_value, ℕ, [], ◌++◌, ◌+◌, ◌<◌, ◌==◌, ◌>>=◌, ◌>>◌, ◌∙◌, ◌∷◌, ◌≡◌, ◌≤◌}
+use Rattle.np_config_read.proofs.Prelude.{ReadsItem, list_maybe, list_required, AGE, All, All-append, All-nil, All-push, All-weaker, Amount, AreProviders, AreRequesters, Bool, CONCURRENCY, ConfigFault, Data, Demand, EachAfter, EachAfter-append, EachAfter-push, EndAs, FAIL_STARTS, HANDLES, HasNewName, IfSome, IsJob, IsLabel, IsLimit, IsOffer, IsPool, IsPriority, IsProvider, IsRequester, IsSem, IsStart, IsTaken, IsTenant, IsWanted, JOBS, JOB_LABELS, JOB_SEMAPHORES, Job, JobsOf, LABELS, LAUNCHES, Label, LabelId, Length, Limit, List, MIN_READY, NODE_CORES, NODE_RAM, None, Offer, Ok, Option, OutOfRange, POOLS, POOL_CORES, POOL_RAM, POOL_SERVERS, Pool, PoolsOf, Provider, Providers, RELATIVE_PRIORITY, Repeated, Requester, RequesterId, Requesters, Result, START_NUMBER, Sem, SemId, Some, StandsByOwner, Tenant, TenantId, UnknownName, Used, WINDOW, after_earlier, ap, append-nil, arith, at_most, behind, below, bind-ok, bytes_eq, cases_lt, codes, cond, default_name, demand_at, end_as_of, false, fault, filter, filter-append, filter-keeps_all, flag_or, found-ok, found-some, get, inl, inr, is_above, is_name_text, is_unoffered, is_untaken, job_at, job_keys, job_row, jobs_at, label_at, label_for, label_keys, label_named, label_row, label_value, length, length-append, limit_at, list_any, list_maybe-takes, list_required-takes, meaning_of, named_at, named_at-takes, nat_tests, need, need-ok, not, not-true, object_at, offer_amount, offer_at, offer_keys, offer_label, offers_at, ok, one_to, option_map, option_map_or, pool_at, pool_keys, pool_row, pools_at, position, position-Some, priority_of, provider_at, provider_keys, provider_row, refl, requester_at, requester_keys, requester_row, required, rest-ok, same_ok, semaphore_at, semaphore_for, semaphore_keys, semaphore_named, start_at, starts_at, subst, sym, taken_at, takes_at, tenant_at, tenant_id, tenant_keys, tenant_named, text_value, true, wanted_at, wants_at, whole_maybe, whole_maybe-takes, whole_or, whole_or-takes, whole_value, whole_value-takes, word_or, word_value, ℕ, [], ◌++◌, ◌+◌, ◌<◌, ◌==◌, ◌>>=◌, ◌>>◌, ◌∙◌, ◌∷◌, ◌≡◌, ◌≤◌}
 
 -- # labels, semaphores, offers and starts that were read
 
@@ -11,26 +11,29 @@ pub Rows-push : {T : Type 0} (P : List T → T → Type 0) (n : ℕ) (s t : List
 Rows-push P n s t x same rows last =
     subst (Rows P (n + 1)) same (EachAfter-push P [] s x rows.0 last, simp length-append (omega arith))
 
-pub new_name : {T : Type 0} (name : T → List ℕ) (earlier : List T) (x : T) (n : List ℕ) → name x ≡ n → (is_name_text n ≡ true) × (list_any (λ row. bytes_eq n (name row)) earlier ≡ false) → HasNewName name earlier x
-new_name name earlier x n same told = record {
-  named = ap is_name_text same ∙ told.0;
-  new = ap (λ m. list_any (λ row. bytes_eq m (name row)) earlier) same ∙ told.1;
-}
+-- the rows of a list that was read, with each row read as one more
+module _ {T : Type 0} (read : ReadsItem (List T)) (P : List T → T → Type 0) (one : (at : List ℕ) (n : ℕ) (s t : List T) (d : Data) → Rows P n s → read at s d ≡ Ok t → Rows P (n + 1) t)
+    (at key : List ℕ) (most : ℕ) (d : Data) (t : List T) where
+  pub rows_required : list_required read at key (at_most most) [] d ≡ Ok t → EachAfter P [] t × (length t ≤ most)
+  rows_required e = let r = list_required-takes read (Rows P) one at key (at_most most) [] t d (tt, refl) e in (r.3.0, omega (arith, r.1, r.3.1))
+
+  pub rows_maybe : list_maybe read at key (at_most most) [] d ≡ Ok t → EachAfter P [] t × (length t ≤ most)
+  rows_maybe e = let r = list_maybe-takes read (Rows P) one at key (at_most most) [] t d (omega arith) refl (tt, refl) e in (r.2.0, omega (arith, r.1, r.2.1))
 
 -- ## Labels
 
 abbrev made_label : List ℕ → ℕ → ℕ → Label
 made_label name x y = record { name = name; min_ready = x; max_ready_age = y }
 
-label_row-takes : (at name : List ℕ) (d : Data) (l : Label) → label_row at name d ≡ Ok l → (l.name ≡ name) × (l.min_ready ≤ MIN_READY) × (l.max_ready_age ≤ AGE)
+label_row-takes : (at name : List ℕ) (earlier : List Label) (d : Data) (l : Label) → (is_name_text name ≡ true) × (list_any (λ (row : Label). bytes_eq name row.name) earlier ≡ false) → label_row at name d ≡ Ok l → IsLabel earlier l
 unfolding label_row
-label_row-takes at name d l e =
+label_row-takes at name earlier d l told e =
     let ages = whole_or at (codes "max-ready-age") 0 AGE 0 d in
     let a = bind-ok (whole_or at (codes "min-ready") 0 MIN_READY 0 d) (λ x. ages >>= λ y. ok (made_label name x y)) l e in
     let b = bind-ok ages (λ y. ok (made_label name a.0 y)) l a.2 in
     let ready = whole_or-takes at (codes "min-ready") 0 MIN_READY 0 d a.0 (omega arith) (omega arith) a.1 in
     let age = whole_or-takes at (codes "max-ready-age") 0 AGE 0 d b.0 (omega arith) (omega arith) b.1 in
-    subst (λ (x : Label). (x.name ≡ name) × (x.min_ready ≤ MIN_READY) × (x.max_ready_age ≤ AGE)) (same_ok (made_label name a.0 b.0) l b.2) (refl, ready.1, age.1)
+    subst (IsLabel earlier) (same_ok (made_label name a.0 b.0) l b.2) (record { name = record { named = told.0; new = told.1 }; min_ready = ready.1; max_ready_age = age.1 })
 
 pub label_at-takes : (at : List ℕ) (n : ℕ) (s t : List Label) (d : Data) → Rows IsLabel n s → label_at at s d ≡ Ok t → Rows IsLabel (n + 1) t
 unfolding label_at
@@ -38,9 +41,7 @@ label_at-takes at n s t d rows e =
     let rest : List ℕ → Result (List Label) ConfigFault = λ name. label_row at name d >>= λ l. ok (s ++ l ∷ []) in
     let a = bind-ok (named_at (λ (l : Label). l.name) label_keys at s d) rest t e in
     let b = bind-ok (label_row at a.0 d) (λ l. ok (s ++ l ∷ [])) t a.2 in
-    let row = label_row-takes at a.0 d b.0 b.1 in
-    let is : IsLabel s b.0 = record { name = new_name (λ (l : Label). l.name) s b.0 a.0 row.0 (named_at-takes (λ (l : Label). l.name) label_keys at s d a.0 a.1); min_ready = row.1; max_ready_age = row.2 } in
-    Rows-push IsLabel n s t b.0 (same_ok (s ++ b.0 ∷ []) t b.2) rows is
+    Rows-push IsLabel n s t b.0 (same_ok (s ++ b.0 ∷ []) t b.2) rows (label_row-takes at a.0 s d b.0 (named_at-takes (λ (l : Label). l.name) label_keys at s d a.0 a.1) b.1)
 
 -- ## Semaphores
 
@@ -56,7 +57,8 @@ semaphore_at-takes at n s t d rows e =
     let b = bind-ok most (put a.0) t a.2 in
     let x = made_semaphore a.0 b.0 in
     let max = whole_or-takes at (codes "max") 1 HANDLES 1 d b.0 (omega arith) (omega arith) b.1 in
-    let is : IsSem s x = record { name = new_name (λ (l : Sem). l.name) s x a.0 refl (named_at-takes (λ (l : Sem). l.name) semaphore_keys at s d a.0 a.1); some = max.0; max = max.1 } in
+    let told = named_at-takes (λ (l : Sem). l.name) semaphore_keys at s d a.0 a.1 in
+    let is : IsSem s x = record { name = record { named = told.0; new = told.1 }; some = max.0; max = max.1 } in
     Rows-push IsSem n s t x (same_ok (s ++ x ∷ []) t b.2) rows is
 
 -- ## Offers
@@ -118,10 +120,7 @@ offer_at-takes labels at n s t d rows e =
 
 pub offers_at-takes : (labels : List Label) (at : List ℕ) (d : Data) (t : List Offer) → offers_at labels at d ≡ Ok t → EachAfter (IsOffer (length labels)) [] t × (length t ≤ LABELS)
 unfolding offers_at
-offers_at-takes labels at d t e =
-    let r = list_required-takes (offer_at labels) (Rows (IsOffer (length labels))) (offer_at-takes labels) at (codes "labels") (at_most LABELS) [] t d (tt, refl) e in
-    let most : r.0 ≤ LABELS = omega arith in
-    (r.3.0, subst (λ (k : ℕ). k ≤ LABELS) (sym r.3.1) most)
+offers_at-takes labels at d t e = rows_required (offer_at labels) (IsOffer (length labels)) (offer_at-takes labels) at (codes "labels") LABELS d t e
 
 -- ## Starts
 
@@ -136,10 +135,7 @@ start_at-takes at n s t d rows e =
 
 pub starts_at-takes : (at : List ℕ) (d : Data) (t : List ℕ) → starts_at at d ≡ Ok t → EachAfter IsStart [] t × (length t ≤ FAIL_STARTS)
 unfolding starts_at
-starts_at-takes at d t e =
-    let r = list_maybe-takes start_at (Rows IsStart) start_at-takes at (codes "fail-starts") (at_most FAIL_STARTS) [] t d (omega arith) refl (tt, refl) e in
-    let most : r.0 ≤ FAIL_STARTS = omega arith in
-    (r.2.0, subst (λ (k : ℕ). k ≤ FAIL_STARTS) (sym r.2.1) most)
+starts_at-takes at d t e = rows_maybe start_at IsStart start_at-takes at (codes "fail-starts") FAIL_STARTS d t e
 
 -- ## Rows that each stand by themselves
 
@@ -177,40 +173,31 @@ limit_at-takes at d l e =
       ram = up_to POOL_RAM z.0 (whole_maybe-takes at (codes "max-ram") 0 POOL_RAM d z.0 z.1);
     })
 
--- the rest of a pool, without its name
-record IsRest (labels provider : ℕ) (name : List ℕ) (p : Pool) : Type 0 where
-  same_name : p.name ≡ name
-  same_provider : p.provider ≡ provider
-  limit : IsLimit p.limit
-  offers : EachAfter (IsOffer labels) [] p.offers
-  few_offers : length p.offers ≤ LABELS
-  starts : EachAfter IsStart [] p.fail_starts
-  few_starts : length p.fail_starts ≤ FAIL_STARTS
-
 abbrev made_pool : ℕ → List ℕ → Limit → List Offer → List ℕ → Pool
 made_pool provider name l o s = record { provider = provider; name = name; limit = l; offers = o; fail_starts = s }
 
-pool_row-takes : (labels : List Label) (at : List ℕ) (provider : ℕ) (name : List ℕ) (d : Data) (p : Pool) → pool_row labels at provider name d ≡ Ok p → IsRest (length labels) provider name p
+pool_row-takes : (labels : List Label) (at : List ℕ) (provider : ℕ) (name : List ℕ) (earlier : List Pool) (d : Data) (p : Pool) → (is_name_text name ≡ true) × (list_any (λ (row : Pool). bytes_eq name row.name) earlier ≡ false) → pool_row labels at provider name d ≡ Ok p
+    → IsPool (length labels) earlier p × (p.provider ≡ provider)
 unfolding pool_row
-pool_row-takes labels at provider name d p e =
+pool_row-takes labels at provider name earlier d p told e =
     let offers = offers_at labels at d in
     let starts = starts_at at d in
     let l = bind-ok (limit_at at d) (λ l. offers >>= λ o. starts >>= λ s. ok (made_pool provider name l o s)) p e in
     let o = bind-ok offers (λ o. starts >>= λ s. ok (made_pool provider name l.0 o s)) p l.2 in
     let s = bind-ok starts (λ s. ok (made_pool provider name l.0 o.0 s)) p o.2 in
+    let x = made_pool provider name l.0 o.0 s.0 in
     let good_offers = offers_at-takes labels at d o.0 o.1 in
     let good_starts = starts_at-takes at d s.0 s.1 in
-    subst (IsRest (length labels) provider name) (same_ok (made_pool provider name l.0 o.0 s.0) p s.2) (record {
-      same_name = refl;
-      same_provider = refl;
+    let is : IsPool (length labels) earlier x = record {
+      name = record { named = told.0; new = told.1 };
       limit = limit_at-takes at d l.0 l.1;
       offers = good_offers.0;
       few_offers = good_offers.1;
       starts = good_starts.0;
       few_starts = good_starts.1;
-    })
+    } in
+    subst (λ (q : Pool). IsPool (length labels) earlier q × (q.provider ≡ provider)) (same_ok x p s.2) (is, refl)
 
--- this many pools of the provider at a place
 record ArePools (labels provider n : ℕ) (s : PoolsOf) : Type 0 where
   same_provider : s.provider ≡ provider
   rows : Rows (IsPool labels) n s.pools
@@ -223,20 +210,12 @@ pool_at-takes labels k at n s t d are e =
     let rest : List ℕ → Result PoolsOf ConfigFault = λ name. pool_row labels at s.provider name d >>= put in
     let a = bind-ok (named_at (λ (p : Pool). p.name) pool_keys at s.pools d) rest t e in
     let p = bind-ok (pool_row labels at s.provider a.0 d) put t a.2 in
-    let row = pool_row-takes labels at s.provider a.0 d p.0 p.1 in
-    let is : IsPool (length labels) s.pools p.0 = record {
-      name = new_name (λ (r : Pool). r.name) s.pools p.0 a.0 row.same_name (named_at-takes (λ (r : Pool). r.name) pool_keys at s.pools d a.0 a.1);
-      limit = row.limit;
-      offers = row.offers;
-      few_offers = row.few_offers;
-      starts = row.starts;
-      few_starts = row.few_starts;
-    } in
+    let row = pool_row-takes labels at s.provider a.0 s.pools d p.0 (named_at-takes (λ (r : Pool). r.name) pool_keys at s.pools d a.0 a.1) p.1 in
     let next : PoolsOf = record s { pools = s.pools ++ p.0 ∷ [] } in
     subst (ArePools (length labels) k (n + 1)) (same_ok next t p.2) (record {
       same_provider = are.same_provider;
-      rows = Rows-push (IsPool (length labels)) n s.pools (s.pools ++ p.0 ∷ []) p.0 refl are.rows is;
-      owned = All-push (λ (r : Pool). r.provider ≡ k) s.pools p.0 are.owned (row.same_provider ∙ are.same_provider);
+      rows = Rows-push (IsPool (length labels)) n s.pools (s.pools ++ p.0 ∷ []) p.0 refl are.rows row.0;
+      owned = All-push (λ (r : Pool). r.provider ≡ k) s.pools p.0 are.owned (row.1 ∙ are.same_provider);
     })
 
 -- the pools of a provider
@@ -253,27 +232,20 @@ pools_at-takes labels at earlier k d own e =
     let none : PoolsOf = record { provider = k; pools = [] } in
     let start : ArePools (length labels) k 0 none = record { same_provider = refl; rows = (tt, refl); owned = All-nil (λ (p : Pool). p.provider ≡ k) } in
     let r = list_required-takes (pool_at labels) (ArePools (length labels) k) (pool_at-takes labels k) at (codes "pools") l none own d start e in
-    let count : length own.pools ≡ r.0 = r.3.rows.1 in
-    record { each = r.3.rows.0; owned = r.3.owned; some = omega (arith, r.2); few = omega (arith, r.1) }
+    record { each = r.3.rows.0; owned = r.3.owned; some = omega (arith, r.2, r.3.rows.1); few = omega (arith, r.1, r.3.rows.1) }
 
 abbrev made_provider : List ℕ → ℕ → Option ℕ → Provider
 made_provider name r c = record { name = name; retries = r; concurrency = c }
 
-record IsProviderRest (name : List ℕ) (p : Provider) : Type 0 where
-  same_name : p.name ≡ name
-  some_try : 1 ≤ p.retries
-  retries : p.retries ≤ LAUNCHES
-  concurrency : IfSome p.concurrency (λ n. (1 ≤ n) × (n ≤ CONCURRENCY))
-
-provider_row-takes : (at name : List ℕ) (d : Data) (p : Provider) → provider_row at name d ≡ Ok p → IsProviderRest name p
+provider_row-takes : (at name : List ℕ) (earlier : List Provider) (d : Data) (p : Provider) → (is_name_text name ≡ true) × (list_any (λ (row : Provider). bytes_eq name row.name) earlier ≡ false) → provider_row at name d ≡ Ok p → IsProvider earlier p
 unfolding provider_row
-provider_row-takes at name d p e =
+provider_row-takes at name earlier d p told e =
     let limits = whole_maybe at (codes "max-concurrency") 1 CONCURRENCY d in
     let r = bind-ok (whole_or at (codes "launch-retries") 1 LAUNCHES 3 d) (λ r. limits >>= λ c. ok (made_provider name r c)) p e in
     let c = bind-ok limits (λ c. ok (made_provider name r.0 c)) p r.2 in
     let tries = whole_or-takes at (codes "launch-retries") 1 LAUNCHES 3 d r.0 (omega arith) (omega arith) r.1 in
-    subst (IsProviderRest name) (same_ok (made_provider name r.0 c.0) p c.2)
-    (record { same_name = refl; some_try = tries.0; retries = tries.1; concurrency = whole_maybe-takes at (codes "max-concurrency") 1 CONCURRENCY d c.0 c.1 })
+    subst (IsProvider earlier) (same_ok (made_provider name r.0 c.0) p c.2)
+    (record { name = record { named = told.0; new = told.1 }; some_try = tries.0; retries = tries.1; concurrency = whole_maybe-takes at (codes "max-concurrency") 1 CONCURRENCY d c.0 c.1 })
 
 -- this many providers, with their pools
 abbrev pub Supply : ℕ → ℕ → Providers → Type 0
@@ -317,13 +289,7 @@ provider_at-takes labels at n s t d are e =
     let a = bind-ok (named_at (λ (p : Provider). p.name) provider_keys at s.providers d) rest t e in
     let p = bind-ok (provider_row at a.0 d) (λ p. pools >>= put p) t a.2 in
     let own = bind-ok pools (put p.0) t p.2 in
-    let row = provider_row-takes at a.0 d p.0 p.1 in
-    let is : IsProvider s.providers p.0 = record {
-      name = new_name (λ (r : Provider). r.name) s.providers p.0 a.0 row.same_name (named_at-takes (λ (r : Provider). r.name) provider_keys at s.providers d a.0 a.1);
-      some_try = row.some_try;
-      retries = row.retries;
-      concurrency = row.concurrency;
-    } in
+    let is = provider_row-takes at a.0 s.providers d p.0 (named_at-takes (λ (r : Provider). r.name) provider_keys at s.providers d a.0 a.1) p.1 in
     let next : Providers = record { providers = s.providers ++ p.0 ∷ []; pools = s.pools ++ own.0.pools } in
     let mine = pools_at-takes labels at (length s.pools) (length s.providers) d own.0 own.1 in
     let count = are.1 in
@@ -358,11 +324,8 @@ tenant_at-takes at n s t d rows e =
     let u = need-ok (not (bytes_eq a.0 default_name)) taken (limit_at at d >>= put a.0) t a.2 in
     let l = bind-ok (limit_at at d) (put a.0) t u.1 in
     let x = made_tenant a.0 l.0 in
-    let is : IsTenant s x = record {
-      name = new_name (λ (r : Tenant). r.name) s x a.0 refl (named_at-takes (λ (r : Tenant). r.name) tenant_keys at s d a.0 a.1);
-      listed = not-true (bytes_eq a.0 default_name) u.0;
-      limit = limit_at-takes at d l.0 l.1;
-    } in
+    let told = named_at-takes (λ (r : Tenant). r.name) tenant_keys at s d a.0 a.1 in
+    let is : IsTenant s x = record { name = record { named = told.0; new = told.1 }; listed = not-true (bytes_eq a.0 default_name) u.0; limit = limit_at-takes at d l.0 l.1 } in
     Rows-push IsTenant n s t x (same_ok (s ++ x ∷ []) t l.2) rows is
 
 -- ## The tenant of a job
@@ -406,10 +369,8 @@ wanted_at-takes labels at n s t d rows e =
 wants_at-takes : (labels : List Label) (at : List ℕ) (d : Data) (t : List LabelId) → wants_at labels at d ≡ Ok t → All (IsWanted (length labels)) t × (1 ≤ length t) × (length t ≤ JOB_LABELS)
 unfolding wants_at
 wants_at-takes labels at d t e =
-    let l : Length = one_to JOB_LABELS in
-    let r = list_required-takes (wanted_at labels) (RowsAlone (IsWanted (length labels))) (wanted_at-takes labels) at (codes "labels") l [] t d (RowsAlone-none (IsWanted (length labels))) e in
-    let count : length t ≡ r.0 = r.3.1 in
-    (r.3.0, omega (arith, r.2), omega (arith, r.1))
+    let r = list_required-takes (wanted_at labels) (RowsAlone (IsWanted (length labels))) (wanted_at-takes labels) at (codes "labels") (one_to JOB_LABELS) [] t d (RowsAlone-none (IsWanted (length labels))) e in
+    (r.3.0, omega (arith, r.2, r.3.1), omega (arith, r.1, r.3.1))
 
 abbrev sem_id : ℕ → SemId
 sem_id n = record { 0 = n }
@@ -432,23 +393,17 @@ taken_at-takes semaphores at n s t d rows e =
 
 takes_at-takes : (semaphores : List Sem) (at : List ℕ) (d : Data) (t : List SemId) → takes_at semaphores at d ≡ Ok t → EachAfter (IsTaken (length semaphores)) [] t × (length t ≤ JOB_SEMAPHORES)
 unfolding takes_at
-takes_at-takes semaphores at d t e =
-    let r = list_maybe-takes (taken_at semaphores) (Rows (IsTaken (length semaphores))) (taken_at-takes semaphores) at (codes "semaphores") (at_most JOB_SEMAPHORES) [] t d (omega arith) refl (tt, refl) e in
-    let count : length t ≡ r.0 = r.2.1 in
-    (r.2.0, omega (arith, r.1))
+takes_at-takes semaphores at d t e = rows_maybe (taken_at semaphores) (IsTaken (length semaphores)) (taken_at-takes semaphores) at (codes "semaphores") JOB_SEMAPHORES d t e
 
 -- ## The rest of a job
 
 priority_of-takes : (word : List ℕ) (n : ℕ) → priority_of word ≡ Some n → IsPriority n
 priority_of-takes word n e = by (bytes_eq word (codes "high")) (bytes_eq word (codes "normal")) (bytes_eq word (codes "low")) e
   where
-    some : (a b : ℕ) → Some a ≡ Some b → a ≡ b
-    some a b h = cc
-
     by : (x y z : Bool) → cond x (Some 100) (cond y (Some 200) (cond z (Some 300) None)) ≡ Some n → IsPriority n
-    by true y z h = inl (sym (some 100 n h))
-    by false true z h = inr (inl (sym (some 200 n h)))
-    by false false true h = inr (inr (sym (some 300 n h)))
+    by true y z h = inl (cc)
+    by false true z h = inr (inl (cc))
+    by false false true h = inr (inr (cc))
     by false false false h = absurd (cc)
 
 priority-takes : (at : List ℕ) (d : Data) (n : ℕ) → word_or priority_of at (codes "priority") 200 d ≡ Ok n → IsPriority n
@@ -487,23 +442,14 @@ demand_at-takes labels at d x e =
     subst (IsDemand (length labels)) (same_ok (made_demand w.0 p.0 r.0) x r.2)
     (record { wanted = wanted.0; some_label = wanted.1; few_labels = wanted.2; priority = priority-takes at d p.0 p.1; relative = relative.1 })
 
--- a job that was made of its parts
-record IsMade (semaphores tenants : ℕ) (requester : RequesterId) (name : List ℕ) (x : Demand) (j : Job) : Type 0 where
-  same_requester : j.requester ≡ requester
-  same_name : j.name ≡ name
-  same_labels : j.labels ≡ x.labels
-  same_priority : j.priority ≡ x.priority
-  same_relative : j.relative_priority ≡ x.relative_priority
-  taken : EachAfter (IsTaken semaphores) [] j.semaphores
-  few_taken : length j.semaphores ≤ JOB_SEMAPHORES
-  tenant : j.tenant.0 ≤ tenants
-
 abbrev made_job : RequesterId → List ℕ → Demand → List SemId → Bool → EndAs → TenantId → Job
 made_job requester name x taken first end tenant = record { requester = requester; name = name; labels = x.labels; priority = x.priority; relative_priority = x.relative_priority; semaphores = taken; resources_first = first; end = end; tenant = tenant }
 
-job_row-takes : (semaphores : List Sem) (tenants : List Tenant) (at : List ℕ) (requester : RequesterId) (name : List ℕ) (x : Demand) (d : Data) (j : Job) → job_row semaphores tenants at requester name x d ≡ Ok j → IsMade (length semaphores) (length tenants) requester name x j
+job_row-takes : (labels : List Label) (semaphores : List Sem) (tenants : List Tenant) (at : List ℕ) (requester : RequesterId) (name : List ℕ) (x : Demand) (earlier : List Job) (d : Data) (j : Job)
+    → (is_name_text name ≡ true) × (list_any (λ (row : Job). bytes_eq name row.name) earlier ≡ false) → IsDemand (length labels) x → job_row semaphores tenants at requester name x d ≡ Ok j
+    → IsJob (length labels) (length semaphores) (length tenants) earlier j × (j.requester ≡ requester)
 unfolding job_row
-job_row-takes semaphores tenants at requester name x d j e =
+job_row-takes labels semaphores tenants at requester name x earlier d j told demand e =
     let flags = flag_or at (codes "resources-first") false d in
     let ends = word_or end_as_of at (codes "end") Used d in
     let made = made_job requester name x in
@@ -513,16 +459,18 @@ job_row-takes semaphores tenants at requester name x d j e =
     let u = bind-ok ends (λ u. theirs >>= λ w. ok (made t.0 f.0 u w)) j f.2 in
     let w = bind-ok theirs (λ w. ok (made t.0 f.0 u.0 w)) j u.2 in
     let taken = takes_at-takes semaphores at d t.0 t.1 in
-    subst (IsMade (length semaphores) (length tenants) requester name x) (same_ok (made t.0 f.0 u.0 w.0) j w.2) (record {
-      same_requester = refl;
-      same_name = refl;
-      same_labels = refl;
-      same_priority = refl;
-      same_relative = refl;
+    let is : IsJob (length labels) (length semaphores) (length tenants) earlier (made t.0 f.0 u.0 w.0) = record {
+      name = record { named = told.0; new = told.1 };
+      wanted = demand.wanted;
+      some_label = demand.some_label;
+      few_labels = demand.few_labels;
+      priority = demand.priority;
+      relative = demand.relative;
       taken = taken.0;
       few_taken = taken.1;
       tenant = tenant-takes tenants at d w.0 w.1;
-    })
+    } in
+    subst (λ (i : Job). IsJob (length labels) (length semaphores) (length tenants) earlier i × (i.requester ≡ requester)) (same_ok (made t.0 f.0 u.0 w.0) j w.2) (is, refl)
 
 record AreJobs (labels semaphores tenants : ℕ) (requester : RequesterId) (n : ℕ) (s : JobsOf) : Type 0 where
   same_requester : s.requester ≡ requester
@@ -540,24 +488,12 @@ job_at-takes labels semaphores tenants k at n s t d are e =
     let x = bind-ok (demand_at labels at d) (row a.0) t a.2 in
     let j = bind-ok (job_row semaphores tenants at s.requester a.0 x.0 d) put t x.2 in
     let demand = demand_at-takes labels at d x.0 x.1 in
-    let made = job_row-takes semaphores tenants at s.requester a.0 x.0 d j.0 j.1 in
-    let labels_same = sym made.same_labels in
-    let is : IsJob (length labels) (length semaphores) (length tenants) s.jobs j.0 = record {
-      name = new_name (λ (r : Job). r.name) s.jobs j.0 a.0 made.same_name (named_at-takes (λ (r : Job). r.name) job_keys at s.jobs d a.0 a.1);
-      wanted = subst (All (IsWanted (length labels))) labels_same demand.wanted;
-      some_label = subst (λ (ls : List LabelId). 1 ≤ length ls) labels_same demand.some_label;
-      few_labels = subst (λ (ls : List LabelId). length ls ≤ JOB_LABELS) labels_same demand.few_labels;
-      priority = subst IsPriority (sym made.same_priority) demand.priority;
-      relative = subst (λ (m : ℕ). m ≤ RELATIVE_PRIORITY) (sym made.same_relative) demand.relative;
-      taken = made.taken;
-      few_taken = made.few_taken;
-      tenant = made.tenant;
-    } in
+    let row = job_row-takes labels semaphores tenants at s.requester a.0 x.0 s.jobs d j.0 (named_at-takes (λ (r : Job). r.name) job_keys at s.jobs d a.0 a.1) demand j.1 in
     let next : JobsOf = record s { jobs = s.jobs ++ j.0 ∷ [] } in
     subst (AreJobs (length labels) (length semaphores) (length tenants) k (n + 1)) (same_ok next t j.2) (record {
       same_requester = are.same_requester;
-      rows = Rows-push (IsJob (length labels) (length semaphores) (length tenants)) n s.jobs (s.jobs ++ j.0 ∷ []) j.0 refl are.rows is;
-      owned = All-push (λ (r : Job). r.requester.0 ≡ k.0) s.jobs j.0 are.owned (ap (λ (q : RequesterId). q.0) (made.same_requester ∙ are.same_requester));
+      rows = Rows-push (IsJob (length labels) (length semaphores) (length tenants)) n s.jobs (s.jobs ++ j.0 ∷ []) j.0 refl are.rows row.0;
+      owned = All-push (λ (r : Job). r.requester.0 ≡ k.0) s.jobs j.0 are.owned (ap (λ (q : RequesterId). q.0) (row.1 ∙ are.same_requester));
     })
 
 record AreOwnJobs (labels semaphores tenants earlier : ℕ) (k : RequesterId) (js : List Job) : Type 0 where
@@ -573,18 +509,17 @@ jobs_at-takes labels semaphores tenants at earlier k d own room e =
     let none : JobsOf = record { requester = k; jobs = [] } in
     let start : AreJobs (length labels) (length semaphores) (length tenants) k 0 none = record { same_requester = refl; rows = (tt, refl); owned = All-nil (λ (j : Job). j.requester.0 ≡ k.0) } in
     let r = list_maybe-takes (job_at labels semaphores tenants) (AreJobs (length labels) (length semaphores) (length tenants) k) (job_at-takes labels semaphores tenants k) at (codes "jobs") l none own d room refl start e in
-    let count : length own.jobs ≡ r.0 = r.2.rows.1 in
-    record { each = r.2.rows.0; owned = r.2.owned; few = omega (arith, r.1) }
+    record { each = r.2.rows.0; owned = r.2.owned; few = omega (arith, r.1, r.2.rows.1) }
 
 abbrev made_requester : List ℕ → ℕ → Requester
 made_requester name w = record { name = name; window = w }
 
-requester_row-takes : (at name : List ℕ) (d : Data) (q : Requester) → requester_row at name d ≡ Ok q → (q.name ≡ name) × (1 ≤ q.window) × (q.window ≤ WINDOW)
+requester_row-takes : (at name : List ℕ) (earlier : List Requester) (d : Data) (q : Requester) → (is_name_text name ≡ true) × (list_any (λ (row : Requester). bytes_eq name row.name) earlier ≡ false) → requester_row at name d ≡ Ok q → IsRequester earlier q
 unfolding requester_row
-requester_row-takes at name d q e =
+requester_row-takes at name earlier d q told e =
     let w = bind-ok (whole_or at (codes "window") 1 WINDOW 20 d) (λ w. ok (made_requester name w)) q e in
     let window = whole_or-takes at (codes "window") 1 WINDOW 20 d w.0 (omega arith) (omega arith) w.1 in
-    subst (λ (x : Requester). (x.name ≡ name) × (1 ≤ x.window) × (x.window ≤ WINDOW)) (same_ok (made_requester name w.0) q w.2) (refl, window.0, window.1)
+    subst (IsRequester earlier) (same_ok (made_requester name w.0) q w.2) (record { name = record { named = told.0; new = told.1 }; some = window.0; window = window.1 })
 
 -- this many requesters, with their jobs
 abbrev pub Demands : ℕ → ℕ → ℕ → ℕ → Requesters → Type 0
@@ -617,12 +552,7 @@ requester_at-takes labels semaphores tenants at n s t d are e =
     let a = bind-ok (named_at (λ (q : Requester). q.name) requester_keys at s.requesters d) rest t e in
     let q = bind-ok (requester_row at a.0 d) (λ q. jobs >>= put q) t a.2 in
     let own = bind-ok jobs (put q.0) t q.2 in
-    let row = requester_row-takes at a.0 d q.0 q.1 in
-    let is : IsRequester s.requesters q.0 = record {
-      name = new_name (λ (r : Requester). r.name) s.requesters q.0 a.0 row.0 (named_at-takes (λ (r : Requester). r.name) requester_keys at s.requesters d a.0 a.1);
-      some = row.1;
-      window = row.2;
-    } in
+    let is = requester_row-takes at a.0 s.requesters d q.0 (named_at-takes (λ (r : Requester). r.name) requester_keys at s.requesters d a.0 a.1) q.1 in
     let next : Requesters = record { requesters = s.requesters ++ q.0 ∷ []; jobs = s.jobs ++ own.0.jobs } in
     let mine = jobs_at-takes labels semaphores tenants at (length s.jobs) k d own.0 are.0.few_jobs own.1 in
     let count = are.1 in

@@ -1,6 +1,6 @@
 -- the walk through a whole configuration: where it stops, where it ends, and that what it read is sound
 use Rattle.np_config_read.proofs.Prelude.{AGE, All, All-head, All-tail, AreProviders, Bool, ConfigFault, ConfigRead, Configuration, Data, EachAfter, Err, FAULTS, FAULT_ACTS, Fails, Fault, FaultKind, Gives, IfOk, IsFault, IsLabel, IsPool, IsProvider, IsRole, IsSem, IsSound, IsTenant, IsUnused, LABELS, Label, List, NotJson, Ok, Option, PROVIDERS, Pool, Provider, Providers, REQUESTERS, Requester, Requesters, Result, Role, RoleKind, SEMAPHORES, Sem, Some, StandsByOwner, TENANTS, Tenant, UnknownName, and_false, and_parts, ap, append-nil, append_assoc, arith, at_most, below, bind-ok, binds, bytes_eq, codes, cond, configuration, configuration_at, false, fault, fault_at, fault_keys, fault_kind_of, fault_of, faults_at, filter, found-ok, found-some, from-map_some, get_or, is_name_byte, is_name_text, label_at, labels_at, length, length-map, list_all, list_any, list_maybe-takes, list_required-takes, map, map-append, meaning_of, nat_le, nat_tests, not, object_at, ok, one_to, option_map_or, or_parts, parsed, pool_name, pool_named, pool_names, provider_at, providers_at, reads, refl, requester_at, requester_named, requesters_at, required, required_word, rest-ok, role_at, role_kind_of, role_named, same_ok, semaphore_at, semaphores_at, slice_get, subst, suc, sym, take, tenant_at, tenants_at, text_value, top_keys, true, whole_or, whole_or-takes, whole_required, whole_required-takes, word_value, zero, ℕ, [], ◌&&◌, ◌++◌, ◌+◌, ◌<◌, ◌==◌, ◌>>=◌, ◌^◌, ◌∙◌, ◌∷◌, ◌≡◌, ◌≤◌}
-use Rattle.np_config_read.proofs.RowTakes.{Demands, Rows, RowsAlone, RowsAlone-none, RowsAlone-push, Supply, demands-none, found_within, label_at-takes, provider_at-takes, requester_at-takes, semaphore_at-takes, supply-none, tenant_at-takes}
+use Rattle.np_config_read.proofs.RowTakes.{Demands, rows_maybe, rows_required, RowsAlone, RowsAlone-none, RowsAlone-push, Supply, demands-none, found_within, label_at-takes, provider_at-takes, requester_at-takes, semaphore_at-takes, supply-none, tenant_at-takes}
 
 -- # where the walk through a configuration stops late, and where it ends
 
@@ -37,22 +37,19 @@ module _ (d : Data) (u : Unit {0}) (object : object_at [] top_keys d ≡ Ok u) (
 abbrev plain : List ℕ → Type 0
 plain text = list_all (λ b. not (b == 47)) text ≡ true
 
-plain_byte : (b : ℕ) → is_name_byte b ≡ true → not (b == 47) ≡ true
-plain_byte b named = grind (arith, nat_tests)
-
 plain_bytes : (text : List ℕ) → list_all is_name_byte text ≡ true → plain text
 plain_bytes [] named = refl
 plain_bytes (b ∷ text) named =
     let parts = and_parts (is_name_byte b) (list_all is_name_byte text) named in
-    rw (plain_byte b parts.0) (plain_bytes text parts.1)
+    let other : not (b == 47) ≡ true = grind (arith, nat_tests, parts.0) in
+    rw other (plain_bytes text parts.1)
 
 plain_name : (text : List ℕ) → is_name_text text ≡ true → plain text
 unfolding is_name_text
 plain_name text named = plain_bytes text (and_parts (nat_le 1 (length text) && nat_le (length text) 64) (list_all is_name_byte text) named).1
 
 and_assoc : (a b c : Bool) → (a && (b && c)) ≡ ((a && b) && c)
-and_assoc true b c = refl
-and_assoc false b c = refl
+and_assoc a b c = grind arith
 
 -- two texts before a slash, and what follows it, are compared part by part
 pub bytes_eq-slash : (p q m n : List ℕ) → plain p → plain q → bytes_eq (p ++ 47 ∷ m) (q ++ 47 ∷ n) ≡ (bytes_eq p q && bytes_eq m n)
@@ -83,13 +80,10 @@ provider_at_place e (x ∷ xs) (suc j) within each =
     let there = provider_at_place (e ++ x ∷ []) xs j (omega arith) each.1 in
     (there.0, there.1, subst (λ (es : List Provider). IsProvider es there.0) (append_assoc e (x ∷ []) (take j xs)) there.2)
 
-some_same : {T : Type 0} (a b : T) → Some a ≡ Some b → a ≡ b
-some_same a b e = cc
-
 none_before : {T : Type 0} (test : T → Bool) (xs : List T) (j i : ℕ) (q : T) → list_any test (take j xs) ≡ false → i < j → slice_get xs i ≡ Some q → test q ≡ false
 none_before test [] j i q none less there = absurd (cc)
 none_before test (x ∷ xs) zero i q none less there = absurd (omega arith)
-none_before test (x ∷ xs) (suc j) zero q none less there = ap test (sym (some_same x q there)) ∙ (or_parts (test x) (list_any test (take j xs)) none).0
+none_before test (x ∷ xs) (suc j) zero q none less there = let same : q ≡ x = cc in ap test same ∙ (or_parts (test x) (list_any test (take j xs)) none).0
 none_before test (x ∷ xs) (suc j) (suc i) q none less there = none_before test xs j i q (or_parts (test x) (list_any test (take j xs)) none).1 (omega arith) there
 
 pub plain_place : (ps : List Provider) (j : ℕ) → j < length ps → EachAfter IsProvider [] ps → plain (name_at_place ps j)
@@ -200,12 +194,6 @@ fault_at-takes pools requesters at n s t d rows e =
 
 -- ## Each table
 
-labels-take : (d : Data) (t : List Label) → labels_at d ≡ Ok t → EachAfter IsLabel [] t × (length t ≤ LABELS)
-labels-take d t e =
-    let r = list_required-takes label_at (Rows IsLabel) label_at-takes [] (codes "labels") (at_most LABELS) [] t d (tt, refl) e in
-    let count : length t ≡ r.0 = r.3.1 in
-    (r.3.0, omega (arith, r.1))
-
 abbrev no_providers : Providers
 no_providers = record { providers = []; pools = [] }
 
@@ -213,8 +201,7 @@ providers-take : (labels : List Label) (d : Data) (t : Providers) → providers_
     → (n : ℕ) × Supply (length labels) n t × (1 ≤ length t.providers) × (length t.providers ≤ PROVIDERS)
 providers-take labels d t e =
     let r = list_required-takes (provider_at labels) (Supply (length labels)) (provider_at-takes labels) [] (codes "providers") (one_to PROVIDERS) no_providers t d (supply-none (length labels)) e in
-    let count : length t.providers ≡ r.0 = r.3.1 in
-    (r.0, r.3, omega (arith, r.2), omega (arith, r.1))
+    (r.0, r.3, omega (arith, r.2, r.3.1), omega (arith, r.1, r.3.1))
 
 -- no two pools that were read have the same full name, and they are few
 pub providers-unused : (labels : List Label) (d : Data) (t : Providers) → providers_at labels d ≡ Ok t → EachAfter IsUnused [] (pool_names t.providers t.pools)
@@ -222,18 +209,6 @@ providers-unused labels d t e = pool_names-unused (length labels) t.providers t.
 
 pub providers-few : (labels : List Label) (d : Data) (t : Providers) → providers_at labels d ≡ Ok t → length t.pools < 2 ^ 16
 providers-few labels d t e = let few = (providers-take labels d t e).1.0.few_pools in omega arith
-
-semaphores-take : (d : Data) (t : List Sem) → semaphores_at d ≡ Ok t → EachAfter IsSem [] t × (length t ≤ SEMAPHORES)
-semaphores-take d t e =
-    let r = list_maybe-takes semaphore_at (Rows IsSem) semaphore_at-takes [] (codes "semaphores") (at_most SEMAPHORES) [] t d (omega arith) refl (tt, refl) e in
-    let count : length t ≡ r.0 = r.2.1 in
-    (r.2.0, omega (arith, r.1))
-
-tenants-take : (d : Data) (t : List Tenant) → tenants_at d ≡ Ok t → EachAfter IsTenant [] t × (length t ≤ TENANTS)
-tenants-take d t e =
-    let r = list_maybe-takes tenant_at (Rows IsTenant) tenant_at-takes [] (codes "tenants") (at_most TENANTS) [] t d (omega arith) refl (tt, refl) e in
-    let count : length t ≡ r.0 = r.2.1 in
-    (r.2.0, omega (arith, r.1))
 
 abbrev no_requesters : Requesters
 no_requesters = record { requesters = []; jobs = [] }
@@ -243,16 +218,14 @@ requesters-take : (labels : List Label) (semaphores : List Sem) (tenants : List 
 requesters-take labels semaphores tenants d t e =
     let r = list_maybe-takes (requester_at labels semaphores tenants) (Demands (length labels) (length semaphores) (length tenants)) (requester_at-takes labels semaphores tenants) [] (codes "requesters") (at_most REQUESTERS) no_requesters t d (omega arith) refl
     (demands-none (length labels) (length semaphores) (length tenants)) e in
-    let count : length t.requesters ≡ r.0 = r.2.1 in
-    (r.0, r.2, omega (arith, r.1))
+    (r.0, r.2, omega (arith, r.1, r.2.1))
 
 faults-take : (pools : List (List ℕ)) (requesters : List Requester) (d : Data) (t : List Fault) → faults_at pools requesters d ≡ Ok t
     → All (IsFault (length pools) (length requesters)) t × (length t ≤ FAULTS)
 faults-take pools requesters d t e =
     let r = list_maybe-takes (fault_at pools requesters) (RowsAlone (IsFault (length pools) (length requesters))) (fault_at-takes pools requesters) [] (codes "faults") (at_most FAULTS) [] t d (omega arith) refl
     (RowsAlone-none (IsFault (length pools) (length requesters))) e in
-    let count : length t ≡ r.0 = r.2.1 in
-    (r.2.0, omega (arith, r.1))
+    (r.2.0, omega (arith, r.1, r.2.1))
 
 -- the whole, of its tables
 module _ (d : Data) (c : Configuration) (ls : List Label) (labels : labels_at d ≡ Ok ls) (a : ℕ) (age : whole_or [] (codes "max-hold-age") 0 AGE 0 d ≡ Ok a)
@@ -265,11 +238,11 @@ module _ (d : Data) (c : Configuration) (ls : List Label) (labels : labels_at d 
 
   whole-takes : (ts : List Tenant) (r : Requesters) (fs : List Fault) → tenants_at d ≡ Ok ts → requesters_at ls ss ts d ≡ Ok r → faults r ≡ Ok fs → IsSound (made ts r fs)
   whole-takes ts r fs tenants requesters planned =
-      let good_labels = labels-take d ls labels in
+      let good_labels = rows_required label_at IsLabel label_at-takes [] (codes "labels") LABELS d ls labels in
       let good_age = whole_or-takes [] (codes "max-hold-age") 0 AGE 0 d a (omega arith) (omega arith) age in
       let good_providers = providers-take ls d s providers in
-      let good_sems = semaphores-take d ss semaphores in
-      let good_tenants = tenants-take d ts tenants in
+      let good_sems = rows_maybe semaphore_at IsSem semaphore_at-takes [] (codes "semaphores") SEMAPHORES d ss semaphores in
+      let good_tenants = rows_maybe tenant_at IsTenant tenant_at-takes [] (codes "tenants") TENANTS d ts tenants in
       let good_requesters = requesters-take ls ss ts d r requesters in
       let good_faults = faults-take (pool_names s.providers s.pools) r.requesters d fs planned in
       let pools : length (pool_names s.providers s.pools) ≡ length s.pools = length-map s.pools (pool_name s.providers) in

@@ -1,11 +1,5 @@
 pub mod Lower
-pub mod Keys
-pub mod Names
-pub mod Labels
 pub mod Providers
-pub mod Tenants
 pub mod Requesters
-pub mod Faults
 pub mod Walk
-pub mod Defaults
 pub mod FirstFaults

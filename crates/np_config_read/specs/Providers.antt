@@ -1,12 +1,83 @@
--- providers and their pools, as they are read
-use Rattle.std.specs.Prelude.{ℕ, List, [], ◌∷◌, ◌++◌, codes, length, Result, Ok}
+-- the keys that each object may have, in the order in which they are read (own, with Nodepool's and Zuul's words)
+use Rattle.std.specs.Prelude.{ℕ, List, [], ◌∷◌, codes, ◌≡◌, false, ◌+◌, ◌++◌, map, if◌then◌else◌, position, slice_get, Option, Some, length, Result, Ok}
+use Rattle.std.specs.List.{list_any}
+use Rattle.std.specs.Option.{option_map, option_map_or}
+use Rattle.std.specs.Str.{bytes_eq}
+use Rattle.np_config_read.specs.Lower.{Label, Pool, Provider, Requester, Sem, Tenant, TenantId, default_name, Amount, CONCURRENCY, ConfigFault, FAIL_STARTS, LABELS, LAUNCHES, LabelId, Limit, NODE_CORES, NODE_RAM, Offer, OutOfRange, POOLS, POOL_CORES, POOL_RAM, POOL_SERVERS, ReadsItem, Repeated, START_NUMBER, UnknownName, at_most, behind, below, fault, found, is_above, is_unoffered, list_maybe, list_required, named_at, need, object_at, one_to, required, text_value, whole_maybe, whole_or, whole_value}
 use Rattle.serde_json.specs.Data.{Data}
 use Rattle.np_lists.specs.Refusals.{◌>>=◌, ◌>>◌}
 use Rattle.np_config_read.specs.declared.providers.PoolsOf.{PoolsOf}
 use Rattle.np_config_read.specs.declared.providers.Providers.{Providers}
-use Rattle.np_config_read.specs.Keys.{provider_keys, pool_keys, offer_keys}
-use Rattle.np_config_read.specs.Names.{label_named}
-use Rattle.np_config_read.specs.Lower.{Amount, CONCURRENCY, ConfigFault, FAIL_STARTS, LABELS, LAUNCHES, Label, LabelId, Limit, NODE_CORES, NODE_RAM, Offer, OutOfRange, POOLS, POOL_CORES, POOL_RAM, POOL_SERVERS, Pool, Provider, ReadsItem, Repeated, START_NUMBER, UnknownName, at_most, behind, below, fault, found, is_above, is_unoffered, list_maybe, list_required, named_at, need, object_at, one_to, required, text_value, whole_maybe, whole_or, whole_value}
+
+abbrev pub top_keys : List (List ℕ)
+top_keys = codes "labels" ∷ codes "max-hold-age" ∷ codes "providers" ∷ codes "semaphores" ∷ codes "tenants" ∷ codes "requesters" ∷ codes "faults" ∷ []
+
+abbrev pub label_keys : List (List ℕ)
+label_keys = codes "name" ∷ codes "min-ready" ∷ codes "max-ready-age" ∷ []
+
+abbrev pub provider_keys : List (List ℕ)
+provider_keys = codes "name" ∷ codes "launch-retries" ∷ codes "max-concurrency" ∷ codes "pools" ∷ []
+
+abbrev pub pool_keys : List (List ℕ)
+pool_keys = codes "name" ∷ codes "max-servers" ∷ codes "max-cores" ∷ codes "max-ram" ∷ codes "labels" ∷ codes "fail-starts" ∷ []
+
+abbrev pub offer_keys : List (List ℕ)
+offer_keys = codes "name" ∷ codes "cores" ∷ codes "ram" ∷ []
+
+abbrev pub semaphore_keys : List (List ℕ)
+semaphore_keys = codes "name" ∷ codes "max" ∷ []
+
+abbrev pub tenant_keys : List (List ℕ)
+tenant_keys = codes "name" ∷ codes "max-servers" ∷ codes "max-cores" ∷ codes "max-ram" ∷ []
+
+abbrev pub requester_keys : List (List ℕ)
+requester_keys = codes "name" ∷ codes "window" ∷ codes "jobs" ∷ []
+
+abbrev pub job_keys : List (List ℕ)
+job_keys = codes "name" ∷ codes "labels" ∷ codes "priority" ∷ codes "relative-priority" ∷ codes "semaphores" ∷ codes "resources-first" ∷ codes "end" ∷ codes "tenant" ∷ []
+
+abbrev pub fault_keys : List (List ℕ)
+fault_keys = codes "role" ∷ codes "name" ∷ codes "kind" ∷ codes "after" ∷ []
+
+-- what a name stands for
+
+-- the place of the label with this name
+abbrev pub label_named : List Label → List ℕ → Option ℕ
+label_named labels text = position (λ l. bytes_eq text l.name) labels
+
+-- the place of the semaphore with this name
+abbrev pub semaphore_named : List Sem → List ℕ → Option ℕ
+semaphore_named semaphores text = position (λ s. bytes_eq text s.name) semaphores
+
+-- the tenant with this number
+abbrev pub tenant_id : ℕ → TenantId
+tenant_id n = record { 0 = n }
+
+-- the tenant with this name: `default` is 0, and the listed ones count from 1
+abbrev pub tenant_named : List Tenant → List ℕ → Option TenantId
+tenant_named tenants text = if bytes_eq text default_name then Some (tenant_id 0) else option_map (λ n. tenant_id (n + 1)) (position (λ t. bytes_eq text t.name) tenants)
+
+-- the name of a provider, `/`, and the name of its pool (own)
+abbrev pub pool_name : List Provider → Pool → List ℕ
+pool_name providers p = option_map_or (λ q. q.name) (slice_get providers p.provider) [] ++ 47 ∷ p.name
+
+-- the full names of pools
+abbrev pub pool_names : List Provider → List Pool → List (List ℕ)
+pool_names providers pools = map (pool_name providers) pools
+
+-- the place of the pool with this full name
+abbrev pub pool_named : List (List ℕ) → List ℕ → Option ℕ
+pool_named names text = position (bytes_eq text) names
+
+-- the place of the requester with this name
+abbrev pub requester_named : List Requester → List ℕ → Option ℕ
+requester_named requesters text = position (λ q. bytes_eq text q.name) requesters
+
+-- a name is none of those before it
+abbrev pub IsUnused : List (List ℕ) → List ℕ → Type 0
+IsUnused earlier name = list_any (bytes_eq name) earlier ≡ false
+
+-- providers and their pools, as they are read
 
 -- the label with this name
 unfoldable pub label_for : List Label → List ℕ → List ℕ → Result LabelId ConfigFault

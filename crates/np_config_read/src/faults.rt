@@ -2,17 +2,15 @@
 
 ghost use Rattle.std.specs.Prelude.{◌≡◌, ◌+◌, ◌<◌, ℕ, List, Option, IfOk, length, map, codes};
 ghost use Rattle.serde_json.specs.View.{view};
-ghost use Rattle.np_json.specs.Reading.{Gives, pointer_to};
+ghost use Rattle.np_config_read.specs.Lower.{Gives, fault_kind_of, pointer_to, role_kind_of};
 ghost use Rattle.np_config_read.specs.Requesters.{word_value};
-ghost use Rattle.np_config_read.specs.Names.{pool_named};
-ghost use Rattle.np_config_read.specs.Faults.{role_named, required_word, role_at, fault_at};
-ghost use Rattle.np_text.specs.Word.{role_kind_of};
-ghost use Rattle.np_config.specs.Word.{fault_kind_of};
+ghost use Rattle.np_config_read.specs.Providers.{pool_named};
+ghost use Rattle.np_config_read.specs.Walk.{role_named, required_word, role_at, fault_at};
 
 use crate::names::PoolName;
 use crate::requesters::meaning;
 use np_config::{Fault, FaultKind, Requester};
-use np_json::{ConfigRead, Place, Rows, Table, object, required, text_of, whole_required};
+use np_json::{Place, Reading, Rows, Table, object, required, text_of, whole_required};
 use np_lists::Items;
 use np_text::{FAULT_ACTS, PoolId, RequesterId, Role, RoleKind};
 use serde_json::Value;
@@ -41,8 +39,8 @@ fn role_named(roles: &Roles, kind: RoleKind, name: &[u8]) -> Option<Role>
     }
 }
 
-#[tactic(auto, using(np_json::proofs::Binds::exits), unfolding(crate::specs::Faults::required_word, crate::specs::Requesters::word_value))]
-fn role_kind(alloc: Global, at: &[u8], value: &Value) -> Result<RoleKind, ConfigRead>
+#[tactic(auto, using(np_json::proofs::Binds::exits), unfolding(crate::specs::Walk::required_word, crate::specs::Requesters::word_value))]
+fn role_kind(alloc: Global, at: &[u8], value: &Value) -> Reading<RoleKind>
     ensures { Gives (λ k. k) result
         (required_word role_kind_of at.now (codes "role") (view value.now)) }
 {
@@ -52,14 +50,14 @@ fn role_kind(alloc: Global, at: &[u8], value: &Value) -> Result<RoleKind, Config
     meaning(alloc, place, RoleKind::from_word(word.as_bytes()))
 }
 
-#[tactic(auto, using(np_json::proofs::Binds::exits), unfolding(crate::specs::Faults::required_word, crate::specs::Requesters::word_value))]
+#[tactic(auto, using(np_json::proofs::Binds::exits), unfolding(crate::specs::Walk::required_word, crate::specs::Requesters::word_value))]
 fn role_of_kind(
     alloc: Global,
     roles: &Roles,
     kind: RoleKind,
     at: &[u8],
     value: &Value,
-) -> Result<Role, ConfigRead>
+) -> Reading<Role>
     ensures { Gives (λ r. r) result (required_word
         (role_named (map (λ n. n.text) roles.now.pools) roles.now.requesters kind)
         at.now (codes "name") (view value.now)) }
@@ -70,8 +68,8 @@ fn role_of_kind(
     meaning(alloc, place, role_named(roles, kind, name.as_bytes()))
 }
 
-#[tactic(auto, using(np_json::proofs::Binds::exits), unfolding(crate::specs::Faults::role_at))]
-fn role_of(alloc: Global, roles: &Roles, at: &[u8], value: &Value) -> Result<Role, ConfigRead>
+#[tactic(auto, using(np_json::proofs::Binds::exits), unfolding(crate::specs::Walk::role_at))]
+fn role_of(alloc: Global, roles: &Roles, at: &[u8], value: &Value) -> Reading<Role>
     ensures { Gives (λ r. r) result
         (role_at (map (λ n. n.text) roles.now.pools) roles.now.requesters at.now (view value.now)) }
 {
@@ -79,8 +77,8 @@ fn role_of(alloc: Global, roles: &Roles, at: &[u8], value: &Value) -> Result<Rol
     role_of_kind(alloc, roles, kind, at, value)
 }
 
-#[tactic(auto, using(np_json::proofs::Binds::exits), unfolding(crate::specs::Faults::required_word, crate::specs::Requesters::word_value))]
-fn fault_kind(alloc: Global, at: &[u8], value: &Value) -> Result<FaultKind, ConfigRead>
+#[tactic(auto, using(np_json::proofs::Binds::exits), unfolding(crate::specs::Walk::required_word, crate::specs::Requesters::word_value))]
+fn fault_kind(alloc: Global, at: &[u8], value: &Value) -> Reading<FaultKind>
     ensures { Gives (λ k. k) result
         (required_word fault_kind_of at.now (codes "kind") (view value.now)) }
 {
@@ -96,14 +94,14 @@ impl Rows<Roles> for Items<Fault> {
 
     ghost count = { length };
 
-    #[tactic(auto, using(np_json::proofs::Binds::exits), unfolding(crate::specs::Faults::fault_at))]
+    #[tactic(auto, using(np_json::proofs::Binds::exits), unfolding(crate::specs::Walk::fault_at))]
     fn read(
         &mut self,
         alloc: Global,
         roles: &Roles,
         place: Place<'_>,
         value: &Value,
-    ) -> Result<(), ConfigRead> {
+    ) -> Reading<()> {
         let at = place.pointer(alloc)?;
         let at = at.as_slice();
         object(alloc, at, &["role", "name", "kind", "after"], value)?;

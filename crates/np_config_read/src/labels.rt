@@ -1,10 +1,10 @@
 //! Reading labels and semaphores.
 
 ghost use Rattle.std.specs.Prelude.{◌≡◌, ◌+◌, ◌<◌, IfOk, length};
-ghost use Rattle.np_config_read.specs.Labels.{label_at, semaphore_at};
+ghost use Rattle.np_config_read.specs.Walk.{label_at, semaphore_at};
 
 use np_config::{Label, Name, Sem, Tenant};
-use np_json::{ConfigRead, NamedRow, Place, Rows, Table, named_row, whole};
+use np_json::{NamedRow, Place, Reading, Rows, Table, named_row, whole};
 use np_text::{AGE, HANDLES, MIN_READY};
 use serde_json::Value;
 use std::alloc::Global;
@@ -13,11 +13,11 @@ use std::alloc::Global;
 pub(crate) struct Alone;
 
 ghost use Rattle.serde_json.specs.View.{view};
-ghost use Rattle.np_json.specs.Reading.{Gives};
-ghost use Rattle.np_config_read.specs.Labels.{label_row};
+ghost use Rattle.np_config_read.specs.Lower.{Gives};
+ghost use Rattle.np_config_read.specs.Walk.{label_row};
 
-#[tactic(auto, using(np_json::proofs::Binds::exits), unfolding(crate::specs::Labels::label_row))]
-fn label_row(alloc: Global, at: &[u8], name: Name, value: &Value) -> Result<Label, ConfigRead>
+#[tactic(auto, using(np_json::proofs::Binds::exits), unfolding(crate::specs::Walk::label_row))]
+fn label_row(alloc: Global, at: &[u8], name: Name, value: &Value) -> Reading<Label>
     ensures gives { Gives (λ l. l) result (label_row at.now name (view value.now)) }
     ensures name { IfOk result (λ l. l.name ≡ name) }
 {
@@ -35,14 +35,14 @@ impl Rows<Alone> for Table<Label> {
 
     ghost count = { length };
 
-    #[tactic(auto, using(np_json::proofs::Binds::exits), unfolding(crate::specs::Labels::label_at))]
+    #[tactic(auto, using(np_json::proofs::Binds::exits), unfolding(crate::specs::Walk::label_at))]
     fn read(
         &mut self,
         alloc: Global,
         _alone: &Alone,
         place: Place<'_>,
         value: &Value,
-    ) -> Result<(), ConfigRead> {
+    ) -> Reading<()> {
         let keys = ["name", "min-ready", "max-ready-age"];
         let NamedRow { at, name } = named_row(alloc, place, &keys, self, value)?;
         let label = label_row(alloc, at.as_slice(), name, value)?;
@@ -70,14 +70,14 @@ impl Rows<Alone> for Table<Sem> {
 
     ghost count = { length };
 
-    #[tactic(auto, using(np_json::proofs::Binds::exits), unfolding(crate::specs::Labels::semaphore_at))]
+    #[tactic(auto, using(np_json::proofs::Binds::exits), unfolding(crate::specs::Walk::semaphore_at))]
     fn read(
         &mut self,
         alloc: Global,
         _alone: &Alone,
         place: Place<'_>,
         value: &Value,
-    ) -> Result<(), ConfigRead> {
+    ) -> Reading<()> {
         let NamedRow { at, name } = named_row(alloc, place, &["name", "max"], self, value)?;
         let max = whole(alloc, at.as_slice(), "max", 1, HANDLES, 1, value)?;
         self.push(alloc, Sem { name, max })?;

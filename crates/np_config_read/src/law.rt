@@ -2,20 +2,14 @@
 
 ghost use Rattle.std.specs.Prelude.{◌≡◌, ◌≤◌, ℕ, List, Ok, length};
 ghost use Rattle.std.specs.List.{AllByRecursion};
-ghost use Rattle.np_text.specs.declared.limit.TheConstants.{JOBS};
-ghost use Rattle.np_config.specs.declared.row.Label.{Label};
-ghost use Rattle.np_config.specs.declared.row.Offer.{Offer};
-ghost use Rattle.np_config.specs.declared.row.Sem.{Sem};
-ghost use Rattle.np_config.specs.declared.row.Tenant.{Tenant};
+ghost use Rattle.np_config_read.specs.Lower.{JOBS, Label, Offer, Sem, Tenant};
 ghost use Rattle.np_config_read.specs.declared.providers.PoolsOf.{PoolsOf};
 ghost use Rattle.np_config_read.specs.declared.providers.Providers.{Providers};
 ghost use Rattle.np_config_read.specs.declared.requesters.JobsOf.{JobsOf};
 ghost use Rattle.np_config_read.specs.declared.requesters.Requesters.{Requesters};
-ghost use Rattle.np_config_read.specs.Labels.{label_at, semaphore_at};
+ghost use Rattle.np_config_read.specs.Walk.{label_at, semaphore_at, configuration_at, reads};
 ghost use Rattle.np_config_read.specs.Providers.{offer_at, pool_at, provider_at};
-ghost use Rattle.np_config_read.specs.Requesters.{job_at, requester_at};
-ghost use Rattle.np_config_read.specs.Walk.{configuration_at, reads};
-ghost use Rattle.np_config_read.specs.Defaults.{AllStand, top_defaults, label_defaults, provider_defaults, pool_defaults, offer_defaults, semaphore_defaults, requester_defaults, job_defaults};
+ghost use Rattle.np_config_read.specs.Requesters.{job_at, requester_at, AllStand, top_defaults, label_defaults, provider_defaults, pool_defaults, offer_defaults, semaphore_defaults, requester_defaults, job_defaults};
 ghost use Rattle.np_config_read.specs.FirstFaults.{HasFirstFault, faulty_labels, faulty_pools, faulty_requesters, faulty_tenants, faulty_faults};
 
 /// An object without an optional key reads as that object with the key's default put in.

@@ -1,8 +1,8 @@
 //! Reading a configuration from the bytes of a JSON text.
 //!
 //! `specs/Walk` says what configuration the bytes are, or their first fault; `read_config` returns
-//! just that, unless memory runs out. What an absent key stands for is in `specs/Defaults`, examples
-//! of texts with a fault in `specs/FirstFaults`; the laws on them are in `law`.
+//! just that, unless memory runs out. What an absent key stands for is in `specs/Requesters`,
+//! examples of texts with a fault in `specs/FirstFaults`; the laws on them are in `law`.
 #![tactic(auto)]
 
 mod faults;

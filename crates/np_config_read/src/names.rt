@@ -1,8 +1,8 @@
 //! The full names of pools.
 
 ghost use Rattle.std.specs.Prelude.{◌≡◌, ◌<◌, ◌^◌, [], map, length, IfOk};
-ghost use Rattle.np_config_read.specs.Names.{pool_name, pool_names, IsUnused};
-ghost use Rattle.np_lists.specs.EachAfter.{EachAfter};
+ghost use Rattle.np_config_read.specs.Providers.{pool_name, pool_names, IsUnused};
+ghost use Rattle.np_config_read.specs.Lower.{EachAfter};
 
 use np_config::{Name, Named, Pool, Provider};
 use np_json::Table;

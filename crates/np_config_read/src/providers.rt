@@ -2,17 +2,16 @@
 
 ghost use Rattle.std.specs.Prelude.{◌≡◌, ◌==◌, ◌+◌, ◌<◌, ℕ, List, false, IfOk, length};
 ghost use Rattle.std.specs.List.{list_any};
-ghost use Rattle.np_config_read.specs.Providers.{offer_at, start_at, pool_at, provider_at};
+ghost use Rattle.np_config_read.specs.Providers.{offer_at, start_at, pool_at, provider_at, label_for, label_value, offer_label, offer_amount, limit_at, offers_at, starts_at, pool_row, provider_row, pools_at};
 ghost use Rattle.serde_json.specs.View.{view};
-ghost use Rattle.np_json.specs.Reading.{Gives, pointer_to};
-ghost use Rattle.np_config_read.specs.Providers.{label_for, label_value, offer_label, offer_amount, limit_at, offers_at, starts_at, pool_row, provider_row, pools_at};
+ghost use Rattle.np_config_read.specs.Lower.{Gives, pointer_to};
 
 use crate::labels::{Alone, Labels};
 use np_amount::{Amount, Limit};
 use np_config::{Name, NumberList, Offer, OfferList, Pool, Provider};
 use np_json::{
-    ConfigKind, ConfigRead, Length, Marked, NamedRow, Place, Rows, Table, fault_in, named_row,
-    object, required, rows_maybe, rows_required, text_of, whole, whole_maybe, whole_of,
+    ConfigKind, Length, Marked, NamedRow, Place, Reading, Rows, Table, fault_in, named_row, object,
+    required, rows_maybe, rows_required, text_of, whole, whole_maybe, whole_of,
 };
 use np_lists::Items;
 use np_text::{
@@ -23,12 +22,7 @@ use serde_json::Value;
 use std::alloc::Global;
 
 #[tactic(auto, unfolding(crate::specs::Providers::label_for))]
-fn label_for(
-    alloc: Global,
-    labels: &Labels,
-    place: Place<'_>,
-    text: &[u8],
-) -> Result<LabelId, ConfigRead>
+fn label_for(alloc: Global, labels: &Labels, place: Place<'_>, text: &[u8]) -> Reading<LabelId>
     ensures { Gives (λ l. l) result
         (label_for labels.now.table (pointer_to place.entry) text.now) }
 {
@@ -45,7 +39,7 @@ pub(crate) fn label_of(
     labels: &Labels,
     place: Place<'_>,
     value: &Value,
-) -> Result<LabelId, ConfigRead>
+) -> Reading<LabelId>
     ensures { Gives (λ l. l) result
         (label_value labels.now.table (pointer_to place.entry) (view value.now)) }
 {
@@ -60,7 +54,7 @@ fn offer_label(
     at: &[u8],
     earlier: &Marked<Offer>,
     value: &Value,
-) -> Result<LabelId, ConfigRead>
+) -> Reading<LabelId>
     ensures gives { Gives (λ l. l) result
         (offer_label labels.now.table at.now earlier.now (view value.now)) }
     ensures fresh { IfOk result
@@ -76,7 +70,7 @@ fn offer_label(
 }
 
 #[tactic(auto, using(np_json::proofs::Binds::exits), unfolding(crate::specs::Providers::offer_amount))]
-fn offer_amount(alloc: Global, at: &[u8], value: &Value) -> Result<Amount, ConfigRead>
+fn offer_amount(alloc: Global, at: &[u8], value: &Value) -> Reading<Amount>
     ensures { Gives (λ a. a) result (offer_amount at.now (view value.now)) }
 {
     let cores = whole(alloc, at, "cores", 0, NODE_CORES, 1, value)?;
@@ -100,7 +94,7 @@ impl Rows<Labels> for Marked<Offer> {
         labels: &Labels,
         place: Place<'_>,
         value: &Value,
-    ) -> Result<(), ConfigRead> {
+    ) -> Reading<()> {
         let at = place.pointer(alloc)?;
         let at = at.as_slice();
         object(alloc, at, &["name", "cores", "ram"], value)?;
@@ -111,7 +105,7 @@ impl Rows<Labels> for Marked<Offer> {
     }
 }
 
-ghost use Rattle.np_config.specs.Sound.{is_above};
+ghost use Rattle.np_config_read.specs.Lower.{is_above};
 
 fn is_above(starts: &[u32], start: u32) -> bool
     ensures { result ≡ is_above starts.now start }
@@ -134,7 +128,7 @@ impl Rows<Alone> for NumberList {
         _alone: &Alone,
         place: Place<'_>,
         value: &Value,
-    ) -> Result<(), ConfigRead> {
+    ) -> Reading<()> {
         let start = whole_of(alloc, place, 1, START_NUMBER, value)?;
         if !is_above(self.items(), start) {
             return Err(fault_in(alloc, ConfigKind::OutOfRange, place));
@@ -162,7 +156,7 @@ pub(crate) fn wide(number: Option<u32>) -> Option<u64>
 
 /// The limits of a pool or a tenant.
 #[tactic(auto, using(np_json::proofs::Binds::exits), unfolding(crate::specs::Providers::limit_at))]
-pub(crate) fn limit_of(alloc: Global, at: &[u8], value: &Value) -> Result<Limit, ConfigRead>
+pub(crate) fn limit_of(alloc: Global, at: &[u8], value: &Value) -> Reading<Limit>
     ensures { Gives (λ l. l) result (limit_at at.now (view value.now)) }
 {
     let servers = whole_maybe(alloc, at, "max-servers", 0, POOL_SERVERS, value)?;
@@ -176,12 +170,7 @@ pub(crate) fn limit_of(alloc: Global, at: &[u8], value: &Value) -> Result<Limit,
 }
 
 #[tactic(auto, unfolding(crate::specs::Providers::offers_at))]
-fn offers_of(
-    alloc: Global,
-    labels: &Labels,
-    at: &[u8],
-    value: &Value,
-) -> Result<OfferList, ConfigRead>
+fn offers_of(alloc: Global, labels: &Labels, at: &[u8], value: &Value) -> Reading<OfferList>
     ensures { Gives (λ o. o) result (offers_at labels.now.table at.now (view value.now)) }
 {
     let none = Marked::<Offer>::new(alloc);
@@ -198,7 +187,7 @@ fn offers_of(
 }
 
 #[tactic(auto, unfolding(crate::specs::Providers::starts_at))]
-fn starts_of(alloc: Global, at: &[u8], value: &Value) -> Result<NumberList, ConfigRead>
+fn starts_of(alloc: Global, at: &[u8], value: &Value) -> Reading<NumberList>
     ensures { Gives (λ s. s) result (starts_at at.now (view value.now)) }
 {
     let none = NumberList::none(alloc);
@@ -221,7 +210,7 @@ fn pool_row(
     provider: u16,
     name: Name,
     value: &Value,
-) -> Result<Pool, ConfigRead>
+) -> Reading<Pool>
     ensures gives { Gives (λ p. p) result
         (pool_row labels.now.table at.now provider name (view value.now)) }
     ensures name { IfOk result (λ p. p.name ≡ name) }
@@ -250,7 +239,7 @@ impl Rows<Labels> for PoolsOf {
         labels: &Labels,
         place: Place<'_>,
         value: &Value,
-    ) -> Result<(), ConfigRead> {
+    ) -> Reading<()> {
         let keys = [
             "name",
             "max-servers",
@@ -274,7 +263,7 @@ pub(crate) struct Providers {
 }
 
 #[tactic(auto, using(np_json::proofs::Binds::exits), unfolding(crate::specs::Providers::provider_row))]
-fn provider_row(alloc: Global, at: &[u8], name: Name, value: &Value) -> Result<Provider, ConfigRead>
+fn provider_row(alloc: Global, at: &[u8], name: Name, value: &Value) -> Reading<Provider>
     ensures gives { Gives (λ p. p) result (provider_row at.now name (view value.now)) }
     ensures name { IfOk result (λ p. p.name ≡ name) }
 {
@@ -295,7 +284,7 @@ fn pools_of(
     earlier: usize,
     provider: u16,
     value: &Value,
-) -> Result<PoolsOf, ConfigRead>
+) -> Reading<PoolsOf>
     ensures { Gives (λ own. own) result
         (pools_at labels.now.table at.now earlier provider (view value.now)) }
 {
@@ -317,7 +306,7 @@ impl Rows<Labels> for Providers {
         labels: &Labels,
         place: Place<'_>,
         value: &Value,
-    ) -> Result<(), ConfigRead> {
+    ) -> Reading<()> {
         let keys = ["name", "launch-retries", "max-concurrency", "pools"];
         let NamedRow { at, name } = named_row(alloc, place, &keys, &self.providers, value)?;
         let at = at.as_slice();

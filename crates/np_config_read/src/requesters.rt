@@ -3,8 +3,7 @@
 ghost use Rattle.std.specs.Prelude.{◌≡◌, ◌==◌, ◌+◌, ◌<◌, ℕ, List, Option, false, IfOk, length};
 ghost use Rattle.std.specs.List.{list_any};
 ghost use Rattle.serde_json.specs.View.{view};
-ghost use Rattle.np_json.specs.Reading.{Gives, pointer_to, fault};
-ghost use Rattle.np_text.specs.Word.{end_as_of};
+ghost use Rattle.np_config_read.specs.Lower.{Gives, end_as_of, fault, pointer_to};
 ghost use Rattle.np_config_read.specs.Requesters.{wanted_at, taken_at, semaphore_for, priority_of, meaning_of, word_value, word_or, wants_at, takes_at, demand_at, job_row, job_at, jobs_at, requester_row, requester_at};
 
 use crate::labels::{Known, Labels};
@@ -12,8 +11,8 @@ use crate::providers::label_of;
 use crate::tenants::tenant_of;
 use np_config::{Job, LabelList, Name, Requester, SemList};
 use np_json::{
-    ConfigKind, ConfigRead, Length, Marked, NamedRow, Place, Rows, Table, fault_in, flag,
-    named_row, rows_maybe, rows_required, text_of, whole,
+    ConfigKind, Length, Marked, NamedRow, Place, Reading, Rows, Table, fault_in, flag, named_row,
+    rows_maybe, rows_required, text_of, whole,
 };
 use np_lists::Items;
 use np_text::{
@@ -34,7 +33,7 @@ impl Rows<Labels> for LabelList {
         labels: &Labels,
         place: Place<'_>,
         value: &Value,
-    ) -> Result<(), ConfigRead> {
+    ) -> Reading<()> {
         let label = label_of(alloc, labels, place, value)?;
         self.push(label)?;
         Ok(())
@@ -42,12 +41,7 @@ impl Rows<Labels> for LabelList {
 }
 
 #[tactic(auto, unfolding(crate::specs::Requesters::semaphore_for))]
-fn semaphore_for(
-    alloc: Global,
-    known: &Known,
-    place: Place<'_>,
-    text: &[u8],
-) -> Result<SemId, ConfigRead>
+fn semaphore_for(alloc: Global, known: &Known, place: Place<'_>, text: &[u8]) -> Reading<SemId>
     ensures { Gives (λ s. s) result
         (semaphore_for known.now.semaphores (pointer_to place.entry) text.now) }
 {
@@ -69,7 +63,7 @@ impl Rows<Known> for Marked<SemId> {
         known: &Known,
         place: Place<'_>,
         value: &Value,
-    ) -> Result<(), ConfigRead> {
+    ) -> Reading<()> {
         let text = text_of(alloc, place, value)?;
         let semaphore = semaphore_for(alloc, known, place, text.as_bytes())?;
         if self.has(semaphore.0) {
@@ -95,11 +89,7 @@ fn priority_of(word: &str) -> Option<u16>
 }
 
 /// What a word means, if it means something.
-pub(crate) fn meaning<T: Drop>(
-    alloc: Global,
-    place: Place<'_>,
-    told: Option<T>,
-) -> Result<T, ConfigRead>
+pub(crate) fn meaning<T: Drop>(alloc: Global, place: Place<'_>, told: Option<T>) -> Reading<T>
     ensures { Gives (λ t. t) result (found told (fault UnknownName (pointer_to place.entry))) }
 {
     let Some(told) = told else {
@@ -108,11 +98,10 @@ pub(crate) fn meaning<T: Drop>(
     Ok(told)
 }
 
-ghost use Rattle.np_lists.specs.Refusals.{found};
-ghost use Rattle.np_json.specs.declared.fault.ConfigKind.TheVariants.{UnknownName};
+ghost use Rattle.np_config_read.specs.Lower.{UnknownName, found};
 
 #[tactic(auto, using(np_json::proofs::Binds::exits), unfolding(crate::specs::Requesters::word_value))]
-fn priority_word(alloc: Global, place: Place<'_>, value: &Value) -> Result<u16, ConfigRead>
+fn priority_word(alloc: Global, place: Place<'_>, value: &Value) -> Reading<u16>
     ensures { Gives (λ p. p) result
         (word_value priority_of (pointer_to place.entry) (view value.now)) }
 {
@@ -120,7 +109,7 @@ fn priority_word(alloc: Global, place: Place<'_>, value: &Value) -> Result<u16, 
     meaning(alloc, place, priority_of(word))
 }
 
-fn priority(alloc: Global, at: &[u8], value: &Value) -> Result<u16, ConfigRead>
+fn priority(alloc: Global, at: &[u8], value: &Value) -> Reading<u16>
     ensures { Gives (λ p. p) result
         (word_or priority_of at.now (codes "priority") 200 (view value.now)) }
 {
@@ -131,7 +120,7 @@ fn priority(alloc: Global, at: &[u8], value: &Value) -> Result<u16, ConfigRead>
 }
 
 #[tactic(auto, using(np_json::proofs::Binds::exits), unfolding(crate::specs::Requesters::word_value))]
-fn end_word(alloc: Global, place: Place<'_>, value: &Value) -> Result<EndAs, ConfigRead>
+fn end_word(alloc: Global, place: Place<'_>, value: &Value) -> Reading<EndAs>
     ensures { Gives (λ e. e) result
         (word_value end_as_of (pointer_to place.entry) (view value.now)) }
 {
@@ -139,9 +128,9 @@ fn end_word(alloc: Global, place: Place<'_>, value: &Value) -> Result<EndAs, Con
     meaning(alloc, place, EndAs::from_word(word.as_bytes()))
 }
 
-ghost use Rattle.np_text.specs.declared.word.EndAs.TheVariants.{Used};
+ghost use Rattle.np_config_read.specs.Lower.{Used};
 
-fn end_as(alloc: Global, at: &[u8], value: &Value) -> Result<EndAs, ConfigRead>
+fn end_as(alloc: Global, at: &[u8], value: &Value) -> Reading<EndAs>
     ensures { Gives (λ e. e) result
         (word_or end_as_of at.now (codes "end") Used (view value.now)) }
 {
@@ -154,12 +143,7 @@ fn end_as(alloc: Global, at: &[u8], value: &Value) -> Result<EndAs, ConfigRead>
 ghost use Rattle.std.specs.Prelude.{codes};
 
 #[tactic(auto, unfolding(crate::specs::Requesters::wants_at))]
-fn wants_of(
-    alloc: Global,
-    labels: &Labels,
-    at: &[u8],
-    value: &Value,
-) -> Result<LabelList, ConfigRead>
+fn wants_of(alloc: Global, labels: &Labels, at: &[u8], value: &Value) -> Reading<LabelList>
     ensures { Gives (λ w. w) result (wants_at labels.now.table at.now (view value.now)) }
 {
     let length = Length::one_to(JOB_LABELS);
@@ -168,7 +152,7 @@ fn wants_of(
 }
 
 #[tactic(auto, unfolding(crate::specs::Requesters::takes_at))]
-fn takes_of(alloc: Global, known: &Known, at: &[u8], value: &Value) -> Result<SemList, ConfigRead>
+fn takes_of(alloc: Global, known: &Known, at: &[u8], value: &Value) -> Reading<SemList>
     ensures { Gives (λ t. t) result (takes_at known.now.semaphores at.now (view value.now)) }
 {
     let length = Length::at_most(JOB_SEMAPHORES);
@@ -186,7 +170,7 @@ pub(crate) struct Demand {
 }
 
 #[tactic(auto, using(np_json::proofs::Binds::exits), unfolding(crate::specs::Requesters::demand_at))]
-fn demand_of(alloc: Global, labels: &Labels, at: &[u8], value: &Value) -> Result<Demand, ConfigRead>
+fn demand_of(alloc: Global, labels: &Labels, at: &[u8], value: &Value) -> Reading<Demand>
     ensures { Gives (λ d. d) result (demand_at labels.now.table at.now (view value.now)) }
 {
     let labels = wants_of(alloc, labels, at, value)?;
@@ -216,7 +200,7 @@ fn job_row(
     name: Name,
     demand: Demand,
     value: &Value,
-) -> Result<Job, ConfigRead>
+) -> Reading<Job>
     ensures gives { Gives (λ j. j) result
         (job_row known.now.semaphores known.now.tenants at.now requester name demand
         (view value.now)) }
@@ -259,7 +243,7 @@ impl Rows<Known> for JobsOf {
         known: &Known,
         place: Place<'_>,
         value: &Value,
-    ) -> Result<(), ConfigRead> {
+    ) -> Reading<()> {
         let keys = [
             "name",
             "labels",
@@ -287,7 +271,7 @@ fn jobs_of(
     earlier: usize,
     requester: RequesterId,
     value: &Value,
-) -> Result<JobsOf, ConfigRead>
+) -> Reading<JobsOf>
     ensures { Gives (λ own. own) result
         (jobs_at known.now.labels.table known.now.semaphores known.now.tenants at.now
         earlier requester (view value.now)) }
@@ -306,12 +290,7 @@ pub(crate) struct Requesters {
 }
 
 #[tactic(auto, using(np_json::proofs::Binds::exits), unfolding(crate::specs::Requesters::requester_row))]
-fn requester_row(
-    alloc: Global,
-    at: &[u8],
-    name: Name,
-    value: &Value,
-) -> Result<Requester, ConfigRead>
+fn requester_row(alloc: Global, at: &[u8], name: Name, value: &Value) -> Reading<Requester>
     ensures gives { Gives (λ q. q) result (requester_row at.now name (view value.now)) }
     ensures name { IfOk result (λ q. q.name ≡ name) }
 {
@@ -332,7 +311,7 @@ impl Rows<Known> for Requesters {
         known: &Known,
         place: Place<'_>,
         value: &Value,
-    ) -> Result<(), ConfigRead> {
+    ) -> Reading<()> {
         let keys = ["name", "window", "jobs"];
         let NamedRow { at, name } = named_row(alloc, place, &keys, &self.requesters, value)?;
         let at = at.as_slice();

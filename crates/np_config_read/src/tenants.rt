@@ -3,17 +3,16 @@
 ghost use Rattle.std.specs.Prelude.{◌≡◌, ◌+◌, ◌<◌, length, codes};
 ghost use Rattle.std.specs.Str.{bytes_eq};
 ghost use Rattle.serde_json.specs.View.{view};
-ghost use Rattle.np_json.specs.Reading.{Gives, pointer_to};
-ghost use Rattle.np_config.specs.Configuration.{default_name};
-ghost use Rattle.np_config_read.specs.Names.{tenant_id, tenant_named};
+ghost use Rattle.np_config_read.specs.Lower.{Gives, default_name, pointer_to};
+ghost use Rattle.np_config_read.specs.Providers.{tenant_id, tenant_named};
 ghost use Rattle.np_config_read.specs.Requesters.{word_value, word_or};
-ghost use Rattle.np_config_read.specs.Tenants.{tenant_at};
+ghost use Rattle.np_config_read.specs.Walk.{tenant_at};
 
 use crate::labels::{Alone, Known};
 use crate::providers::limit_of;
 use crate::requesters::meaning;
 use np_config::Tenant;
-use np_json::{ConfigKind, ConfigRead, NamedRow, Place, Rows, Table, fault_in, named_row, text_of};
+use np_json::{ConfigKind, NamedRow, Place, Reading, Rows, Table, fault_in, named_row, text_of};
 use np_text::TenantId;
 use serde_json::Value;
 use std::alloc::Global;
@@ -29,14 +28,14 @@ impl Rows<Alone> for Table<Tenant> {
 
     ghost count = { length };
 
-    #[tactic(auto, using(np_json::proofs::Binds::exits), unfolding(crate::specs::Tenants::tenant_at))]
+    #[tactic(auto, using(np_json::proofs::Binds::exits), unfolding(crate::specs::Walk::tenant_at))]
     fn read(
         &mut self,
         alloc: Global,
         _alone: &Alone,
         place: Place<'_>,
         value: &Value,
-    ) -> Result<(), ConfigRead> {
+    ) -> Reading<()> {
         let keys = ["name", "max-servers", "max-cores", "max-ram"];
         let NamedRow { at, name } = named_row(alloc, place, &keys, self, value)?;
         let at = at.as_slice();
@@ -60,12 +59,7 @@ fn tenant_named(tenants: &Table<Tenant>, text: &[u8]) -> Option<TenantId>
 }
 
 #[tactic(auto, using(np_json::proofs::Binds::exits), unfolding(crate::specs::Requesters::word_value))]
-fn tenant_word(
-    alloc: Global,
-    known: &Known,
-    place: Place<'_>,
-    value: &Value,
-) -> Result<TenantId, ConfigRead>
+fn tenant_word(alloc: Global, known: &Known, place: Place<'_>, value: &Value) -> Reading<TenantId>
     ensures { Gives (λ t. t) result
         (word_value (tenant_named known.now.tenants) (pointer_to place.entry) (view value.now)) }
 {
@@ -74,12 +68,7 @@ fn tenant_word(
 }
 
 /// The tenant that a job names, or the default one if it names none.
-pub(crate) fn tenant_of(
-    alloc: Global,
-    known: &Known,
-    at: &[u8],
-    value: &Value,
-) -> Result<TenantId, ConfigRead>
+pub(crate) fn tenant_of(alloc: Global, known: &Known, at: &[u8], value: &Value) -> Reading<TenantId>
     ensures { Gives (λ t. t) result (word_or (tenant_named known.now.tenants)
         at.now (codes "tenant") (tenant_id 0) (view value.now)) }
 {

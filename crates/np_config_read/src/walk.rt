@@ -2,9 +2,8 @@
 
 ghost use Rattle.std.specs.Prelude.{◌≡◌, ◌<◌, ◌^◌, [], Ok, codes, map, length, IfOk};
 ghost use Rattle.serde_json.specs.View.{view};
-ghost use Rattle.np_json.specs.Reading.{Gives};
-ghost use Rattle.np_config_read.specs.Names.{pool_names, IsUnused};
-ghost use Rattle.np_lists.specs.EachAfter.{EachAfter};
+ghost use Rattle.np_config_read.specs.Lower.{EachAfter, Gives};
+ghost use Rattle.np_config_read.specs.Providers.{pool_names, IsUnused};
 
 use crate::faults::Roles;
 use crate::labels::{Alone, Known, Labels};
@@ -13,7 +12,8 @@ use crate::providers::Providers;
 use crate::requesters::Requesters;
 use np_config::{Config, Fault, Requester, Sem, Tenant};
 use np_json::{
-    ConfigKind, ConfigRead, Length, Table, fault_at, object, rows_maybe, rows_required, whole,
+    ConfigKind, ConfigRead, Length, Reading, Table, fault_at, object, rows_maybe, rows_required,
+    whole,
 };
 use np_lists::Items;
 use np_text::{AGE, FAULTS, LABELS, PROVIDERS, REQUESTERS, SEMAPHORES, TENANTS};
@@ -36,7 +36,7 @@ fn roles_of(
     Ok(Roles { pools, requesters })
 }
 
-fn labels_of(alloc: Global, value: &Value) -> Result<Labels, ConfigRead>
+fn labels_of(alloc: Global, value: &Value) -> Reading<Labels>
     ensures { Gives (λ l. l.table) result (labels_at (view value.now)) }
 {
     let none = Table::new(alloc);
@@ -45,7 +45,7 @@ fn labels_of(alloc: Global, value: &Value) -> Result<Labels, ConfigRead>
     Ok(Labels { table })
 }
 
-fn providers_of(alloc: Global, labels: &Labels, value: &Value) -> Result<Providers, ConfigRead>
+fn providers_of(alloc: Global, labels: &Labels, value: &Value) -> Reading<Providers>
     ensures gives { Gives (λ s. s) result (providers_at labels.now.table (view value.now)) }
     ensures unused { IfOk result (λ s. EachAfter IsUnused [] (pool_names s.providers s.pools)) }
     ensures few { IfOk result (λ s. length s.pools < 2 ^ 16) }
@@ -58,7 +58,7 @@ fn providers_of(alloc: Global, labels: &Labels, value: &Value) -> Result<Provide
     rows_required(alloc, labels, b"", "providers", length, value, none)
 }
 
-fn semaphores_of(alloc: Global, value: &Value) -> Result<Table<Sem>, ConfigRead>
+fn semaphores_of(alloc: Global, value: &Value) -> Reading<Table<Sem>>
     ensures { Gives (λ s. s) result (semaphores_at (view value.now)) }
 {
     let none = Table::new(alloc);
@@ -66,7 +66,7 @@ fn semaphores_of(alloc: Global, value: &Value) -> Result<Table<Sem>, ConfigRead>
     rows_maybe(alloc, &Alone, b"", "semaphores", length, value, none)
 }
 
-fn tenants_of(alloc: Global, value: &Value) -> Result<Table<Tenant>, ConfigRead>
+fn tenants_of(alloc: Global, value: &Value) -> Reading<Table<Tenant>>
     ensures { Gives (λ t. t) result (tenants_at (view value.now)) }
 {
     let none = Table::new(alloc);
@@ -74,7 +74,7 @@ fn tenants_of(alloc: Global, value: &Value) -> Result<Table<Tenant>, ConfigRead>
     rows_maybe(alloc, &Alone, b"", "tenants", length, value, none)
 }
 
-fn requesters_of(alloc: Global, known: &Known, value: &Value) -> Result<Requesters, ConfigRead>
+fn requesters_of(alloc: Global, known: &Known, value: &Value) -> Reading<Requesters>
     ensures { Gives (λ r. r) result (requesters_at known.now.labels.table known.now.semaphores
         known.now.tenants (view value.now)) }
 {
@@ -86,7 +86,7 @@ fn requesters_of(alloc: Global, known: &Known, value: &Value) -> Result<Requeste
     rows_maybe(alloc, known, b"", "requesters", length, value, none)
 }
 
-fn faults_of(alloc: Global, roles: &Roles, value: &Value) -> Result<Items<Fault>, ConfigRead>
+fn faults_of(alloc: Global, roles: &Roles, value: &Value) -> Reading<Items<Fault>>
     ensures { Gives (λ f. f) result
         (faults_at (map (λ n. n.text) roles.now.pools) roles.now.requesters (view value.now)) }
 {
@@ -95,9 +95,8 @@ fn faults_of(alloc: Global, roles: &Roles, value: &Value) -> Result<Items<Fault>
     rows_maybe(alloc, roles, b"", "faults", length, value, none)
 }
 
-ghost use Rattle.np_text.specs.declared.limit.TheConstants.{AGE};
-ghost use Rattle.np_json.specs.Leaf.{object_at, whole_or};
-ghost use Rattle.np_config_read.specs.Keys.{top_keys};
+ghost use Rattle.np_config_read.specs.Lower.{AGE, object_at, whole_or};
+ghost use Rattle.np_config_read.specs.Providers.{top_keys};
 ghost use Rattle.np_config_read.specs.Walk.{labels_at, providers_at, semaphores_at, tenants_at, requesters_at, faults_at, configuration_at, reads};
 
 /// The configuration that a JSON value is, or its first fault. What is read of it before the
@@ -108,7 +107,7 @@ fn rest_of(
     supply: Providers,
     known: Known,
     value: &Value,
-) -> Result<Config, ConfigRead>
+) -> Reading<Config>
     requires keys { object_at [] top_keys (view value.now) ≡ Ok tt }
     requires labels { labels_at (view value.now) ≡ Ok known.labels.table }
     requires age { whole_or [] (codes "max-hold-age") 0 AGE 0 (view value.now) ≡ Ok age }
@@ -137,7 +136,7 @@ fn rest_of(
 
 /// The configuration that a JSON value is, or its first fault.
 #[tactic(auto, using(np_json::proofs::Binds::exits), unfolding(crate::specs::Walk::configuration_at))]
-fn configuration_of(alloc: Global, value: &Value) -> Result<Config, ConfigRead>
+fn configuration_of(alloc: Global, value: &Value) -> Reading<Config>
     ensures { Gives (λ c. c) result (configuration_at (view value.now)) }
 {
     let keys = [
@@ -163,13 +162,13 @@ fn configuration_of(alloc: Global, value: &Value) -> Result<Config, ConfigRead>
     rest_of(alloc, age, supply, known, value)
 }
 
-ghost use Rattle.np_config.specs.Sound.{IsSound};
+ghost use Rattle.np_config_read.specs.Lower.{IsSound};
 
 /// The configuration that the bytes of a JSON text are, or the first fault of a walk through it:
 /// depth first, the keys of an object in the order of the documentation, lists from the front.
 /// The cost grows with the length of the text; a reference is looked up without a scan.
 #[tactic(auto, using(crate::proofs::WalkTakes::read_soundly))]
-pub fn read_config(alloc: Global, bytes: &[u8]) -> Result<Config, ConfigRead>
+pub fn read_config(alloc: Global, bytes: &[u8]) -> Reading<Config>
     ensures exact { Gives (λ c. c) result (reads bytes.now) }
     ensures sound { IfOk result IsSound }
 {

@@ -1,40 +1,18 @@
 -- The names from elsewhere that the proofs cite, passed on from one place. Declares nothing.
 pub use Rattle.json.specs.Print.{escape}
 unfoldable pub use Rattle.json.specs.Print.{escape_byte}
-pub use Rattle.np_amount.specs.declared.amount.Limit.{Limit}
 pub use Rattle.np_config.proofs.Owners.{below-all, below-more, below-none, rows_of}
-pub use Rattle.np_config.specs.Configuration.{Configuration, default_name, default_tenant, tenant_of}
-pub use Rattle.np_config.specs.Sound.{AreProviders, AreRequesters, HasNewName, IsFault, IsJob, IsLabel, IsLimit, IsOffer, IsPool, IsPriority, IsProvider, IsRequester, IsRole, IsSem, IsSound, IsStart, IsTaken, IsTenant, IsWanted, StandsByOwner}
-pub use Rattle.np_config.specs.Word.{fault_kind_of, fault_kind_word}
-pub use Rattle.np_config.specs.declared.row.Fault.{Fault}
 pub use Rattle.np_config.specs.declared.row.FaultKind.{FaultKind}
-pub use Rattle.np_config.specs.declared.row.FaultKind.TheVariants.{Crash, Expire, Stop}
-pub use Rattle.np_config.specs.declared.row.Job.{Job}
-pub use Rattle.np_config.specs.declared.row.Label.{Label}
-pub use Rattle.np_config.specs.declared.row.Offer.{Offer}
-pub use Rattle.np_config.specs.declared.row.Pool.{Pool}
-pub use Rattle.np_config.specs.declared.row.Provider.{Provider}
-pub use Rattle.np_config.specs.declared.row.Requester.{Requester}
-pub use Rattle.np_config.specs.declared.row.Sem.{Sem}
-pub use Rattle.np_config.specs.declared.row.Tenant.{Tenant}
 pub use Rattle.np_config_read.proofs.DefaultLemmas.{other, passed, reached}
 pub use Rattle.np_config_read.proofs.Parsed.{parsed-some}
 unfoldable pub use Rattle.np_config_read.proofs.Parsed.{reading_on_literals}
 pub use Rattle.np_config_read.proofs.WalkTakes.{pool_names-unused}
-pub use Rattle.np_config_read.specs.Defaults.{count}
-unfoldable pub use Rattle.np_config_read.specs.Faults.{fault_at, required_word, role_at}
-pub use Rattle.np_config_read.specs.Keys.{job_keys, pool_keys, provider_keys, tenant_keys, top_keys}
-unfoldable pub use Rattle.np_config_read.specs.Labels.{label_at, label_row, semaphore_at}
-pub use Rattle.np_config_read.specs.Names.{IsUnused, label_named, pool_name, pool_named, pool_names, requester_named, semaphore_named, tenant_id, tenant_named}
-pub use Rattle.np_config_read.specs.Providers.{PoolsSoFar, ProvidersSoFar}
 unfoldable pub use Rattle.np_config_read.specs.Providers.{label_for, label_value, limit_at, offer_amount, offer_at, offer_label, offers_at, pool_at, pool_row, pools_at, provider_at, provider_row, start_at, starts_at}
-pub use Rattle.np_config_read.specs.Requesters.{JobsSoFar, RequestersSoFar, priority_of}
 unfoldable pub use Rattle.np_config_read.specs.Requesters.{demand_at, job_at, job_row, jobs_at, requester_at, requester_row, semaphore_for, taken_at, takes_at, wanted_at, wants_at, word_value}
-unfoldable pub use Rattle.np_config_read.specs.Tenants.{tenant_at}
-unfoldable pub use Rattle.np_config_read.specs.Walk.{configuration_at, reads}
-pub use Rattle.np_config_text.specs.Canonical.{configuration_data, fault_data, full_name, given, given_count, given_limit, job_data, job_tenant, jobs_of, label_data, label_name, list_data, list_if_any, offer_data, placed, pool_data, pools_of, priority_word, provider_data, requester_data, requester_name, role_name, role_word, semaphore_data, semaphore_name, tenant_data, tenant_name}
+unfoldable pub use Rattle.np_config_read.specs.Walk.{fault_at, required_word, role_at, label_at, label_row, semaphore_at, tenant_at, configuration_at, reads}
+pub use Rattle.np_config_text.specs.Canonical.{configuration_data, fault_data, full_name, given, given_count, given_limit, job_data, job_tenant, jobs_of, label_data, label_name, list_data, list_if_any, offer_data, placed, pool_data, pools_of, priority_word, provider_data, requester_data, requester_name, role_name, role_word, semaphore_data, semaphore_name, tenant_data, tenant_name, put_given, put_limit}
 unfoldable pub use Rattle.np_config_text.specs.Canonical.{canonical}
-pub use Rattle.np_config_text.specs.Put.{put_given, put_limit}
+pub use Rattle.np_config_text.specs.Lower.{AreProviders, AreRequesters, Configuration, Crash, Expire, Fault, HasNewName, Hold, IsFault, IsJob, IsLabel, IsLimit, IsOffer, IsPool, IsPriority, IsProvider, IsRequester, IsRole, IsSem, IsSound, IsStart, IsTaken, IsTenant, IsUnused, IsWanted, Job, JobsSoFar, Label, LabelId, Limit, Offer, Pool, PoolId, PoolsSoFar, Provider, ProvidersSoFar, Requester, RequesterId, RequestersSoFar, Role, Sem, SemId, StandsByOwner, Stop, Tenant, TenantId, Used, count, default_name, default_tenant, end_as_of, end_as_word, fault_kind_of, fault_kind_word, job_keys, label_named, pool_keys, pool_name, pool_named, pool_names, priority_of, provider_keys, requester_named, semaphore_named, tenant_id, tenant_keys, tenant_named, tenant_of, top_keys}
 pub use Rattle.np_json.proofs.Takes.{ok}
 pub use Rattle.np_json.specs.Leaf.{at_most, behind, one_to, only_keys, whole_value}
 unfoldable pub use Rattle.np_json.specs.Leaf.{name_at, named_at, new_name, whole_required}
@@ -48,16 +26,8 @@ pub use Rattle.np_lists.specs.EachAfter.{EachAfter}
 pub use Rattle.np_lists.specs.Refusals.{◌>>=◌}
 pub use Rattle.np_text.proofs.NameLemmas.{IsAscii-name}
 unfoldable pub use Rattle.np_text.specs.Name.{is_name_text}
-pub use Rattle.np_text.specs.Word.{end_as_of, end_as_word}
-pub use Rattle.np_text.specs.declared.id.LabelId.{LabelId}
-pub use Rattle.np_text.specs.declared.id.PoolId.{PoolId}
-pub use Rattle.np_text.specs.declared.id.RequesterId.{RequesterId}
-pub use Rattle.np_text.specs.declared.id.Role.{Role}
-pub use Rattle.np_text.specs.declared.id.SemId.{SemId}
-pub use Rattle.np_text.specs.declared.id.TenantId.{TenantId}
 pub use Rattle.np_text.specs.declared.limit.TheConstants.{AGE, CONCURRENCY, FAIL_STARTS, FAULTS, FAULT_ACTS, HANDLES, JOBS, JOB_LABELS, JOB_SEMAPHORES, LABELS, LAUNCHES, MIN_READY, NAME_BYTES, NODE_CORES, NODE_RAM, POOLS, POOL_CORES, POOL_RAM, POOL_SERVERS, PROVIDERS, RELATIVE_PRIORITY, REQUESTERS, SEMAPHORES, START_NUMBER, TENANTS, WINDOW}
 pub use Rattle.np_text.specs.declared.word.EndAs.{EndAs}
-pub use Rattle.np_text.specs.declared.word.EndAs.TheVariants.{Hold, Used}
 pub use Rattle.serde_json.proofs.Views.{view-Array, view-Object}
 pub use Rattle.serde_json.specs.Data.{Data, Members, array, boolean, depth, items_depth, member, members_depth, no_members, number, object, put, string, unsigned}
 pub use Rattle.serde_json.specs.Events.{items_len}
@@ -74,6 +44,7 @@ pub use Rattle.std.proofs.lemmas.List.{length-map, map-append, take_more}
 pub use Rattle.std.proofs.lemmas.List.Elements.{All-cons, All-filter, All-head, All-map, All-nil, All-tail, filter-append}
 pub use Rattle.std.proofs.lemmas.List.Sums.{count_by-le-length, length-filter}
 pub use Rattle.std.proofs.lemmas.Nat.{mul-le}
+pub use Rattle.std.proofs.lemmas.Slice.Eq.{bytes_eq-Decides}
 pub use Rattle.std.proofs.lemmas.Str.{IsAscii-append, IsUtf8-from_ascii}
 pub use Rattle.std.proofs.lemmas.Str.Ascii.{IsAscii-cons, IsAscii-nil}
 pub use Rattle.std.specs.Cmp.Lexicographic.{slice_cmp}
@@ -82,4 +53,3 @@ pub use Rattle.std.specs.Option.{option_map, option_map_or}
 pub use Rattle.std.specs.Ordering.{is_eq, is_gt, match_ordering, nat_cmp}
 pub use Rattle.std.specs.Prelude.{All, filter, position, slice_get, ⊤, ◌==◌}
 pub use Rattle.std.specs.Str.{IsAscii, IsUtf8, bytes_eq}
-pub use Rattle.std.proofs.lemmas.Slice.Eq.{bytes_eq-Decides}

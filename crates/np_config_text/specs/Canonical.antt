@@ -1,32 +1,11 @@
 -- the one text of a configuration: compact JSON, keys in byte order, every default written except
 -- an empty list of tenants and a job's tenant `default`, an absent limit left absent (own)
-use Rattle.std.specs.Prelude.{ℕ, ◌+◌, ◌==◌, List, [], ◌∷◌, codes, length, map, filter, slice_get, Option, Some, None, if◌then◌else◌}
+use Rattle.std.specs.Prelude.{ℕ, ◌+◌, ◌==◌, List, [], ◌∷◌, codes, length, map, filter, slice_get, Option, Some, None, if◌then◌else◌, ◌++◌, false}
 use Rattle.std.specs.Option.{option_map, option_map_or}
-use Rattle.serde_json.specs.Data.{Data, boolean, string, array, object, Members, no_members, member}
+use Rattle.serde_json.specs.Data.{Data, boolean, string, array, object, Members, no_members, member, put}
 use Rattle.serde_json.specs.View.{items_of}
 use Rattle.serde_json.specs.Written.{compact_text}
-use Rattle.np_text.specs.declared.id.LabelId.{LabelId}
-use Rattle.np_text.specs.declared.id.SemId.{SemId}
-use Rattle.np_text.specs.declared.id.TenantId.{TenantId}
-use Rattle.np_text.specs.declared.id.PoolId.{PoolId}
-use Rattle.np_text.specs.declared.id.RequesterId.{RequesterId}
-use Rattle.np_text.specs.declared.id.Role.{Role}
-use Rattle.np_text.specs.Word.{end_as_word, role_kind_word}
-use Rattle.np_amount.specs.declared.amount.Limit.{Limit}
-use Rattle.np_config.specs.declared.row.Label.{Label}
-use Rattle.np_config.specs.declared.row.Provider.{Provider}
-use Rattle.np_config.specs.declared.row.Pool.{Pool}
-use Rattle.np_config.specs.declared.row.Offer.{Offer}
-use Rattle.np_config.specs.declared.row.Sem.{Sem}
-use Rattle.np_config.specs.declared.row.Tenant.{Tenant}
-use Rattle.np_config.specs.declared.row.Requester.{Requester}
-use Rattle.np_config.specs.declared.row.Job.{Job}
-use Rattle.np_config.specs.declared.row.Fault.{Fault}
-use Rattle.np_config.specs.Word.{fault_kind_word}
-use Rattle.np_config.specs.Configuration.{Configuration, tenant_of}
-use Rattle.np_config_read.specs.Names.{pool_name}
-use Rattle.np_config_read.specs.Defaults.{count}
-use Rattle.np_text.specs.declared.word.RoleKind.{RoleKind}
+use Rattle.np_config_text.specs.Lower.{Configuration, Fault, Janitor, Job, Label, LabelId, Limit, Offer, Pool, PoolId, Provider, Requester, RequesterId, Role, RoleKind, Sem, SemId, Stop, Tenant, TenantId, Used, count, end_as_word, fault_kind_word, json, pool_name, role_kind_word, tenant_of}
 
 -- a member that may be absent
 abbrev pub given : List ℕ → Option Data → Members → Members
@@ -161,3 +140,67 @@ configuration_data c = object (
 -- the text
 unfoldable pub canonical : Configuration → List ℕ
 canonical c = compact_text (configuration_data c)
+
+-- how the code puts members that may be absent; no definition of the text depends on this
+
+-- the members, with the value at a key if there is one
+abbrev pub put_given : List ℕ → Option Data → Members → Members
+put_given key None ms = ms
+put_given key (Some d) ms = put key d ms
+
+abbrev pub put_count : List ℕ → Option ℕ → Members → Members
+put_count key o ms = put_given key (option_map count o) ms
+
+abbrev pub put_limit : Limit → Members → Members
+put_limit l ms = put_count (codes "max-servers") l.instances (put_count (codes "max-ram") l.ram (put_count (codes "max-cores") l.cores ms))
+
+-- a text with every optional key absent, what it is read as, and its canonical text
+
+abbrev pub worked_text : List ℕ
+worked_text = json (
+    codes "{'labels':[{'name':'a'}],"
+    ++ codes "'providers':[{'name':'c','pools':[{'name':'m','labels':[{'name':'a'}]}]}],"
+    ++ codes "'semaphores':[{'name':'s'}],"
+    ++ codes "'requesters':[{'name':'z','jobs':[{'name':'j','labels':['a']}]}],"
+    ++ codes "'faults':[{'role':'janitor','name':'c/m','kind':'stop','after':3}]}")
+
+abbrev first_label : LabelId
+first_label = record { 0 = 0 }
+
+abbrev pub worked : Configuration
+worked = record {
+  labels = record { name = codes "a"; min_ready = 0; max_ready_age = 0 } ∷ [];
+  providers = record { name = codes "c"; retries = 3; concurrency = None } ∷ [];
+  pools = record {
+    provider = 0;
+    name = codes "m";
+    limit = record { instances = None; cores = None; ram = None };
+    offers = record { label = first_label; amount = record { instances = 1; cores = 1; ram = 1024 } } ∷ [];
+    fail_starts = [];
+  } ∷ [];
+  semaphores = record { name = codes "s"; max = 1 } ∷ [];
+  tenants = [];
+  requesters = record { name = codes "z"; window = 20 } ∷ [];
+  jobs = record {
+    requester = record { 0 = 0 };
+    name = codes "j";
+    labels = first_label ∷ [];
+    priority = 200;
+    relative_priority = 0;
+    semaphores = [];
+    resources_first = false;
+    end = Used;
+    tenant = record { 0 = 0 };
+  } ∷ [];
+  faults = record { role = Janitor (record { 0 = 0 }); kind = Stop; after = 3 } ∷ [];
+  max_hold_age = 0;
+}
+
+abbrev pub worked_canonical : List ℕ
+worked_canonical = json (
+    codes "{'faults':[{'after':3,'kind':'stop','name':'c/m','role':'janitor'}],"
+    ++ codes "'labels':[{'max-ready-age':0,'min-ready':0,'name':'a'}],"
+    ++ codes "'max-hold-age':0,"
+    ++ codes "'providers':[{'launch-retries':3,'name':'c','pools':[{'fail-starts':[],'labels':[{'cores':1,'name':'a','ram':1024}],'name':'m'}]}],"
+    ++ codes "'requesters':[{'jobs':[{'end':'used','labels':['a'],'name':'j','priority':'normal','relative-priority':0,'resources-first':false,'semaphores':[]}],'name':'z','window':20}],"
+    ++ codes "'semaphores':[{'max':1,'name':'s'}]}")

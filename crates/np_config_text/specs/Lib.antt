@@ -1,3 +1,2 @@
+pub mod Lower
 pub mod Canonical
-pub mod Put
-pub mod Worked

@@ -1,11 +1,8 @@
 //! The laws. Each function does nothing: its contract is the law.
 
 ghost use Rattle.std.specs.Prelude.{◌≡◌, ◌<◌, ◌^◌, Ok, length};
-ghost use Rattle.np_config.specs.Configuration.{Configuration};
-ghost use Rattle.np_config.specs.Sound.{IsSound};
-ghost use Rattle.np_config_read.specs.Walk.{reads};
-ghost use Rattle.np_config_text.specs.Canonical.{canonical};
-ghost use Rattle.np_config_text.specs.Worked.{worked, worked_text, worked_canonical};
+ghost use Rattle.np_config_text.specs.Lower.{Configuration, IsSound, reads};
+ghost use Rattle.np_config_text.specs.Canonical.{canonical, worked, worked_text, worked_canonical};
 
 /// A text with every optional key absent, what it is read as, and its canonical text.
 pub fn a_worked_text_is_read_and_printed()

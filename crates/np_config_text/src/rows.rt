@@ -3,8 +3,7 @@
 ghost use Rattle.std.specs.Prelude.{◌≡◌, ℕ};
 ghost use Rattle.std.specs.Str.{IsAscii};
 ghost use Rattle.serde_json.specs.Data.{Data, string};
-ghost use Rattle.np_config.specs.Configuration.{Configuration};
-ghost use Rattle.np_config_read.specs.Defaults.{count};
+ghost use Rattle.np_config_text.specs.Lower.{Configuration, count};
 ghost use Rattle.np_config_text.specs.Canonical.{label_data, label_name, semaphore_name, offer_data, pool_data, provider_data, semaphore_data, tenant_data, job_data, requester_data, fault_data};
 
 use crate::names::{

@@ -34,7 +34,7 @@ fn config_value(alloc: Global, config: &Config) -> Result<Value, AllocError>
 }
 
 ghost use Rattle.np_config_text.specs.Canonical.{canonical};
-ghost use Rattle.np_config_read.specs.Walk.{reads};
+ghost use Rattle.np_config_text.specs.Lower.{reads};
 
 /// The one text of the configuration: compact JSON, keys in byte order, every default written
 /// except an empty list of tenants and a job's tenant `default`. Reading it returns the same

@@ -5,9 +5,8 @@ ghost use Rattle.std.specs.Option.{option_map};
 ghost use Rattle.std.specs.Str.{IsAscii};
 ghost use Rattle.serde_json.specs.Data.{Data, string, array};
 ghost use Rattle.serde_json.specs.View.{view, items_of, members_view};
-ghost use Rattle.np_config.specs.Configuration.{Configuration};
-ghost use Rattle.np_config_text.specs.Canonical.{list_data, list_if_any, placed};
-ghost use Rattle.np_config_text.specs.Put.{put_given, put_count, put_limit};
+ghost use Rattle.np_config_text.specs.Lower.{Configuration};
+ghost use Rattle.np_config_text.specs.Canonical.{list_data, list_if_any, placed, put_given, put_count, put_limit};
 
 use np_amount::Limit;
 use np_config::Config;

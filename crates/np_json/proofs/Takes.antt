@@ -1,5 +1,5 @@
 -- what holds of what was read without a fault
-use Rattle.np_json.proofs.Prelude.{BadName, Bool, ConfigFault, Data, IfSome, Items, Length, List, None, Ok, Option, OutOfRange, ReadsItem, Repeated, Result, Some, TooMany, WrongType, ap, arith, as_array, as_number, as_u64, below, bind-ok, bytes_eq, codes, decimal, false, fault, found, get, in_range, is_name_text, item, items_from, items_len, list_any, list_at, list_maybe, list_required, list_value, name_at, named_at, nat_le, nat_tests, need, need-ok, new_name, no_items, not, not-true, object_at, of_length, option_and_then, option_map_or, required, rest-ok, subst, suc, sym, text_value, true, whole_maybe, whole_or, whole_required, whole_value, ℕ, ◌&&◌, ◌+◌, ◌>>=◌, ◌>>◌, ◌≡◌, ◌≤◌}
+use Rattle.np_json.proofs.Prelude.{BadName, Bool, ConfigFault, Data, IfSome, Items, Length, List, None, Ok, Option, OutOfRange, ReadsItem, Repeated, Result, Some, TooMany, WrongType, ap, arith, as_array, as_number, as_u64, below, bind-ok, bytes_eq, codes, decimal, false, fault, found, get, in_range, is_name_text, item, items_from, items_len, list_any, list_at, list_maybe, list_required, list_value, name_at, named_at, nat_le, nat_tests, need, need-ok, new_name, no_items, not, not-true, object_at, of_length, option_and_then, option_map_or, required, rest-ok, subst, suc, text_value, true, whole_maybe, whole_or, whole_required, whole_value, ℕ, ◌&&◌, ◌+◌, ◌>>=◌, ◌>>◌, ◌≡◌, ◌≤◌}
 
 abbrev pub ok : {A : Type 0} → A → Result A ConfigFault
 ok x = Ok x
@@ -9,19 +9,13 @@ same_ok x y e = cc
 
 -- ## Numbers
 
-in_range-takes : (at : List ℕ) (least most m n : ℕ) → in_range at least most m ≡ Ok n → (least ≤ n) × (n ≤ most)
-in_range-takes at least most m n e =
-    let t = need-ok (nat_le least m && nat_le m most) (fault OutOfRange at) (ok m) n e in
-    let same : m ≡ n = same_ok m n t.1 in
-    let test : (nat_le least m && nat_le m most) ≡ true = t.0 in
-    let low : least ≤ m = grind (arith, nat_tests) in
-    let high : m ≤ most = grind (arith, nat_tests) in
-    (omega arith, omega arith)
-
 pub whole_value-takes : (at : List ℕ) (least most : ℕ) (d : Data) (n : ℕ) → whole_value at least most d ≡ Ok n → (least ≤ n) × (n ≤ most)
 whole_value-takes at least most d n e =
     let t = bind-ok (found (option_and_then as_u64 (as_number d)) (fault WrongType at)) (in_range at least most) n e in
-    in_range-takes at least most t.0 n t.2
+    let r = need-ok (nat_le least t.0 && nat_le t.0 most) (fault OutOfRange at) (ok t.0) n t.2 in
+    let same : t.0 ≡ n = same_ok t.0 n r.1 in
+    let test : (nat_le least t.0 && nat_le t.0 most) ≡ true = r.0 in
+    (grind (arith, nat_tests), grind (arith, nat_tests))
 
 pub whole_required-takes : (at key : List ℕ) (least most : ℕ) (d : Data) (n : ℕ) → whole_required at key least most d ≡ Ok n → (least ≤ n) × (n ≤ most)
 unfolding whole_required
@@ -68,48 +62,43 @@ named_at-takes name keys at earlier d n e = name_at-takes name at earlier d n (r
 
 -- ## Lists
 
--- what each item keeps, the whole list keeps
-pub items_from-keeps : {S : Type 0} (read : ReadsItem S) (P : ℕ → S → Type 0) → ((at : List ℕ) (n : ℕ) (s t : S) (d : Data) → P n s → read at s d ≡ Ok t → P (n + 1) t)
-    → (at : List ℕ) (n m : ℕ) (s t : S) (ds : Items) → P m s → items_from read at n s ds ≡ Ok t → P (m + items_len ds) t
-unfolding items_from
-items_from-keeps {S} read P step at n m s t no_items so_far e =
-    let same : s ≡ t = same_ok s t e in
-    let none : m + 0 ≡ m = omega arith in
-    subst (λ (k : ℕ). P k t) (sym none) (subst (P m) same so_far)
-items_from-keeps {S} read P step at n m s t (item d ds) so_far e =
-    let x = bind-ok (read (below at (decimal n)) s d) (λ after. items_from read at (n + 1) after ds) t e in
-    let more : m + 1 + items_len ds ≡ m + suc (items_len ds) = omega arith in
-    subst (λ (k : ℕ). P k t) more (items_from-keeps read P step at (n + 1) (m + 1) x.0 t ds (step (below at (decimal n)) m s x.0 d so_far x.1) x.2)
+module _ {S : Type 0} (read : ReadsItem S) (P : ℕ → S → Type 0) (step : (at : List ℕ) (n : ℕ) (s t : S) (d : Data) → P n s → read at s d ≡ Ok t → P (n + 1) t) where
+  -- what each item keeps, the whole list keeps
+  items_from-keeps : (at : List ℕ) (n m : ℕ) (s t : S) (ds : Items) → P m s → items_from read at n s ds ≡ Ok t → P (m + items_len ds) t
+  unfolding items_from
+  items_from-keeps at n m s t no_items so_far e =
+      let same : s ≡ t = same_ok s t e in
+      let none : m + 0 ≡ m = omega arith in
+      rw (none, ← same) so_far
+  items_from-keeps at n m s t (item d ds) so_far e =
+      let x = bind-ok (read (below at (decimal n)) s d) (λ after. items_from read at (n + 1) after ds) t e in
+      let more : m + 1 + items_len ds ≡ m + suc (items_len ds) = omega arith in
+      subst (λ (k : ℕ). P k t) more (items_from-keeps at (n + 1) (m + 1) x.0 t ds (step (below at (decimal n)) m s x.0 d so_far x.1) x.2)
 
--- the number of items is within the limits, and what each item keeps holds after that many
-pub list_at-takes : {S : Type 0} (read : ReadsItem S) (P : ℕ → S → Type 0) → ((at : List ℕ) (n : ℕ) (s t : S) (d : Data) → P n s → read at s d ≡ Ok t → P (n + 1) t)
-    → (at : List ℕ) (l : Length) (s t : S) (d : Data) → P 0 s → list_at read at l s d ≡ Ok t → (n : ℕ) × (l.before + n ≤ l.most) × (l.least ≤ n) × P n t
-unfolding list_at
-list_at-takes {S} read P step at l s t d start e =
-    let v = bind-ok (list_value at l d) (items_from read at 0 s) t e in
-    let a = bind-ok (found (as_array d) (fault WrongType at)) (of_length at l) v.0 v.1 in
-    let most = need-ok (nat_le (l.before + items_len a.0) l.most) (fault TooMany at) (need (nat_le l.least (items_len a.0)) (fault OutOfRange at) >> ok a.0) v.0 a.2 in
-    let least = need-ok (nat_le l.least (items_len a.0)) (fault OutOfRange at) (ok a.0) v.0 most.1 in
-    let same : a.0 ≡ v.0 = same_ok a.0 v.0 least.1 in
-    let high : nat_le (l.before + items_len a.0) l.most ≡ true = most.0 in
-    let low : nat_le l.least (items_len a.0) ≡ true = least.0 in
-    let count : items_len a.0 ≡ items_len v.0 = ap items_len same in
-    let kept = items_from-keeps read P step at 0 0 s t v.0 start v.2 in
-    let zero_more : 0 + items_len v.0 ≡ items_len a.0 = omega arith in
-    (items_len a.0, grind (arith, nat_tests), grind (arith, nat_tests), subst (λ (k : ℕ). P k t) zero_more kept)
+  -- the number of items is within the limits, and what each item keeps holds after that many
+  list_at-takes : (at : List ℕ) (l : Length) (s t : S) (d : Data) → P 0 s → list_at read at l s d ≡ Ok t → (n : ℕ) × (l.before + n ≤ l.most) × (l.least ≤ n) × P n t
+  unfolding list_at
+  list_at-takes at l s t d start e =
+      let v = bind-ok (list_value at l d) (items_from read at 0 s) t e in
+      let a = bind-ok (found (as_array d) (fault WrongType at)) (of_length at l) v.0 v.1 in
+      let most = need-ok (nat_le (l.before + items_len a.0) l.most) (fault TooMany at) (need (nat_le l.least (items_len a.0)) (fault OutOfRange at) >> ok a.0) v.0 a.2 in
+      let least = need-ok (nat_le l.least (items_len a.0)) (fault OutOfRange at) (ok a.0) v.0 most.1 in
+      let same : a.0 ≡ v.0 = same_ok a.0 v.0 least.1 in
+      let high : nat_le (l.before + items_len a.0) l.most ≡ true = most.0 in
+      let low : nat_le l.least (items_len a.0) ≡ true = least.0 in
+      let count : 0 + items_len v.0 ≡ items_len a.0 = omega (arith, ap items_len same) in
+      (items_len a.0, grind (arith, nat_tests), grind (arith, nat_tests), subst (λ (k : ℕ). P k t) count (items_from-keeps at 0 0 s t v.0 start v.2))
 
-pub list_required-takes : {S : Type 0} (read : ReadsItem S) (P : ℕ → S → Type 0) → ((at : List ℕ) (n : ℕ) (s t : S) (d : Data) → P n s → read at s d ≡ Ok t → P (n + 1) t)
-    → (at key : List ℕ) (l : Length) (s t : S) (d : Data) → P 0 s → list_required read at key l s d ≡ Ok t → (n : ℕ) × (l.before + n ≤ l.most) × (l.least ≤ n) × P n t
-unfolding list_required
-list_required-takes {S} read P step at key l s t d start e =
-    let v = bind-ok (required at key d) (list_at read (below at key) l s) t e in
-    list_at-takes read P step (below at key) l s t v.0 start v.2
+  pub list_required-takes : (at key : List ℕ) (l : Length) (s t : S) (d : Data) → P 0 s → list_required read at key l s d ≡ Ok t → (n : ℕ) × (l.before + n ≤ l.most) × (l.least ≤ n) × P n t
+  unfolding list_required
+  list_required-takes at key l s t d start e =
+      let v = bind-ok (required at key d) (list_at read (below at key) l s) t e in
+      list_at-takes (below at key) l s t v.0 start v.2
 
-pub list_maybe-takes : {S : Type 0} (read : ReadsItem S) (P : ℕ → S → Type 0) → ((at : List ℕ) (n : ℕ) (s t : S) (d : Data) → P n s → read at s d ≡ Ok t → P (n + 1) t)
-    → (at key : List ℕ) (l : Length) (s t : S) (d : Data) → l.before ≤ l.most → l.least ≡ 0 → P 0 s → list_maybe read at key l s d ≡ Ok t → (n : ℕ) × (l.before + n ≤ l.most) × P n t
-unfolding list_maybe
-list_maybe-takes {S} read P step at key l s t d room none start e = by (get key d) e
-  where
-    by : (o : Option Data) → option_map_or (list_at read (below at key) l s) o (ok s) ≡ Ok t → (n : ℕ) × (l.before + n ≤ l.most) × P n t
-    by None e = (0, omega arith, subst (P 0) (same_ok s t e) start)
-    by (Some v) e = let r = list_at-takes read P step (below at key) l s t v start e in (r.0, r.1, r.3)
+  pub list_maybe-takes : (at key : List ℕ) (l : Length) (s t : S) (d : Data) → l.before ≤ l.most → l.least ≡ 0 → P 0 s → list_maybe read at key l s d ≡ Ok t → (n : ℕ) × (l.before + n ≤ l.most) × P n t
+  unfolding list_maybe
+  list_maybe-takes at key l s t d room none start e = by (get key d) e
+    where
+      by : (o : Option Data) → option_map_or (list_at read (below at key) l s) o (ok s) ≡ Ok t → (n : ℕ) × (l.before + n ≤ l.most) × P n t
+      by None e = (0, omega arith, subst (P 0) (same_ok s t e) start)
+      by (Some v) e = let r = list_at-takes (below at key) l s t v start e in (r.0, r.1, r.3)

@@ -77,6 +77,9 @@ pub enum ConfigRead {
     NoMemory,
 }
 
+/// What reading comes to: what was read, or why there is nothing.
+pub type Reading<T> = Result<T, ConfigRead>;
+
 impl From<AllocError> for ConfigRead {
     ghost from_gives = { λ _ e. e ≡ NoMemory };
 

@@ -7,7 +7,7 @@ ghost use Rattle.serde_json.specs.View.{view, members_view, items_view};
 ghost use Rattle.np_json.specs.Reading.{Gives, pointer_to};
 ghost use Rattle.np_json.specs.Leaf.{at_most, one_to, behind, only_keys, object_at, required, text_value, flag_value, whole_value, list_value};
 
-use crate::fault::{ConfigKind, ConfigRead, Place, fault_at, fault_in};
+use crate::fault::{ConfigKind, Place, Reading, fault_at, fault_in};
 use serde_json::{Map, Value};
 use std::alloc::Global;
 
@@ -36,7 +36,7 @@ fn has_only(members: &Map<String, Value>, keys: &[&str]) -> bool
 }
 
 /// Tests that the value is an object, and has no keys except these.
-pub fn object(alloc: Global, at: &[u8], keys: &[&str], value: &Value) -> Result<(), ConfigRead>
+pub fn object(alloc: Global, at: &[u8], keys: &[&str], value: &Value) -> Reading<()>
     ensures { Gives (λ done. done) result
         (object_at at.now (map (λ k. k.now) keys.now) (view value.now)) }
 {
@@ -50,12 +50,7 @@ pub fn object(alloc: Global, at: &[u8], keys: &[&str], value: &Value) -> Result<
 }
 
 /// The member with this key, which must be there.
-pub fn required<'a>(
-    alloc: Global,
-    at: &[u8],
-    key: &str,
-    value: &'a Value,
-) -> Result<&'a Value, ConfigRead>
+pub fn required<'a>(alloc: Global, at: &[u8], key: &str, value: &'a Value) -> Reading<&'a Value>
     ensures { Gives (λ v. view v.now) result (required at.now key.now (view value.now)) }
 {
     let Some(member) = value.get(key) else {
@@ -65,7 +60,7 @@ pub fn required<'a>(
 }
 
 /// A text.
-pub fn text_of<'a>(alloc: Global, place: Place<'_>, value: &'a Value) -> Result<&'a str, ConfigRead>
+pub fn text_of<'a>(alloc: Global, place: Place<'_>, value: &'a Value) -> Reading<&'a str>
     ensures { Gives (λ t. t.now) result (text_value (pointer_to place.entry) (view value.now)) }
 {
     let Some(text) = value.as_str() else {
@@ -75,7 +70,7 @@ pub fn text_of<'a>(alloc: Global, place: Place<'_>, value: &'a Value) -> Result<
 }
 
 /// `true` or `false`.
-pub fn flag_of(alloc: Global, place: Place<'_>, value: &Value) -> Result<bool, ConfigRead>
+pub fn flag_of(alloc: Global, place: Place<'_>, value: &Value) -> Reading<bool>
     ensures { Gives (λ b. b) result (flag_value (pointer_to place.entry) (view value.now)) }
 {
     let Some(flag) = value.as_bool() else {
@@ -91,7 +86,7 @@ pub fn whole_of(
     least: u32,
     most: u32,
     value: &Value,
-) -> Result<u32, ConfigRead>
+) -> Reading<u32>
     ensures gives { Gives (λ n. n) result
         (whole_value (pointer_to place.entry) least most (view value.now)) }
     ensures least { IfOk result (λ n. least ≤ n) }
@@ -144,8 +139,7 @@ impl Length {
     {
         Length {
             before: earlier,
-            least: self.least,
-            most: self.most,
+            ..self
         }
     }
 }
@@ -159,7 +153,7 @@ pub fn list_of<'a>(
     place: Place<'_>,
     length: Length,
     value: &'a Value,
-) -> Result<&'a Vec<Value>, ConfigRead>
+) -> Reading<&'a Vec<Value>>
     ensures gives { Gives (λ v. items_view v.now.items) result
         (list_value (pointer_to place.entry) length (view value.now)) }
     ensures most { IfOk result (λ v. length.before + vec_len v.now ≤ length.most) }

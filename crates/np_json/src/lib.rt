@@ -12,7 +12,7 @@ mod member;
 mod named;
 mod numbered;
 
-pub use fault::{ConfigFault, ConfigKind, ConfigRead, Place, Pointer, fault_at, fault_in};
+pub use fault::{ConfigFault, ConfigKind, ConfigRead, Place, Pointer, Reading, fault_at, fault_in};
 pub use leaf::{Length, flag_of, list_of, object, required, text_of, whole_of};
 pub use list::{Rows, rows_maybe, rows_of, rows_required};
 pub use member::{flag, whole, whole_maybe, whole_required};

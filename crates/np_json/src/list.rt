@@ -7,7 +7,7 @@ ghost use Rattle.np_json.specs.declared.fault.ConfigFault.{ConfigFault};
 ghost use Rattle.np_json.specs.Reading.{Gives, Leaves, pointer_to};
 ghost use Rattle.np_json.specs.Rows.{items_from, list_at, list_required, list_maybe};
 
-use crate::fault::{ConfigRead, Place};
+use crate::fault::{Place, Reading};
 use crate::leaf::{Length, list_of, required};
 use serde_json::Value;
 use std::alloc::Global;
@@ -20,13 +20,7 @@ pub trait Rows<C>: Drop {
     ghost count: { Self → ℕ };
 
     /// Reads one more row.
-    fn read(
-        &mut self,
-        alloc: Global,
-        context: &C,
-        place: Place<'_>,
-        value: &Value,
-    ) -> Result<(), ConfigRead>
+    fn read(&mut self, alloc: Global, context: &C, place: Place<'_>, value: &Value) -> Reading<()>
         requires { count self.old + 1 < 2 ^ 16 }
         ensures read { Leaves result self.new
             (reads context.now (pointer_to place.entry) self.old (view value.now)) }
@@ -40,7 +34,7 @@ pub fn rows_of<C, R: Rows<C>>(
     at: &[u8],
     values: &[Value],
     mut rows: R,
-) -> Result<R, ConfigRead>
+) -> Reading<R>
     requires { R.count rows + length values.now < 2 ^ 16 }
     ensures gives { Gives (λ r. r) result
         (items_from (R.reads context.now) at.now 0 rows (items_view values.now)) }
@@ -61,7 +55,7 @@ fn list_rows<C, R: Rows<C>>(
     length: Length,
     value: &Value,
     start: R,
-) -> Result<R, ConfigRead>
+) -> Reading<R>
     requires empty { R.count start ≡ 0 }
     requires small { length.most < 2 ^ 16 }
     ensures { Gives (λ r. r) result
@@ -82,21 +76,15 @@ pub fn rows_required<C, R: Rows<C>>(
     length: Length,
     value: &Value,
     start: R,
-) -> Result<R, ConfigRead>
+) -> Reading<R>
     requires empty { R.count start ≡ 0 }
     requires small { length.most < 2 ^ 16 }
     ensures { Gives (λ r. r) result
         (list_required (R.reads context.now) at.now key.now length start (view value.now)) }
 {
     let member = required(alloc, at, key, value)?;
-    list_rows(
-        alloc,
-        context,
-        Place::Member(at, key),
-        length,
-        member,
-        start,
-    )
+    let place = Place::Member(at, key);
+    list_rows(alloc, context, place, length, member, start)
 }
 
 /// The rows of a list, or none if it is absent.
@@ -109,7 +97,7 @@ pub fn rows_maybe<C, R: Rows<C>>(
     length: Length,
     value: &Value,
     start: R,
-) -> Result<R, ConfigRead>
+) -> Reading<R>
     requires empty { R.count start ≡ 0 }
     requires small { length.most < 2 ^ 16 }
     ensures { Gives (λ r. r) result
@@ -118,12 +106,6 @@ pub fn rows_maybe<C, R: Rows<C>>(
     let Some(member) = value.get(key) else {
         return Ok(start);
     };
-    list_rows(
-        alloc,
-        context,
-        Place::Member(at, key),
-        length,
-        member,
-        start,
-    )
+    let place = Place::Member(at, key);
+    list_rows(alloc, context, place, length, member, start)
 }

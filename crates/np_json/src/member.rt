@@ -5,7 +5,7 @@ ghost use Rattle.serde_json.specs.View.{view};
 ghost use Rattle.np_json.specs.Reading.{Gives};
 ghost use Rattle.np_json.specs.Leaf.{whole_required, whole_or, whole_maybe, flag_or};
 
-use crate::fault::{ConfigRead, Place};
+use crate::fault::{Place, Reading};
 use crate::leaf::{flag_of, required, whole_of};
 use serde_json::Value;
 use std::alloc::Global;
@@ -19,7 +19,7 @@ pub fn whole_required(
     least: u32,
     most: u32,
     value: &Value,
-) -> Result<u32, ConfigRead>
+) -> Reading<u32>
     ensures gives { Gives (λ n. n) result
         (whole_required at.now key.now least most (view value.now)) }
     ensures most { IfOk result (λ n. n ≤ most) }
@@ -37,7 +37,7 @@ pub fn whole(
     most: u32,
     absent: u32,
     value: &Value,
-) -> Result<u32, ConfigRead>
+) -> Reading<u32>
     requires { absent ≤ most }
     ensures gives { Gives (λ n. n) result
         (whole_or at.now key.now least most absent (view value.now)) }
@@ -57,24 +57,17 @@ pub fn whole_maybe(
     least: u32,
     most: u32,
     value: &Value,
-) -> Result<Option<u32>, ConfigRead>
+) -> Reading<Option<u32>>
     ensures { Gives (λ n. n) result (whole_maybe at.now key.now least most (view value.now)) }
 {
     let Some(member) = value.get(key) else {
         return Ok(None);
     };
-    let number = whole_of(alloc, Place::Member(at, key), least, most, member)?;
-    Ok(Some(number))
+    Ok(Some(whole_of(alloc, Place::Member(at, key), least, most, member)?))
 }
 
 /// `true` or `false`, or its default if it is absent.
-pub fn flag(
-    alloc: Global,
-    at: &[u8],
-    key: &str,
-    absent: bool,
-    value: &Value,
-) -> Result<bool, ConfigRead>
+pub fn flag(alloc: Global, at: &[u8], key: &str, absent: bool, value: &Value) -> Reading<bool>
     ensures { Gives (λ b. b) result (flag_or at.now key.now absent (view value.now)) }
 {
     let Some(member) = value.get(key) else {

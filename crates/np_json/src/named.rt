@@ -105,7 +105,7 @@ ghost use Rattle.serde_json.specs.View.{view};
 ghost use Rattle.np_json.specs.Reading.{Gives, pointer_to};
 ghost use Rattle.np_json.specs.Leaf.{new_name, name_at, named_at};
 
-use crate::fault::{ConfigKind, ConfigRead, Place, fault_in};
+use crate::fault::{ConfigKind, Place, Reading, fault_in};
 use crate::leaf::{object, required, text_of};
 use np_text::is_name;
 use serde_json::Value;
@@ -116,7 +116,7 @@ fn new_name<T: Named>(
     place: Place<'_>,
     earlier: &Table<T>,
     text: &[u8],
-) -> Result<Vec<u8>, ConfigRead>
+) -> Reading<Vec<u8>>
     ensures gives { Gives (λ n. n.items) result
         (new_name T.name (pointer_to place.entry) earlier.now text.now) }
     ensures fresh { IfOk result
@@ -133,12 +133,7 @@ fn new_name<T: Named>(
 
 /// The name of a row, which none of the earlier ones has.
 #[tactic(auto, using(crate::proofs::Binds::exits), unfolding(crate::specs::Leaf::name_at))]
-fn name<T: Named>(
-    alloc: Global,
-    at: &[u8],
-    earlier: &Table<T>,
-    value: &Value,
-) -> Result<Vec<u8>, ConfigRead>
+fn name<T: Named>(alloc: Global, at: &[u8], earlier: &Table<T>, value: &Value) -> Reading<Vec<u8>>
     ensures gives { Gives (λ n. n.items) result
         (name_at T.name at.now earlier.now (view value.now)) }
     ensures fresh { IfOk result
@@ -166,7 +161,7 @@ pub fn named_row<T: Named>(
     keys: &[&str],
     earlier: &Table<T>,
     value: &Value,
-) -> Result<NamedRow, ConfigRead>
+) -> Reading<NamedRow>
     ensures gives { Gives (λ r. r.name) result (named_at T.name (map (λ k. k.now) keys.now)
         (pointer_to place.entry) earlier.now (view value.now)) }
     ensures at { IfOk result (λ r. r.at.items ≡ pointer_to place.entry) }
@@ -175,7 +170,6 @@ pub fn named_row<T: Named>(
 {
     let at = place.pointer(alloc)?;
     object(alloc, at.as_slice(), keys, value)?;
-    let name = name(alloc, at.as_slice(), earlier, value)?;
-    let name = Name::new(name);
+    let name = Name::new(name(alloc, at.as_slice(), earlier, value)?);
     Ok(NamedRow { at, name })
 }

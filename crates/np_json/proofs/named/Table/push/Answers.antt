@@ -1,5 +1,5 @@
-use Rattle.np_json.proofs.Prelude.{ap, arith, bytes_eq, false, length, length-append, list_any, map, map-append, sym, ◌+◌, ◌∙◌, ◌≡◌}
-use Rattle.np_json.proofs.Lists.{list_any-map}
+use Rattle.np_json.proofs.Prelude.{ap, arith, bytes_eq, false, length, length-append, list_any, map, map-append, ◌+◌, ◌∙◌, ◌≡◌}
+use Rattle.np_json.proofs.Lists.{list_any-same}
 use Rattle.np_json.proofs.named.Table.push.Goals as goal
 
 pub invariant_of-self-2 : goal.invariant_of-self-2
@@ -8,8 +8,7 @@ invariant_of-self-2 g c =
     let keys = c.self.inside.names.keys in
     let is : c.in_ok-name.name.items ≡ name = c.in_ok-name.ensures.items ∙ c.name.ensures in
     let fresh : list_any (λ k. bytes_eq c.in_ok-name.name.items k.items) keys ≡ false =
-    ap (λ n. list_any (λ k. bytes_eq n k.items) keys) is ∙ sym (list_any-map (bytes_eq name) (λ k. k.items) keys) ∙ ap (list_any (bytes_eq name)) c.self.invariant.0
-    ∙ list_any-map (bytes_eq name) g.T.Named.name c.self.inside.rows.items ∙ ap (list_any (λ row. bytes_eq name (g.T.Named.name row))) c.self.view_is ∙ c.requires.new in
+    ap (λ n. list_any (λ k. bytes_eq n k.items) keys) is ∙ list_any-same (bytes_eq name) (λ k. k.items) g.T.Named.name _ _ _ c.self.invariant.0 c.self.view_is ∙ c.requires.new in
     let named : map (λ k. k.items) c.insert.new.self.keys ≡ map g.T.Named.name c.push.new.self.items =
     rw (c.in_ok-insert.ensures.keys, c.in_ok-push.ensures.items, c.in_ok-reserve.ensures.items, fresh, map-append, map-append, c.self.invariant.0, is) in
     let longer : length c.push.new.self.items ≡ length c.self.inside.rows.items + 1 =
