@@ -349,3 +349,5 @@ plan-goes c s (Event.Withdraw session j) old ok = grind (arith, nat_tests)
 plan-goes c s (Event.Gone session n) old ok = grind (arith, nat_tests)
 plan-goes c s (Event.Reset session r) old ok = grind (arith, nat_tests)
 plan-goes c s e old ok = calm s e _ refl (grind (arith, nat_tests)) (grind (arith, nat_tests))
+
+pub ruleset planning = (plan-next)

@@ -12,23 +12,14 @@ none-unless x0 never = grind (arith, nat_tests)
 
 -- ## ids
 
-abbrev pool_of : ℕ → PoolId
-pool_of number = record { 0 = number }
-
-abbrev label_of : ℕ → LabelId
-label_of number = record { 0 = number }
-
-abbrev semaphore_of : ℕ → SemId
-semaphore_of number = record { 0 = number }
-
 pub same_pool : (a b : PoolId) → (a.0 == b.0) ≡ true → a ≡ b
-same_pool a b same = ap pool_of (eqb-true a.0 b.0 same)
+same_pool a b same = ap (λ (n : ℕ). record { 0 = n }) (eqb-true a.0 b.0 same)
 
 pub same_label : (a b : LabelId) → (a.0 == b.0) ≡ true → a ≡ b
-same_label a b same = ap label_of (eqb-true a.0 b.0 same)
+same_label a b same = ap (λ (n : ℕ). record { 0 = n }) (eqb-true a.0 b.0 same)
 
 pub same_semaphore : (a b : SemId) → a.0 ≡ b.0 → a ≡ b
-same_semaphore a b same = ap semaphore_of same
+same_semaphore a b same = ap (λ (n : ℕ). record { 0 = n }) same
 
 -- ## rows
 
@@ -42,12 +33,6 @@ pub kept-is : {X Y : Type 0} (kept : X → Y) (o : Option X) (k : Y) (e : X) →
 kept-is kept o k e has is = grind (arith, nat_tests)
 
 -- # the next numbers of requests and nodes: none has them, and each is below them
-
-pub below-later : (n next later : ℕ) → n ≡ next → later ≡ next + 1 → n < later
-below-later n next later is after = omega arith
-
-pub at-least : (n next : ℕ) → n ≡ next → next ≤ n
-at-least n next is = omega arith
 
 pub same-seq : (a b : RequestId) → same_request a b ≡ true → a.seq ≤ b.seq
 same-seq a b same = let is : a.seq ≡ b.seq = ap (λ (x : RequestId). x.seq) (request-equal a b same) in omega arith

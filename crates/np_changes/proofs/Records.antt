@@ -158,3 +158,5 @@ kept-Runs c journal s runs = record {
 
 pub kept-every_step : (c : Configuration) (journal : List Entry) (s : State) → Runs c journal s → AfterEveryStep (Kept c) journal
 kept-every_step c journal s runs before rest splits = kept-Runs c before (after c before) (Runs-prefix c before rest s (subst (λ (j : List Entry). Runs c j s) splits runs))
+
+pub ruleset keeping = (kept-Runs, kept-every_step)

@@ -1,7 +1,7 @@
 -- each request is as its state says, and its nodes are kept for it
-use Rattle.np_changes.proofs.Prelude.{list_any-append, Bool, IsGiven, IsServed, LabelId, List, NodeEntry, NodeId, None, Option, OwnsItsLabels, PoolId, RequestId, RequestRecord, RequestState, SessionId, Some, State, [], ap, arith, cond, false, is_filled, is_pool, length, nat_tests, node_entry, none-some, refl, same_Some, slice_get, suc, sym, true, unfilled, zero, ℕ, ◌∙◌, ◌∷◌, ◌≡◌, ◌≤◌, AllByRecursion, DistinctNodes, all-weaker, inl, inr, length-append, list_any, list_any-none, ne_eqb, option_map, slice_get_within, ◌++◌, ◌<◌, ◌==◌, ◌||◌, ◌⊎◌, NodeRecord, NodeState, Rises, TenantId, all_freed, all_in_use, allocated, both_ways, change_first, freed, is_building, is_deleting, is_ready, is_request, nat_lt, node_in, put_node, remove_node, same_request, subst, Changes, Configuration, EndsNode, Frees, GivesUp, Reports, Starts, request_in, IsAtRest, IsFor, RequestsStand, StandsIn, all-at, all-push, false_from_ne_true, is_fulfilled, is_pending, is_requested, lt_of_lt_of_le, member-there, next_label, request-equal, with_node, Asked, AsksForJob, AsksToKeep, EditPremise, EmptiesRequest, Gains, GoesFulfilled, GoesWithdrawn, Growth, GrowthPremise, Invariant, IsMade, IsTaken, Launcher, Maker, NodesChange, NodesPremise, Premises, RequestEdit, RequestEntry, RequestsChange, RequestsPremise, TakesOver, above-apart, and_parts, by_maker, changed, edited, eq-eqb, grown, new_node, new_record, next_id, nodes_changed, request-itself, tenant_of_request, GainsNew, PutsNode, RunsWhileBuilding, AllocationsListed, IsNumbered, is_id_before, left, request_queue, requests_changed}
+use Rattle.np_changes.proofs.Prelude.{◌+◌, list_any-append, Bool, IsGiven, IsServed, LabelId, List, NodeEntry, NodeId, None, Option, OwnsItsLabels, PoolId, RequestId, RequestRecord, RequestState, SessionId, Some, State, [], ap, arith, cond, false, is_filled, is_pool, length, nat_tests, node_entry, none-some, refl, same_Some, slice_get, suc, sym, true, unfilled, zero, ℕ, ◌∙◌, ◌∷◌, ◌≡◌, ◌≤◌, AllByRecursion, DistinctNodes, all-weaker, inl, inr, length-append, list_any, list_any-none, ne_eqb, option_map, slice_get_within, ◌++◌, ◌<◌, ◌==◌, ◌||◌, ◌⊎◌, NodeRecord, NodeState, Rises, TenantId, all_freed, all_in_use, allocated, both_ways, change_first, freed, is_building, is_deleting, is_ready, is_request, nat_lt, node_in, put_node, remove_node, same_request, subst, Changes, Configuration, EndsNode, Frees, GivesUp, Reports, Starts, request_in, IsAtRest, IsFor, RequestsStand, StandsIn, all-at, all-push, false_from_ne_true, is_fulfilled, is_pending, is_requested, lt_of_lt_of_le, member-there, next_label, request-equal, with_node, Asked, AsksForJob, AsksToKeep, EditPremise, EmptiesRequest, Gains, GoesFulfilled, GoesWithdrawn, Growth, GrowthPremise, Invariant, IsMade, IsTaken, Launcher, Maker, NodesChange, NodesPremise, Premises, RequestEdit, RequestEntry, RequestsChange, RequestsPremise, TakesOver, above-apart, and_parts, by_maker, changed, edited, eq-eqb, grown, new_node, new_record, next_id, nodes_changed, request-itself, tenant_of_request, GainsNew, PutsNode, RunsWhileBuilding, AllocationsListed, IsNumbered, is_id_before, left, request_queue, requests_changed}
 use Rattle.np_lists.proofs.Plain.{by_bool}
-use Rattle.np_changes.proofs.Lookups.{Added, Altered, IsAllocated, IsCalm, IsFreed, IsPut, IsUsed, NoNode, NoRequest, NodeChange, NodeStep, Removed, Stays, at-least, below-later, calm-request, found-grown, grown-node, grown-numbered, grown-request, leave-node, left-node, left-request, next-after, next-grown, next-more, node-step, node_in-allocated, node_in-below, node_in-freed, node_in-in_use, node_in-later, node_in-new, node_in-other, node_in-put, node_in-remove, node_in-removed, nodes-after, request_in-below, request_in-edit, request_in-insert, request_in-later, request_in-new, request_in-queue, request_in-remove, request_in-removed, requests-after, same-seq, same_node-is}
+use Rattle.np_changes.proofs.Lookups.{Added, Altered, IsAllocated, IsCalm, IsFreed, IsPut, IsUsed, NoNode, NoRequest, NodeChange, NodeStep, Removed, Stays, calm-request, found-grown, grown-node, grown-numbered, grown-request, leave-node, left-node, left-request, next-after, next-grown, next-more, node-step, node_in-allocated, node_in-below, node_in-freed, node_in-in_use, node_in-later, node_in-new, node_in-other, node_in-put, node_in-remove, node_in-removed, nodes-after, request_in-below, request_in-edit, request_in-insert, request_in-later, request_in-new, request_in-queue, request_in-remove, request_in-removed, requests-after, same-seq, same_node-is}
 
 -- # a request with every place filled owns its labels
 
@@ -369,11 +369,12 @@ module _ (c : Configuration) (s : State) (ch : Changes) (inv : Invariant c s) wh
       let new = new_node c s r gains.pool gains.request gains.label in
       let late : n.0 ≡ s.next_node = ap (λ (x : NodeId). x.0) made.number in
       let looks : (m : NodeId) → node_in m (changed c ch s).nodes ≡ node_in m (s.nodes ++ new_entry ch.maker s new ∷ []) = nodes-after c s ch ch.maker (Growth.Node new) NodesChange.Same refl made.grows same in
-      let found : node_in n (changed c ch s).nodes ≡ Some new = looks n ∙ node_in-new (new_entry ch.maker s new) n s.nodes (eq-eqb s.next_node n.0 (sym late)) (node_in-later n s.next_node s.nodes below (at-least n.0 s.next_node late)) in
+      let found : node_in n (changed c ch s).nodes ≡ Some new = looks n ∙ node_in-new (new_entry ch.maker s new) n s.nodes (eq-eqb s.next_node n.0 (sym late)) (node_in-later n s.next_node s.nodes below (omega arith)) in
+      let grew : (changed c ch s).next_node ≡ s.next_node + 1 = next-after c s ch ch.maker (Growth.Node new) refl made.grows in
       gain-stand r n gains (Growth.Node new) tt made.grows
       (λ x m low. subst (λ (o : Option NodeRecord). KeptAt x (node_in m s.nodes) o) (sym (looks m)) (kept-push x s.nodes m (new_entry ch.maker s new) (above-apart s.next_node m.0 low)))
       (next-unlisted s.next_node n gains.request.nodes late (gaining-served r n gains).below)
-      (below-later n.0 s.next_node (changed c ch s).next_node late (next-after c s ch ch.maker (Growth.Node new) refl made.grows))
+      (omega arith)
       (λ node is. subst (λ (x : NodeRecord). IsFor r (gaining-served r n gains).pool gains.label x) (same_Some new node (sym found ∙ is)) (record { allocated = request-itself r; of_pool = gaining-pool r n gains; of_label = refl }))
 
   edits-stand : (r : RequestId) (e : RequestEdit) → ch.requests ≡ RequestsChange.Edit r e → EditPremise c s ch r e → RequestsStand (changed c ch s)

@@ -339,3 +339,8 @@ fenced-Runs c journal s runs = fenced-from c (start c) journal (invariant-start 
 
 pub fenced-every_step : (c : Configuration) (journal : List Entry) (s : State) → Runs c journal s → AfterEveryStep (Fenced c) journal
 fenced-every_step c journal s runs before rest splits = fenced-Runs c before (after c before) (Runs-prefix c before rest s (subst (λ (j : List Entry). Runs c j s) splits runs))
+
+-- the laws, for the functions that say them
+pub ruleset holding = (node-holder, request-holder, fulfilled-Runs)
+
+pub ruleset over_journals = (caused-Runs, caused-every_step, fenced-Runs, fenced-every_step)

@@ -1,7 +1,7 @@
 -- a request's record without its declines
 use Rattle.std.specs.Prelude.{[]}
-use Rattle.np_record.specs.declared.record.RequestRecord.{RequestRecord}
 use Rattle.np_changes.specs.declared.asked.Asked.{Asked}
+use Rattle.np_changes.specs.Lower.{RequestRecord}
 
 -- the record, except for its declines
 abbrev pub asked_of : RequestRecord → Asked

@@ -1,8 +1,5 @@
 -- what a change does to the state: a line for each way of changing
 use Rattle.std.specs.Prelude.{ℕ, ◌+◌, List, [], ◌∷◌, ◌++◌, true, false, ◌==◌, not, if◌then◌else◌, Option, Some, None, filter, map, slice_get}
-use Rattle.np_machine.specs.Prelude.{Configuration, JobId, JobRecord, Launcher, NodeEntry, RequestEntry, RequestRecord, Role, RoleRecord, SemId, SessionId, State, all_freed, all_in_use, all_with_handle, all_without_handle, allocated, change_at, change_first, change_janitor, change_launcher, change_requester, change_session, declined_with, ended, insert_request, is_session, joined, left, muted, next_id, node_left, node_queue, one_more_act, one_more_start, option_map_or, put_job, put_node, put_node_queue, put_request_queue, registers, remove_node, remove_request, request_left, request_queue, same_request, struck_unless, with_mark, with_node, with_pair}
-use Rattle.np_machine.specs.declared.state.SessionFacts.{SessionFacts}
-use Rattle.np_machine.specs.declared.state.Registration.{Registration}
 use Rattle.np_changes.specs.Asked.{new_record}
 use Rattle.np_changes.specs.declared.changes.Maker.{Maker}
 use Rattle.np_changes.specs.declared.changes.Changes.{Changes}
@@ -14,7 +11,7 @@ use Rattle.np_changes.specs.declared.changes.JobsChange.{JobsChange}
 use Rattle.np_changes.specs.declared.changes.HandlesChange.{HandlesChange}
 use Rattle.np_changes.specs.declared.changes.Deed.{Deed}
 use Rattle.np_changes.specs.declared.changes.SessionsChange.{SessionsChange}
-use Rattle.np_text.specs.declared.word.RequestState.{RequestState}
+use Rattle.np_changes.specs.Lower.{Configuration, JobId, JobRecord, Launcher, NodeEntry, Registration, RequestEntry, RequestRecord, RequestState, Role, RoleRecord, SemId, SessionFacts, SessionId, State, all_freed, all_in_use, all_with_handle, all_without_handle, allocated, change_at, change_first, change_janitor, change_launcher, change_requester, change_session, declined_with, ended, insert_request, is_session, joined, left, muted, next_id, node_left, node_queue, one_more_act, one_more_start, option_map_or, put_job, put_node, put_node_queue, put_request_queue, registers, remove_node, remove_request, request_left, request_queue, same_request, struck_unless, with_mark, with_node, with_pair}
 
 -- the maker's session changes it; with no maker nothing changes
 abbrev pub by_maker : {A : Type 0} → Option Maker → (SessionId → A → A) → A → A

@@ -1,6 +1,6 @@
 -- the numbers of a state leave room for one more event, and its rows for one more member
 use Rattle.std.specs.Prelude.{◌≡◌, ◌<◌, ◌≤◌, ◌*◌, ◌==◌, ℕ, List, [], ◌∷◌, true, false, ◌&&◌, not, Some, length, slice_get}
-use Rattle.np_machine.specs.Prelude.{AllByRecursion, Amount, Configuration, Janitor, Job, JobId, JobRecord, LabelId, Launcher, NodeEntry, Offer, PoolId, RequestEntry, Requester, RequesterId, RoleRecord, SessionId, State, amount_of, is_building, is_declined_by, list_any, offers_of, ready_age, retries_of, role_of}
+use Rattle.np_changes.specs.Lower.{AllByRecursion, Amount, Configuration, Janitor, Job, JobId, JobRecord, LabelId, Launcher, NodeEntry, Offer, PoolId, RequestEntry, Requester, RequesterId, RoleRecord, SessionId, State, amount_of, is_building, is_declined_by, list_any, offers_of, ready_age, retries_of, role_of}
 
 -- no number exceeds the number of entries of a full journal
 abbrev pub most : ℕ

@@ -1,7 +1,7 @@
 -- who holds nodes and requests, by a journal and in the state that it leads to
 use Rattle.std.specs.Prelude.{◌≡◌, ◌<◌, true, false, List, is_some}
 use Rattle.np_changes.specs.Prelude.{Configuration, Entry, NodeId, RequestId, SessionId, State, is_session_of, node_holder, request_holder, request_in}
-use Rattle.np_machine.specs.LiveHolder.{IsLiveHolder, locks_from}
+use Rattle.np_changes.specs.Lower.{IsLiveHolder, locks_from}
 
 -- a session that holds a node by the journal is the first of its queue; a request that a session
 -- has locked by the journal was made before, and if it exists the session is the first of its queue

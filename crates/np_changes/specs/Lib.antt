@@ -1,3 +1,4 @@
+pub mod Lower
 pub mod Asked
 pub mod Readers
 pub mod Changes

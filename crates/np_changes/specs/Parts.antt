@@ -1,8 +1,7 @@
 -- what holds of every state that a run leads to, part by part
 use Rattle.std.specs.Prelude.{◌≡◌, ◌<◌, ◌≤◌, ℕ, ◌==◌, true, false, List, [], ◌∷◌, Some, None, is_some, is_none, length, slice_get, nat_lt}
 use Rattle.np_changes.specs.Prelude.{AllByRecursion, Configuration, JobId, JobRecord, LabelId, Launcher, NodeId, NodeRecord, Phase, PoolId, RequestId, RequestRecord, RequestState, Rises, SessionFacts, SessionId, State, is_building, is_failed_node, is_id_before, is_queued, is_request, list_any, node_in, request_in, retries_of, session_of}
-use Rattle.np_machine.specs.Safe.{WithinQuota, WithinMax, WithinTenantQuota, DistinctNodes, OwnsItsLabels}
-use Rattle.np_text.specs.declared.word.Ending.{Ending}
+use Rattle.np_changes.specs.Lower.{DistinctNodes, Ending, OwnsItsLabels, WithinMax, WithinQuota, WithinTenantQuota}
 
 -- ## numbers
 

@@ -1,21 +1,17 @@
 -- what each accepted event changes, as data
 use Rattle.std.specs.Prelude.{ℕ, [], ◌∷◌, ◌+◌, Bool, true, false, ◌||◌, if◌then◌else◌, Option, Some, None, Result, Ok, Err, is_some, map, slice_get}
-use Rattle.np_machine.specs.Prelude.{Configuration, EndAs, Event, Janitor, Job, JobId, JobRecord, LabelId, Launcher, NodeId, NodeRecord, Outcome, PoolId, Reason, Refusal, RequestId, RequestRecord, Requester, Role, SessionId, State, ended_as, ending_of, freed, is_wanted, janitor, launched, launcher, maker, next_id, next_label, node_in, request_in, request_of_job, requester, retries_of, session_of, starts_of, tenant_of_request, unended}
 use Rattle.np_changes.specs.Readers.{is_last_pool, owner_of}
 use Rattle.np_changes.specs.declared.asked.Asked.{Asked}
 use Rattle.np_changes.specs.declared.changes.Changes.{Changes}
 use Rattle.np_changes.specs.declared.changes.RequestsChange.{RequestsChange}
 use Rattle.np_changes.specs.declared.changes.NodesChange.{NodesChange}
 use Rattle.np_changes.specs.declared.changes.JobsChange.{JobsChange}
-use Rattle.np_text.specs.declared.word.Ending.{Ending}
-use Rattle.np_text.specs.declared.word.RequestState.{RequestState}
-use Rattle.np_text.specs.declared.word.NodeState.{NodeState}
-use Rattle.np_text.specs.declared.word.Phase.{Phase}
 use Rattle.np_changes.specs.declared.changes.Growth.{Growth}
 use Rattle.np_changes.specs.declared.changes.RequestEdit.{RequestEdit}
 use Rattle.np_changes.specs.declared.changes.HandlesChange.{HandlesChange}
 use Rattle.np_changes.specs.declared.changes.Deed.{Deed}
 use Rattle.np_changes.specs.declared.changes.SessionsChange.{SessionsChange}
+use Rattle.np_changes.specs.Lower.{Configuration, EndAs, Ending, Event, Janitor, Job, JobId, JobRecord, LabelId, Launcher, NodeId, NodeRecord, NodeState, Outcome, Phase, PoolId, Reason, Refusal, RequestId, RequestRecord, RequestState, Requester, Role, SessionId, State, ended_as, ending_of, freed, is_wanted, janitor, launched, launcher, maker, next_id, next_label, node_in, request_in, request_of_job, requester, retries_of, session_of, starts_of, tenant_of_request, unended}
 
 -- nothing at all
 abbrev pub same : Changes

@@ -1,8 +1,8 @@
 -- which changes a keeper of a state is given
 use Rattle.std.specs.Prelude.{◌≡◌, List, true, is_ok}
-use Rattle.np_machine.specs.Prelude.{Configuration, Entry, Event, Runs, State, judge}
 use Rattle.np_changes.specs.Plan.{plan}
 use Rattle.np_changes.specs.declared.changes.Changes.{Changes}
+use Rattle.np_changes.specs.Lower.{Configuration, Entry, Event, Runs, State, judge}
 
 -- a run of the configuration reaches the state
 pub record IsReached (c : Configuration) (s : State) : Type 0 where

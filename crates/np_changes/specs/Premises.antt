@@ -1,7 +1,5 @@
 -- what the tests of an accepted event have shown of each change that it makes: a line for each way of changing
 use Rattle.std.specs.Prelude.{◌≡◌, ◌⊎◌, ℕ, ◌+◌, Bool, true, false, ◌==◌, ◌&&◌, ◌||◌, not, Option, Some, None, is_some, length, map, slice_get}
-use Rattle.np_machine.specs.Prelude.{Configuration, EndAs, Job, JobId, JobRecord, LabelId, Launcher, NodeId, NodeRecord, Outcome, PoolId, Reason, RequestId, RequestRecord, Role, SessionId, State, blocking, ended_as, ending_of, first_full, first_unoffered, freed, is_asked, is_building, is_declined_by, is_deleting, is_finishable, is_fulfilled, is_in_use, is_new, is_offered, is_over, is_pending, is_pending_by, is_queued, is_ready, is_requested, is_role, is_session_of, is_short, is_true, launched, missing_handles, never_fits, next_id, next_label, node_holder, node_in, node_queue, registered, request_holder, request_in, retries_of, session_of, standing, tenant_never_fits, tenant_of_request, undeclined, unended, unfilled, unheld}
-use Rattle.np_machine.specs.declared.state.SessionFacts.{SessionFacts}
 use Rattle.np_changes.specs.Readers.{owner_of, is_last_pool}
 use Rattle.np_changes.specs.Plan.{asked_for, asked_to_keep, new_node, request_after_withdraw}
 use Rattle.np_changes.specs.declared.asked.Asked.{Asked}
@@ -14,9 +12,7 @@ use Rattle.np_changes.specs.declared.changes.NodesChange.{NodesChange}
 use Rattle.np_changes.specs.declared.changes.JobsChange.{JobsChange}
 use Rattle.np_changes.specs.declared.changes.HandlesChange.{HandlesChange}
 use Rattle.np_changes.specs.declared.changes.SessionsChange.{SessionsChange}
-use Rattle.np_text.specs.declared.word.Ending.{Ending}
-use Rattle.np_text.specs.declared.word.NodeState.{NodeState}
-use Rattle.np_text.specs.declared.word.Phase.{Phase}
+use Rattle.np_changes.specs.Lower.{Configuration, EndAs, Ending, Job, JobId, JobRecord, LabelId, Launcher, NodeId, NodeRecord, NodeState, Outcome, Phase, PoolId, Reason, RequestId, RequestRecord, Role, SessionFacts, SessionId, State, blocking, ended_as, ending_of, first_full, first_unoffered, freed, is_asked, is_building, is_declined_by, is_deleting, is_finishable, is_fulfilled, is_in_use, is_new, is_offered, is_over, is_pending, is_pending_by, is_queued, is_ready, is_requested, is_role, is_session_of, is_short, is_true, launched, missing_handles, never_fits, next_id, next_label, node_holder, node_in, node_queue, registered, request_holder, request_in, retries_of, session_of, standing, tenant_never_fits, tenant_of_request, undeclined, unended, unfilled, unheld}
 
 -- ## who makes the event
 

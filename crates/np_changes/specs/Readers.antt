@@ -1,7 +1,6 @@
 -- what a plan reads of a state beyond the machine's own words
 use Rattle.std.specs.Prelude.{List, Bool, ◌==◌, ◌||◌, Option}
-use Rattle.np_machine.specs.Prelude.{JobId, JobRecord, NodeId, PoolId, RequestRecord, is_declined_by, is_marked, list_all, option_map, position}
-use Rattle.np_machine.specs.declared.state.Registration.{Registration}
+use Rattle.np_changes.specs.Lower.{JobId, JobRecord, NodeId, PoolId, Registration, RequestRecord, is_declined_by, is_marked, list_all, option_map, position}
 
 -- every registered pool has declined the request, or is this one
 abbrev pub is_last_pool : List Registration → RequestRecord → PoolId → Bool

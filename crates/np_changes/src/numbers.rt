@@ -1,7 +1,7 @@
 //! The laws. Each function does nothing: its contract is the law.
 
 ghost use Rattle.std.specs.Prelude.{List};
-ghost use Rattle.np_machine.specs.Prelude.{Configuration, Entry, IsSound, Runs, State};
+ghost use Rattle.np_changes.specs.Lower.{Configuration, Entry, IsSound, Runs, State};
 ghost use Rattle.np_changes.specs.Fits.{Fits, IsFitSite};
 
 /// The numbers of every state that a run leads to fit.
@@ -11,6 +11,7 @@ pub fn the_numbers_of_every_run_fit()
 {}
 
 /// A sound configuration bounds all numbers of a run.
+#[tactic(auto, using(crate::proofs::Shapes::sound_fits))]
 pub fn a_sound_configuration_is_a_fit_site()
     ensures { (c : Configuration) → IsSound c → IsFitSite c }
 {}

@@ -2,9 +2,7 @@
 
 ghost use Rattle.std.specs.Prelude.{◌≡◌, ◌≤◌, List, Some, IsTrue, true, length, slice_get};
 ghost use Rattle.np_changes.specs.Prelude.{Entry, NodeId, Pool, PoolId, RequestId, RequestRecord, Runs, Sem, SemId, SessionId, State, Tenant, TenantId, count_of, count_of_tenant, fits, handles_of, is_fulfilled, is_session_of, node_holder, request_holder, request_in};
-ghost use Rattle.np_config.specs.Configuration.{Configuration, tenant_of};
-ghost use Rattle.np_machine.specs.LiveHolder.{IsLiveHolder, IsLiveRequestHolder};
-ghost use Rattle.np_machine.specs.Safe.{NoRepeat, OwnsItsLabels, Safe};
+ghost use Rattle.np_changes.specs.Lower.{Configuration, IsLiveHolder, IsLiveRequestHolder, NoRepeat, OwnsItsLabels, Safe, tenant_of};
 ghost use Rattle.np_changes.specs.Parts.{Invariant};
 ghost use Rattle.np_changes.specs.Steps.{AfterEveryStep};
 
@@ -15,6 +13,7 @@ pub fn every_state_of_a_run_is_as_the_parts_say()
 {}
 
 /// A live holder of a node or of a request, read from the journal alone, is the first of its queue.
+#[tactic(auto, using(crate::proofs::Runs::holding))]
 pub fn a_live_holder_is_the_holder()
     ensures node { (c : Configuration) (journal : List Entry) (s : State) (session : SessionId)
         (n : NodeId) → Runs c journal s → IsLiveHolder c journal session n →
@@ -59,6 +58,7 @@ pub fn no_semaphore_passes_its_max()
 {}
 
 /// A fulfilled request owns a node of one pool for each of its labels, in order.
+#[tactic(auto, using(crate::proofs::Runs::holding))]
 pub fn a_fulfilled_request_owns_its_labels_in_order_from_one_pool()
     ensures { (c : Configuration) (journal : List Entry) (s : State) (r : RequestId)
         (request : RequestRecord) → Runs c journal s → request_in r s.requests ≡ Some request →

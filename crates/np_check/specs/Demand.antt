@@ -2,18 +2,7 @@
 use Rattle.std.specs.Prelude.{ℕ, zero, suc, ◌==◌, ◌*◌, Bool, false, ◌&&◌, ◌||◌, not, is_none, length, slice_get, nat_lt, if◌then◌else◌}
 use Rattle.std.specs.List.{list_any}
 use Rattle.std.specs.Option.{option_map_or}
-use Rattle.np_amount.specs.Amounts.{fits, times}
-use Rattle.np_text.specs.declared.id.PoolId.{PoolId}
-use Rattle.np_text.specs.declared.id.LabelId.{LabelId}
-use Rattle.np_text.specs.declared.id.JobId.{JobId}
-use Rattle.np_config.specs.Configuration.{Configuration}
-use Rattle.np_config.specs.declared.row.Job.{Job}
-use Rattle.np_record.specs.declared.record.RequestRecord.{RequestRecord}
-use Rattle.np_config.specs.declared.row.Offer.{Offer}
-use Rattle.np_machine.specs.Count.{amount_of, is_offered, limit_of, offers_of}
-use Rattle.np_machine.specs.First.{may_fit}
-use Rattle.np_machine.specs.Reasons.{first_unoffered, never_fits, ready_age}
-use Rattle.np_machine.specs.Request.{asked_by}
+use Rattle.np_check.specs.Lower.{Configuration, Job, JobId, LabelId, Offer, PoolId, RequestRecord, amount_of, asked_by, first_unoffered, fits, is_offered, limit_of, may_fit, never_fits, offers_of, ready_age, times}
 
 -- a place below this one passes the test
 abbrev pub any_below : (ℕ → Bool) → ℕ → Bool

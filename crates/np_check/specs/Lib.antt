@@ -1,6 +1,5 @@
+pub mod Lower
 pub mod Near
 pub mod Spot
 pub mod Demand
-pub mod Finding
-pub mod Line
 pub mod Report

@@ -1,10 +1,7 @@
 //! Which pools could serve a job, as the configuration alone says.
 
 ghost use Rattle.std.specs.Prelude.{◌≡◌, ◌≤◌, Some, length, slice_get};
-ghost use Rattle.np_machine.specs.Count.{limit_of};
-ghost use Rattle.np_machine.specs.First.{may_fit};
-ghost use Rattle.np_machine.specs.Reasons.{never_fits};
-ghost use Rattle.np_machine.specs.Tenants.{limit_of_tenant, tenant_never_fits};
+ghost use Rattle.np_check.specs.Lower.{limit_of, limit_of_tenant, may_fit, never_fits, tenant_never_fits};
 ghost use Rattle.np_check.specs.Demand.{request_of, offers_all, has_room, is_unoffered, is_too_large, is_above_tenant, some_pool};
 
 use np_amount::Limit;

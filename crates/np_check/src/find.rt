@@ -2,20 +2,20 @@
 
 ghost use Rattle.std.specs.Prelude.{◌≡◌, ◌++◌, [], ◌∷◌, IfOk, OnOk, filter, length, map};
 ghost use Rattle.std.specs.List.{flat_map};
-ghost use Rattle.np_machine.specs.Count.{offers_of};
+ghost use Rattle.np_check.specs.Lower.{offers_of};
 ghost use Rattle.np_check.specs.declared.finding.Finding.TheVariants.{OfferTooLarge};
-ghost use Rattle.np_check.specs.Finding.{findings, is_true, of_job, of_label, of_pool, of_semaphore, of_tenant, places};
+ghost use Rattle.np_check.specs.Report.{findings, is_true, of_job, of_label, of_pool, of_semaphore, of_tenant, places};
 
 use crate::demand::count_pools;
 use crate::finding::Finding;
 use crate::truth::is_true;
 use np_config::{Config, Offer};
 use np_look::offers;
-use np_text::{JobId, LabelId, NoMemory, PoolId, SemId, TenantId};
+use np_text::{Ample, JobId, LabelId, NoMemory, PoolId, SemId, TenantId};
 use std::alloc::Global;
 
 /// Adds the finding if it is true.
-fn add(config: &Config, finding: Finding, out: &mut Vec<Finding>) -> Result<(), NoMemory>
+fn add(config: &Config, finding: Finding, out: &mut Vec<Finding>) -> Ample
     ensures { OnOk result
         (out.new.items ≡ out.old.items ++ filter (is_true config.now) (finding ∷ [])) }
 {
@@ -26,7 +26,7 @@ fn add(config: &Config, finding: Finding, out: &mut Vec<Finding>) -> Result<(), 
 }
 
 #[tactic(auto, using(crate::proofs::Joined::joins))]
-fn add_label(config: &Config, at: u16, out: &mut Vec<Finding>) -> Result<(), NoMemory>
+fn add_label(config: &Config, at: u16, out: &mut Vec<Finding>) -> Ample
     ensures { OnOk result
         (out.new.items ≡ out.old.items ++ filter (is_true config.now) (of_label at)) }
 {
@@ -35,7 +35,7 @@ fn add_label(config: &Config, at: u16, out: &mut Vec<Finding>) -> Result<(), NoM
 }
 
 #[tactic(auto, using(crate::proofs::Joined::joins))]
-fn add_labels(config: &Config, out: &mut Vec<Finding>) -> Result<(), NoMemory>
+fn add_labels(config: &Config, out: &mut Vec<Finding>) -> Ample
     ensures { OnOk result (out.new.items ≡ out.old.items
         ++ filter (is_true config.now) (places of_label (length config.now.labels))) }
 {
@@ -46,12 +46,7 @@ fn add_labels(config: &Config, out: &mut Vec<Finding>) -> Result<(), NoMemory>
     Ok(())
 }
 
-fn add_each(
-    config: &Config,
-    pool: PoolId,
-    offers: &[Offer],
-    out: &mut Vec<Finding>,
-) -> Result<(), NoMemory>
+fn add_each(config: &Config, pool: PoolId, offers: &[Offer], out: &mut Vec<Finding>) -> Ample
     ensures { OnOk result (out.new.items ≡ out.old.items ++ flat_map
         (λ o. filter (is_true config.now) (OfferTooLarge pool o.label ∷ [])) offers.now) }
 {
@@ -61,7 +56,7 @@ fn add_each(
     Ok(())
 }
 
-fn add_offers(config: &Config, pool: PoolId, out: &mut Vec<Finding>) -> Result<(), NoMemory>
+fn add_offers(config: &Config, pool: PoolId, out: &mut Vec<Finding>) -> Ample
     ensures { OnOk result (out.new.items ≡ out.old.items ++ filter (is_true config.now)
         (map (λ o. OfferTooLarge pool o.label) (offers_of config.now pool))) }
 {
@@ -69,7 +64,7 @@ fn add_offers(config: &Config, pool: PoolId, out: &mut Vec<Finding>) -> Result<(
 }
 
 #[tactic(auto, using(crate::proofs::Joined::joins))]
-fn add_pool(config: &Config, at: u16, out: &mut Vec<Finding>) -> Result<(), NoMemory>
+fn add_pool(config: &Config, at: u16, out: &mut Vec<Finding>) -> Ample
     ensures { OnOk result
         (out.new.items ≡ out.old.items ++ filter (is_true config.now) (of_pool config.now at)) }
 {
@@ -78,7 +73,7 @@ fn add_pool(config: &Config, at: u16, out: &mut Vec<Finding>) -> Result<(), NoMe
 }
 
 #[tactic(auto, using(crate::proofs::Joined::joins))]
-fn add_pools(config: &Config, out: &mut Vec<Finding>) -> Result<(), NoMemory>
+fn add_pools(config: &Config, out: &mut Vec<Finding>) -> Ample
     ensures { OnOk result (out.new.items ≡ out.old.items
         ++ filter (is_true config.now) (places (of_pool config.now) (length config.now.pools))) }
 {
@@ -89,7 +84,7 @@ fn add_pools(config: &Config, out: &mut Vec<Finding>) -> Result<(), NoMemory>
 }
 
 #[tactic(auto, using(crate::proofs::Joined::joins))]
-fn add_semaphores(config: &Config, out: &mut Vec<Finding>) -> Result<(), NoMemory>
+fn add_semaphores(config: &Config, out: &mut Vec<Finding>) -> Ample
     ensures { OnOk result (out.new.items ≡ out.old.items
         ++ filter (is_true config.now) (places of_semaphore (length config.now.semaphores))) }
 {
@@ -101,7 +96,7 @@ fn add_semaphores(config: &Config, out: &mut Vec<Finding>) -> Result<(), NoMemor
 }
 
 #[tactic(auto, using(crate::proofs::Joined::joins))]
-fn add_tenants(config: &Config, out: &mut Vec<Finding>) -> Result<(), NoMemory>
+fn add_tenants(config: &Config, out: &mut Vec<Finding>) -> Ample
     ensures { OnOk result (out.new.items ≡ out.old.items
         ++ filter (is_true config.now) (places of_tenant (length config.now.tenants))) }
 {
@@ -113,7 +108,7 @@ fn add_tenants(config: &Config, out: &mut Vec<Finding>) -> Result<(), NoMemory>
 }
 
 #[tactic(auto, using(crate::proofs::Joined::joins))]
-fn add_job(config: &Config, at: u32, out: &mut Vec<Finding>) -> Result<(), NoMemory>
+fn add_job(config: &Config, at: u32, out: &mut Vec<Finding>) -> Ample
     ensures { OnOk result
         (out.new.items ≡ out.old.items ++ filter (is_true config.now) (of_job at)) }
 {
@@ -123,7 +118,7 @@ fn add_job(config: &Config, at: u32, out: &mut Vec<Finding>) -> Result<(), NoMem
 }
 
 #[tactic(auto, using(crate::proofs::Joined::joins))]
-fn add_jobs(config: &Config, out: &mut Vec<Finding>) -> Result<(), NoMemory>
+fn add_jobs(config: &Config, out: &mut Vec<Finding>) -> Ample
     ensures { OnOk result (out.new.items ≡ out.old.items
         ++ filter (is_true config.now) (places of_job (length config.now.jobs))) }
 {

@@ -2,12 +2,12 @@
 
 ghost use Rattle.std.specs.Prelude.{◌≡◌, ◌++◌, OnOk};
 ghost use Rattle.std.specs.List.{flat_map};
-ghost use Rattle.np_config_read.specs.Names.{pool_name};
-ghost use Rattle.np_check.specs.Line.{finding_line, full_name, job_name, label_name, own_name, remark, semaphore_name, tenant_name};
+ghost use Rattle.np_check.specs.Lower.{pool_name};
+ghost use Rattle.np_check.specs.Report.{finding_line, full_name, job_name, label_name, own_name, remark, semaphore_name, tenant_name};
 
 use crate::finding::Finding;
 use np_config::{Config, Job, Pool};
-use np_text::{JobId, LabelId, NoMemory, PoolId, RequesterId, SemId, TenantId};
+use np_text::{Ample, JobId, LabelId, PoolId, RequesterId, SemId, TenantId};
 
 fn label_name(config: &Config, label: LabelId) -> &[u8]
     ensures { result.now ≡ label_name config.now label }
@@ -59,7 +59,7 @@ fn requester_name(config: &Config, requester: RequesterId) -> &[u8]
     }
 }
 
-fn put_pool_row(config: &Config, pool: &Pool, out: &mut Vec<u8>) -> Result<(), NoMemory>
+fn put_pool_row(config: &Config, pool: &Pool, out: &mut Vec<u8>) -> Ample
     ensures { OnOk result
         (out.new.items ≡ out.old.items ++ pool_name config.now.providers pool.now) }
 {
@@ -69,7 +69,7 @@ fn put_pool_row(config: &Config, pool: &Pool, out: &mut Vec<u8>) -> Result<(), N
     Ok(())
 }
 
-fn put_job_row(config: &Config, job: &Job, out: &mut Vec<u8>) -> Result<(), NoMemory>
+fn put_job_row(config: &Config, job: &Job, out: &mut Vec<u8>) -> Ample
     ensures { OnOk result (out.new.items ≡ out.old.items ++ own_name config.now job.now) }
 {
     out.extend_from_slice(requester_name(config, job.requester))?;
@@ -78,7 +78,7 @@ fn put_job_row(config: &Config, job: &Job, out: &mut Vec<u8>) -> Result<(), NoMe
     Ok(())
 }
 
-fn put_pool(config: &Config, pool: PoolId, out: &mut Vec<u8>) -> Result<(), NoMemory>
+fn put_pool(config: &Config, pool: PoolId, out: &mut Vec<u8>) -> Ample
     ensures { OnOk result (out.new.items ≡ out.old.items ++ full_name config.now pool) }
 {
     match config.pool(pool) {
@@ -87,7 +87,7 @@ fn put_pool(config: &Config, pool: PoolId, out: &mut Vec<u8>) -> Result<(), NoMe
     }
 }
 
-fn put_job(config: &Config, job: JobId, out: &mut Vec<u8>) -> Result<(), NoMemory>
+fn put_job(config: &Config, job: JobId, out: &mut Vec<u8>) -> Ample
     ensures { OnOk result (out.new.items ≡ out.old.items ++ job_name config.now job) }
 {
     match config.job(job) {
@@ -109,12 +109,7 @@ fn kind(finding: Finding) -> &'static [u8]
     }
 }
 
-fn put_offer(
-    config: &Config,
-    pool: PoolId,
-    label: LabelId,
-    out: &mut Vec<u8>,
-) -> Result<(), NoMemory>
+fn put_offer(config: &Config, pool: PoolId, label: LabelId, out: &mut Vec<u8>) -> Ample
     ensures { OnOk result (out.new.items ≡ out.old.items
         ++ (full_name config.now pool ++ codes ", label " ++ label_name config.now label)) }
 {
@@ -125,7 +120,7 @@ fn put_offer(
 }
 
 /// Appends the name of what the finding is about.
-fn put_name(config: &Config, finding: Finding, out: &mut Vec<u8>) -> Result<(), NoMemory>
+fn put_name(config: &Config, finding: Finding, out: &mut Vec<u8>) -> Ample
     ensures { OnOk result (out.new.items ≡ out.old.items ++ name config.now finding) }
 {
     match finding {
@@ -150,7 +145,7 @@ fn put_name(config: &Config, finding: Finding, out: &mut Vec<u8>) -> Result<(), 
 }
 
 ghost use Rattle.std.specs.Prelude.{codes};
-ghost use Rattle.np_check.specs.Line.{kind, name};
+ghost use Rattle.np_check.specs.Report.{kind, name};
 
 /// What the finding says of that.
 fn remark(finding: Finding) -> &'static [u8]
@@ -174,7 +169,7 @@ fn remark(finding: Finding) -> &'static [u8]
 }
 
 /// Appends the line of the finding.
-fn put_line(config: &Config, finding: Finding, out: &mut Vec<u8>) -> Result<(), NoMemory>
+fn put_line(config: &Config, finding: Finding, out: &mut Vec<u8>) -> Ample
     ensures { OnOk result (out.new.items ≡ out.old.items ++ finding_line config.now finding) }
 {
     out.extend_from_slice(kind(finding))?;
@@ -185,11 +180,7 @@ fn put_line(config: &Config, finding: Finding, out: &mut Vec<u8>) -> Result<(), 
 }
 
 /// Appends the lines of the findings.
-pub(crate) fn put_lines(
-    config: &Config,
-    findings: &[Finding],
-    out: &mut Vec<u8>,
-) -> Result<(), NoMemory>
+pub(crate) fn put_lines(config: &Config, findings: &[Finding], out: &mut Vec<u8>) -> Ample
     ensures { OnOk result (out.new.items ≡
         out.old.items ++ flat_map (finding_line config.now) findings.now) }
 {

@@ -128,10 +128,7 @@ impl Walk<'_> {
         let Some(key) = self.text.get(self.start..at) else {
             return;
         };
-        self.is_next = match self.steps.get(self.passed) {
-            None => false,
-            Some(step) => *step == key,
-        };
+        self.is_next = matches!(self.steps.get(self.passed), Some(step) if *step == key);
         let is_last = self.passed == self.steps.len();
         let is_plain = !key.contains(&b'\\');
         if is_last && is_plain && self.found.stranger.is_none() && !is_among(key, self.keys) {

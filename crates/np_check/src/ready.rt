@@ -1,10 +1,8 @@
 //! Which labels pools offer and keep ready.
 
 ghost use Rattle.std.specs.Prelude.{◌≡◌, ◌≤◌, length};
-ghost use Rattle.np_amount.specs.Amounts.{times};
-ghost use Rattle.np_changes.specs.Fits.{AmountFits};
+ghost use Rattle.np_check.specs.Lower.{AmountFits, is_offered, offers_of, times};
 ghost use Rattle.std.specs.List.{list_any};
-ghost use Rattle.np_machine.specs.Count.{is_offered, offers_of};
 ghost use Rattle.np_check.specs.Demand.{is_another_kept, is_restless, keeps_ready, min_ready_of, pools_with, some_pool};
 
 use crate::demand::{count_pools, limit};

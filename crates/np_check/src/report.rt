@@ -1,7 +1,7 @@
 //! What is printed about a configuration's text.
 
 ghost use Rattle.std.specs.Prelude.{◌≡◌, ◌≤◌, IfOk, length};
-ghost use Rattle.np_config_read.specs.Walk.{reads};
+ghost use Rattle.np_check.specs.Lower.{reads};
 ghost use Rattle.np_check.specs.Report.{IsFaultReport, Tells, TellsFault, TellsFindings, fault_text, kind_text, status_of, verdict_of};
 
 use crate::find::findings;

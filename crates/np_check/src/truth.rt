@@ -3,7 +3,7 @@
 ghost use Rattle.std.specs.Prelude.{◌≡◌, ◌==◌, not};
 ghost use Rattle.std.specs.List.{list_any};
 ghost use Rattle.np_check.specs.Demand.{asks, is_above_tenant, is_too_large, is_unoffered};
-ghost use Rattle.np_check.specs.Finding.{allows, is_true, is_usable, takes};
+ghost use Rattle.np_check.specs.Report.{allows, is_true, is_usable, takes};
 
 use crate::demand::{is_above_tenant, is_too_large, is_unoffered, limit};
 use crate::finding::Finding;
@@ -52,28 +52,19 @@ fn some_is_of(config: &Config, tenant: TenantId) -> bool
 fn asks_unoffered(config: &Config, job: JobId) -> bool
     ensures { result ≡ asks config.now job (is_unoffered config.now) }
 {
-    match config.job(job) {
-        None => false,
-        Some(row) => is_unoffered(config, job, row),
-    }
+    matches!(config.job(job), Some(row) if is_unoffered(config, job, row))
 }
 
 fn asks_too_much(config: &Config, job: JobId) -> bool
     ensures { result ≡ asks config.now job (is_too_large config.now) }
 {
-    match config.job(job) {
-        None => false,
-        Some(row) => is_too_large(config, job, row),
-    }
+    matches!(config.job(job), Some(row) if is_too_large(config, job, row))
 }
 
 fn asks_above_tenant(config: &Config, job: JobId) -> bool
     ensures { result ≡ asks config.now job (is_above_tenant config.now) }
 {
-    match config.job(job) {
-        None => false,
-        Some(row) => is_above_tenant(config, job, row),
-    }
+    matches!(config.job(job), Some(row) if is_above_tenant(config, job, row))
 }
 
 /// Whether the finding is true of the configuration. It asks each pool about a label or a job, and

@@ -1,6 +1,6 @@
 -- which nodes were given to a requester, which of them its session has yet to lock, and which others it is to leave
 use Rattle.std.specs.Prelude.{ℕ, Bool, false, ◌==◌, ◌&&◌, not, if◌then◌else◌, filter, find, map, Option, None, option_and_then, slice_get}
-use Rattle.np_changes.specs.Prelude.{Configuration, JobId, NodeEntry, NodeId, NodeRecord, RequestState, RequesterId, SessionId, State, is_asked, is_fulfilled, is_queued, node_queue, option_map, option_map_or, request_in}
+use Rattle.np_look.specs.Lower.{Configuration, JobId, NodeEntry, NodeId, NodeRecord, RequestState, RequesterId, SessionId, State, is_asked, is_fulfilled, is_queued, node_queue, option_map, option_map_or, request_in}
 
 -- ## given
 

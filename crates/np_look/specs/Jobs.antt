@@ -1,8 +1,11 @@
 -- a requester's next jobs: those that can begin, that can take their nodes or acquire handles, that can be
 -- finished, and whose handles can be given back
-use Rattle.std.specs.Prelude.{ℕ, Bool, false, ◌==◌, ◌&&◌, ◌||◌, not, Option, is_none, length, slice_get}
-use Rattle.np_changes.specs.Prelude.{Configuration, Job, JobId, JobRecord, Phase, RequestState, RequesterId, State, first_full, has_handle, is_asked, is_failed, is_fulfilled, is_new, is_over, is_using, list_any, option_map_or}
-use Rattle.np_look.specs.Readers.{jobs_from, request_state_of}
+use Rattle.std.specs.Prelude.{ℕ, Bool, false, ◌==◌, ◌&&◌, ◌||◌, not, Option, is_none, length, slice_get, List, [], ◌∷◌, true, Some, None, nat_lt}
+use Rattle.np_look.specs.Readers.{jobs_from, request_state_of, due_of}
+use Rattle.np_look.specs.declared.asked.RequestView.{RequestView}
+use Rattle.np_look.specs.declared.asked.UnheldKind.{UnheldKind}
+use Rattle.np_look.specs.declared.asked.NodeView.{NodeView}
+use Rattle.np_look.specs.Lower.{Configuration, Job, JobId, JobRecord, NodeEntry, Phase, RequestEntry, RequestState, RequesterId, SessionId, State, comes_before, first_full, has_handle, holder, is_asked, is_failed, is_fulfilled, is_new, is_over, is_using, list_any, option_map_or}
 
 -- the configuration has the job, the job is the requester's, and its row passes
 abbrev pub is_own : Configuration → RequesterId → JobId → (Job → Bool) → Bool
@@ -79,3 +82,33 @@ is_job_to_release c s q j kept = is_own c q j (λ row. list_any (has_handle j s.
 -- these jobs in order: the one at this place
 abbrev pub job_to_release : Configuration → RequesterId → ℕ → State → Option JobId
 job_to_release c q at s = slice_get (jobs_from (is_job_to_release c s q) 0 s.jobs) at
+
+-- rows with who holds them
+
+abbrev pub request_view : RequestEntry → RequestView
+request_view e = record { id = e.id; kept = e.kept; holder = holder e.queue }
+
+abbrev pub node_view : NodeEntry → NodeView
+node_view e = record { id = e.id; kept = e.kept; holder = holder e.queue }
+
+-- ## rows as their views show them: the queue without those who wait
+
+abbrev pub held_by : Option SessionId → List SessionId
+held_by None = []
+held_by (Some session) = session ∷ []
+
+abbrev pub request_seen : RequestView → RequestEntry
+request_seen v = record { id = v.id; kept = v.kept; queue = held_by v.holder }
+
+abbrev pub node_seen : NodeView → NodeEntry
+node_seen v = record { id = v.id; kept = v.kept; queue = held_by v.holder }
+
+-- before the best so far, if there is one
+abbrev pub comes_first : Option RequestView → RequestView → Bool
+comes_first None v = true
+comes_first (Some best) v = comes_before (request_seen v) (request_seen best)
+
+-- due before the best so far, if there is one
+abbrev pub is_sooner : Configuration → UnheldKind → Option NodeView → NodeView → Bool
+is_sooner c kind None v = true
+is_sooner c kind (Some best) v = nat_lt (due_of c kind v.kept) (due_of c kind best.kept)

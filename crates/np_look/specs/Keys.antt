@@ -3,8 +3,7 @@
 use Rattle.std.proofs.Common.{◌≡◌, arith, true, false, ap, refl}
 use Rattle.std.specs.Prelude.{ℕ, Bool, nat_lt, ◌==◌}
 use Rattle.std.proofs.lemmas.Bool.Decides.{nat_tests}
-use Rattle.np_machine.specs.Prelude.{JobId, NodeId, RequestId, SessionId, is_id_before, is_pair, is_pair_after, same_request}
-use Rattle.np_machine.specs.declared.state.Swept.{Swept}
+use Rattle.np_look.specs.Lower.{JobId, NodeId, RequestId, SessionId, Swept, is_id_before, is_pair, is_pair_after, same_request}
 
 -- ## nodes
 

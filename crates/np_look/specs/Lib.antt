@@ -1,4 +1,4 @@
-pub mod Views
+pub mod Lower
 pub mod Readers
 pub mod Jobs
 pub mod Given

@@ -1,8 +1,7 @@
 -- what the readers of a state return, beyond the machine's own definitions
 use Rattle.std.specs.Prelude.{ℕ, suc, drop, Bool, true, false, ◌==◌, ◌&&◌, ◌||◌, not, if◌then◌else◌, List, [], ◌∷◌, filter, find, fold, map, Option, Some, None, is_some, is_none, option_and_then, slice_get, length, nat_lt}
-use Rattle.np_changes.specs.Prelude.{Amount, Configuration, JobId, JobRecord, LabelId, Limit, NodeEntry, NodeId, NodeRecord, NodeState, PoolId, RequestEntry, RequestId, RequestRecord, RequestState, RequesterId, Role, SessionFacts, SessionId, State, TenantId, amount_of, amount_of_all, amount_of_node, fits, holder, is_declined_by, is_last_pool, is_over, is_pending_by, is_pending_of, is_queued, is_requested, is_tenant, limit_of, limit_of_tenant, list_any, may_fit, nothing, option_map, option_map_or, option_or, plus, request_in, rest_of_request, speaks_for, standing, tenant_of_request, undeclined}
-use Rattle.np_machine.specs.Reasons.{next_label, is_spare, ready_age, due_tick}
 use Rattle.np_look.specs.declared.asked.UnheldKind.{UnheldKind}
+use Rattle.np_look.specs.Lower.{Amount, Configuration, JobId, JobRecord, LabelId, Limit, NodeEntry, NodeId, NodeRecord, NodeState, PoolId, RequestEntry, RequestId, RequestRecord, RequestState, RequesterId, Role, SessionFacts, SessionId, State, TenantId, amount_of, amount_of_all, amount_of_node, due_tick, fits, holder, is_declined_by, is_last_pool, is_over, is_pending_by, is_pending_of, is_queued, is_requested, is_spare, is_tenant, limit_of, limit_of_tenant, list_any, may_fit, next_label, nothing, option_map, option_map_or, option_or, plus, ready_age, request_in, rest_of_request, speaks_for, standing, tenant_of_request, undeclined}
 
 -- whether the pool is among the request's declines
 abbrev pub is_declined : PoolId → RequestId → State → Bool

@@ -1,9 +1,8 @@
 //! What pools offer, by the configuration alone.
 
 ghost use Rattle.std.specs.Prelude.{◌≡◌, ◌<◌, ◌^◌, length, find, not, option_copied};
-ghost use Rattle.np_changes.specs.Prelude.{AmountFits, IsFew, LabelId, fits, plus, ready_age};
-ghost use Rattle.np_machine.specs.Count.{offers_of, limit_of, retries_of, offer_of, is_offered, amount_of, amount_of_all};
-ghost use Rattle.np_look.specs.Views.{node_seen};
+ghost use Rattle.np_look.specs.Lower.{AmountFits, IsFew, LabelId, amount_of, amount_of_all, fits, is_offered, limit_of, offer_of, offers_of, plus, ready_age, retries_of};
+ghost use Rattle.np_look.specs.Jobs.{node_seen};
 ghost use Rattle.np_look.specs.Readers.{amount_at};
 
 use crate::asked::NodeView;

@@ -1,7 +1,6 @@
 //! The orders of ids and of swept pairs: what a table of them is sorted by.
 
-ghost use Rattle.np_machine.specs.declared.state.Swept.{Swept};
-ghost use Rattle.np_machine.specs.Prelude.{is_id_before, same_request};
+ghost use Rattle.np_look.specs.Lower.{Swept, is_id_before, same_request};
 ghost use Rattle.np_look.specs.Keys.{is_job_before, is_node_before, is_pair_before, is_session_before, job_equal, job_one_way, job_some_way, job_transitive, node_equal, node_one_way, node_some_way, node_transitive, pair_equal, pair_one_way, pair_some_way, pair_transitive, request_equal, request_one_way, request_some_way, request_transitive, same_job, same_node, same_pair, same_session, session_equal, session_one_way, session_some_way, session_transitive};
 
 use np_lists::{KeyTable, Order};

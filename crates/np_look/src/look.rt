@@ -1,7 +1,7 @@
 //! What is looked for in a state.
 
 ghost use Rattle.std.specs.Prelude.{◌≡◌, ◌<◌, ◌^◌, length, slice_get};
-ghost use Rattle.np_changes.specs.Prelude.{Configuration, Fits, State, blocking, count_of, count_of_tenant, first_of, has_live_session, is_paused, is_spare, is_spent_min_ready, list_any, new_record, owner_of, ready_count};
+ghost use Rattle.np_look.specs.Lower.{Configuration, Fits, State, blocking, count_of, count_of_tenant, first_of, has_live_session, is_paused, is_spare, is_spent_min_ready, list_any, new_record, owner_of, ready_count};
 ghost use Rattle.np_look.specs.Jobs.{job_to_acquire, job_to_begin, job_to_finish, job_to_release, job_to_take};
 ghost use Rattle.np_look.specs.Given.{node_to_leave, node_to_lock};
 ghost use Rattle.np_look.specs.Readers.{free_ready_of, unfinished_of, first_mute, current_of, queued_requests, queued_nodes, pending_requests, first_unheld_pending, has_request_under_way, first_declined_by_all, first_due};

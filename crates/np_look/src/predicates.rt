@@ -1,7 +1,7 @@
 //! What is true of a row and of the rows that it names.
 
 ghost use Rattle.std.specs.Prelude.{◌≡◌};
-ghost use Rattle.np_changes.specs.Prelude.{Fits, ahead_of, first_full, has_handle, is_full, is_queued, list_any, node_holder, node_queue, request_holder, undeclined};
+ghost use Rattle.np_look.specs.Lower.{Fits, ahead_of, first_full, has_handle, is_full, is_queued, list_any, node_holder, node_queue, request_holder, undeclined};
 ghost use Rattle.np_look.specs.Jobs.{is_job_to_acquire, is_job_to_begin, is_job_to_release, is_job_to_take, is_supplied};
 ghost use Rattle.np_look.specs.Given.{given_to, is_given_to};
 ghost use Rattle.np_look.specs.Readers.{undeclined_of, is_last_pool_of, request_state_of, is_declined_by_all, is_unclaimed};
@@ -67,14 +67,10 @@ pub fn is_job_to_begin<R: Rows>(
     ensures { result ≡
         is_job_to_begin (R.site rows.now) (R.state rows.now) requester id kept.now }
 {
-    match rows.config().job(id) {
-        None => false,
-        Some(row) => {
-            row.requester.0 == requester.0
-                && (row.resources_first || first_full(rows, id, row).is_none())
-                && kept.phase == Phase::New
-        }
-    }
+    matches!(rows.config().job(id), Some(row)
+        if row.requester.0 == requester.0
+            && (row.resources_first || first_full(rows, id, row).is_none())
+            && kept.phase == Phase::New)
 }
 
 /// Whether the job is the requester's, was given its nodes and need not wait for handles.
@@ -87,14 +83,10 @@ pub fn is_job_to_take<R: Rows>(
     ensures { result ≡
         is_job_to_take (R.site rows.now) (R.state rows.now) requester id kept.now }
 {
-    match rows.config().job(id) {
-        None => false,
-        Some(row) => {
-            row.requester.0 == requester.0
-                && is_supplied(rows, id, row)
-                && was_given(kept.phase, request_state(rows, kept.request))
-        }
-    }
+    matches!(rows.config().job(id), Some(row)
+        if row.requester.0 == requester.0
+            && is_supplied(rows, id, row)
+            && was_given(kept.phase, request_state(rows, kept.request)))
 }
 
 /// Whether the job is the requester's, was given its nodes, waits for handles and finds room in
@@ -108,14 +100,10 @@ pub fn is_job_to_acquire<R: Rows>(
     ensures { result ≡
         is_job_to_acquire (R.site rows.now) (R.state rows.now) requester id kept.now }
 {
-    match rows.config().job(id) {
-        None => false,
-        Some(row) => {
-            row.requester.0 == requester.0
-                && (!is_supplied(rows, id, row) && first_full(rows, id, row).is_none())
-                && was_given(kept.phase, request_state(rows, kept.request))
-        }
-    }
+    matches!(rows.config().job(id), Some(row)
+        if row.requester.0 == requester.0
+            && (!is_supplied(rows, id, row) && first_full(rows, id, row).is_none())
+            && was_given(kept.phase, request_state(rows, kept.request)))
 }
 
 /// Whether the job is the requester's and over, and has a handle.
@@ -128,14 +116,10 @@ pub fn is_job_to_release<R: Rows>(
     ensures { result ≡
         is_job_to_release (R.site rows.now) (R.state rows.now) requester id kept.now }
 {
-    match rows.config().job(id) {
-        None => false,
-        Some(row) => {
-            row.requester.0 == requester.0
-                && has_handles(rows, id, row)
-                && kept.phase == Phase::Over
-        }
-    }
+    matches!(rows.config().job(id), Some(row)
+        if row.requester.0 == requester.0
+            && has_handles(rows, id, row)
+            && kept.phase == Phase::Over)
 }
 
 /// The requester to which the node with this record was given: the request that it is allocated
@@ -160,10 +144,7 @@ pub fn given_to<R: Rows>(rows: &R, kept: &NodeRecord) -> Option<RequesterId>
 pub fn is_given_to<R: Rows>(rows: &R, requester: RequesterId, kept: &NodeRecord) -> bool
     ensures { result ≡ is_given_to (R.site rows.now) (R.state rows.now) requester kept.now }
 {
-    match given_to(rows, kept) {
-        None => false,
-        Some(other) => other.0 == requester.0,
-    }
+    matches!(given_to(rows, kept), Some(other) if other.0 == requester.0)
 }
 
 /// The state of the request, if there is one.

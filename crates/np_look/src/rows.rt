@@ -1,8 +1,8 @@
 //! The rows of a state, as every representation of it reads them.
 
 ghost use Rattle.std.specs.Prelude.{◌≡◌, length, slice_get};
-ghost use Rattle.np_changes.specs.Prelude.{Configuration, State, asked_of, handles_of, has_handle, is_swept, node_in, node_queue, option_map, registered, request_in, request_queue, role_in, session_of};
-ghost use Rattle.np_look.specs.Views.{request_view, node_view};
+ghost use Rattle.np_look.specs.Lower.{Configuration, State, asked_of, handles_of, has_handle, is_swept, node_in, node_queue, option_map, registered, request_in, request_queue, role_in, session_of};
+ghost use Rattle.np_look.specs.Jobs.{request_view, node_view};
 ghost use Rattle.np_look.specs.Readers.{is_declined, queued_requests, queued_nodes};
 
 use crate::asked::{NodeView, RequestView};

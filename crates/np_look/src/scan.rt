@@ -1,4 +1,5 @@
 //! Rows that are searched by walking them.
+#![tactic(auto, using(crate::proofs::Looks::walks))]
 
 ghost use Rattle.std.specs.Prelude.{◌≡◌};
 

@@ -1,11 +1,11 @@
 //! Where a machine writes what changes.
 
 ghost use Rattle.std.specs.Prelude.{OnErr, OnOk};
-ghost use Rattle.np_changes.specs.Prelude.{Configuration, Fits, IsPlanned, IsReached, State, changed};
+ghost use Rattle.np_look.specs.Lower.{Configuration, Fits, IsPlanned, IsReached, State, changed};
 
 use crate::rows::Rows;
 use np_changes::Changes;
-use np_text::NoMemory;
+use np_text::Ample;
 
 /// Where a machine writes what each accepted event changes, before its own tables take it.
 pub trait Store {
@@ -19,7 +19,7 @@ pub trait Store {
 
     /// Writes what the event changes in the state of these rows, all of it or nothing. If memory
     /// runs out, what is written is still that state.
-    fn write<R: Rows>(&mut self, rows: &R, changes: &Changes) -> Result<(), NoMemory>
+    fn write<R: Rows>(&mut self, rows: &R, changes: &Changes) -> Ample
         requires reached { IsReached (R.site rows.now) (R.state rows.now) }
         requires fits { Fits (R.site rows.now) (R.state rows.now) }
         requires planned { IsPlanned (R.site rows.now) (R.state rows.now) changes.now }
@@ -38,7 +38,7 @@ impl Store for () {
 
     ghost same = { λ store. tt };
 
-    fn write<R: Rows>(&mut self, rows: &R, changes: &Changes) -> Result<(), NoMemory> {
+    fn write<R: Rows>(&mut self, rows: &R, changes: &Changes) -> Ample {
         Ok(())
     }
 }

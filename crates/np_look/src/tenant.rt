@@ -1,9 +1,8 @@
 //! What tenants may use, and what each node and request takes of it.
 
 ghost use Rattle.std.specs.Prelude.{◌≡◌, ◌<◌, ◌≤◌, ◌^◌, length, drop, not, false};
-ghost use Rattle.np_changes.specs.Prelude.{AmountFits, IsFew, LabelId, PoolId, amount_of, amount_of_all, fits, may_fit, new_record, option_map_or, plus};
-ghost use Rattle.np_machine.specs.Tenants.{limit_of_tenant, is_tenant, is_pending_of, passes_tenant, tenant_never_fits};
-ghost use Rattle.np_look.specs.Views.{request_seen, node_seen};
+ghost use Rattle.np_look.specs.Lower.{AmountFits, IsFew, LabelId, PoolId, amount_of, amount_of_all, fits, is_pending_of, is_tenant, limit_of_tenant, may_fit, new_record, option_map_or, passes_tenant, plus, tenant_never_fits};
+ghost use Rattle.np_look.specs.Jobs.{request_seen, node_seen};
 ghost use Rattle.np_look.specs.Readers.{tenant_of_job, has_limit, limited_tenant, amount_for, rest_of, rest_for};
 
 use crate::asked::{NodeView, RequestView};
@@ -59,10 +58,8 @@ fn passes_its_tenant(config: &Config, pool: PoolId, asked: &Asked) -> bool
         option_map_or (passes_tenant config.now pool (new_record asked.now))
         (tenant_of_job config.now asked.now.job) false }
 {
-    match tenant_of_job(config, asked.job) {
-        None => false,
-        Some(tenant) => passes_tenant(config, pool, asked, tenant),
-    }
+    matches!(tenant_of_job(config, asked.job), Some(tenant)
+        if passes_tenant(config, pool, asked, tenant))
 }
 
 /// Whether a request that is not pinned exceeds a limit of its job's tenant, however little the
@@ -127,10 +124,7 @@ pub fn is_short_of(
 fn is_tenant(tenant: TenantId, found: Option<TenantId>) -> bool
     ensures { result ≡ is_tenant tenant found }
 {
-    match found {
-        None => false,
-        Some(other) => other.0 == tenant.0,
-    }
+    matches!(found, Some(other) if other.0 == tenant.0)
 }
 
 /// What the node takes of its pool, if it is the tenant's.

@@ -2,11 +2,9 @@
 //! the same.
 
 ghost use Rattle.std.specs.Prelude.{◌≡◌, ◌<◌, ◌≤◌, ◌^◌, ◌&&◌, ◌||◌, ◌==◌, not, is_none, cond, false, Some, []};
-ghost use Rattle.np_changes.specs.Prelude.{AmountFits, LabelId, amount_of, asked_of, comes_before, is_declined_by, is_failed, is_marked, is_open_to, is_pending, is_pending_by, is_pinned_away, is_pool, is_ready, is_requested, is_requesters, is_spare, option_map_or, same_role, speaks_for};
+ghost use Rattle.np_look.specs.Lower.{AmountFits, LabelId, amount_of, asked_of, comes_before, is_declined_by, is_failed, is_marked, is_min_ready_for, is_open_to, is_pending, is_pending_by, is_pinned_away, is_pool, is_ready, is_requested, is_requesters, is_spare, option_map_or, same_role, speaks_for};
 ghost use Rattle.np_look.specs.Readers.{short_label, is_unfinished_job, is_unheld, is_unheld_pending, is_under_way_by, unheld_kind, same_kind, is_unheld_by, due_after, due_of};
-ghost use Rattle.np_look.specs.Jobs.{is_job_to_finish_by, was_given};
-ghost use Rattle.np_machine.specs.Request.{is_min_ready_for};
-ghost use Rattle.np_look.specs.Views.{request_seen, node_seen, comes_first, is_sooner};
+ghost use Rattle.np_look.specs.Jobs.{is_job_to_finish_by, was_given, request_seen, node_seen, comes_first, is_sooner};
 
 use crate::asked::{NodeView, RequestView, UnheldKind};
 use crate::count::{lacks_room, ready_age};
@@ -45,10 +43,7 @@ pub fn is_declined_by(pool: PoolId, declined: &[Declined]) -> bool
 fn names_pool(pool: PoolId, found: Option<PoolId>) -> bool
     ensures { result ≡ is_pool pool found }
 {
-    match found {
-        None => false,
-        Some(other) => other.0 == pool.0,
-    }
+    matches!(found, Some(other) if other.0 == pool.0)
 }
 
 /// Whether a request with this record and holder is requested, unlocked, not declined by the pool
@@ -58,10 +53,7 @@ pub fn is_open_to(pool: PoolId, kept: &RequestRecord, holder: Option<SessionId>)
         (is_requested kept.now.state && is_none holder
         && not (is_declined_by pool kept.now.declined) && not (is_pinned_away pool kept.now)) }
 {
-    let elsewhere = match kept.pinned {
-        None => false,
-        Some(other) => other.0 != pool.0,
-    };
+    let elsewhere = matches!(kept.pinned, Some(other) if other.0 != pool.0);
     kept.state == RequestState::Requested
         && holder.is_none()
         && !is_declined_by(pool, kept.declined.items())
@@ -112,10 +104,7 @@ fn is_min_ready_for(label: LabelId, request: &RequestRecord) -> bool
     if request.pinned.is_none() {
         return false;
     }
-    match request.labels.at(0) {
-        None => false,
-        Some(other) => other.0 == label.0,
-    }
+    matches!(request.labels.at(0), Some(other) if other.0 == label.0)
 }
 
 /// Whether it is a failed min-ready request of the pool for the label.
@@ -226,10 +215,8 @@ fn is_same_kind(one: UnheldKind, other: UnheldKind) -> bool
 fn is_unheld_by(pool: PoolId, kind: UnheldKind, unclaimed: bool, view: &NodeView) -> bool
     ensures { result ≡ is_unheld_by pool kind unclaimed (node_seen view.now) }
 {
-    match unheld_kind(unclaimed, &view.kept) {
-        None => false,
-        Some(of) => is_unheld(pool, view) && is_same_kind(kind, of),
-    }
+    matches!(unheld_kind(unclaimed, &view.kept), Some(of)
+        if is_unheld(pool, view) && is_same_kind(kind, of))
 }
 
 /// After all ticks.
@@ -346,10 +333,8 @@ pub fn is_unfinished_job(
 ) -> bool
     ensures { result ≡ is_unfinished_job config.now requester job kept.now }
 {
-    match config.job(job) {
-        None => false,
-        Some(row) => row.requester.0 == requester.0 && kept.phase != Phase::Over,
-    }
+    matches!(config.job(job), Some(row)
+        if row.requester.0 == requester.0 && kept.phase != Phase::Over)
 }
 
 /// Whether a job in this phase was given its nodes: it has asked for them, and its request, which
@@ -371,24 +356,17 @@ pub fn is_job_to_finish(
 ) -> bool
     ensures { result ≡ is_job_to_finish_by config.now requester job kept.now state }
 {
-    match config.job(job) {
-        None => false,
-        Some(row) => {
-            row.requester.0 == requester.0
-                && (kept.phase == Phase::Using
-                    || (kept.phase == Phase::Asked && state == Some(RequestState::Failed)))
-        }
-    }
+    matches!(config.job(job), Some(row)
+        if row.requester.0 == requester.0
+            && (kept.phase == Phase::Using
+            || (kept.phase == Phase::Asked && state == Some(RequestState::Failed))))
 }
 
 /// Whether the role is this requester.
 pub fn is_requester(requester: RequesterId, role: Option<Role>) -> bool
     ensures { result ≡ is_requesters requester role }
 {
-    match role {
-        Some(Role::Requester(other)) => other.0 == requester.0,
-        Some(Role::Launcher(_)) | Some(Role::Janitor(_)) | Some(Role::Reaper) | None => false,
-    }
+    matches!(role, Some(Role::Requester(other)) if other.0 == requester.0)
 }
 
 /// Whether both are the same role.
@@ -396,22 +374,10 @@ pub fn is_same_role(one: Role, other: Role) -> bool
     ensures { result ≡ same_role one other }
 {
     match one {
-        Role::Launcher(pool) => match other {
-            Role::Launcher(of) => pool.0 == of.0,
-            Role::Janitor(_) | Role::Requester(_) | Role::Reaper => false,
-        },
-        Role::Janitor(pool) => match other {
-            Role::Janitor(of) => pool.0 == of.0,
-            Role::Launcher(_) | Role::Requester(_) | Role::Reaper => false,
-        },
-        Role::Requester(requester) => match other {
-            Role::Requester(of) => requester.0 == of.0,
-            Role::Launcher(_) | Role::Janitor(_) | Role::Reaper => false,
-        },
-        Role::Reaper => match other {
-            Role::Reaper => true,
-            Role::Launcher(_) | Role::Janitor(_) | Role::Requester(_) => false,
-        },
+        Role::Launcher(pool) => matches!(other, Role::Launcher(of) if pool.0 == of.0),
+        Role::Janitor(pool) => matches!(other, Role::Janitor(of) if pool.0 == of.0),
+        Role::Requester(requester) => matches!(other, Role::Requester(of) if requester.0 == of.0),
+        Role::Reaper => matches!(other, Role::Reaper),
     }
 }
 

@@ -194,9 +194,8 @@ effect_unlock_node s session n = record s { nodes = put_node_queue n (left sessi
 
 -- the configuration's row of the job that has the node
 abbrev pub owner_from : NodeId → List JobRecord → List Job → Option Job
-owner_from n [] jobs = None
-owner_from n (kept ∷ records) [] = None
 owner_from n (kept ∷ records) (job ∷ jobs) = if is_marked n kept then Some job else owner_from n records jobs
+owner_from n _ _ = None
 
 abbrev pub is_own : RequesterId → Option Job → Bool
 is_own q None = false
@@ -236,15 +235,12 @@ effect_end_node s n as_what = after_found (node_in n s.nodes) s (node_ended s n 
 -- a ready node goes if nobody has it and it is old or its pool is paused; a held one if it is old;
 -- any other at once
 abbrev pub may_delete : Configuration → State → NodeRecord → NodeState → Check
-may_delete c s k NodeState.Building = Ok tt
 may_delete c s k NodeState.Ready = do
   vacant k.allocated_to Refusal.Allocated
   need (is_old_ready c s k || is_paused c s k.pool) (Refusal.NotDue (due_tick (ready_age c k.label) k.since))
-may_delete c s k NodeState.InUse = Ok tt
-may_delete c s k NodeState.Used = Ok tt
 may_delete c s k NodeState.Hold = need (is_old_hold c s k) (Refusal.NotDue (due_tick c.max_hold_age k.since))
 may_delete c s k NodeState.Deleting = Err (wrong_node k)
-may_delete c s k NodeState.Failed = Ok tt
+may_delete c s k _ = Ok tt
 
 abbrev pub judge_mark_deleting : Configuration → State → SessionId → NodeId → Answer
 judge_mark_deleting c s session n = do

@@ -1,27 +1,5 @@
 -- The names of the machine that are cited most, and of what it stands on, passed on from one place. Declares nothing.
-pub use Rattle.np_amount.specs.Amounts.{IsAtMost, fits, minus, no_limit, nothing, plus, times, total}
-pub use Rattle.np_amount.specs.declared.amount.Amount.{Amount}
-pub use Rattle.np_amount.specs.declared.amount.Limit.{Limit}
-pub use Rattle.np_config.specs.Configuration.{Configuration}
-pub use Rattle.np_config.specs.Sound.{IsJob, IsOffer, IsPool, IsPriority, IsSound, IsTaken, IsWanted, StandsByOwner}
-pub use Rattle.np_config.specs.declared.row.Fault.{Fault}
-pub use Rattle.np_config.specs.declared.row.FaultKind.{FaultKind}
-pub use Rattle.np_config.specs.declared.row.Job.{Job}
-pub use Rattle.np_config.specs.declared.row.Label.{Label}
-pub use Rattle.np_config.specs.declared.row.Offer.{Offer}
-pub use Rattle.np_config.specs.declared.row.Pool.{Pool}
-pub use Rattle.np_config.specs.declared.row.Sem.{Sem}
-pub use Rattle.np_config.specs.declared.row.Tenant.{Tenant}
-pub use Rattle.np_event.specs.declared.entry.Entry.{Entry}
-pub use Rattle.np_event.specs.declared.event.Event.{Event}
-pub use Rattle.np_event.specs.declared.event.Outcome.{Outcome}
-pub use Rattle.np_event.specs.declared.reply.Done.{Done}
-pub use Rattle.np_event.specs.declared.reply.Refusal.{Refusal}
-pub use Rattle.np_event.specs.declared.reply.Reply.{Reply}
-pub use Rattle.np_lists.specs.Change.{change_at, change_first, insert_before, remove_first}
-pub use Rattle.np_lists.specs.EachAfter.{EachAfter}
-pub use Rattle.np_lists.specs.Refusals.{found, need, vacant, ◌>>=◌, ◌>>◌}
-pub use Rattle.np_lists.specs.Rising.{NonePass, Rises}
+pub use Rattle.np_lists.specs.Refusals.{◌>>=◌, ◌>>◌}
 pub use Rattle.np_machine.specs.Caused.{Caused, HasCause, IsTrueDecline, is_report_on}
 pub use Rattle.np_machine.specs.Count.{amount_of, amount_of_all, count_of, is_kind, is_offered, is_short, limit_of, offers_of, retries_of}
 pub use Rattle.np_machine.specs.Entries.{NodeEntry, RequestEntry}
@@ -47,35 +25,6 @@ pub use Rattle.np_machine.specs.Tables.{ahead_of, all_freed, change_janitor, cha
 pub use Rattle.np_machine.specs.Tenants.{amount_of_node, count_of_tenant, is_pending_of, is_tenant, limit_of_tenant, rest_of_request, tenant_never_fits, tenant_of_request}
 pub use Rattle.np_machine.specs.Tests.{Answer, after_found, as_launcher, by_node_holder, by_registrant, by_request_holder, janitor, launcher, maker, missing_handles, node_at, none_missing, not_declined, of_pool, own_job, request_at, requester, wrong_node, wrong_request}
 pub use Rattle.np_machine.specs.Turns.{EachTurn, SomeTurn, Turn, is_done, turns, turns_from}
-pub use Rattle.np_record.specs.declared.record.Declined.{Declined}
-pub use Rattle.np_record.specs.declared.record.JobRecord.{JobRecord}
-pub use Rattle.np_record.specs.declared.record.Marked.{Marked}
-pub use Rattle.np_record.specs.declared.record.NodeRecord.{NodeRecord}
-pub use Rattle.np_record.specs.declared.record.RequestRecord.{RequestRecord}
-pub use Rattle.np_record.specs.declared.record.RoleRecord.{RoleRecord}
-pub use Rattle.np_record.specs.declared.record.SessionRecord.{SessionRecord}
-pub use Rattle.np_text.specs.Lines.{is_line, line, lines_of}
-pub use Rattle.np_text.specs.Number.{number_of, ten_digits_of}
-pub use Rattle.np_text.specs.Request.{HasText, request_of, request_text_of, sequence_of}
-pub use Rattle.np_text.specs.Sections.{bar}
-pub use Rattle.np_text.specs.declared.id.JobId.{JobId}
-pub use Rattle.np_text.specs.declared.id.LabelId.{LabelId}
-pub use Rattle.np_text.specs.declared.id.NodeId.{NodeId}
-pub use Rattle.np_text.specs.declared.id.PoolId.{PoolId}
-pub use Rattle.np_text.specs.declared.id.RequestId.{RequestId}
-pub use Rattle.np_text.specs.declared.id.RequesterId.{RequesterId}
-pub use Rattle.np_text.specs.declared.id.Role.{Role}
-pub use Rattle.np_text.specs.declared.id.Role.TheVariants.{Janitor, Launcher, Reaper, Requester}
-pub use Rattle.np_text.specs.declared.id.SemId.{SemId}
-pub use Rattle.np_text.specs.declared.id.SessionId.{SessionId}
-pub use Rattle.np_text.specs.declared.id.TenantId.{TenantId}
-pub use Rattle.np_text.specs.declared.limit.TheConstants.{REQUESTERS}
-pub use Rattle.np_text.specs.declared.memory.NoMemory.{NoMemory}
-pub use Rattle.np_text.specs.declared.word.EndAs.{EndAs}
-pub use Rattle.np_text.specs.declared.word.Ending.{Ending}
-pub use Rattle.np_text.specs.declared.word.NodeState.{NodeState}
-pub use Rattle.np_text.specs.declared.word.Phase.{Phase}
-pub use Rattle.np_text.specs.declared.word.Reason.{Reason}
-pub use Rattle.np_text.specs.declared.word.RequestState.{RequestState}
 pub use Rattle.std.specs.List.{AllByRecursion, AllZip, count_by, flat_map, list_all, list_any, position, range_with_len}
 pub use Rattle.std.specs.Option.{is_some, option_copied, option_map, option_map_or, option_or}
+pub use Rattle.np_machine.specs.Lower.{Amount, Configuration, Declined, Done, EachAfter, EndAs, Ending, Entry, Event, Fault, FaultKind, HasText, IsAtMost, IsJob, IsOffer, IsPool, IsPriority, IsSound, IsTaken, IsWanted, Janitor, Job, JobId, JobRecord, Label, LabelId, Launcher, Limit, Marked, NoMemory, NodeId, NodeRecord, NodeState, NonePass, Offer, Outcome, Phase, Pool, PoolId, REQUESTERS, Reaper, Reason, Refusal, Reply, RequestId, RequestRecord, RequestState, Requester, RequesterId, Rises, Role, RoleRecord, Sem, SemId, SessionId, SessionRecord, StandsByOwner, Tenant, TenantId, bar, change_at, change_first, fits, found, insert_before, is_line, line, lines_of, minus, need, no_limit, nothing, number_of, plus, remove_first, request_of, request_text_of, sequence_of, ten_digits_of, times, total, vacant}

@@ -14,7 +14,7 @@ use Rattle.np_machine.specs.First.{first_of}
 use Rattle.np_machine.specs.Tests.{Answer, Check, maker, launcher, janitor, request_at, own_job, by_registrant, by_request_holder, unlocked, wrong_request, wrong_job, in_requested, in_pending, in_pending_by, not_declined, not_blocked, none_missing, quota_short, missing_handles, after_found, after_given}
 use Rattle.np_lists.specs.Refusals.{◌>>=◌, ◌>>◌}
 use Rattle.np_machine.specs.State.{State}
-use Rattle.np_machine.specs.Lower.{Configuration, Declined, Done, Janitor, Job, JobId, JobRecord, LabelId, Launcher, NodeId, Phase, PoolId, Reaper, Reason, Refusal, RequestId, RequestRecord, RequestState, Requester, Role, SessionId, found, insert_before, need, vacant}
+use Rattle.np_machine.specs.Lower.{Configuration, Declined, Done, Janitor, Job, JobId, JobRecord, LabelId, Launcher, NodeId, Phase, PoolId, Reason, Refusal, RequestId, RequestRecord, RequestState, Role, SessionId, found, insert_before, need, vacant}
 
 -- the request at its place in the order of ids
 abbrev pub insert_request : RequestEntry → List RequestEntry → List RequestEntry
@@ -183,8 +183,7 @@ lock_request_as c s session r (Launcher p) = do
   vacant (other_than r (first_of c s p)) Refusal.NotFirst
   Ok Done.Held
 lock_request_as c s session r (Janitor p) = lock_pending s r
-lock_request_as c s session r (Requester q) = Err Refusal.WrongRole
-lock_request_as c s session r Reaper = Err Refusal.WrongRole
+lock_request_as c s session r _ = Err Refusal.WrongRole
 
 abbrev pub judge_lock_request : Configuration → State → SessionId → RequestId → Answer
 judge_lock_request c s session r = maker s session >>= lock_request_as c s session r
@@ -204,8 +203,7 @@ unlock_request_as s session r (Janitor p) = do
   request ← request_at s r
   by_request_holder s r session
   Ok Done.Plain
-unlock_request_as s session r (Requester q) = Err Refusal.WrongRole
-unlock_request_as s session r Reaper = Err Refusal.WrongRole
+unlock_request_as s session r _ = Err Refusal.WrongRole
 
 abbrev pub judge_unlock_request : State → SessionId → RequestId → Answer
 judge_unlock_request s session r = maker s session >>= unlock_request_as s session r
@@ -243,10 +241,8 @@ effect_accept s session r = after_given (launcher s session) s (accept_by s r)
 
 -- a pool gives up with a failed node while it serves the request, and otherwise before it took it
 abbrev pub in_state_for : PoolId → RequestRecord → Reason → Check
-in_state_for p request (Reason.NoLabel l) = in_requested request
-in_state_for p request Reason.NeverFits = in_requested request
-in_state_for p request Reason.TenantNeverFits = in_requested request
 in_state_for p request (Reason.Spent n) = in_pending_by p request
+in_state_for p request _ = in_requested request
 
 abbrev pub judge_decline : Configuration → State → SessionId → RequestId → Reason → Answer
 judge_decline c s session r why = do

@@ -1,5 +1,5 @@
 -- the rows on semaphores and jobs
-use Rattle.std.specs.Prelude.{ℕ, List, Bool, false, ◌==◌, ◌&&◌, ◌||◌, not, if◌then◌else◌, Option, Some, None, Ok, Err, length, map, filter, find, fold, slice_get, count_by, nat_le, nat_lt, option_and_then}
+use Rattle.std.specs.Prelude.{ℕ, List, Bool, false, ◌==◌, ◌&&◌, ◌||◌, not, if◌then◌else◌, Option, Some, Ok, Err, length, map, filter, find, fold, slice_get, count_by, nat_le, nat_lt, option_and_then}
 use Rattle.std.specs.Option.{option_map_or}
 use Rattle.std.specs.List.{list_any, list_all}
 use Rattle.np_machine.specs.Entries.{NodeEntry}
@@ -8,7 +8,7 @@ use Rattle.np_machine.specs.Tables.{role_of, is_session_of, holder, request_in, 
 use Rattle.np_machine.specs.Tests.{Answer, Check, maker, request_at, job_at, record_of, of_requester, own_job, wrong_request, wrong_job, none_missing, missing_handles, after_found}
 use Rattle.np_lists.specs.Refusals.{◌>>=◌, ◌>>◌}
 use Rattle.np_machine.specs.State.{State}
-use Rattle.np_machine.specs.Lower.{Configuration, Done, Ending, Janitor, Job, JobId, JobRecord, Launcher, Marked, NodeId, NodeState, Phase, Reaper, Refusal, RequestId, RequestRecord, Requester, RequesterId, Role, SemId, SessionId, change_at, change_first, found, insert_before, need, vacant}
+use Rattle.np_machine.specs.Lower.{Configuration, Done, Ending, Janitor, Job, JobId, JobRecord, Marked, NodeId, NodeState, Phase, Refusal, RequestId, RequestRecord, Requester, RequesterId, Role, SemId, SessionId, change_at, change_first, found, insert_before, need, vacant}
 
 -- ## acquire: the job takes all its semaphores, or none (Zuul: semaphores)
 
@@ -96,11 +96,8 @@ effect_take s j = after_found (slice_get s.jobs j.0) s (take_for s j)
 
 -- a session of the requester
 abbrev pub is_requesters : RequesterId → Option Role → Bool
-is_requesters q None = false
-is_requesters q (Some (Launcher p)) = false
-is_requesters q (Some (Janitor p)) = false
 is_requesters q (Some (Requester other)) = other.0 == q.0
-is_requesters q (Some Reaper) = false
+is_requesters q _ = false
 
 -- live, mute or not
 abbrev pub has_live_session : RequesterId → State → Bool
@@ -128,17 +125,15 @@ ending_of kept =
 
 -- the requester its own job, the janitor one that was left alone
 abbrev pub may_finish : State → Job → Role → Check
-may_finish s job (Launcher p) = Err Refusal.WrongRole
 may_finish s job (Janitor p) = need (not (has_live_session job.requester s)) Refusal.NotOwner
 may_finish s job (Requester q) = of_requester q job
-may_finish s job Reaper = Err Refusal.WrongRole
+may_finish s job _ = Err Refusal.WrongRole
 
 -- a requester or a janitor
 abbrev pub requester_or_janitor : Role → Check
-requester_or_janitor (Launcher p) = Err Refusal.WrongRole
 requester_or_janitor (Janitor p) = Ok tt
 requester_or_janitor (Requester q) = Ok tt
-requester_or_janitor Reaper = Err Refusal.WrongRole
+requester_or_janitor _ = Err Refusal.WrongRole
 
 abbrev pub judge_finish : Configuration → State → SessionId → JobId → Answer
 judge_finish c s session j = do
@@ -176,10 +171,9 @@ effect_withdraw s j = after_found (slice_get s.jobs j.0) s (withdrawn s j)
 
 -- the requester its own job, any janitor
 abbrev pub may_release : Job → Role → Check
-may_release job (Launcher p) = Err Refusal.WrongRole
 may_release job (Janitor p) = Ok tt
 may_release job (Requester q) = of_requester q job
-may_release job Reaper = Err Refusal.WrongRole
+may_release job _ = Err Refusal.WrongRole
 
 abbrev pub judge_release : Configuration → State → SessionId → JobId → Answer
 judge_release c s session j = do

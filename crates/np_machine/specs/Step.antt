@@ -80,10 +80,6 @@ effect c s (Event.Sweep session n x) = effect_sweep s n x
 
 -- the session that makes the event; tick, open, crash and expire have none
 abbrev pub maker_of : Event → Option SessionId
-maker_of Event.Tick = None
-maker_of (Event.OpenSession role) = None
-maker_of (Event.Crash session) = None
-maker_of (Event.Expire session) = None
 maker_of (Event.Register session) = Some session
 maker_of (Event.Submit session j) = Some session
 maker_of (Event.Revise session j relative) = Some session
@@ -111,6 +107,7 @@ maker_of (Event.Reset session r) = Some session
 maker_of (Event.FreeNode session n) = Some session
 maker_of (Event.FailDeclined session r) = Some session
 maker_of (Event.Sweep session n x) = Some session
+maker_of _ = None
 
 -- ## the step
 

@@ -147,21 +147,15 @@ role_in Reaper s = None
 
 abbrev pub change_launcher : (RoleRecord → RoleRecord) → Role → List RoleRecord → List RoleRecord
 change_launcher f (Launcher p) roles = change_at p.0 f roles
-change_launcher f (Janitor p) roles = roles
-change_launcher f (Requester q) roles = roles
-change_launcher f Reaper roles = roles
+change_launcher f _ roles = roles
 
 abbrev pub change_janitor : (RoleRecord → RoleRecord) → Role → List RoleRecord → List RoleRecord
-change_janitor f (Launcher p) roles = roles
 change_janitor f (Janitor p) roles = change_at p.0 f roles
-change_janitor f (Requester q) roles = roles
-change_janitor f Reaper roles = roles
+change_janitor f _ roles = roles
 
 abbrev pub change_requester : (RoleRecord → RoleRecord) → Role → List RoleRecord → List RoleRecord
-change_requester f (Launcher p) roles = roles
-change_requester f (Janitor p) roles = roles
 change_requester f (Requester q) roles = change_at q.0 f roles
-change_requester f Reaper roles = roles
+change_requester f _ roles = roles
 
 -- the record of one role, changed
 abbrev pub change_role : (RoleRecord → RoleRecord) → Role → State → State

@@ -8,7 +8,7 @@ use Rattle.np_machine.specs.Reasons.{next_label}
 use Rattle.np_machine.specs.First.{blocking}
 use Rattle.np_machine.specs.State.{State}
 use Rattle.np_lists.specs.Refusals.{◌>>=◌, ◌>>◌}
-use Rattle.np_machine.specs.Lower.{Amount, Configuration, Done, Found, Janitor, Job, JobId, JobRecord, LabelId, Launcher, NodeId, NodeRecord, PoolId, Reaper, Refusal, RequestId, RequestRecord, Requester, RequesterId, Role, SessionId, found, need, vacant}
+use Rattle.np_machine.specs.Lower.{Amount, Configuration, Done, Found, Janitor, Job, JobId, JobRecord, LabelId, Launcher, NodeId, NodeRecord, PoolId, Refusal, RequestId, RequestRecord, Requester, RequesterId, Role, SessionId, found, need, vacant}
 
 -- ## rows of tests: the first that fails answers
 
@@ -30,21 +30,15 @@ maker s session = do
 
 abbrev pub as_launcher : Role → Result PoolId Refusal
 as_launcher (Launcher p) = Ok p
-as_launcher (Janitor p) = Err Refusal.WrongRole
-as_launcher (Requester q) = Err Refusal.WrongRole
-as_launcher Reaper = Err Refusal.WrongRole
+as_launcher _ = Err Refusal.WrongRole
 
 abbrev pub as_janitor : Role → Result PoolId Refusal
-as_janitor (Launcher p) = Err Refusal.WrongRole
 as_janitor (Janitor p) = Ok p
-as_janitor (Requester q) = Err Refusal.WrongRole
-as_janitor Reaper = Err Refusal.WrongRole
+as_janitor _ = Err Refusal.WrongRole
 
 abbrev pub as_requester : Role → Result RequesterId Refusal
-as_requester (Launcher p) = Err Refusal.WrongRole
-as_requester (Janitor p) = Err Refusal.WrongRole
 as_requester (Requester q) = Ok q
-as_requester Reaper = Err Refusal.WrongRole
+as_requester _ = Err Refusal.WrongRole
 
 -- the pool whose launcher makes the event
 abbrev pub launcher : State → SessionId → Result PoolId Refusal

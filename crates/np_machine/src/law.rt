@@ -2,15 +2,8 @@
 
 ghost use Rattle.std.specs.Prelude.{◌≡◌, ◌+◌, List, ◌++◌, Some, None, is_ok, is_some, true, false};
 ghost use Rattle.std.specs.Option.{option_map};
-ghost use Rattle.np_text.specs.declared.id.SessionId.{SessionId};
-ghost use Rattle.np_text.specs.declared.id.NodeId.{NodeId};
-ghost use Rattle.np_text.specs.declared.id.RequestId.{RequestId};
-ghost use Rattle.np_text.specs.declared.id.Role.{Role};
-ghost use Rattle.np_config.specs.Configuration.{Configuration};
-ghost use Rattle.np_event.specs.declared.event.Event.{Event};
-ghost use Rattle.np_event.specs.declared.reply.Refusal.{Refusal};
+ghost use Rattle.np_machine.specs.Lower.{Configuration, Entry, Event, NodeId, Refusal, RequestId, Role, SessionId};
 ghost use Rattle.np_event.specs.declared.reply.Reply.TheVariants as reply;
-ghost use Rattle.np_event.specs.declared.entry.Entry.{Entry};
 ghost use Rattle.np_machine.specs.State.{State, start};
 ghost use Rattle.np_machine.specs.Tables.{role_of, request_in};
 ghost use Rattle.np_machine.specs.LiveHolder.{IsLiveHolder, IsLiveRequestHolder, HoldsSince, LockedSince};
@@ -43,6 +36,7 @@ pub fn the_next_numbers_never_fall()
 
 /// An accepted event of a maker adds 1 to the acts of its role and to no other; any other event
 /// adds none.
+#[tactic(auto, using(crate::proofs::Acts::own, crate::proofs::Acts::others, crate::proofs::Acts::no_maker))]
 pub fn an_accepted_event_is_one_act_of_its_role()
     ensures own { (c : Configuration) (s : State) (e : Event) (session : SessionId) (role : Role) →
         maker_of e ≡ Some session → role_of session s ≡ Some role → is_ok (judge c s e) ≡ true →
@@ -56,6 +50,7 @@ pub fn an_accepted_event_is_one_act_of_its_role()
 
 /// A live holder of a node is a session that has held it since some accepted entry: by that entry
 /// it holds the node, and no accepted entry after it ends that.
+#[tactic(auto, using(crate::proofs::LiveHolders::holders))]
 pub fn a_live_holder_has_held_since_an_entry()
     ensures since { (c : Configuration) (journal : List Entry) (session : SessionId) (n : NodeId) →
         IsLiveHolder c journal session n → HoldsSince c (start c) journal session n }
@@ -65,6 +60,7 @@ pub fn a_live_holder_has_held_since_an_entry()
 
 /// A live holder of a request is a session that has had its lock since some entry, while the
 /// request is there.
+#[tactic(auto, using(crate::proofs::LiveHolders::holders))]
 pub fn a_live_holder_of_a_request_has_locked_it()
     ensures since { (c : Configuration) (journal : List Entry) (session : SessionId) (r : RequestId) →
         IsLiveRequestHolder c journal session r → LockedSince journal session r }

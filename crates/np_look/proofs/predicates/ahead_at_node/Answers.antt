@@ -10,13 +10,11 @@ returns-then-other-session g c =
 
 pub overflow_add-ahead : goal.overflow_add-ahead
 overflow_add-ahead g c =
-    let within : c.loop-other.ahead < length (node_queue c.args.node (g.R.Rows.state c.args.rows.now).nodes) = slice_get_within _ c.loop-other.ahead c.in-Some.other (sym c.in-Some.ensures) in
-    omega (arith, within, queue-fits (g.R.Rows.site c.args.rows.now) (g.R.Rows.state c.args.rows.now) c.args.node c.requires)
+    omega (arith, slice_get_within _ c.loop-other.ahead c.in-Some.other (sym c.in-Some.ensures), queue-fits (g.R.Rows.site c.args.rows.now) (g.R.Rows.state c.args.rows.now) c.args.node c.requires)
 
 pub loop-other-smaller : goal.loop-other-smaller
 loop-other-smaller g c =
-    let within : c.loop-other.ahead < length (node_queue c.args.node (g.R.Rows.state c.args.rows.now).nodes) = slice_get_within _ c.loop-other.ahead c.in-Some.other (sym c.in-Some.ensures) in
-    omega (arith, within)
+    omega (arith, slice_get_within _ c.loop-other.ahead c.in-Some.other (sym c.in-Some.ensures))
 
 pub loop-other-preserved : goal.loop-other-preserved
 loop-other-preserved g c =

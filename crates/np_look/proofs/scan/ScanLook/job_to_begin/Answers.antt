@@ -1,11 +1,6 @@
-use Rattle.np_look.proofs.Prelude.{add-one, false, is_job_to_begin, sym, true, ◌∙◌, ◌≡◌}
-use Rattle.np_look.proofs.Looks.{job-here, job-over}
+use Rattle.np_look.proofs.Prelude.{add-one, false, is_job_to_begin, sym, ◌∙◌, ◌≡◌}
+use Rattle.np_look.proofs.Looks.{job-over}
 use Rattle.np_look.proofs.scan.ScanLook.job_to_begin.Goals as goal
-
-pub returns-then-is_job_to_begin : goal.returns-then-is_job_to_begin
-returns-then-is_job_to_begin g c =
-    let passes : is_job_to_begin (g.R.Rows.site c.args.self.now.rows.now) (g.R.Rows.state c.args.self.now.rows.now) c.args.requester (record { 0 = c.loop-number.number }) c.in_ok-kept.kept ≡ true = cc in
-    sym (sym c.loop-number.invariant ∙ job-here (is_job_to_begin (g.R.Rows.site c.args.self.now.rows.now) (g.R.Rows.state c.args.self.now.rows.now) c.args.requester) (g.R.Rows.state c.args.self.now.rows.now).jobs c.loop-number.number c.in_ok-kept.kept (sym c.in_ok-kept.ensures) passes)
 
 pub loop-number-preserved : goal.loop-number-preserved
 loop-number-preserved g c =

@@ -1,4 +1,4 @@
-use Rattle.np_look.proofs.Prelude.{NodeEntry, NodeView, add-one, arith, false, is_given_to, is_queued, is_to_leave, length, node_queue, node_seen, node_view, refl, sym, true, ◌&&◌, ◌∙◌, ◌≡◌, ◌≤◌}
+use Rattle.np_look.proofs.Prelude.{NodeEntry, NodeView, add-one, arith, false, is_given_to, is_queued, is_to_leave, node_queue, node_seen, node_view, refl, sym, true, ◌∙◌, ◌≡◌}
 use Rattle.np_look.proofs.Looks.{listed_here, listed_past, passed_later, passed_over}
 use Rattle.np_look.proofs.scan.ScanLook.node_to_leave.Goals.{then-not-waits_at_node-via-then-not-waits_at_node, then-not-waits_at_node-via-else-not-waits_at_node+then-is_given_to}
 use Rattle.np_look.proofs.scan.ScanLook.node_to_leave.Goals as goal
@@ -33,5 +33,4 @@ loop-place-preserved g c =
 
 pub returns : goal.returns
 returns g c =
-    let past : length (g.R.Rows.state c.args.self.now.rows.now).nodes ≤ c.loop-place.place = omega (arith, c.nodes-place-end.ensures, c.loop-place-test.false) in
-    listed_past (is_to_leave (g.R.Rows.site c.args.self.now.rows.now) (g.R.Rows.state c.args.self.now.rows.now) c.args.requester c.args.session) (λ (e : NodeEntry). e.id) (g.R.Rows.state c.args.self.now.rows.now).nodes c.loop-place.place c.loop-place.left c.args.at past c.loop-place.invariant
+    listed_past (is_to_leave (g.R.Rows.site c.args.self.now.rows.now) (g.R.Rows.state c.args.self.now.rows.now) c.args.requester c.args.session) (λ (e : NodeEntry). e.id) (g.R.Rows.state c.args.self.now.rows.now).nodes c.loop-place.place c.loop-place.left c.args.at (omega (arith, c.nodes-place-end.ensures, c.loop-place-test.false)) c.loop-place.invariant

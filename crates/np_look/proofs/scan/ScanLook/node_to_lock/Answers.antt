@@ -1,4 +1,4 @@
-use Rattle.np_look.proofs.Prelude.{NodeEntry, NodeView, None, add-one, ap, arith, drop, drop-past, false, find, is_given_to, is_queued, is_to_lock, length, node_queue, node_seen, node_view, option_map, refl, slice_get_past, sym, true, ◌&&◌, ◌∙◌, ◌≡◌, ◌≤◌}
+use Rattle.np_look.proofs.Prelude.{NodeEntry, NodeView, None, add-one, ap, arith, drop, drop-past, false, find, is_given_to, is_queued, is_to_lock, node_queue, node_seen, node_view, option_map, refl, slice_get_past, sym, true, ◌∙◌, ◌≡◌}
 use Rattle.np_look.proofs.Looks.{found_here, found_later}
 use Rattle.np_look.proofs.scan.ScanLook.node_to_lock.Goals.{else-is_given_to-via-then-is_given_to+else-not-waits_at_node, else-is_given_to-via-else-is_given_to}
 use Rattle.np_look.proofs.scan.ScanLook.node_to_lock.Goals as goal
@@ -27,6 +27,5 @@ loop-at-preserved g c =
 
 pub returns : goal.returns
 returns g c =
-    let past : length (g.R.Rows.state c.args.self.now.rows.now).nodes ≤ c.loop-at.at = omega (arith, c.nodes-at-end.ensures, c.loop-at-test.false) in
-    let none : find (is_to_lock (g.R.Rows.site c.args.self.now.rows.now) (g.R.Rows.state c.args.self.now.rows.now) c.args.requester c.args.session) (drop c.loop-at.at (g.R.Rows.state c.args.self.now.rows.now).nodes) ≡ None = rw (drop-past (g.R.Rows.state c.args.self.now.rows.now).nodes c.loop-at.at (slice_get_past (g.R.Rows.state c.args.self.now.rows.now).nodes c.loop-at.at past)) refl in
+    let none : find (is_to_lock (g.R.Rows.site c.args.self.now.rows.now) (g.R.Rows.state c.args.self.now.rows.now) c.args.requester c.args.session) (drop c.loop-at.at (g.R.Rows.state c.args.self.now.rows.now).nodes) ≡ None = rw (drop-past (g.R.Rows.state c.args.self.now.rows.now).nodes c.loop-at.at (slice_get_past (g.R.Rows.state c.args.self.now.rows.now).nodes c.loop-at.at (omega (arith, c.nodes-at-end.ensures, c.loop-at-test.false)))) refl in
     ap (option_map (λ (e : NodeEntry). e.id)) (sym none ∙ c.loop-at.invariant)

@@ -1,11 +1,10 @@
-use Rattle.np_look.proofs.Prelude.{RequestEntry, RequestView, add-one, arith, cond, is_pending_by, length, refl, request_view, sym, ◌<◌, ◌≡◌, ◌≤◌}
+use Rattle.np_look.proofs.Prelude.{RequestEntry, RequestView, add-one, arith, cond, is_pending_by, refl, request_view, sym, ◌≡◌}
 use Rattle.np_look.proofs.Looks.{count_here, none_there, counted}
 use Rattle.np_look.proofs.scan.ScanLook.pending_requests.Goals as goal
 
 pub returns-in_default : goal.returns-in_default
 returns-in_default g c =
-    let within : c.loop-at.at < length (g.R.Rows.state c.args.self.now.rows.now).requests = omega (arith, c.requests-at-end.ensures, c.loop-at-test.true) in
-    absurd (none_there request_view (g.R.Rows.state c.args.self.now.rows.now).requests c.loop-at.at within (sym c.in_default.ensures))
+    absurd (none_there request_view (g.R.Rows.state c.args.self.now.rows.now).requests c.loop-at.at (omega (arith, c.requests-at-end.ensures, c.loop-at-test.true)) (sym c.in_default.ensures))
 
 pub loop-at-preserved : goal.loop-at-preserved
 loop-at-preserved g c =
@@ -18,5 +17,4 @@ loop-at-preserved g c =
 
 pub returns : goal.returns
 returns g c =
-    let past : length (g.R.Rows.state c.args.self.now.rows.now).requests ≤ c.loop-at.at = omega (arith, c.requests-at-end.ensures, c.loop-at-test.false) in
-    counted (λ (e : RequestEntry). is_pending_by c.args.pool e.kept) (λ (e : RequestEntry). e.id) (g.R.Rows.state c.args.self.now.rows.now).requests c.loop-at.at c.loop-at.count past c.loop-at.invariant.all
+    counted (λ (e : RequestEntry). is_pending_by c.args.pool e.kept) (λ (e : RequestEntry). e.id) (g.R.Rows.state c.args.self.now.rows.now).requests c.loop-at.at c.loop-at.count (omega (arith, c.requests-at-end.ensures, c.loop-at-test.false)) c.loop-at.invariant.all

@@ -1,4 +1,4 @@
-use Rattle.np_look.proofs.Prelude.{add-one, arith, cond, is_coming, is_free_ready, length, node_seen, node_view, refl, request_seen, request_view, sym, ◌<◌, ◌≡◌}
+use Rattle.np_look.proofs.Prelude.{add-one, arith, cond, is_coming, is_free_ready, node_seen, node_view, refl, request_seen, request_view, sym, ◌≡◌}
 use Rattle.np_look.proofs.Looks.{count_here, none_there}
 use Rattle.np_look.proofs.scan.ScanLook.ready_count.Goals as goal
 
@@ -13,8 +13,7 @@ loop-at-preserved g c =
 
 pub returns-in_default-request_view : goal.returns-in_default-request_view
 returns-in_default-request_view g c =
-    let within : c.loop-at-2.at < length (g.R.Rows.state c.args.self.now.rows.now).requests = omega (arith, c.requests-at-end.ensures, c.loop-at-2-test.true) in
-    absurd (none_there request_view (g.R.Rows.state c.args.self.now.rows.now).requests c.loop-at-2.at within (sym c.in_default-request_view.ensures))
+    absurd (none_there request_view (g.R.Rows.state c.args.self.now.rows.now).requests c.loop-at-2.at (omega (arith, c.requests-at-end.ensures, c.loop-at-2-test.true)) (sym c.in_default-request_view.ensures))
 
 pub loop-at-2-preserved : goal.loop-at-2-preserved
 loop-at-2-preserved g c =

@@ -1,11 +1,6 @@
 use Rattle.np_look.proofs.Prelude.{add-one, false, is_unfinished_job, sym, true, ◌∙◌, ◌≡◌}
-use Rattle.np_look.proofs.Looks.{job-here, job-later, job-over}
+use Rattle.np_look.proofs.Looks.{job-later, job-over}
 use Rattle.np_look.proofs.scan.ScanLook.unfinished.Goals as goal
-
-pub returns-then-left-eq0 : goal.returns-then-left-eq0
-returns-then-left-eq0 g c =
-    let passes : is_unfinished_job (g.R.Rows.site c.args.self.now.rows.now) c.args.requester (record { 0 = c.loop-number.number }) c.in-Some.kept ≡ true = cc in
-    sym (sym c.loop-number.invariant ∙ rw c.if-left-eq0.true (job-here (is_unfinished_job (g.R.Rows.site c.args.self.now.rows.now) c.args.requester) (g.R.Rows.state c.args.self.now.rows.now).jobs c.loop-number.number c.in-Some.kept (sym c.in-Some.ensures) passes))
 
 pub loop-number-preserved : goal.loop-number-preserved
 loop-number-preserved g c =
