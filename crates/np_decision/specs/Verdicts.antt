@@ -1,10 +1,17 @@
--- what a verdict answers
+-- the places of a request, one by one
+use Rattle.std.specs.Prelude.{ℕ, List, Option, Some, None, if◌then◌else◌, Result, Ok, Err, not, slice_get}
 use Rattle.std.specs.Borrow.{Bor}
-use Rattle.std.specs.Prelude.{ℕ, Result, Ok, Err, not, slice_get}
-use Rattle.np_changes.specs.Prelude.{Configuration, Job, JobRecord, LabelId, PoolId, Refusal, RequestId, RequestRecord, State, asked_of, count_of, found, is_short, need, ◌>>=◌}
-use Rattle.np_machine.specs.Tests.{Answer, Check, quota_short}
-use Rattle.np_changes.specs.declared.asked.Asked.{Asked}
+use Rattle.np_changes.specs.Prelude.{◌>>=◌}
 use Rattle.np_decision.specs.declared.verdict.Verdict.{Verdict}
+use Rattle.np_decision.specs.Lower.{Answer, Asked, Check, Configuration, Job, JobRecord, LabelId, NodeEntry, NodeId, PoolId, Refusal, RequestId, RequestRecord, SessionId, State, asked_of, count_of, found, is_filled, is_short, need, node_entry, quota_short}
+
+-- 1 if there is a label and no node as fulfil needs it
+abbrev pub lack_at : PoolId → SessionId → RequestId → List NodeEntry → Option LabelId → Option NodeId → ℕ
+lack_at p session r nodes None number = 0
+lack_at p session r nodes (Some l) None = 1
+lack_at p session r nodes (Some l) (Some n) = if is_filled p session r l (node_entry n nodes) then 0 else 1
+
+-- what a verdict answers
 
 abbrev pub answer_of : Result Verdict Refusal → Answer
 answer_of (Ok v) = Ok v.done

@@ -1,7 +1,7 @@
 //! The decision: one line for each event.
 
 ghost use Rattle.std.specs.Prelude.{◌≡◌, IfOk};
-ghost use Rattle.np_changes.specs.Prelude.{Fits, judge, plan};
+ghost use Rattle.np_decision.specs.Lower.{Fits, judge, plan};
 ghost use Rattle.np_decision.specs.Verdicts.{answer_of};
 
 use crate::node::{
@@ -17,13 +17,13 @@ use crate::semaphore::{
     decide_acquire, decide_finish, decide_release, decide_take, decide_withdraw,
 };
 use crate::session::{decide_crash, decide_expire, decide_open, decide_tick};
-use crate::verdict::Verdict;
-use np_event::{Event, Refusal};
+use crate::verdict::Ruling;
+use np_event::Event;
 use np_look::Look;
 
 /// The answer to the event, and what it changes if it is accepted. It takes no memory, and costs
 /// what the readers cost that its row calls.
-pub fn decide<L: Look>(look: &L, event: Event) -> Result<Verdict, Refusal>
+pub fn decide<L: Look>(look: &L, event: Event) -> Ruling
     requires { Fits (L.site look.now) (L.state look.now) }
     ensures answer { answer_of result ≡ judge (L.site look.now) (L.state look.now) event }
     ensures changes { IfOk result (λ v. v.changes ≡

@@ -9,6 +9,15 @@
 //! ends, for whoever makes them.
 #![tactic(auto)]
 
+// The event is refused, unless the test is passed.
+macro_rules! ensure {
+    ($test:expr, $refusal:expr) => {
+        if !($test) {
+            return Err($refusal);
+        }
+    };
+}
+
 mod decision;
 mod node;
 mod request;
@@ -30,4 +39,4 @@ pub use request::{
 pub use semaphore::{decide_acquire, decide_finish, decide_release, decide_take, decide_withdraw};
 pub use session::{decide_crash, decide_expire, decide_open, decide_tick};
 pub use tests::missing_handles;
-pub use verdict::Verdict;
+pub use verdict::{Ruling, Verdict};

@@ -1,20 +1,15 @@
 //! The rows on nodes.
 
 ghost use Rattle.std.specs.Prelude.{◌≡◌, ◌<◌, ◌≤◌, ◌+◌, ◌^◌, length, slice_get, option_and_then, IfOk};
-ghost use Rattle.np_changes.specs.Prelude.{Fits, new_record, retries_of};
-ghost use Rattle.np_machine.specs.Reasons.{ready_age, is_past, due_tick};
-ghost use Rattle.np_machine.specs.Node.{judge_take_ready, judge_create, starts_of, judge_start, judge_done, state_after_launch, launched, place_reply, judge_lock_node, judge_unlock_node, is_own, judge_end_node, ended_as, may_delete, judge_mark_deleting, judge_gone, standing, judge_free_node, is_server, is_wanted, judge_sweep};
-ghost use Rattle.np_changes.specs.Plan.{plan_take_ready, new_node, plan_create, plan_start, plan_done, plan_lock_node, plan_unlock_node, end_in, plan_end_node, plan_mark_deleting, plan_gone, plan_free_node, plan_sweep};
-ghost use Rattle.np_look.specs.Readers.{tenant_of_job};
+ghost use Rattle.np_decision.specs.Lower.{Allocate, Fits, due_tick, end_in, ended_as, is_own, is_past, is_server, is_wanted, judge_create, judge_done, judge_end_node, judge_free_node, judge_gone, judge_lock_node, judge_mark_deleting, judge_start, judge_sweep, judge_take_ready, judge_unlock_node, launched, may_delete, new_node, new_record, place_reply, plan_create, plan_done, plan_end_node, plan_free_node, plan_gone, plan_lock_node, plan_mark_deleting, plan_start, plan_sweep, plan_take_ready, plan_unlock_node, ready_age, retries_of, standing, starts_of, state_after_launch, tenant_of_job};
 ghost use Rattle.np_decision.specs.Verdicts.{answer_of};
-ghost use Rattle.np_changes.specs.declared.changes.Growth.TheVariants.{Allocate};
 
 use crate::tests::{
     by_node_holder, by_registrant, by_request_holder, has_room, is_pending_by, janitor, launcher,
     maker, next_label, node_at, of_pool, request_at, requester, tenant_of_job, wrong_node,
     wrong_request,
 };
-use crate::verdict::{Verdict, made_by};
+use crate::verdict::{Ruling, Verdict, made_by, plain};
 use np_changes::{
     Asked, Changes, Deed, Growth, JobsChange, NodesChange, RequestEdit, RequestsChange,
 };
@@ -42,7 +37,7 @@ pub fn decide_take_ready<R: Rows>(
     session: SessionId,
     request: RequestId,
     node: NodeId,
-) -> Result<Verdict, Refusal>
+) -> Ruling
     ensures answer { answer_of result ≡ judge_take_ready (R.state rows.now) session request node }
     ensures changes { IfOk result (λ v. v.changes ≡
         plan_take_ready (R.site rows.now) (R.state rows.now) session request node) }
@@ -52,18 +47,12 @@ pub fn decide_take_ready<R: Rows>(
     let kept = node_at(rows, node)?;
     by_registrant(rows, pool, session)?;
     by_request_holder(rows, request, session)?;
-    if !is_pending_by(pool, &asked) {
-        return Err(wrong_request(&asked));
-    }
-    if asked.pinned.is_some() {
-        return Err(Refusal::NotOwner);
-    }
+    ensure!(is_pending_by(pool, &asked), wrong_request(&asked));
+    ensure!(asked.pinned.is_none(), Refusal::NotOwner);
     let Some(label) = next_label(&asked) else {
         return Err(wrong_request(&asked));
     };
-    if kept.state != NodeState::Ready {
-        return Err(wrong_node(&kept));
-    }
+    ensure!(kept.state == NodeState::Ready, wrong_node(&kept));
     if let Some(other) = kept.allocated_to {
         return Err(Refusal::Allocated(other));
     }
@@ -112,11 +101,7 @@ fn new_node<R: Rows>(
 }
 
 /// The launcher makes a node for the request's next label.
-pub fn decide_create<L: Look>(
-    look: &L,
-    session: SessionId,
-    request: RequestId,
-) -> Result<Verdict, Refusal>
+pub fn decide_create<L: Look>(look: &L, session: SessionId, request: RequestId) -> Ruling
     requires { Fits (L.site look.now) (L.state look.now) }
     ensures answer { answer_of result ≡
         judge_create (L.site look.now) (L.state look.now) session request }
@@ -128,9 +113,7 @@ pub fn decide_create<L: Look>(
     let asked = request_at(rows, request)?;
     by_registrant(rows, pool, session)?;
     by_request_holder(rows, request, session)?;
-    if !is_pending_by(pool, &asked) {
-        return Err(wrong_request(&asked));
-    }
+    ensure!(is_pending_by(pool, &asked), wrong_request(&asked));
     let Some(label) = next_label(&asked) else {
         return Err(wrong_request(&asked));
     };
@@ -164,7 +147,7 @@ fn starts_of<R: Rows>(rows: &R, pool: PoolId) -> u32
 }
 
 /// The launcher begins an attempt to launch the node.
-pub fn decide_start<R: Rows>(rows: &R, session: SessionId, node: NodeId) -> Result<Verdict, Refusal>
+pub fn decide_start<R: Rows>(rows: &R, session: SessionId, node: NodeId) -> Ruling
     requires { Fits (R.site rows.now) (R.state rows.now) }
     ensures answer { answer_of result ≡ judge_start (R.state rows.now) session node }
     ensures changes { IfOk result (λ v. v.changes ≡ plan_start (R.state rows.now) session node) }
@@ -248,7 +231,7 @@ pub fn decide_done<R: Rows>(
     node: NodeId,
     attempt: u8,
     outcome: Outcome,
-) -> Result<Verdict, Refusal>
+) -> Ruling
     ensures answer { answer_of result ≡ judge_done (R.state rows.now) session node attempt }
     ensures changes { IfOk result (λ v. v.changes ≡
         plan_done (R.site rows.now) (R.state rows.now) session node outcome) }
@@ -257,21 +240,16 @@ pub fn decide_done<R: Rows>(
     let kept = node_at(rows, node)?;
     of_pool(pool, &kept)?;
     by_node_holder(rows, node, session)?;
-    if !kept.in_flight {
-        return Err(wrong_node(&kept));
-    }
+    ensure!(kept.in_flight, wrong_node(&kept));
     if kept.attempts != attempt {
         return Err(Refusal::WrongAttempt(kept.attempts));
     }
-    Ok(Verdict {
-        done: Done::Plain,
-        changes: Changes {
-            nodes: NodesChange::Put {
-                node,
-                kept: launched(retries(rows, kept.pool), rows.tick(), outcome, &kept),
-            },
-            ..made_by(session, Role::Launcher(pool))
+    plain(Changes {
+        nodes: NodesChange::Put {
+            node,
+            kept: launched(retries(rows, kept.pool), rows.tick(), outcome, &kept),
         },
+        ..made_by(session, Role::Launcher(pool))
     })
 }
 
@@ -287,11 +265,7 @@ fn place_reply(ahead: u32) -> Done
 }
 
 /// The maker joins the node's queue.
-pub fn decide_lock_node<R: Rows>(
-    rows: &R,
-    session: SessionId,
-    node: NodeId,
-) -> Result<Verdict, Refusal>
+pub fn decide_lock_node<R: Rows>(rows: &R, session: SessionId, node: NodeId) -> Ruling
     requires { Fits (R.site rows.now) (R.state rows.now) }
     ensures answer { answer_of result ≡ judge_lock_node (R.state rows.now) session node }
     ensures changes { IfOk result (λ v. v.changes ≡
@@ -309,11 +283,7 @@ pub fn decide_lock_node<R: Rows>(
 }
 
 /// The maker leaves the node's queue.
-pub fn decide_unlock_node<R: Rows>(
-    rows: &R,
-    session: SessionId,
-    node: NodeId,
-) -> Result<Verdict, Refusal>
+pub fn decide_unlock_node<R: Rows>(rows: &R, session: SessionId, node: NodeId) -> Ruling
     requires { Fits (R.site rows.now) (R.state rows.now) }
     ensures answer { answer_of result ≡ judge_unlock_node (R.state rows.now) session node }
     ensures changes { IfOk result (λ v. v.changes ≡
@@ -321,15 +291,10 @@ pub fn decide_unlock_node<R: Rows>(
 {
     let role = maker(rows, session)?;
     node_at(rows, node)?;
-    if !waits_at_node(rows, session, node) {
-        return Err(Refusal::NotHeld);
-    }
-    Ok(Verdict {
-        done: Done::Plain,
-        changes: Changes {
-            nodes: NodesChange::Leave { node },
-            ..made_by(session, role)
-        },
+    ensure!(waits_at_node(rows, session, node), Refusal::NotHeld);
+    plain(Changes {
+        nodes: NodesChange::Leave { node },
+        ..made_by(session, role)
     })
 }
 
@@ -350,10 +315,7 @@ fn is_own<R: Rows>(rows: &R, requester: RequesterId, job: Option<JobId>) -> bool
     let Some(job) = job else {
         return false;
     };
-    match rows.config().job(job) {
-        None => false,
-        Some(row) => row.requester.0 == requester.0,
-    }
+    matches!(rows.config().job(job), Some(row) if row.requester.0 == requester.0)
 }
 
 /// The node is marked ended in the job, if there is one.
@@ -368,12 +330,7 @@ fn end_in(job: Option<JobId>, node: NodeId) -> JobsChange
 
 /// The requester is done with a node of its job.
 #[tactic(auto, using(crate::proofs::OwnerLemmas::owner_at))]
-pub fn decide_end_node<L: Look>(
-    look: &L,
-    session: SessionId,
-    node: NodeId,
-    end: EndAs,
-) -> Result<Verdict, Refusal>
+pub fn decide_end_node<L: Look>(look: &L, session: SessionId, node: NodeId, end: EndAs) -> Ruling
     ensures answer { answer_of result ≡
         judge_end_node (L.site look.now) (L.state look.now) session node }
     ensures changes { IfOk result (λ v. v.changes ≡
@@ -383,27 +340,20 @@ pub fn decide_end_node<L: Look>(
     let own = requester(rows, session)?;
     let kept = node_at(rows, node)?;
     by_node_holder(rows, node, session)?;
-    if kept.state != NodeState::InUse {
-        return Err(wrong_node(&kept));
-    }
+    ensure!(kept.state == NodeState::InUse, wrong_node(&kept));
     let job = look.owner(node);
-    if !is_own(rows, own, job) {
-        return Err(Refusal::NotOwner);
-    }
-    Ok(Verdict {
-        done: Done::Plain,
-        changes: Changes {
-            nodes: NodesChange::Put {
-                node,
-                kept: NodeRecord {
-                    since: rows.tick(),
-                    state: ended_as(end),
-                    ..kept
-                },
+    ensure!(is_own(rows, own, job), Refusal::NotOwner);
+    plain(Changes {
+        nodes: NodesChange::Put {
+            node,
+            kept: NodeRecord {
+                since: rows.tick(),
+                state: ended_as(end),
+                ..kept
             },
-            jobs: end_in(job, node),
-            ..made_by(session, Role::Requester(own))
         },
+        jobs: end_in(job, node),
+        ..made_by(session, Role::Requester(own))
     })
 }
 
@@ -466,11 +416,7 @@ fn may_delete<L: Look>(look: &L, node: &NodeRecord) -> Result<(), Refusal>
 }
 
 /// The janitor gives a node up.
-pub fn decide_mark_deleting<L: Look>(
-    look: &L,
-    session: SessionId,
-    node: NodeId,
-) -> Result<Verdict, Refusal>
+pub fn decide_mark_deleting<L: Look>(look: &L, session: SessionId, node: NodeId) -> Ruling
     requires { Fits (L.site look.now) (L.state look.now) }
     ensures answer { answer_of result ≡
         judge_mark_deleting (L.site look.now) (L.state look.now) session node }
@@ -482,39 +428,31 @@ pub fn decide_mark_deleting<L: Look>(
     let kept = node_at(rows, node)?;
     by_node_holder(rows, node, session)?;
     may_delete(look, &kept)?;
-    Ok(Verdict {
-        done: Done::Plain,
-        changes: Changes {
-            nodes: NodesChange::Put {
-                node,
-                kept: NodeRecord {
-                    in_flight: false,
-                    state: NodeState::Deleting,
-                    ..kept
-                },
+    plain(Changes {
+        nodes: NodesChange::Put {
+            node,
+            kept: NodeRecord {
+                in_flight: false,
+                state: NodeState::Deleting,
+                ..kept
             },
-            ..made_by(session, Role::Janitor(pool))
         },
+        ..made_by(session, Role::Janitor(pool))
     })
 }
 
 /// The node's record is removed.
-pub fn decide_gone<R: Rows>(rows: &R, session: SessionId, node: NodeId) -> Result<Verdict, Refusal>
+pub fn decide_gone<R: Rows>(rows: &R, session: SessionId, node: NodeId) -> Ruling
     ensures answer { answer_of result ≡ judge_gone (R.state rows.now) session node }
     ensures changes { IfOk result (λ v. v.changes ≡ plan_gone (R.state rows.now) session node) }
 {
     let pool = janitor(rows, session)?;
     let kept = node_at(rows, node)?;
     by_node_holder(rows, node, session)?;
-    if kept.state != NodeState::Deleting {
-        return Err(wrong_node(&kept));
-    }
-    Ok(Verdict {
-        done: Done::Plain,
-        changes: Changes {
-            nodes: NodesChange::Remove { node },
-            ..made_by(session, Role::Janitor(pool))
-        },
+    ensure!(kept.state == NodeState::Deleting, wrong_node(&kept));
+    plain(Changes {
+        nodes: NodesChange::Remove { node },
+        ..made_by(session, Role::Janitor(pool))
     })
 }
 
@@ -530,11 +468,7 @@ fn standing<R: Rows>(rows: &R, found: Option<RequestId>) -> Option<RequestId>
 }
 
 /// The janitor frees a ready node whose request is gone.
-pub fn decide_free_node<R: Rows>(
-    rows: &R,
-    session: SessionId,
-    node: NodeId,
-) -> Result<Verdict, Refusal>
+pub fn decide_free_node<R: Rows>(rows: &R, session: SessionId, node: NodeId) -> Ruling
     ensures answer { answer_of result ≡ judge_free_node (R.state rows.now) session node }
     ensures changes { IfOk result (λ v. v.changes ≡
         plan_free_node (R.state rows.now) session node) }
@@ -548,48 +482,35 @@ pub fn decide_free_node<R: Rows>(
     if let Some(request) = standing(rows, kept.allocated_to) {
         return Err(Refusal::Allocated(request));
     }
-    Ok(Verdict {
-        done: Done::Plain,
-        changes: Changes {
-            nodes: NodesChange::Put {
-                node,
-                kept: NodeRecord {
-                    allocated_to: None,
-                    tenant: None,
-                    ..kept
-                },
+    plain(Changes {
+        nodes: NodesChange::Put {
+            node,
+            kept: NodeRecord {
+                allocated_to: None,
+                tenant: None,
+                ..kept
             },
-            ..made_by(session, Role::Janitor(pool))
         },
+        ..made_by(session, Role::Janitor(pool))
     })
 }
 
 fn is_server(server: u64, found: Option<u64>) -> bool
     ensures { result ≡ is_server server found }
 {
-    match found {
-        None => false,
-        Some(other) => other == server,
-    }
+    matches!(found, Some(other) if other == server)
 }
 
 /// Whether the node is there, and building or with this server.
 fn is_wanted<R: Rows>(rows: &R, node: NodeId, server: u64) -> bool
     ensures { result ≡ is_wanted (R.state rows.now) node server }
 {
-    match rows.node(node) {
-        None => false,
-        Some(kept) => kept.state == NodeState::Building || is_server(server, kept.server),
-    }
+    matches!(rows.node(node), Some(kept)
+        if kept.state == NodeState::Building || is_server(server, kept.server))
 }
 
 /// The janitor asks whether a server of its cloud is still wanted.
-pub fn decide_sweep<R: Rows>(
-    rows: &R,
-    session: SessionId,
-    node: NodeId,
-    server: u64,
-) -> Result<Verdict, Refusal>
+pub fn decide_sweep<R: Rows>(rows: &R, session: SessionId, node: NodeId, server: u64) -> Ruling
     ensures answer { answer_of result ≡ judge_sweep (R.state rows.now) session node server }
     ensures changes { IfOk result (λ v. v.changes ≡
         plan_sweep (R.state rows.now) session node server) }

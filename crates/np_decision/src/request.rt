@@ -1,11 +1,8 @@
 //! The rows on requests.
 
 ghost use Rattle.std.specs.Prelude.{◌≡◌, ◌<◌, ◌≤◌, ◌==◌, length, not, IfOk};
-ghost use Rattle.np_changes.specs.Prelude.{Fits, Janitor, Launcher, first_of, is_pinned_away, is_spent, is_true, list_any, new_record};
-ghost use Rattle.np_machine.specs.Request.{judge_register, judge_submit, judge_revise, judge_min_ready, other_than, lock_pending, lock_request_as, judge_lock_request, unlock_request_as, judge_unlock_request, judge_accept, in_state_for, judge_decline, unfilled, judge_fulfil, judge_reset, judge_fail_declined};
-ghost use Rattle.np_changes.specs.Plan.{plan_register, asked_for, plan_submit, plan_revise, asked_to_keep, plan_min_ready, plan_lock_request, plan_unlock_request, plan_accept, plan_decline, request_after_fulfil, nodes_after_fulfil, plan_fulfil, plan_reset, plan_fail_declined};
-ghost use Rattle.np_decision.specs.Places.{lack_at};
-ghost use Rattle.np_decision.specs.Verdicts.{answer_of, min_ready_of};
+ghost use Rattle.np_decision.specs.Lower.{Fits, Janitor, Launcher, asked_for, asked_to_keep, first_of, in_state_for, is_pinned_away, is_spent, is_true, judge_accept, judge_decline, judge_fail_declined, judge_fulfil, judge_lock_request, judge_min_ready, judge_register, judge_reset, judge_revise, judge_submit, judge_unlock_request, list_any, lock_pending, lock_request_as, new_record, nodes_after_fulfil, other_than, plan_accept, plan_decline, plan_fail_declined, plan_fulfil, plan_lock_request, plan_min_ready, plan_register, plan_reset, plan_revise, plan_submit, plan_unlock_request, request_after_fulfil, unfilled, unlock_request_as};
+ghost use Rattle.np_decision.specs.Verdicts.{lack_at, answer_of, min_ready_of};
 
 use crate::tests::{
     by_registrant, by_request_holder, first_unoffered, has_room, is_named, is_of_request,
@@ -13,7 +10,7 @@ use crate::tests::{
     none_missing, not_blocked, of_requester, record_of, request_at, request_of, requester,
     tenant_never_fits, wrong_job, wrong_request,
 };
-use crate::verdict::{Verdict, made_by};
+use crate::verdict::{Ruling, Verdict, made_by, plain};
 use np_changes::{Asked, Changes, Growth, JobsChange, NodesChange, RequestEdit, RequestsChange};
 use np_config::Job;
 use np_event::{Done, Refusal};
@@ -25,7 +22,7 @@ use np_text::{
 };
 
 /// The launcher of a pool takes its registration.
-pub fn decide_register<R: Rows>(rows: &R, session: SessionId) -> Result<Verdict, Refusal>
+pub fn decide_register<R: Rows>(rows: &R, session: SessionId) -> Ruling
     ensures answer { answer_of result ≡ judge_register (R.state rows.now) session }
     ensures changes { IfOk result (λ v. v.changes ≡ plan_register (R.state rows.now) session) }
 {
@@ -33,12 +30,9 @@ pub fn decide_register<R: Rows>(rows: &R, session: SessionId) -> Result<Verdict,
     if let Some(other) = rows.registration(pool) {
         return Err(Refusal::Taken(other));
     }
-    Ok(Verdict {
-        done: Done::Plain,
-        changes: Changes {
-            grows: Growth::Registration { pool },
-            ..made_by(session, Role::Launcher(pool))
-        },
+    plain(Changes {
+        grows: Growth::Registration { pool },
+        ..made_by(session, Role::Launcher(pool))
     })
 }
 
@@ -71,7 +65,7 @@ fn asked_for(job: JobId, row: &Job) -> Asked
 }
 
 /// The requester requests the nodes of its job.
-pub fn decide_submit<R: Rows>(rows: &R, session: SessionId, job: JobId) -> Result<Verdict, Refusal>
+pub fn decide_submit<R: Rows>(rows: &R, session: SessionId, job: JobId) -> Ruling
     requires { Fits (R.site rows.now) (R.state rows.now) }
     ensures answer { answer_of result ≡
         judge_submit (R.site rows.now) (R.state rows.now) session job }
@@ -82,9 +76,7 @@ pub fn decide_submit<R: Rows>(rows: &R, session: SessionId, job: JobId) -> Resul
     let row = job_at(rows, job)?;
     let kept = record_of(rows, job)?;
     of_requester(owner, row)?;
-    if kept.phase != Phase::New {
-        return Err(wrong_job(&kept));
-    }
+    ensure!(kept.phase == Phase::New, wrong_job(&kept));
     let missing = missing_handles(rows, job, row);
     if !row.resources_first && missing != 0 {
         return Err(Refusal::NotAll(missing as u32));
@@ -114,12 +106,7 @@ pub fn decide_submit<R: Rows>(rows: &R, session: SessionId, job: JobId) -> Resul
 }
 
 /// The requester changes the relative priority of a request that nobody has accepted.
-pub fn decide_revise<R: Rows>(
-    rows: &R,
-    session: SessionId,
-    job: JobId,
-    relative: u32,
-) -> Result<Verdict, Refusal>
+pub fn decide_revise<R: Rows>(rows: &R, session: SessionId, job: JobId, relative: u32) -> Ruling
     ensures answer { answer_of result ≡
         judge_revise (R.site rows.now) (R.state rows.now) session job }
     ensures changes { IfOk result (λ v. v.changes ≡
@@ -129,23 +116,18 @@ pub fn decide_revise<R: Rows>(
     let row = job_at(rows, job)?;
     let kept = record_of(rows, job)?;
     of_requester(owner, row)?;
-    if kept.phase != Phase::Asked {
-        return Err(wrong_job(&kept));
-    }
+    ensure!(kept.phase == Phase::Asked, wrong_job(&kept));
     let request = request_of(&kept)?;
     let asked = request_at(rows, request)?;
     if asked.state != RequestState::Requested {
         return Err(wrong_request(&asked));
     }
-    Ok(Verdict {
-        done: Done::Plain,
-        changes: Changes {
-            requests: RequestsChange::Edit {
-                request,
-                edit: RequestEdit::Revise { relative },
-            },
-            ..made_by(session, Role::Requester(owner))
+    plain(Changes {
+        requests: RequestsChange::Edit {
+            request,
+            edit: RequestEdit::Revise { relative },
         },
+        ..made_by(session, Role::Requester(owner))
     })
 }
 
@@ -177,11 +159,7 @@ fn min_ready<R: Rows>(rows: &R, label: LabelId) -> Result<u32, Refusal>
 }
 
 /// The launcher requests a node of a label that must be kept ready.
-pub fn decide_min_ready<L: Look>(
-    look: &L,
-    session: SessionId,
-    label: LabelId,
-) -> Result<Verdict, Refusal>
+pub fn decide_min_ready<L: Look>(look: &L, session: SessionId, label: LabelId) -> Ruling
     requires { Fits (L.site look.now) (L.state look.now) }
     ensures answer { answer_of result ≡
         judge_min_ready (L.site look.now) (L.state look.now) session label }
@@ -192,16 +170,10 @@ pub fn decide_min_ready<L: Look>(
     let pool = launcher(rows, session)?;
     let least = min_ready(rows, label)?;
     by_registrant(rows, pool, session)?;
-    if !is_offered(rows, pool, label) {
-        return Err(Refusal::NoLabel(label));
-    }
-    if look.has_spent_min_ready(pool, label) {
-        return Err(Refusal::Spent);
-    }
+    ensure!(is_offered(rows, pool, label), Refusal::NoLabel(label));
+    ensure!(!look.has_spent_min_ready(pool, label), Refusal::Spent);
     let ready = look.ready_count(label);
-    if ready >= least {
-        return Err(Refusal::Enough(ready));
-    }
+    ensure!(ready < least, Refusal::Enough(ready));
     has_room(look, pool, label)?;
     Ok(Verdict {
         done: Done::Request(RequestId {
@@ -246,12 +218,8 @@ fn lock_first<L: Look>(
     if asked.state != RequestState::Requested {
         return Err(wrong_request(&asked));
     }
-    if rows.is_declined(request, pool) {
-        return Err(Refusal::Declined);
-    }
-    if is_pinned_away(pool, &asked) {
-        return Err(Refusal::NotOwner);
-    }
+    ensure!(!rows.is_declined(request, pool), Refusal::Declined);
+    ensure!(!is_pinned_away(pool, &asked), Refusal::NotOwner);
     if let Some(holder) = request_holder(rows, request) {
         return Err(Refusal::Busy(holder));
     }
@@ -266,19 +234,14 @@ fn lock_first<L: Look>(
 fn is_pinned_away(pool: PoolId, asked: &Asked) -> bool
     ensures { result ≡ is_pinned_away pool (new_record asked.now) }
 {
-    match asked.pinned {
-        None => false,
-        Some(other) => other.0 != pool.0,
-    }
+    matches!(asked.pinned, Some(other) if other.0 != pool.0)
 }
 
 fn lock_pending<R: Rows>(rows: &R, request: RequestId) -> Result<Done, Refusal>
     ensures { result ≡ lock_pending (R.state rows.now) request }
 {
     let asked = request_at(rows, request)?;
-    if asked.state != RequestState::Pending {
-        return Err(wrong_request(&asked));
-    }
+    ensure!(asked.state == RequestState::Pending, wrong_request(&asked));
     if let Some(holder) = request_holder(rows, request) {
         return Err(Refusal::Busy(holder));
     }
@@ -302,11 +265,7 @@ fn lock_request_as<L: Look>(
 }
 
 /// A launcher takes up the first request of its pool, a janitor one that is pending.
-pub fn decide_lock_request<L: Look>(
-    look: &L,
-    session: SessionId,
-    request: RequestId,
-) -> Result<Verdict, Refusal>
+pub fn decide_lock_request<L: Look>(look: &L, session: SessionId, request: RequestId) -> Ruling
     requires { Fits (L.site look.now) (L.state look.now) }
     ensures answer { answer_of result ≡
         judge_lock_request (L.site look.now) (L.state look.now) session request }
@@ -316,7 +275,7 @@ pub fn decide_lock_request<L: Look>(
     let role = maker(look.rows(), session)?;
     let done = lock_request_as(look, session, request, role)?;
     Ok(Verdict {
-        done,
+        done: done,
         changes: Changes {
             grows: Growth::JoinRequest { request },
             ..made_by(session, role)
@@ -334,9 +293,7 @@ fn unlock_served<R: Rows>(
 {
     let asked = request_at(rows, request)?;
     by_request_holder(rows, request, session)?;
-    if is_pending_by(pool, &asked) {
-        return Err(wrong_request(&asked));
-    }
+    ensure!(!is_pending_by(pool, &asked), wrong_request(&asked));
     Ok(Done::Plain)
 }
 
@@ -369,11 +326,7 @@ fn unlock_request_as<R: Rows>(
 }
 
 /// The maker releases the lock; a launcher may not while its pool serves the request.
-pub fn decide_unlock_request<R: Rows>(
-    rows: &R,
-    session: SessionId,
-    request: RequestId,
-) -> Result<Verdict, Refusal>
+pub fn decide_unlock_request<R: Rows>(rows: &R, session: SessionId, request: RequestId) -> Ruling
     ensures answer { answer_of result ≡ judge_unlock_request (R.state rows.now) session request }
     ensures changes { IfOk result (λ v. v.changes ≡
         plan_unlock_request (R.state rows.now) session request) }
@@ -381,7 +334,7 @@ pub fn decide_unlock_request<R: Rows>(
     let role = maker(rows, session)?;
     let done = unlock_request_as(rows, session, request, role)?;
     Ok(Verdict {
-        done,
+        done: done,
         changes: Changes {
             requests: RequestsChange::Leave { request },
             ..made_by(session, role)
@@ -390,11 +343,7 @@ pub fn decide_unlock_request<R: Rows>(
 }
 
 /// The launcher takes the request for its pool, so that no other pool serves it.
-pub fn decide_accept<L: Look>(
-    look: &L,
-    session: SessionId,
-    request: RequestId,
-) -> Result<Verdict, Refusal>
+pub fn decide_accept<L: Look>(look: &L, session: SessionId, request: RequestId) -> Ruling
     requires { Fits (L.site look.now) (L.state look.now) }
     ensures answer { answer_of result ≡
         judge_accept (L.site look.now) (L.state look.now) session request }
@@ -409,9 +358,7 @@ pub fn decide_accept<L: Look>(
     if asked.state != RequestState::Requested {
         return Err(wrong_request(&asked));
     }
-    if rows.is_declined(request, pool) {
-        return Err(Refusal::Declined);
-    }
+    ensure!(!rows.is_declined(request, pool), Refusal::Declined);
     if let Some(label) = first_unoffered(rows, pool, asked.labels.items()) {
         return Err(Refusal::NoLabel(label));
     }
@@ -423,15 +370,12 @@ pub fn decide_accept<L: Look>(
         return Err(Refusal::TenantNeverFits);
     }
     not_blocked(look, pool, &asked)?;
-    Ok(Verdict {
-        done: Done::Plain,
-        changes: Changes {
-            requests: RequestsChange::Edit {
-                request,
-                edit: RequestEdit::Serve { pool },
-            },
-            ..made_by(session, Role::Launcher(pool))
+    plain(Changes {
+        requests: RequestsChange::Edit {
+            request,
+            edit: RequestEdit::Serve { pool },
         },
+        ..made_by(session, Role::Launcher(pool))
     })
 }
 
@@ -469,10 +413,7 @@ fn has_node(asked: &Asked, node: NodeId) -> bool
 fn is_spent<R: Rows>(rows: &R, node: NodeId) -> bool
     ensures { result ≡ is_spent node (R.state rows.now) }
 {
-    match rows.node(node) {
-        None => false,
-        Some(kept) => kept.state == NodeState::Failed,
-    }
+    matches!(rows.node(node), Some(kept) if kept.state == NodeState::Failed)
 }
 
 /// Whether the reason is true of the request at the pool.
@@ -498,7 +439,7 @@ pub fn decide_decline<R: Rows>(
     session: SessionId,
     request: RequestId,
     reason: Reason,
-) -> Result<Verdict, Refusal>
+) -> Ruling
     requires { Fits (R.site rows.now) (R.state rows.now) }
     ensures answer { answer_of result ≡
         judge_decline (R.site rows.now) (R.state rows.now) session request reason }
@@ -510,27 +451,20 @@ pub fn decide_decline<R: Rows>(
     by_registrant(rows, pool, session)?;
     by_request_holder(rows, request, session)?;
     in_state_for(pool, &asked, reason)?;
-    if rows.is_declined(request, pool) {
-        return Err(Refusal::Declined);
-    }
-    if !is_true(rows, pool, &asked, reason) {
-        return Err(Refusal::FalseReason);
-    }
+    ensure!(!rows.is_declined(request, pool), Refusal::Declined);
+    ensure!(is_true(rows, pool, &asked, reason), Refusal::FalseReason);
     let failed = asked.pinned.is_some() || is_last_pool(rows, request, pool);
-    Ok(Verdict {
-        done: Done::Plain,
-        changes: Changes {
-            requests: RequestsChange::Edit {
-                request,
-                edit: RequestEdit::Decline {
-                    pool,
-                    reason,
-                    failed,
-                },
+    plain(Changes {
+        requests: RequestsChange::Edit {
+            request,
+            edit: RequestEdit::Decline {
+                pool,
+                reason,
+                failed,
             },
-            nodes: NodesChange::FreeAll { request },
-            ..made_by(session, Role::Launcher(pool))
         },
+        nodes: NodesChange::FreeAll { request },
+        ..made_by(session, Role::Launcher(pool))
     })
 }
 
@@ -614,11 +548,7 @@ fn nodes_after_fulfil(request: RequestId, pinned: bool) -> NodesChange
 
 /// The launcher hands all the request's nodes over at once; a min-ready request is removed, and its
 /// node is free.
-pub fn decide_fulfil<R: Rows>(
-    rows: &R,
-    session: SessionId,
-    request: RequestId,
-) -> Result<Verdict, Refusal>
+pub fn decide_fulfil<R: Rows>(rows: &R, session: SessionId, request: RequestId) -> Ruling
     ensures answer { answer_of result ≡ judge_fulfil (R.state rows.now) session request }
     ensures changes { IfOk result (λ v. v.changes ≡
         plan_fulfil (R.state rows.now) session request) }
@@ -627,55 +557,37 @@ pub fn decide_fulfil<R: Rows>(
     let asked = request_at(rows, request)?;
     by_registrant(rows, pool, session)?;
     by_request_holder(rows, request, session)?;
-    if !is_pending_by(pool, &asked) {
-        return Err(wrong_request(&asked));
-    }
+    ensure!(is_pending_by(pool, &asked), wrong_request(&asked));
     none_missing(unfilled(rows, pool, session, request, &asked))?;
     let pinned = asked.pinned.is_some();
-    Ok(Verdict {
-        done: Done::Plain,
-        changes: Changes {
-            requests: request_after_fulfil(request, pinned),
-            nodes: nodes_after_fulfil(request, pinned),
-            ..made_by(session, Role::Launcher(pool))
-        },
+    plain(Changes {
+        requests: request_after_fulfil(request, pinned),
+        nodes: nodes_after_fulfil(request, pinned),
+        ..made_by(session, Role::Launcher(pool))
     })
 }
 
 /// The janitor gives back a request whose launcher is gone.
-pub fn decide_reset<R: Rows>(
-    rows: &R,
-    session: SessionId,
-    request: RequestId,
-) -> Result<Verdict, Refusal>
+pub fn decide_reset<R: Rows>(rows: &R, session: SessionId, request: RequestId) -> Ruling
     ensures answer { answer_of result ≡ judge_reset (R.state rows.now) session request }
     ensures changes { IfOk result (λ v. v.changes ≡ plan_reset (R.state rows.now) session request) }
 {
     let pool = janitor(rows, session)?;
     let asked = request_at(rows, request)?;
     by_request_holder(rows, request, session)?;
-    if asked.state != RequestState::Pending {
-        return Err(wrong_request(&asked));
-    }
-    Ok(Verdict {
-        done: Done::Plain,
-        changes: Changes {
-            requests: RequestsChange::Edit {
-                request,
-                edit: RequestEdit::GiveBack,
-            },
-            nodes: NodesChange::FreeAll { request },
-            ..made_by(session, Role::Janitor(pool))
+    ensure!(asked.state == RequestState::Pending, wrong_request(&asked));
+    plain(Changes {
+        requests: RequestsChange::Edit {
+            request,
+            edit: RequestEdit::GiveBack,
         },
+        nodes: NodesChange::FreeAll { request },
+        ..made_by(session, Role::Janitor(pool))
     })
 }
 
 /// The janitor fails a request that every registered pool has declined.
-pub fn decide_fail_declined<R: Rows>(
-    rows: &R,
-    session: SessionId,
-    request: RequestId,
-) -> Result<Verdict, Refusal>
+pub fn decide_fail_declined<R: Rows>(rows: &R, session: SessionId, request: RequestId) -> Ruling
     ensures answer { answer_of result ≡ judge_fail_declined (R.state rows.now) session request }
     ensures changes { IfOk result (λ v. v.changes ≡
         plan_fail_declined (R.state rows.now) session request) }
@@ -685,18 +597,13 @@ pub fn decide_fail_declined<R: Rows>(
     if asked.state != RequestState::Requested {
         return Err(wrong_request(&asked));
     }
-    if rows.registrations() == 0 {
-        return Err(Refusal::NotRegistered);
-    }
+    ensure!(rows.registrations() != 0, Refusal::NotRegistered);
     none_missing(undeclined(rows, request) as usize)?;
-    Ok(Verdict {
-        done: Done::Plain,
-        changes: Changes {
-            requests: RequestsChange::Edit {
-                request,
-                edit: RequestEdit::Fail,
-            },
-            ..made_by(session, Role::Janitor(pool))
+    plain(Changes {
+        requests: RequestsChange::Edit {
+            request,
+            edit: RequestEdit::Fail,
         },
+        ..made_by(session, Role::Janitor(pool))
     })
 }

@@ -1,16 +1,14 @@
 //! The rows on semaphores and jobs.
 
 ghost use Rattle.std.specs.Prelude.{◌≡◌, ◌<◌, ◌≤◌, ◌^◌, length, map, IfOk};
-ghost use Rattle.np_changes.specs.Prelude.{Fits, SemId, list_all, list_any, role_of};
-ghost use Rattle.np_machine.specs.Semaphore.{judge_acquire, unheld, unended, judge_take, is_busy_with, has_failed_request, is_finishable, ending_of, may_finish, requester_or_janitor, judge_finish, judge_withdraw, may_release, judge_release};
-ghost use Rattle.np_changes.specs.Plan.{plan_acquire, plan_take, plan_finish, request_after_withdraw, plan_withdraw, plan_release};
+ghost use Rattle.np_decision.specs.Lower.{Fits, SemId, ending_of, has_failed_request, is_busy_with, is_finishable, judge_acquire, judge_finish, judge_release, judge_take, judge_withdraw, list_all, list_any, may_finish, may_release, plan_acquire, plan_finish, plan_release, plan_take, plan_withdraw, request_after_withdraw, requester_or_janitor, role_of, unended, unheld};
 ghost use Rattle.np_decision.specs.Verdicts.{answer_of};
 
 use crate::tests::{
     is_named, job_at, maker, missing_handles, none_missing, of_requester, record_of, request_at,
     request_of, requester, wrong_job, wrong_request,
 };
-use crate::verdict::{Verdict, made_by};
+use crate::verdict::{Ruling, Verdict, made_by, plain};
 use np_changes::{Changes, Growth, HandlesChange, JobsChange, NodesChange, RequestsChange};
 use np_config::Job;
 use np_event::{Done, Refusal};
@@ -21,7 +19,7 @@ use np_text::{
 };
 
 /// The job takes all its semaphores, or none.
-pub fn decide_acquire<R: Rows>(rows: &R, session: SessionId, job: JobId) -> Result<Verdict, Refusal>
+pub fn decide_acquire<R: Rows>(rows: &R, session: SessionId, job: JobId) -> Ruling
     ensures answer { answer_of result ≡
         judge_acquire (R.site rows.now) (R.state rows.now) session job }
     ensures changes { IfOk result (λ v. v.changes ≡ plan_acquire (R.state rows.now) session job) }
@@ -30,18 +28,13 @@ pub fn decide_acquire<R: Rows>(rows: &R, session: SessionId, job: JobId) -> Resu
     let row = job_at(rows, job)?;
     let kept = record_of(rows, job)?;
     of_requester(owner, row)?;
-    if kept.phase == Phase::Over {
-        return Err(wrong_job(&kept));
-    }
+    ensure!(kept.phase != Phase::Over, wrong_job(&kept));
     if let Some(full) = first_full(rows, job, row) {
         return Err(Refusal::SemaphoreFull(full));
     }
-    Ok(Verdict {
-        done: Done::Plain,
-        changes: Changes {
-            grows: Growth::Handles { job },
-            ..made_by(session, Role::Requester(owner))
-        },
+    plain(Changes {
+        grows: Growth::Handles { job },
+        ..made_by(session, Role::Requester(owner))
     })
 }
 
@@ -74,7 +67,7 @@ fn unended_marks(nodes: &[NodeId]) -> MarkRow
 }
 
 /// The requester takes over the nodes of its fulfilled request.
-pub fn decide_take<R: Rows>(rows: &R, session: SessionId, job: JobId) -> Result<Verdict, Refusal>
+pub fn decide_take<R: Rows>(rows: &R, session: SessionId, job: JobId) -> Ruling
     requires { Fits (R.site rows.now) (R.state rows.now) }
     ensures answer { answer_of result ≡
         judge_take (R.site rows.now) (R.state rows.now) session job }
@@ -84,9 +77,7 @@ pub fn decide_take<R: Rows>(rows: &R, session: SessionId, job: JobId) -> Result<
     let row = job_at(rows, job)?;
     let kept = record_of(rows, job)?;
     of_requester(owner, row)?;
-    if kept.phase != Phase::Asked {
-        return Err(wrong_job(&kept));
-    }
+    ensure!(kept.phase == Phase::Asked, wrong_job(&kept));
     let request = request_of(&kept)?;
     let asked = request_at(rows, request)?;
     if asked.state != RequestState::Fulfilled {
@@ -95,22 +86,19 @@ pub fn decide_take<R: Rows>(rows: &R, session: SessionId, job: JobId) -> Result<
     none_missing(unheld(rows, session, &asked.nodes))?;
     none_missing(missing_handles(rows, job, row))?;
     let _most = asked.nodes.len();
-    Ok(Verdict {
-        done: Done::Plain,
-        changes: Changes {
-            requests: RequestsChange::Remove { request },
-            nodes: NodesChange::TakeOver { nodes: asked.nodes },
-            jobs: JobsChange::Put {
-                job,
-                kept: JobRecord {
-                    nodes: unended_marks(asked.nodes.items()),
-                    phase: Phase::Using,
-                    pool: asked.pool,
-                    ..kept
-                },
+    plain(Changes {
+        requests: RequestsChange::Remove { request },
+        nodes: NodesChange::TakeOver { nodes: asked.nodes },
+        jobs: JobsChange::Put {
+            job,
+            kept: JobRecord {
+                nodes: unended_marks(asked.nodes.items()),
+                phase: Phase::Using,
+                pool: asked.pool,
+                ..kept
             },
-            ..made_by(session, Role::Requester(owner))
         },
+        ..made_by(session, Role::Requester(owner))
     })
 }
 
@@ -151,10 +139,7 @@ fn has_failed_request<R: Rows>(rows: &R, kept: &JobRecord) -> bool
     let Some(request) = kept.request else {
         return false;
     };
-    match rows.asked(request) {
-        None => false,
-        Some(asked) => asked.state == RequestState::Failed,
-    }
+    matches!(rows.asked(request), Some(asked) if asked.state == RequestState::Failed)
 }
 
 /// Whether the job is asked and its request failed, or using and done with each of its nodes.
@@ -209,7 +194,7 @@ fn ending_of(kept: &JobRecord) -> Ending
 }
 
 /// The job is over; a janitor finishes it if its requester has no session left.
-pub fn decide_finish<L: Look>(look: &L, session: SessionId, job: JobId) -> Result<Verdict, Refusal>
+pub fn decide_finish<L: Look>(look: &L, session: SessionId, job: JobId) -> Ruling
     ensures answer { answer_of result ≡
         judge_finish (L.site look.now) (L.state look.now) session job }
     ensures changes { IfOk result (λ v. v.changes ≡ plan_finish (L.state look.now) session job) }
@@ -220,9 +205,7 @@ pub fn decide_finish<L: Look>(look: &L, session: SessionId, job: JobId) -> Resul
     let row = job_at(rows, job)?;
     let kept = record_of(rows, job)?;
     may_finish(look, row, role)?;
-    if !is_finishable(rows, row, &kept) {
-        return Err(wrong_job(&kept));
-    }
+    ensure!(is_finishable(rows, row, &kept), wrong_job(&kept));
     let ending = ending_of(&kept);
     Ok(Verdict {
         done: Done::Ended(ending),
@@ -251,11 +234,7 @@ fn request_after_withdraw(request: Option<RequestId>) -> RequestsChange
 }
 
 /// The requester gives its job up before it has nodes.
-pub fn decide_withdraw<R: Rows>(
-    rows: &R,
-    session: SessionId,
-    job: JobId,
-) -> Result<Verdict, Refusal>
+pub fn decide_withdraw<R: Rows>(rows: &R, session: SessionId, job: JobId) -> Ruling
     ensures answer { answer_of result ≡
         judge_withdraw (R.site rows.now) (R.state rows.now) session job }
     ensures changes { IfOk result (λ v. v.changes ≡ plan_withdraw (R.state rows.now) session job) }
@@ -267,20 +246,17 @@ pub fn decide_withdraw<R: Rows>(
     if kept.phase != Phase::New && kept.phase != Phase::Asked {
         return Err(wrong_job(&kept));
     }
-    Ok(Verdict {
-        done: Done::Plain,
-        changes: Changes {
-            requests: request_after_withdraw(kept.request),
-            jobs: JobsChange::Put {
-                job,
-                kept: JobRecord {
-                    ending: Some(Ending::Withdrawn),
-                    phase: Phase::Over,
-                    ..kept
-                },
+    plain(Changes {
+        requests: request_after_withdraw(kept.request),
+        jobs: JobsChange::Put {
+            job,
+            kept: JobRecord {
+                ending: Some(Ending::Withdrawn),
+                phase: Phase::Over,
+                ..kept
             },
-            ..made_by(session, Role::Requester(owner))
         },
+        ..made_by(session, Role::Requester(owner))
     })
 }
 
@@ -296,7 +272,7 @@ fn may_release(job: &Job, role: Role) -> Result<(), Refusal>
 }
 
 /// The job's handles are given back.
-pub fn decide_release<R: Rows>(rows: &R, session: SessionId, job: JobId) -> Result<Verdict, Refusal>
+pub fn decide_release<R: Rows>(rows: &R, session: SessionId, job: JobId) -> Ruling
     ensures answer { answer_of result ≡
         judge_release (R.site rows.now) (R.state rows.now) session job }
     ensures changes { IfOk result (λ v. v.changes ≡ plan_release (R.state rows.now) session job) }
@@ -306,14 +282,9 @@ pub fn decide_release<R: Rows>(rows: &R, session: SessionId, job: JobId) -> Resu
     let row = job_at(rows, job)?;
     let kept = record_of(rows, job)?;
     may_release(row, role)?;
-    if kept.phase != Phase::Over {
-        return Err(wrong_job(&kept));
-    }
-    Ok(Verdict {
-        done: Done::Plain,
-        changes: Changes {
-            handles: HandlesChange::Release { job },
-            ..made_by(session, role)
-        },
+    ensure!(kept.phase == Phase::Over, wrong_job(&kept));
+    plain(Changes {
+        handles: HandlesChange::Release { job },
+        ..made_by(session, role)
     })
 }

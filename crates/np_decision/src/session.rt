@@ -1,29 +1,23 @@
 //! The rows on sessions and the tick.
 
 ghost use Rattle.std.specs.Prelude.{◌≡◌, Ok, IfOk};
-ghost use Rattle.np_event.specs.declared.reply.Done.TheVariants.{Plain};
-ghost use Rattle.np_machine.specs.Session.{is_role, judge_open, judge_crash, judge_expire};
-ghost use Rattle.np_changes.specs.Fits.{Fits};
-ghost use Rattle.np_changes.specs.Plan.{plan_tick, plan_open, plan_crash, plan_expire};
+ghost use Rattle.np_decision.specs.Lower.{Fits, Plain, is_role, judge_crash, judge_expire, judge_open, plan_crash, plan_expire, plan_open, plan_tick};
 ghost use Rattle.np_decision.specs.Verdicts.{answer_of};
 
-use crate::verdict::Verdict;
+use crate::verdict::{Ruling, Verdict, plain};
 use np_changes::{Changes, Deed, Growth, SAME, SessionsChange};
 use np_event::{Done, Refusal};
 use np_look::Rows;
 use np_text::{Role, SessionId};
 
 /// Time advances by one tick.
-pub fn decide_tick() -> Result<Verdict, Refusal>
+pub fn decide_tick() -> Ruling
     ensures answer { answer_of result ≡ Ok Plain }
     ensures changes { IfOk result (λ v. v.changes ≡ plan_tick) }
 {
-    Ok(Verdict {
-        done: Done::Plain,
-        changes: Changes {
-            ticks: true,
-            ..SAME
-        },
+    plain(Changes {
+        ticks: true,
+        ..SAME
     })
 }
 
@@ -40,14 +34,12 @@ fn is_role<R: Rows>(rows: &R, role: Role) -> bool
 }
 
 /// A role of the configuration begins a session.
-pub fn decide_open<R: Rows>(rows: &R, role: Role) -> Result<Verdict, Refusal>
+pub fn decide_open<R: Rows>(rows: &R, role: Role) -> Ruling
     requires { Fits (R.site rows.now) (R.state rows.now) }
     ensures answer { answer_of result ≡ judge_open (R.site rows.now) (R.state rows.now) role }
     ensures changes { IfOk result (λ v. v.changes ≡ plan_open role) }
 {
-    if !is_role(rows, role) {
-        return Err(Refusal::WrongRole);
-    }
+    ensure!(is_role(rows, role), Refusal::WrongRole);
     Ok(Verdict {
         done: Done::Session(SessionId(rows.sessions() + 1)),
         changes: Changes {
@@ -58,52 +50,40 @@ pub fn decide_open<R: Rows>(rows: &R, role: Role) -> Result<Verdict, Refusal>
 }
 
 /// The party stops, and its session is mute from then on.
-pub fn decide_crash<R: Rows>(rows: &R, session: SessionId) -> Result<Verdict, Refusal>
+pub fn decide_crash<R: Rows>(rows: &R, session: SessionId) -> Ruling
     ensures answer { answer_of result ≡ judge_crash (R.state rows.now) session }
     ensures changes { IfOk result (λ v. v.changes ≡ plan_crash (R.state rows.now) session) }
 {
     let Some(facts) = rows.session(session) else {
         return Err(Refusal::NoSession);
     };
-    if !facts.live {
-        return Err(Refusal::Expired);
-    }
-    if facts.mute {
-        return Err(Refusal::Crashed);
-    }
-    Ok(Verdict {
-        done: Done::Plain,
-        changes: Changes {
-            sessions: SessionsChange::Mute { session },
-            deed: Some(Deed::Strikes {
-                role: facts.role,
-                counted: false,
-            }),
-            ..SAME
-        },
+    ensure!(facts.live, Refusal::Expired);
+    ensure!(!facts.mute, Refusal::Crashed);
+    plain(Changes {
+        sessions: SessionsChange::Mute { session },
+        deed: Some(Deed::Strikes {
+            role: facts.role,
+            counted: false,
+        }),
+        ..SAME
     })
 }
 
 /// The session ends, and leaves every queue and its registration.
-pub fn decide_expire<R: Rows>(rows: &R, session: SessionId) -> Result<Verdict, Refusal>
+pub fn decide_expire<R: Rows>(rows: &R, session: SessionId) -> Ruling
     ensures answer { answer_of result ≡ judge_expire (R.state rows.now) session }
     ensures changes { IfOk result (λ v. v.changes ≡ plan_expire (R.state rows.now) session) }
 {
     let Some(facts) = rows.session(session) else {
         return Err(Refusal::NoSession);
     };
-    if !facts.live {
-        return Err(Refusal::Expired);
-    }
-    Ok(Verdict {
-        done: Done::Plain,
-        changes: Changes {
-            sessions: SessionsChange::End { session },
-            deed: Some(Deed::Strikes {
-                role: facts.role,
-                counted: facts.mute,
-            }),
-            ..SAME
-        },
+    ensure!(facts.live, Refusal::Expired);
+    plain(Changes {
+        sessions: SessionsChange::End { session },
+        deed: Some(Deed::Strikes {
+            role: facts.role,
+            counted: facts.mute,
+        }),
+        ..SAME
     })
 }

@@ -1,9 +1,7 @@
 //! Tests that rows share, each with its refusal.
 
 ghost use Rattle.std.specs.Prelude.{◌≡◌, ◌<◌, ◌≤◌, ◌^◌, ◌==◌, length, find, not};
-ghost use Rattle.np_changes.specs.Prelude.{Fits, amount_of_all, count_of, fits, is_offered, is_pending_by, is_pool, is_request, is_session_of, is_short, limit_of, new_record, next_label, tenant_never_fits};
-ghost use Rattle.np_machine.specs.Tests.{maker, launcher, janitor, requester, request_at, node_at, job_at, record_of, of_requester, by_registrant, by_request_holder, by_node_holder, of_pool, wrong_request, wrong_node, wrong_job, none_missing, not_blocked, missing_handles};
-ghost use Rattle.np_look.specs.Readers.{tenant_of_job};
+ghost use Rattle.np_decision.specs.Lower.{Fits, amount_of_all, by_node_holder, by_registrant, by_request_holder, count_of, fits, is_offered, is_pending_by, is_pool, is_request, is_session_of, is_short, janitor, job_at, launcher, limit_of, maker, missing_handles, new_record, next_label, node_at, none_missing, not_blocked, of_pool, of_requester, record_of, request_at, requester, tenant_never_fits, tenant_of_job, wrong_job, wrong_node, wrong_request};
 ghost use Rattle.np_decision.specs.Verdicts.{without_declines, row_of_job, asked_request, has_room};
 
 use np_amount::Amount;
@@ -26,12 +24,8 @@ pub(crate) fn maker<R: Rows>(rows: &R, session: SessionId) -> Result<Role, Refus
     let Some(facts) = rows.session(session) else {
         return Err(Refusal::NoSession);
     };
-    if !facts.live {
-        return Err(Refusal::Expired);
-    }
-    if facts.mute {
-        return Err(Refusal::Crashed);
-    }
+    ensure!(facts.live, Refusal::Expired);
+    ensure!(!facts.mute, Refusal::Crashed);
     Ok(facts.role)
 }
 
@@ -71,50 +65,35 @@ pub(crate) fn requester<R: Rows>(rows: &R, session: SessionId) -> Result<Request
 pub(crate) fn request_at<R: Rows>(rows: &R, request: RequestId) -> Result<Asked, Refusal>
     ensures { result ≡ without_declines (request_at (R.state rows.now) request) }
 {
-    match rows.asked(request) {
-        None => Err(Refusal::NoRequest),
-        Some(asked) => Ok(asked),
-    }
+    rows.asked(request).ok_or(Refusal::NoRequest)
 }
 
 /// The node's record.
 pub(crate) fn node_at<R: Rows>(rows: &R, node: NodeId) -> Result<NodeRecord, Refusal>
     ensures { result ≡ node_at (R.state rows.now) node }
 {
-    match rows.node(node) {
-        None => Err(Refusal::NoNode),
-        Some(kept) => Ok(kept),
-    }
+    rows.node(node).ok_or(Refusal::NoNode)
 }
 
 /// The job as the configuration has it.
 pub(crate) fn job_at<R: Rows>(rows: &R, job: JobId) -> Result<&Job, Refusal>
     ensures { row_of_job result ≡ job_at (R.site rows.now) job }
 {
-    match rows.config().job(job) {
-        None => Err(Refusal::NoJob),
-        Some(row) => Ok(row),
-    }
+    rows.config().job(job).ok_or(Refusal::NoJob)
 }
 
 /// The job as the machine keeps it.
 pub(crate) fn record_of<R: Rows>(rows: &R, job: JobId) -> Result<JobRecord, Refusal>
     ensures { result ≡ record_of (R.state rows.now) job }
 {
-    match rows.job(job) {
-        None => Err(Refusal::NoJob),
-        Some(kept) => Ok(kept),
-    }
+    rows.job(job).ok_or(Refusal::NoJob)
 }
 
 /// The request of the job.
 pub(crate) fn request_of(job: &JobRecord) -> Result<RequestId, Refusal>
     ensures { result ≡ asked_request job.now }
 {
-    match job.request {
-        None => Err(Refusal::NoRequest),
-        Some(request) => Ok(request),
-    }
+    job.request.ok_or(Refusal::NoRequest)
 }
 
 // Who may.
@@ -123,20 +102,14 @@ pub(crate) fn request_of(job: &JobRecord) -> Result<RequestId, Refusal>
 pub(crate) fn is_named(session: SessionId, found: Option<SessionId>) -> bool
     ensures { result ≡ is_session_of session found }
 {
-    match found {
-        None => false,
-        Some(other) => other.0 == session.0,
-    }
+    matches!(found, Some(other) if other.0 == session.0)
 }
 
 /// Whether the option names this request.
 pub(crate) fn is_of_request(request: RequestId, found: Option<RequestId>) -> bool
     ensures { result ≡ is_request request found }
 {
-    match found {
-        None => false,
-        Some(other) => other.priority == request.priority && other.seq == request.seq,
-    }
+    matches!(found, Some(other) if other.priority == request.priority && other.seq == request.seq)
 }
 
 /// The job is the requester's own.
@@ -237,10 +210,7 @@ pub(crate) fn wrong_job(job: &JobRecord) -> Refusal
 pub(crate) fn is_of_pool(pool: PoolId, found: Option<PoolId>) -> bool
     ensures { result ≡ is_pool pool found }
 {
-    match found {
-        None => false,
-        Some(other) => other.0 == pool.0,
-    }
+    matches!(found, Some(other) if other.0 == pool.0)
 }
 
 /// Whether the request is pending, and this pool serves it.
@@ -262,9 +232,7 @@ pub(crate) fn none_missing(missing: usize) -> Result<(), Refusal>
     requires { missing < 2 ^ 32 }
     ensures { result ≡ none_missing missing }
 {
-    if missing != 0 {
-        return Err(Refusal::NotAll(missing as u32));
-    }
+    ensure!(missing == 0, Refusal::NotAll(missing as u32));
     Ok(())
 }
 

@@ -1,10 +1,10 @@
 //! The verdict on an event that is accepted.
 
-ghost use Rattle.std.specs.Prelude.{◌≡◌};
-ghost use Rattle.np_changes.specs.Plan.{same, made_by};
+ghost use Rattle.std.specs.Prelude.{◌≡◌, Ok};
+ghost use Rattle.np_decision.specs.Lower.{Plain, made_by, same};
 
 use np_changes::{Changes, Deed, Maker, SAME};
-use np_event::Done;
+use np_event::{Done, Refusal};
 use np_text::{Role, SessionId};
 
 /// The event is accepted: the answer to it, and what it changes.
@@ -13,6 +13,9 @@ pub struct Verdict {
     pub done: Done,
     pub changes: Changes,
 }
+
+/// What an event comes to: its verdict, or why it is refused.
+pub type Ruling = Result<Verdict, Refusal>;
 
 /// One act of the session's role, and nothing else.
 pub(crate) fn made_by(session: SessionId, role: Role) -> Changes
@@ -23,4 +26,14 @@ pub(crate) fn made_by(session: SessionId, role: Role) -> Changes
         deed: Some(Deed::Acts),
         ..SAME
     }
+}
+
+/// The event is accepted, and answered with no more than that.
+pub(crate) fn plain(changes: Changes) -> Ruling
+    ensures { result ≡ Ok (record { done = Plain; changes = changes }) }
+{
+    Ok(Verdict {
+        done: Done::Plain,
+        changes,
+    })
 }

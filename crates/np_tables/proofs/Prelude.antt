@@ -6,29 +6,14 @@ pub use Rattle.np_changes.proofs.Premises.{premises}
 pub use Rattle.np_changes.proofs.Runs.{invariant-Runs, ok-what}
 pub use Rattle.np_changes.proofs.Shapes.{Shaped, shape-Runs, shape-next, sound_fits}
 pub use Rattle.np_changes.specs.Parts.{IsNumbered}
-pub use Rattle.np_changes.specs.Prelude.{AllByRecursion, Configuration, Done, Event, Fits, IsFitSite, IsPlanned, IsReached, Janitor, JobId, JobRecord, LabelId, Launcher, Locked, NodeEntry, NodeId, NonePass, PoolId, Reason, Refusal, RequestEntry, RequestFits, RequestId, RequestRecord, Requester, Rises, Role, RoleFits, RoleRecord, SessionFacts, SessionId, State, TenantId, all_with_handle, allocated, by_maker, change_at, change_first, changed, edited, ended, grown, insert_before, is_among, is_id_before, is_queued, is_session, janitor, jobs_changed, joined, judge, judge_decline, judge_take_ready, launcher, made_by, maker, muted, new_job, next, next_label, no_deeds, node_in, node_left, node_queue, nodes_changed, one_more_act, one_more_start, option_map_or, plan, put_node_queue, put_request_queue, remove_first, request_entry, request_in, request_left, request_of_job, request_queue, requester, requests_changed, same_request, session_of, start, struck_unless, with_found, with_given, with_handle, with_mark}
 pub use Rattle.np_changes.specs.Premises.{EndsSession, Premises, SessionsPremise}
-pub use Rattle.np_changes.specs.declared.changes.Changes.{Changes}
-pub use Rattle.np_changes.specs.declared.changes.Growth.{Growth}
 pub use Rattle.np_changes.specs.declared.changes.JobsChange.{JobsChange}
-pub use Rattle.np_changes.specs.declared.changes.Maker.{Maker}
 pub use Rattle.np_changes.specs.declared.changes.NodesChange.{NodesChange}
-pub use Rattle.np_changes.specs.declared.changes.RequestsChange.{RequestsChange}
-pub use Rattle.np_changes.specs.declared.changes.SessionsChange.{SessionsChange}
 pub use Rattle.np_lists.proofs.Changes.{all-at, all-filter, all-find, all-get_or, all-map, all-mapped, all-set, all-weaker, change_at-past, change_at-set, change_first-same, filter-not_none, insert_before-end, length-change_at, none-list_any}
 pub use Rattle.np_lists.proofs.Plain.{equal-itself, is-below}
-pub use Rattle.np_lists.specs.Roomy.{Roomy}
-pub use Rattle.np_look.specs.Keys.{is_node_before, same_node}
 pub use Rattle.np_machine.proofs.Ids.{request-itself}
-pub use Rattle.np_machine.specs.Node.{marked}
-pub use Rattle.np_machine.specs.Semaphore.{all_in_use, all_without_handle, without_handle}
-pub use Rattle.np_machine.specs.Tables.{left}
-pub use Rattle.np_machine.specs.declared.state.Registration.{Registration}
-pub use Rattle.np_tables.specs.CanChange.{CanSettle, TakesEdit, edited_in_room}
-pub use Rattle.np_tables.specs.Kept.{IsCountable, Kept}
-pub use Rattle.np_tables.specs.LeftLast.{CanEnd, changed_in_queues}
-pub use Rattle.np_tables.specs.Queues.{AreQueuesOf}
-pub use Rattle.np_tables.specs.Room.{has_place, rooms_of, rows_of}
+pub use Rattle.np_tables.specs.CanChange.{CanSettle, TakesEdit, edited_in_room, IsCountable, Kept, CanEnd, changed_in_queues, AreQueuesOf, has_place, rooms_of, rows_of}
+pub use Rattle.np_tables.specs.Lower.{AllByRecursion, Changes, Configuration, Done, Event, Fits, Growth, IsFitSite, IsPlanned, IsReached, Janitor, JobId, JobRecord, LabelId, Launcher, Locked, Maker, NodeEntry, NodeId, NonePass, PoolId, Reason, Refusal, Registration, RequestEntry, RequestFits, RequestId, RequestRecord, Requester, RequestsChange, Rises, Role, RoleFits, RoleRecord, Roomy, SessionFacts, SessionId, SessionsChange, State, TenantId, all_in_use, all_with_handle, all_without_handle, allocated, by_maker, change_at, change_first, changed, edited, ended, grown, insert_before, is_among, is_id_before, is_node_before, is_queued, is_session, janitor, jobs_changed, joined, judge, judge_decline, judge_take_ready, launcher, left, made_by, maker, marked, muted, new_job, next, next_label, no_deeds, node_in, node_left, node_queue, nodes_changed, one_more_act, one_more_start, option_map_or, plan, put_node_queue, put_request_queue, remove_first, request_entry, request_in, request_left, request_of_job, request_queue, requester, requests_changed, same_node, same_request, session_of, start, struck_unless, with_found, with_given, with_handle, with_mark, without_handle}
 pub use Rattle.std.proofs.Common.{Bool, Err, List, None, Ok, Option, Result, Some, add-one, ap, arith, cond, drop, false, get_or, length, refl, rules, subst, suc, sym, take, true, zero, ℕ, [], ◌++◌, ◌-◌, ◌<◌, ◌^◌, ◌∙◌, ◌∷◌, ◌≡◌, ◌≤◌}
 pub use Rattle.std.proofs.lemmas.Bool.Decides.{nat_tests}
 pub use Rattle.std.proofs.lemmas.Fn.{filter_same}

@@ -1,5 +1,2 @@
-pub mod Kept
-pub mod Room
-pub mod Queues
+pub mod Lower
 pub mod CanChange
-pub mod LeftLast

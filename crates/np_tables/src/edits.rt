@@ -1,6 +1,6 @@
 //! The edits of one request or one node under its lock.
 
-ghost use Rattle.np_changes.specs.Prelude.{Locked, NodeEntry, edited, freed_from, in_use, is_request, left};
+ghost use Rattle.np_tables.specs.Lower.{Locked, NodeEntry, edited, freed_from, in_use, is_request, left};
 ghost use Rattle.np_tables.specs.CanChange.{edited_in_room, has_room};
 ghost use Rattle.std.specs.Prelude.{◌≡◌, Some, true};
 
@@ -159,10 +159,7 @@ impl RowEdit<NodeEntry> for Allocate {
 fn is_allocated_to(request: RequestId, found: Option<RequestId>) -> bool
     ensures { result ≡ is_request request found }
 {
-    match found {
-        None => false,
-        Some(other) => other.priority == request.priority && other.seq == request.seq,
-    }
+    matches!(found, Some(other) if other.priority == request.priority && other.seq == request.seq)
 }
 
 impl RowChange<NodeEntry> for Free {

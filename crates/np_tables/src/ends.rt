@@ -1,9 +1,8 @@
 //! How a session that ends leaves its queues.
 
 ghost use Rattle.std.specs.Prelude.{◌≡◌, filter, map};
-ghost use Rattle.np_changes.specs.Prelude.{Rises, is_id_before, is_queued, node_left, request_left};
-ghost use Rattle.np_look.specs.Keys.{is_node_before};
-ghost use Rattle.np_tables.specs.LeftLast.{CanEnd, queues_left};
+ghost use Rattle.np_tables.specs.Lower.{Rises, is_id_before, is_node_before, is_queued, node_left, request_left};
+ghost use Rattle.np_tables.specs.CanChange.{CanEnd, queues_left};
 
 use crate::edits::Leave;
 use crate::keys::{NodeTable, RequestTable};

@@ -1,9 +1,8 @@
 //! What grows in the vectors. There is room for it, so nothing here fails.
 
 ghost use Rattle.std.specs.Prelude.{◌≡◌, ◌<◌, ◌==◌, ◌+◌, ◌++◌, ◌∷◌, [], nat_lt, true, false, vec_capacity, vec_len};
-ghost use Rattle.np_changes.specs.Prelude.{AllByRecursion, all_with_handle, allocated, by_maker, change_first, grown, insert_before, insert_request, joined, new_record, next_id, node_queue, position, put_node_queue, put_request_queue, registers, request_queue, semaphores_of, with_pair};
-ghost use Rattle.np_tables.specs.CanChange.{CanGrow, TakesNode, TakesRequest};
-ghost use Rattle.np_tables.specs.Room.{IsRoomFor, queue_after};
+ghost use Rattle.np_tables.specs.Lower.{AllByRecursion, all_with_handle, allocated, by_maker, change_first, grown, insert_before, insert_request, joined, new_record, next_id, node_queue, position, put_node_queue, put_request_queue, registers, request_queue, semaphores_of, with_pair};
+ghost use Rattle.np_tables.specs.CanChange.{CanGrow, TakesNode, TakesRequest, IsRoomFor, queue_after};
 
 use crate::edits::{Allocate, PutQueue};
 use crate::handles::add_handles;

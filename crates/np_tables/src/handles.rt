@@ -1,8 +1,8 @@
 //! The handles of semaphores that a job takes together and gives back together.
 
 ghost use Rattle.std.specs.Prelude.{◌≡◌, ◌<◌, OnOk, true};
-ghost use Rattle.np_changes.specs.Prelude.{AllByRecursion, all_with_handle, all_without_handle, change_at, with_handle, without_handle};
-ghost use Rattle.np_tables.specs.Room.{has_place, rooms_of, rows_of};
+ghost use Rattle.np_tables.specs.Lower.{AllByRecursion, all_with_handle, all_without_handle, change_at, with_handle, without_handle};
+ghost use Rattle.np_tables.specs.CanChange.{has_place, rooms_of, rows_of};
 
 use crate::keys::HandleTable;
 use np_text::{JobId, SemId};

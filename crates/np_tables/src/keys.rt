@@ -1,7 +1,6 @@
 //! The tables, and the orders of rows under locks: by their ids.
 
-ghost use Rattle.np_changes.specs.Prelude.{NodeEntry, RequestEntry, is_id_before, same_request};
-ghost use Rattle.np_look.specs.Keys.{is_node_before, node_equal, node_one_way, node_some_way, node_transitive, request_equal, request_one_way, request_some_way, request_transitive, same_node};
+ghost use Rattle.np_tables.specs.Lower.{NodeEntry, RequestEntry, is_id_before, is_node_before, node_equal, node_one_way, node_some_way, node_transitive, request_equal, request_one_way, request_some_way, request_transitive, same_node, same_request};
 
 use np_lists::{Order, RoomyTable};
 use np_look::{ByJob, ByNode, ByRequest, BySwept};

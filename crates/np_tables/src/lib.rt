@@ -6,7 +6,8 @@
 //!
 //! `vectors` has the lists, `keys` their orders, and `edits` what changes one request or one node.
 //! `reserve` makes room, `grow` makes the one change that needs it, `settle` those that don't, and
-//! `ends` says how a session that ends leaves its queues. `specs/Room` says what room an event needs.
+//! `ends` says how a session that ends leaves its queues. `specs/CanChange` says what room an event
+//! needs.
 #![tactic(auto)]
 
 mod edits;

@@ -1,7 +1,7 @@
 //! The rows in whose queues a session is.
 
 ghost use Rattle.std.specs.Prelude.{◌≡◌, ◌≤◌, filter, length, map, slice_get};
-ghost use Rattle.np_machine.specs.Tables.{is_queued};
+ghost use Rattle.np_tables.specs.Lower.{is_queued};
 
 use np_machine::{Locked, is_in};
 use np_text::SessionId;

@@ -1,8 +1,8 @@
 //! The memory that an event needs, taken before anything changes.
 
 ghost use Rattle.std.specs.Prelude.{◌≡◌, IfOk, OnOk};
-ghost use Rattle.np_changes.specs.Prelude.{by_maker, joined};
-ghost use Rattle.np_tables.specs.Room.{IsRoomFor, queue_after};
+ghost use Rattle.np_tables.specs.Lower.{by_maker, joined};
+ghost use Rattle.np_tables.specs.CanChange.{IsRoomFor, queue_after};
 
 use crate::handles::reserve_handles;
 use crate::vectors::Vectors;
@@ -21,7 +21,7 @@ pub struct Reserved {
 
 impl Model for Reserved {
     ghost use Rattle.std.specs.Prelude.{List};
-    ghost use Rattle.np_text.specs.declared.id.SessionId.{SessionId};
+    ghost use Rattle.np_tables.specs.Lower.{SessionId};
 
     ghost Value = { List SessionId };
 

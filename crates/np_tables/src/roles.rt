@@ -1,7 +1,7 @@
 //! What each role has done, counted.
 
 ghost use Rattle.std.specs.Prelude.{◌≡◌, ◌≤◌, Some};
-ghost use Rattle.np_changes.specs.Prelude.{AllByRecursion, RoleFits, change_at, change_janitor, change_launcher, change_requester, change_role, most, one_more_act, one_more_start, struck_unless, with_deed};
+ghost use Rattle.np_tables.specs.Lower.{AllByRecursion, RoleFits, change_at, change_janitor, change_launcher, change_requester, change_role, most, one_more_act, one_more_start, struck_unless, with_deed};
 ghost use Rattle.np_changes.specs.declared.changes.Deed.TheVariants as deed;
 ghost use Rattle.np_tables.specs.CanChange.{RolesFit};
 

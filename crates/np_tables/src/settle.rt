@@ -1,12 +1,10 @@
 //! What may not fail: how each table changes once the tables have grown.
 
 ghost use Rattle.std.specs.Prelude.{◌≡◌, ◌≤◌, None, filter, length, map, not};
-ghost use Rattle.np_changes.specs.Prelude.{all_in_use, all_without_handle, change_at, change_session, ended, handles_changed, is_session, jobs_changed, marked, muted, nodes_changed, put_job, registrations_left, requests_changed, semaphores_of, sessions_changed, with_mark};
+ghost use Rattle.np_tables.specs.Lower.{all_in_use, all_without_handle, change_at, change_session, ended, handles_changed, is_session, jobs_changed, marked, muted, nodes_changed, put_job, registrations_left, requests_changed, semaphores_of, sessions_changed, with_mark};
 ghost use Rattle.np_changes.specs.declared.changes.NodesChange.TheVariants as nodes_change;
 ghost use Rattle.np_changes.specs.declared.changes.RequestsChange.TheVariants as requests_change;
-ghost use Rattle.np_tables.specs.CanChange.{CanSettle, TakesEdit};
-ghost use Rattle.np_tables.specs.LeftLast.{settled_in_queues};
-ghost use Rattle.np_tables.specs.Room.{rows_of};
+ghost use Rattle.np_tables.specs.CanChange.{CanSettle, TakesEdit, settled_in_queues, rows_of};
 
 use crate::edits::{Edit, Free, Leave, Put, TakeOver};
 use crate::handles::drop_handles;

@@ -1,8 +1,8 @@
 //! The vectors before the first event.
 
 ghost use Rattle.std.specs.Prelude.{◌≡◌, List, [], replicate, IfOk};
-ghost use Rattle.np_changes.specs.Prelude.{JobId, new_job, no_deeds, start};
-ghost use Rattle.np_tables.specs.Room.{rows_of};
+ghost use Rattle.np_tables.specs.Lower.{JobId, new_job, no_deeds, start};
+ghost use Rattle.np_tables.specs.CanChange.{rows_of};
 
 use crate::keys::{HandleTable, NodeTable, RequestTable, SweptTable};
 use crate::vectors::Vectors;

@@ -1,10 +1,8 @@
 //! A configuration and the tables of a state of its machine.
 
 ghost use Rattle.std.specs.Prelude.{◌≡◌, IfOk};
-ghost use Rattle.np_changes.specs.Prelude.{Fits, IsPlanned, IsReached, IsSound, changed, start};
-ghost use Rattle.np_tables.specs.Kept.{IsCountable};
-ghost use Rattle.np_tables.specs.Queues.{AreQueuesOf};
-ghost use Rattle.np_tables.specs.Room.{HasRoomFor};
+ghost use Rattle.np_tables.specs.Lower.{Fits, IsPlanned, IsReached, IsSound, changed, start};
+ghost use Rattle.np_tables.specs.CanChange.{IsCountable, AreQueuesOf, HasRoomFor};
 
 mod rows;
 
@@ -26,7 +24,7 @@ pub struct Tables {
 }
 
 impl Model for Tables {
-    ghost use Rattle.np_tables.specs.Kept.{IsCountable, Kept};
+    ghost use Rattle.np_tables.specs.CanChange.{IsCountable, Kept};
 
     ghost Value = { Kept };
 

@@ -1,8 +1,7 @@
 //! A state in vectors, seen as the state of the definitions, with the room that the vectors have.
 
 ghost use Rattle.std.specs.Prelude.{◌≡◌, option_copied, slice_get};
-ghost use Rattle.np_changes.specs.Prelude.{handles_of, has_handle, is_swept, node_entry, node_queue, option_map, registered, request_entry, request_queue, role_in, session_of};
-ghost use Rattle.np_look.specs.Views.{node_view, request_view};
+ghost use Rattle.np_tables.specs.Lower.{handles_of, has_handle, is_swept, node_entry, node_queue, node_view, option_map, registered, request_entry, request_queue, request_view, role_in, session_of};
 
 use crate::keys::{HandleTable, NodeTable, RequestTable, SweptTable};
 use np_look::{NodeView, RequestView};
@@ -34,8 +33,7 @@ pub struct Vectors {
 
 impl Model for Vectors {
     ghost use Rattle.std.specs.Prelude.{◌-◌, vec_capacity, vec_len};
-    ghost use Rattle.np_tables.specs.Kept.{Stored};
-    ghost use Rattle.np_tables.specs.Room.{rooms_of, rows_of};
+    ghost use Rattle.np_tables.specs.CanChange.{Stored, rooms_of, rows_of};
 
     ghost Value = { Stored };
 
@@ -218,10 +216,7 @@ impl Vectors {
     pub(crate) fn has_handle(&self, job: JobId, semaphore: SemId) -> bool
         ensures { result ≡ has_handle job self.now.state.handles semaphore }
     {
-        match self.handles.get(semaphore.0 as usize) {
-            None => false,
-            Some(jobs) => jobs.has(job),
-        }
+        matches!(self.handles.get(semaphore.0 as usize), Some(jobs) if jobs.has(job))
     }
 
     /// The jobs, as the machine keeps them.

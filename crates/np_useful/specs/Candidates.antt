@@ -1,11 +1,10 @@
 -- the candidates of a kind, by place
 use Rattle.std.specs.Prelude.{ℕ, Bool, true, false, if◌then◌else◌, Option, length, slice_get}
-use Rattle.np_changes.specs.Prelude.{Event, NodeId, RequestId, SessionId, State, option_map}
-use Rattle.np_look.specs.Readers.{queued_requests, queued_nodes}
 use Rattle.np_useful.specs.declared.kind.EventKind.{EventKind}
 use Rattle.np_useful.specs.declared.kind.RequestKind.{RequestKind}
 use Rattle.np_useful.specs.declared.kind.NodeKind.{NodeKind}
 use Rattle.np_useful.specs.Kinds.{request_event, node_event, job_event}
+use Rattle.np_useful.specs.Lower.{Event, NodeId, RequestId, SessionId, State, option_map, queued_nodes, queued_requests}
 
 -- whether the machine accepts the event only from a session in the request's queue
 abbrev pub is_from_request_queue : RequestKind → Bool

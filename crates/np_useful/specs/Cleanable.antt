@@ -1,7 +1,6 @@
 -- which nodes a janitor removes or frees
 use Rattle.std.specs.Prelude.{Bool, true, ◌&&◌, ◌||◌, is_some, is_none}
-use Rattle.np_machine.specs.Prelude.{Configuration, NodeRecord, NodeState, State, standing}
-use Rattle.np_machine.specs.Reasons.{is_old_ready, is_old_hold, is_paused}
+use Rattle.np_useful.specs.Lower.{Configuration, NodeRecord, NodeState, State, is_old_hold, is_old_ready, is_paused, standing}
 
 -- allocated to a request that no longer exists (own)
 abbrev pub is_left_over : State → NodeRecord → Bool

@@ -1,10 +1,8 @@
 -- when a journal was driven by the parties and their clouds, and not by a script
-use Rattle.std.specs.Prelude.{◌≡◌, ◌&&◌, ◌==◌, ℕ, Bool, true, false, List, [], ◌∷◌, ◌++◌, Some, ◌⊎◌}
-use Rattle.np_machine.specs.Prelude.{Configuration, EachTurn, Entry, Event, Janitor, NodeId, NodeRecord, Outcome, PoolId, Role, SessionId, SomeTurn, Turn, is_node, is_session, is_swept, node_in, outcome_of, turns}
+use Rattle.std.specs.Prelude.{◌≡◌, ◌&&◌, ◌==◌, ℕ, Bool, true, false, List, [], ◌∷◌, ◌++◌, Some, ◌⊎◌, ◌≤◌, length, take, is_ok}
 use Rattle.np_useful.specs.Sessions.{is_current}
 use Rattle.np_useful.specs.Useful.{IsUseful}
-use Rattle.np_event.specs.declared.reply.Reply.{Reply}
-use Rattle.np_event.specs.declared.reply.Done.{Done}
+use Rattle.np_useful.specs.Lower.{Configuration, Done, EachTurn, Entry, Event, Janitor, NodeId, NodeRecord, Outcome, PoolId, Reply, Role, SessionId, SomeTurn, Turn, after, is_node, is_session, is_swept, judge, node_in, outcome_of, turns}
 
 -- ## a useful event
 
@@ -104,3 +102,30 @@ as_planned c pool n attempt start o = outcome_of c pool start ≡ o
 -- each launch was answered as it is planned (own)
 abbrev pub Driven : Configuration → List Entry → Type 0
 Driven c journal = DrivenBy (as_planned c) c journal
+
+-- events that were chosen on an older state and committed later
+
+-- a launcher's events that can be planned (own)
+abbrev pub is_planned : Event → Bool
+is_planned (Event.Start session n) = true
+is_planned (Event.UnlockNode session n) = true
+is_planned (Event.UnlockRequest session r) = true
+is_planned (Event.Decline session r why) = true
+is_planned (Event.TakeReady session r n) = true
+is_planned (Event.Fulfil session r) = true
+is_planned _ = false
+
+-- the event can be planned, was useful for the role after some beginning of the journal, and is accepted after all of it (own)
+pub record WasUseful (c : Configuration) (journal : List Entry) (role : Role) (e : Event) : Type 0 where
+  pub planned : is_planned e ≡ true
+  pub place : ℕ
+  pub within : place ≤ length journal
+  pub useful : IsUseful c (after c (take place journal)) role e
+  pub accepted : is_ok (judge c (after c journal) e) ≡ true
+
+-- the same of a turn: useful for some role in the state before an earlier turn, or before this one (own)
+pub record WasOfUse (c : Configuration) (past : List Turn) (t : Turn) : Type 0 where
+  pub role : Role
+  pub planned : is_planned t.entry.event ≡ true
+  pub useful : SomeTurn (λ u. IsUseful c u.before role t.entry.event) (past ++ t ∷ [])
+  pub accepted : is_ok (judge c t.before t.entry.event) ≡ true

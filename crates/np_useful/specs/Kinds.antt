@@ -1,8 +1,8 @@
 -- the events of each kind that names a request, a node or a job
-use Rattle.np_changes.specs.Prelude.{Event, JobId, NodeId, RequestId, SessionId}
 use Rattle.np_useful.specs.declared.kind.RequestKind.{RequestKind}
 use Rattle.np_useful.specs.declared.kind.NodeKind.{NodeKind}
 use Rattle.np_useful.specs.declared.kind.JobKind.{JobKind}
+use Rattle.np_useful.specs.Lower.{Event, JobId, NodeId, RequestId, SessionId}
 
 abbrev pub request_event : RequestKind → SessionId → RequestId → Event
 request_event RequestKind.Lock session r = Event.LockRequest session r

@@ -1,16 +1,8 @@
+pub mod Lower
 pub mod Sessions
-pub mod Window
 pub mod Cleanable
-pub mod Rows
 pub mod Launcher
-pub mod Requester
-pub mod Janitor
-pub mod Reaper
 pub mod Useful
-pub mod Settled
 pub mod Driven
-pub mod Planned
 pub mod Kinds
-pub mod Choices
-pub mod Passing
 pub mod Candidates

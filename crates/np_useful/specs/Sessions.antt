@@ -1,7 +1,6 @@
 -- who acts for a role, and the faults that are planned for it
 use Rattle.std.specs.Prelude.{ℕ, ◌-◌, List, Bool, true, false, ◌==◌, ◌&&◌, not, if◌then◌else◌, Option, None, filter, drop, slice_get, nat_le}
-use Rattle.np_machine.specs.Prelude.{Configuration, Fault, FaultKind, Role, SessionId, State, list_any, option_map_or, role_in, session_of}
-use Rattle.np_machine.specs.Laws.{acts_of, same_role, speaks_for}
+use Rattle.np_useful.specs.Lower.{Configuration, Fault, FaultKind, Role, SessionId, State, acts_of, list_any, option_map_or, role_in, same_role, session_of, speaks_for}
 
 -- ## sessions
 

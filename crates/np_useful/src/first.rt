@@ -1,8 +1,8 @@
 //! The first event that passes, among candidates in an order.
 
 ghost use Rattle.std.specs.Prelude.{◌≡◌, ℕ, Option};
-ghost use Rattle.np_changes.specs.Prelude.{Configuration, Event, Fits, State};
-ghost use Rattle.np_useful.specs.Passing.{passing, IsFirstThatPasses};
+ghost use Rattle.np_useful.specs.Lower.{Configuration, Event, Fits, State};
+ghost use Rattle.np_useful.specs.Useful.{passing, IsFirstThatPasses};
 
 use crate::rows::{RoleRows, passes};
 use np_event::Event;

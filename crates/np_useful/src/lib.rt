@@ -14,7 +14,7 @@
 //! chosen. Releases have a search of their own (`first_release`), among the jobs of one requester:
 //! it tests only those that are over and have a handle. Other searches are of one role, and stand
 //! with its choice: some have candidates of their own (`Candidates`) for `first_that_passes`.
-//! `specs/Choices` says what a choice returns: a useful event, or none if and only if there is none.
+//! `specs/Useful` says what a choice returns: a useful event, or none if and only if there is none.
 #![tactic(auto)]
 
 mod first;

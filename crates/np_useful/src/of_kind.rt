@@ -1,11 +1,11 @@
 //! The events of a kind as candidates.
 
 ghost use Rattle.std.specs.Prelude.{◌≡◌, true};
-ghost use Rattle.np_changes.specs.Fits.{Fits};
+ghost use Rattle.np_useful.specs.Lower.{Fits};
 ghost use Rattle.np_useful.specs.Sessions.{is_current};
 ghost use Rattle.np_useful.specs.declared.kind.EventKind.TheVariants as kind_of;
 ghost use Rattle.np_useful.specs.Candidates.{places, candidate, request_named, node_named};
-ghost use Rattle.np_useful.specs.Choices.{ChoosesOf, ChoosesOfAny};
+ghost use Rattle.np_useful.specs.Useful.{ChoosesOf, ChoosesOfAny};
 
 use crate::first::{Candidates, first_that_passes};
 use crate::kind::{

@@ -1,9 +1,9 @@
 //! The release of the handles of a requester's jobs.
 
 ghost use Rattle.std.specs.Prelude.{◌≡◌, true};
-ghost use Rattle.np_changes.specs.Fits.{Fits};
+ghost use Rattle.np_useful.specs.Lower.{Fits};
 ghost use Rattle.np_useful.specs.Sessions.{is_current};
-ghost use Rattle.np_useful.specs.Choices.{ChoosesRelease};
+ghost use Rattle.np_useful.specs.Useful.{ChoosesRelease};
 
 use crate::rows::{RoleRows, passes};
 use np_event::Event;

@@ -1,9 +1,8 @@
 //! The test of one event.
 
 ghost use Rattle.std.specs.Prelude.{◌≡◌};
-ghost use Rattle.np_changes.specs.Prelude.{Configuration, Fits, Role, State};
-ghost use Rattle.np_useful.specs.Useful.{row_holds};
-ghost use Rattle.np_useful.specs.Passing.{passes};
+ghost use Rattle.np_useful.specs.Lower.{Configuration, Fits, Role, State};
+ghost use Rattle.np_useful.specs.Useful.{row_holds, passes};
 
 use np_decision::decide;
 use np_event::Event;

@@ -1,9 +1,9 @@
 //! Who acts for a role, and whether a session may begin.
 
 ghost use Rattle.std.specs.Prelude.{◌≡◌, ◌&&◌, ◌==◌, true, false, cond, slice_get};
-ghost use Rattle.np_changes.specs.Prelude.{Fits, is_role};
+ghost use Rattle.np_useful.specs.Lower.{Fits, is_role};
 ghost use Rattle.np_useful.specs.Sessions.{has_current, faults_of, strikes_of, is_stopped, may_open};
-ghost use Rattle.np_useful.specs.Choices.{NamesCurrent, ChoosesOpening};
+ghost use Rattle.np_useful.specs.Useful.{NamesCurrent, ChoosesOpening};
 
 use np_config::{Config, Fault, FaultKind};
 use np_event::Event;
@@ -70,10 +70,8 @@ pub fn is_stopped<R: Rows>(rows: &R, role: Role) -> bool
     if strikes == 0 {
         return false;
     }
-    match fault_of(rows.config(), role, strikes - 1) {
-        None => false,
-        Some(fault) => fault.kind == FaultKind::Stop,
-    }
+    matches!(fault_of(rows.config(), role, strikes - 1), Some(fault)
+        if fault.kind == FaultKind::Stop)
 }
 
 /// Whether a session of the role may begin: it has no current one, and has not stopped.

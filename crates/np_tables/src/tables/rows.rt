@@ -154,9 +154,7 @@ impl Rows for Tables {
     }
 
     fn is_declined(&self, request: RequestId, pool: PoolId) -> bool {
-        match self.vectors.request(request) {
-            None => false,
-            Some(entry) => is_declined_by(pool, entry.kept.declined.items()),
-        }
+        matches!(self.vectors.request(request), Some(entry)
+            if is_declined_by(pool, entry.kept.declined.items()))
     }
 }
