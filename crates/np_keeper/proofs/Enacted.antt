@@ -1,5 +1,5 @@
 -- the changes of an event made in a tree: they may be made, and the tree then holds the changed state
-use Rattle.np_keeper.proofs.Prelude.{AllByRecursion, AtPart, Bool, CanBegin, CanEnd, CanMake, Changes, Configuration, Err, Event, EventsEnact, Fits, Goes, Growth, HasGoodIds, HasRoomFor, HasSpare, Holds, IsAccepted, IsCarried, IsEnacted, IsHeld, IsLater, IsOk, IsPart, IsPlanned, IsReached, IsReady, IsSound, IsStored, IsTyped, IsWhole, JanitorRole, Job, LauncherRole, LaysOut, List, Maker, MakerPremise, MayChange, Mode, Node, None, Ok, OnErr, OnOk, Op, OpDone, Option, Place, Reply, RequesterRole, Result, Row, Semaphore, SessionFacts, SessionId, Sessions, SessionsChange, SessionsPremise, Some, Stands, State, Stays, Tick, TreeRefusal, TreeState, TreesHaveOneState, after_begin, after_create_under, after_multi, after_part, after_parts, and_then, answered-goes, answers_from, ap, append_assoc, arith, at_path, begins-later, calls-later, changed, changes-after, checks-leave-the-tree, cond, decimal, decoded, deeds-enact, digits, enacted, ends-later, events-are-ready, events-enact, false, first-goes, first-lays, first_directories, first_parts, first_tree, frame-stays, goes-under-one-number, growths-enact, handles-enact, inl, inr, invariant-Runs, is_check, is_in, is_numbered, job_text, jobs-enact, jobs-stay, judge, later-joined, later-than-itself, launchers-stay, length, length-append, length-map-range_with_len, list_all, list_all-append, list_any, live-stays, made, make, make_each, map, map-range_with_len_more, min, most_changes, name_of, nat_tests, new_job, new_tree, next, next_change, no_deeds, node_locks-stay, nodes-enact, nodes-stay, not, number-of, parent_of, part_answer, parts-change_nodes_alone, parts_of, past-end, plan-next, range_with_len, records-are-spelled, refl, reply_of, request_locks-stay, requests-enact, requests-stay, reserves-later, role_text, roles-stay, room-after, room-less, room_left, rows_at, semaphores-stay, session-low, session_at, session_of, sessions-enact, sessions-stay, sessions_from, slice_get, slice_get_within, start, starts-are-carried, steps-are-carried, subst, suc, swept-stay, sym, ticks-enact, tree_session, trees-have-one_state, true, under, where_found, with_begin, with_end, with_new_child, with_next_number, with_spare, writer, zero, ℕ, [], ◌&&◌, ◌*◌, ◌++◌, ◌+◌, ◌-◌, ◌<◌, ◌==◌, ◌^◌, ◌∙◌, ◌∷◌, ◌≡◌, ◌≤◌, ◌⊎◌}
+use Rattle.np_keeper.proofs.Prelude.{AllByRecursion, AtPart, Bool, CanBegin, CanEnd, CanMake, Changes, Configuration, Err, Event, EventsEnact, Fits, Goes, Growth, HasGoodIds, HasRoomFor, HasSpare, Holds, IsAccepted, IsCarried, IsEnacted, IsHeld, IsLater, IsOk, IsPart, IsPlanned, IsReached, IsReady, IsSound, IsStored, IsTyped, IsWhole, JanitorRole, Job, LauncherRole, LaysOut, List, Maker, MakerPremise, MayChange, Mode, Node, None, Ok, OnErr, OnOk, Op, OpDone, Option, Place, Reply, RequesterRole, Result, Row, Semaphore, SessionFacts, SessionId, Sessions, SessionsChange, SessionsPremise, Some, Stands, State, Tick, TreeRefusal, TreeState, TreesHaveOneState, after_begin, after_create_under, after_multi, after_part, after_parts, and_then, answered-goes, answers_from, ap, append_assoc, arith, at_path, begins-later, by_bool, calls-later, changed, changes-after, checks-leave-the-tree, cond, decimal, decoded, deeds-enact, digits, enacted, ends-later, events-are-ready, events-enact, false, first-goes, first-lays, first_directories, first_parts, first_tree, goes-under-one-number, growths-enact, handles-enact, inl, inr, invariant-Runs, is_check, is_in, is_numbered, job_text, jobs-enact, judge, later-joined, later-than-itself, length, length-append, length-map-range_with_len, list_all, list_all-append, list_any, made, make, make_each, map, map-range_with_len_more, min, most_changes, name_of, nat_tests, new_job, new_tree, next, next_change, no_deeds, nodes-enact, not, number-of, parent_of, part_answer, parts-change_nodes_alone, parts_of, past-end, plan-next, range_with_len, records-are-spelled, refl, reply_of, requests-enact, reserves-later, role_text, room-after, room-less, room_left, rows_at, same-lays, session-low, session_at, session_of, sessions-enact, sessions_from, slice_get, slice_get_within, start, starts-are-carried, steps-are-carried, subst, suc, sym, ticks-enact, tree_session, trees-have-one_state, true, under, where_found, with_begin, with_end, with_new_child, with_next_number, with_spare, writer, zero, ℕ, [], ◌&&◌, ◌*◌, ◌++◌, ◌+◌, ◌-◌, ◌<◌, ◌==◌, ◌^◌, ◌∙◌, ◌∷◌, ◌≡◌, ◌≤◌, ◌⊎◌}
 
 -- # the changes that a keeper is given may be made
 
@@ -35,13 +35,13 @@ live-at t (row ∷ rows) at (suc k) facts there =
 
 -- a session of the state is live as the tree's of its number is
 pub live-session : (c : Configuration) (t : TreeState) (session : SessionId) (facts : SessionFacts) → session_of session (decoded c t) ≡ Some facts → is_in t.live (tree_session session) ≡ facts.live
-live-session c t session facts there = by (session.0 == 0) refl there where
-  by : (b : Bool) → (session.0 == 0) ≡ b → cond b None (slice_get (decoded c t).sessions (session.0 - 1)) ≡ Some facts → is_in t.live (tree_session session) ≡ facts.live
-  by true is there = absurd cc
-  by false is there =
-      let low : 1 ≤ session.0 = grind (arith, nat_tests) in
-      let same : session.0 + 1 ≡ 1 + (session.0 - 1) + 1 = omega arith in
-      ap (λ (n : ℕ). is_in t.live n) same ∙ live-at t (under Sessions t) 1 (session.0 - 1) facts there
+live-session c t session facts there =
+    by_bool (λ b. cond b None (slice_get (decoded c t).sessions (session.0 - 1)) ≡ Some facts → is_in t.live (tree_session session) ≡ facts.live) (session.0 == 0) (λ _ none. absurd cc)
+    (λ is some.
+    let low : 1 ≤ session.0 = grind (arith, nat_tests) in
+    let same : session.0 + 1 ≡ 1 + (session.0 - 1) + 1 = omega arith in
+    ap (λ (n : ℕ). is_in t.live n) same ∙ live-at t (under Sessions t) 1 (session.0 - 1) facts some)
+    there
 
 -- who writes the changes is live
 pub writer-lives : (c : Configuration) (t : TreeState) (maker : Option Maker) → IsHeld c t → MakerPremise (decoded c t) maker → is_in t.live (writer maker) ≡ true
@@ -58,23 +58,7 @@ writer-low s (Some maker) premise few = let low = session-low maker.session s pr
 -- ## what the layout does not see
 
 spared-lays : (s : State) (t : TreeState) (k : ℕ) → HasGoodIds s → LaysOut s t → LaysOut s (with_spare t k)
-spared-lays s t k good lays =
-    let u : TreeState = with_spare t k in
-    let stays : Stays [] t u = record { rows = λ other good apart. refl; leaves = λ other good has apart leaves. leaves; counters = λ other next good has apart is. is } in
-    record {
-      frame = frame-stays [] t u stays s.tick refl refl refl refl refl lays.frame;
-      requests = requests-stay [] t u stays s.requests s.next_request refl lays.requests;
-      request_locks = request_locks-stay [] t u stays s.requests good.requests refl refl lays.request_locks;
-      nodes = nodes-stay [] t u stays s.nodes s.next_node refl lays.nodes;
-      node_locks = node_locks-stay [] t u stays s.nodes good.nodes refl refl lays.node_locks;
-      launchers = launchers-stay [] t u stays s.registrations refl lays.launchers;
-      semaphores = semaphores-stay [] t u stays s.handles good.semaphores refl refl lays.semaphores;
-      jobs = jobs-stay [] t u stays s.jobs refl lays.jobs;
-      roles = roles-stay [] t u stays s.launchers s.janitors s.requesters refl lays.roles;
-      sessions = sessions-stay [] t u stays s.sessions refl lays.sessions;
-      swept = swept-stay [] t u stays s.swept refl lays.swept;
-      live = live-stays t u refl refl s.sessions lays.live;
-    }
+spared-lays s t k good lays = same-lays s t (with_spare t k) good refl refl (record { rows = λ other good apart. refl; leaves = λ other good has apart leaves. leaves; counters = λ other next good has apart is. is }) lays
 
 -- it stores the same state
 pub stored-spared : (c : Configuration) (s : State) (t : TreeState) (k : ℕ) → IsStored c s t → IsStored c s (with_spare t k)
@@ -134,10 +118,9 @@ answers-spared at t k w (part ∷ parts) =
 
 -- and leaves the same, with that spare
 pub multi-spared : (t : TreeState) (k w : ℕ) (parts : List Op) → after_multi (with_spare t k) w parts ≡ with_spare (after_multi t w parts) k
-multi-spared t k w parts = by (list_any (λ part. not (is_check part)) parts) where
-  by : (b : Bool) → cond b (with_next_number (after_parts (with_spare t k) w parts)) (with_spare t k) ≡ with_spare (cond b (with_next_number (after_parts t w parts)) t) k
-  by true = ap with_next_number (parts-spared t k w parts)
-  by false = refl
+multi-spared t k w parts =
+    by_bool (λ b. cond b (with_next_number (after_parts (with_spare t k) w parts)) (with_spare t k) ≡ with_spare (cond b (with_next_number (after_parts t w parts)) t) k) (list_any (λ part. not (is_check part)) parts)
+    (λ _. ap with_next_number (parts-spared t k w parts)) (λ _. refl)
 
 -- ## either outcome
 
@@ -338,17 +321,12 @@ module _ (c : Configuration) (sound : IsSound c) where
     room = room-less (first_tree c) 1_073_741_824 (room_left (first_tree c)) (omega arith) room-tree;
   }
 
-  -- so does one with another spare
-  pub held-first : (t : TreeState) (k : ℕ) → IsWhole t.nodes → t ≡ after_multi (with_spare begun k) 1 (first_parts c) → IsHeld c t
-  held-first t k whole is =
-      let same : t ≡ with_spare (first_tree c) k = is ∙ multi-spared begun k 1 (first_parts c) in
-      subst (IsHeld c) (sym same) (held-spared c (first_tree c) k (first-held (subst (λ (u : TreeState). IsWhole u.nodes) same whole)))
-
-  -- and the state before the first event is read from it
-  pub decoded-first : (t : TreeState) (k : ℕ) → IsWhole t.nodes → t ≡ after_multi (with_spare begun k) 1 (first_parts c) → decoded c t ≡ start c
-  decoded-first t k whole is =
-      let same : t ≡ with_spare (first_tree c) k = is ∙ multi-spared begun k 1 (first_parts c) in
-      ap (decoded c) same ∙ first-decoded (subst (λ (u : TreeState). IsWhole u.nodes) same whole)
+  -- so does the one that the call leaves, whatever its spare
+  pub holds-first : (t called : TreeState) (ops : List Op) → IsWhole called.nodes → ops ≡ first_parts c → t ≡ with_spare begun t.spare → called ≡ after_multi t 1 ops → Holds c (start c) called
+  holds-first t called ops whole are spare calls =
+      let same : called ≡ with_spare (first_tree c) t.spare = calls ∙ ap (after_multi t 1) are ∙ ap (λ (u : TreeState). after_multi u 1 (first_parts c)) spare ∙ multi-spared begun t.spare 1 (first_parts c) in
+      let nodes = subst (λ (u : TreeState). IsWhole u.nodes) same whole in
+      subst (Holds c (start c)) (sym same) (record { held = held-spared c (first_tree c) t.spare (first-held nodes); state = first-decoded nodes })
 
 -- # the tree after the changes of an event holds the changed state
 
@@ -429,10 +407,9 @@ parts-sessions t w (part ∷ parts) =
     }
 
 multi-sessions : (t : TreeState) (w : ℕ) (parts : List Op) → KeepsSessions t (after_multi t w parts)
-multi-sessions t w parts = by (list_any (λ part. not (is_check part)) parts) where
-  by : (b : Bool) → KeepsSessions t (cond b (with_next_number (after_parts t w parts)) t)
-  by true = let all = parts-sessions t w parts in record { live = all.live; begun = all.begun; spare = all.spare }
-  by false = record { live = refl; begun = refl; spare = refl }
+multi-sessions t w parts =
+    by_bool (λ b. KeepsSessions t (cond b (with_next_number (after_parts t w parts)) t)) (list_any (λ part. not (is_check part)) parts)
+    (λ _. let all = parts-sessions t w parts in record { live = all.live; begun = all.begun; spare = all.spare }) (λ _. record { live = refl; begun = refl; spare = refl })
 
 begin-number : (growth : Growth) (u : TreeState) → (with_begin growth u).changes ≡ u.changes
 begin-number Growth.Nothing u = refl
@@ -534,27 +511,33 @@ module _ (enact : EventsEnact) (one : TreesHaveOneState) (c : Configuration) (ch
   pub can-end : (k : ℕ) → CanEnd ch.sessions (with_spare (with_begin ch.grows (after_multi t w parts)) k)
   can-end k = end-by c t k ch ch.sessions may.ready.premises.sessions (after_multi t w parts) (multi-sessions t w parts) may.few
 
--- ## a tree that holds a state
+-- ## a tree that holds a state, with memory reserved
 
-module _ (enact : EventsEnact) (one : TreesHaveOneState) (c : Configuration) (ch : Changes) (s : State) (t : TreeState) (holds : Holds c s t) (low : t.changes < 16_777_214) (may : MayChange c ch s) where
+module _ (enact : EventsEnact) (one : TreesHaveOneState) (c : Configuration) (ch : Changes) (s : State) (old t : TreeState) (same : t ≡ with_spare old t.spare) (before : Holds c s old) (few : old.changes < 16_777_214) (may : MayChange c ch s) where
+  here : Holds c s t
+  here = holds-spared c s old t same before
+
+  low : t.changes < 16_777_214
+  low = let number : t.changes ≡ old.changes = ap (λ (u : TreeState). u.changes) same in omega arith
+
   may-here : MayChange c ch (decoded c t)
-  may-here = subst (MayChange c ch) (sym holds.state) may
+  may-here = subst (MayChange c ch) (sym here.state) may
 
   -- the parts can be made
   pub can-make : (ops : List Op) → ops ≡ parts_of c ch s t → HasSpare ch.grows t → CanMake ch ops t
-  can-make ops is spare = subst (λ (list : List Op). CanMake ch list t) (sym is) (subst (λ (x : State). CanMake ch (parts_of c ch x t) t) holds.state (record {
+  can-make ops is spare = subst (λ (list : List Op). CanMake ch list t) (sym is) (subst (λ (x : State). CanMake ch (parts_of c ch x t) t) here.state (record {
     session = writer-low (decoded c t) ch.maker may-here.ready.premises.maker may-here.few;
-    goes = goes-held enact one c ch t holds.held low may-here;
-    begins = can-begin enact one c ch t holds.held low may-here spare;
-    ends = can-end enact one c ch t holds.held low may-here;
-    number = omega arith;
-    next = number-low enact one c ch t holds.held low may-here;
+    goes = goes-held enact one c ch t here.held low may-here;
+    begins = can-begin enact one c ch t here.held low may-here spare;
+    ends = can-end enact one c ch t here.held low may-here;
+    number = let few = low in omega arith;
+    next = number-low enact one c ch t here.held low may-here;
   }))
 
   made-here : (k : ℕ) → Holds c (changed c ch (decoded c t)) (with_spare (made ch (parts_of c ch (decoded c t) t) t) k)
   made-here k = record {
-    held = held-spared c (enacted c ch (decoded c t) t) k (held-later enact one c ch t holds.held low may-here);
-    state = decoded-later enact one c ch t holds.held low may-here;
+    held = held-spared c (enacted c ch (decoded c t) t) k (held-later enact one c ch t here.held low may-here);
+    state = decoded-later enact one c ch t here.held low may-here;
   }
 
   -- and the tree after them holds the changed state, whichever spare a session that began left
@@ -562,7 +545,7 @@ module _ (enact : EventsEnact) (one : TreesHaveOneState) (c : Configuration) (ch
   holds-made ops u is after =
       let whole : u ≡ with_spare (made ch (parts_of c ch s t) t) u.spare = after ∙ ap (λ (list : List Op). with_spare (made ch list t) u.spare) is in
       subst (Holds c (changed c ch s)) (sym whole)
-      (subst (λ (x : State). Holds c (changed c ch x) (with_spare (made ch (parts_of c ch x t) t) u.spare)) holds.state (made-here u.spare))
+      (subst (λ (x : State). Holds c (changed c ch x) (with_spare (made ch (parts_of c ch x t) t) u.spare)) here.state (made-here u.spare))
 
 -- # each step of making the changes of an event leaves a later tree
 

@@ -4,15 +4,12 @@ pub use Rattle.np_changes.proofs.Lookups.{session-low}
 pub use Rattle.np_changes.proofs.Runs.{invariant-Runs}
 pub use Rattle.np_changes.proofs.Shapes.{Fits-Runs, sound_fits}
 pub use Rattle.np_changes.specs.Parts.{Invariant}
-pub use Rattle.np_changes.specs.Prelude.{AllByRecursion, Configuration, Event, Fits, IsPlanned, IsReached, IsSound, JobId, MakerPremise, NodeEntry, NonePass, Reply, RequestEntry, RequestFits, RequestId, Rises, SemId, SessionFacts, SessionId, SessionsPremise, State, Swept, changed, handles_of, insert_before, is_id_before, judge, list_all, list_any, most, new_job, next, no_deeds, option_map, option_map_or, reply_of, request_entry, same_request, session_of, start}
-pub use Rattle.np_changes.specs.declared.changes.Changes.{Changes}
-pub use Rattle.np_changes.specs.declared.changes.Growth.{Growth}
 pub use Rattle.np_changes.specs.declared.changes.Maker.{Maker}
-pub use Rattle.np_changes.specs.declared.changes.SessionsChange.{SessionsChange}
 pub use Rattle.np_keeper.specs.Keeper.{CanBegin, CanEnd, CanMake, HasSpare, Holds, IsHeld, MayChange, made, most_changes, room_left}
+pub use Rattle.np_keeper.specs.Lower.{AllByRecursion, AreHolders, AtPart, Changes, Configuration, Event, EventsEnact, Fits, Goes, Growth, HasGoodIds, HasRoomFor, IsAccepted, IsCarried, IsCountable, IsEnacted, IsLater, IsPart, IsPlanned, IsReached, IsReady, IsSound, IsStored, IsTyped, IsWhole, JanitorRole, Job, JobId, Jobs, LauncherRole, Launchers, LaysOut, MakerPremise, Mode, Node, NodeEntry, Nodepool, Nodes, NonePass, Op, Poolsim, Reply, RequestEntry, RequestFits, RequestId, RequestLocks, RequesterRole, Requests, Rises, Roles, Row, SemId, Semaphore, Semaphores, SessionFacts, SessionId, Sessions, SessionsChange, SessionsPremise, Stands, State, Swept, SweptPairs, Tick, TreeRefusal, TreeState, TreesHaveOneState, Zuul, after_begin, after_create_under, after_multi, after_part, after_parts, and_then, answers_from, at_path, changed, decoded, enacted, first_directories, first_parts, first_tree, handles_of, insert_before, is_check, is_id_before, is_in, is_node_before, is_numbered, is_pair_before, job_text, judge, list_all, list_any, make, make_each, most, name_of, new_job, new_tree, next, next_change, no_deeds, node_equal, node_one_way, node_queue, node_some_way, option_map, option_map_or, pair_equal, pair_named, pair_one_way, parent_of, part_answer, parts_of, range_with_len, reply_of, request_entry, request_equal, request_one_way, request_queue, request_some_way, role_text, rows_at, rows_of, same_node, same_pair, same_request, session_at, session_of, sessions_from, start, swept_at, tree_session, under, where_found, with_begin, with_end, with_new_child, with_next_number, with_spare, writer}
 pub use Rattle.np_layout.proofs.Carried.{steps-are-carried}
 pub use Rattle.np_layout.proofs.ChangeParts.{deeds-enact, jobs-enact, nodes-enact, requests-enact, sessions-enact, ticks-enact}
-pub use Rattle.np_layout.proofs.Elsewhere.{Stays, frame-stays, jobs-stay, launchers-stay, live-stays, node_locks-stay, nodes-stay, request_locks-stay, requests-stay, roles-stay, semaphores-stay, sessions-stay, swept-stay}
+pub use Rattle.np_layout.proofs.Elsewhere.{same-lays}
 pub use Rattle.np_layout.proofs.Events.{events-are-ready, events-enact}
 pub use Rattle.np_layout.proofs.FirstTrees.{first-goes, first-lays, starts-are-carried}
 pub use Rattle.np_layout.proofs.GrowthParts.{growths-enact, handles-enact}
@@ -20,29 +17,15 @@ pub use Rattle.np_layout.proofs.OneState.{trees-have-one_state}
 pub use Rattle.np_layout.proofs.Rows.{put_all}
 pub use Rattle.np_layout.proofs.Spelled.{records-are-spelled}
 pub use Rattle.np_layout.proofs.Stands.{changes-after, number-of, room-after, room-less}
-pub use Rattle.np_layout.specs.Carried.{AreHolders, IsCarried, is_pair_before}
-pub use Rattle.np_layout.specs.Decoded.{TreesHaveOneState, decoded, pair_named, session_at, sessions_from, swept_at}
-pub use Rattle.np_layout.specs.Events.{EventsEnact, IsEnacted, IsReady}
-pub use Rattle.np_layout.specs.First.{first_directories, first_parts, first_tree, make, make_each}
-pub use Rattle.np_layout.specs.Layout.{under}
-pub use Rattle.np_layout.specs.Parts.{enacted, parts_of, with_begin, with_end, writer}
-pub use Rattle.np_layout.specs.Prelude.{AtPart, Goes, HasGoodIds, HasRoomFor, IsLater, IsPart, IsStored, IsWhole, LaysOut, Mode, Node, Op, Row, TreeRefusal, TreeState, after_begin, after_create_under, after_multi, after_part, after_parts, and_then, answers_from, at_path, is_check, is_in, is_numbered, job_text, name_of, new_tree, next_change, parent_of, part_answer, range_with_len, role_text, rows_at, tree_session, where_found, with_new_child, with_next_number, with_spare}
-pub use Rattle.np_layout.specs.Ready.{IsAccepted, IsTyped}
-pub use Rattle.np_layout.specs.Stands.{Stands}
 pub use Rattle.np_layout.specs.declared.place.Place.{Place}
-pub use Rattle.np_layout.specs.declared.place.Place.TheVariants.{JanitorRole, Job, Jobs, LauncherRole, Launchers, Nodepool, Nodes, Poolsim, RequestLocks, RequesterRole, Requests, Roles, Semaphore, Semaphores, Sessions, SweptPairs, Tick, Zuul}
 pub use Rattle.np_lists.proofs.Changes.{all-at, all-find, all-weaker, insert_before-end}
-pub use Rattle.np_lists.proofs.Plain.{past-end}
+pub use Rattle.np_lists.proofs.Plain.{by_bool, past-end}
 pub use Rattle.np_lists.specs.Roomy.{Roomy}
 pub use Rattle.np_look.proofs.Looks.{queue-fits}
-pub use Rattle.np_look.specs.Keys.{is_node_before, node_equal, node_one_way, node_some_way, pair_equal, pair_one_way, request_equal, request_one_way, request_some_way, same_node, same_pair}
-pub use Rattle.np_look.specs.Views.{node_view, request_view}
+pub use Rattle.np_look.specs.Jobs.{node_view, request_view}
 pub use Rattle.np_look.specs.declared.asked.NodeView.{NodeView}
 pub use Rattle.np_look.specs.declared.asked.RequestView.{RequestView}
 pub use Rattle.np_lookups.proofs.QueueLemmas.{apart, itself, none-later}
-pub use Rattle.np_machine.specs.Tables.{node_queue, request_queue}
-pub use Rattle.np_tables.specs.Kept.{IsCountable}
-pub use Rattle.np_tables.specs.Room.{rows_of}
 unfoldable pub use Rattle.np_text.specs.Number.{digits_within, number_of}
 pub use Rattle.np_text.specs.Request.{request_from}
 unfoldable pub use Rattle.np_text.specs.Request.{request_of, sequence_of}

@@ -1,12 +1,6 @@
 -- what holds of a tree in which a machine writes
 use Rattle.std.specs.Prelude.{◌<◌, ◌+◌, ◌-◌, ◌*◌, ◌^◌, ◌≡◌, ℕ, true, List, length}
-use Rattle.np_layout.specs.Prelude.{Goes, HasRoomFor, IsCarried, IsStored, Op, TreeState, after_multi, after_parts, decoded, is_in, tree_session, with_spare}
-use Rattle.np_changes.specs.Prelude.{Configuration, State, changed}
-use Rattle.np_changes.specs.declared.changes.Changes.{Changes}
-use Rattle.np_changes.specs.declared.changes.Growth.{Growth}
-use Rattle.np_changes.specs.declared.changes.SessionsChange.{SessionsChange}
-use Rattle.np_layout.specs.Events.{IsReady}
-use Rattle.np_layout.specs.Parts.{with_begin, with_end, writer}
+use Rattle.np_keeper.specs.Lower.{Changes, Configuration, Goes, Growth, HasRoomFor, IsCarried, IsReady, IsStored, Op, SessionsChange, State, TreeState, after_multi, after_parts, changed, decoded, is_in, tree_session, with_begin, with_end, with_spare, writer}
 
 -- the change numbers that a tree may take (own)
 abbrev pub most_changes : ℕ

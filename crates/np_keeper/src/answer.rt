@@ -1,20 +1,18 @@
 //! What the machine answers to an event.
 
 ghost use Rattle.std.specs.Prelude.{◌≡◌, IfOk};
-ghost use Rattle.np_changes.specs.Prelude.{Fits, State, judge, plan, reply_of};
-ghost use Rattle.np_decision.specs.Verdicts.{answer_of};
-ghost use Rattle.np_layout.specs.Prelude.{IsStored, decoded};
+ghost use Rattle.np_keeper.specs.Lower.{Fits, IsStored, State, answer_of, decoded, judge, plan, reply_of};
 ghost use Rattle.np_keeper.specs.Keeper.{IsHeld};
 
 use np_config::Config;
-use np_decision::{Verdict, decide};
-use np_event::{Event, Refusal, Reply};
+use np_decision::{Ruling, decide};
+use np_event::{Event, Reply};
 use np_look::Scan;
 use np_tree::Tree;
 use np_tree_rows::TreeRows;
 
 /// The decision on an event, over the state that the tree stores.
-pub(crate) fn verdict_on(tree: &Tree, config: &Config, event: Event) -> Result<Verdict, Refusal>
+pub(crate) fn verdict_on(tree: &Tree, config: &Config, event: Event) -> Ruling
     requires held { IsHeld config.now tree.now }
     requires fits { Fits config.now (decoded config.now tree.now) }
     ensures answer { answer_of result ≡ judge config.now (decoded config.now tree.now) event }

@@ -1,9 +1,7 @@
 //! The changes of an event, made in the tree.
 
 ghost use Rattle.std.specs.Prelude.{◌≡◌, ◌<◌, ◌≤◌, true, length, OnOk, OnErr};
-ghost use Rattle.np_changes.specs.Prelude.{changed, list_all};
-ghost use Rattle.np_layout.specs.Prelude.{Goes, IsLater, after_multi, after_parts, decoded, is_numbered, with_spare};
-ghost use Rattle.np_layout.specs.Parts.{with_begin, with_end, writer};
+ghost use Rattle.np_keeper.specs.Lower.{Goes, IsLater, after_multi, after_parts, changed, decoded, is_numbered, list_all, with_begin, with_end, with_spare, writer};
 ghost use Rattle.np_keeper.specs.Keeper.{CanBegin, CanEnd, CanMake, HasSpare, Holds, IsHeld, MayChange, made};
 
 use crate::range::parts_are_proper;
@@ -11,7 +9,7 @@ use np_changes::{Changes, Growth, Maker, SessionsChange};
 use np_config::Config;
 use np_look::Rows;
 use np_steps::parts;
-use np_text::NoMemory;
+use np_text::{Ample, NoMemory};
 use np_tree::Tree;
 use np_tree_nodes::{MultiFault, Op};
 use np_tree_rows::TreeRows;
@@ -29,7 +27,7 @@ fn writer_of(maker: Option<Maker>) -> u32
 }
 
 /// Takes the memory for the session that is opened, if one is.
-fn reserve(tree: &mut Tree, grows: &Growth) -> Result<(), NoMemory>
+fn reserve(tree: &mut Tree, grows: &Growth) -> Ample
     ensures same { tree.new ≡ with_spare tree.old tree.new.spare }
     ensures ok { OnOk result (HasSpare grows.now tree.new) }
 {
@@ -40,7 +38,7 @@ fn reserve(tree: &mut Tree, grows: &Growth) -> Result<(), NoMemory>
 }
 
 /// One call of parts that are accepted. If memory runs out, nothing changes.
-pub(crate) fn call(tree: &mut Tree, session: u32, ops: &[Op]) -> Result<(), NoMemory>
+pub(crate) fn call(tree: &mut Tree, session: u32, ops: &[Op]) -> Ample
     requires few { length ops.now ≤ 4294967295 }
     requires numbered { list_all is_numbered ops.now ≡ true }
     requires goes { Goes tree.old session ops.now (after_parts tree.old session ops.now) }
@@ -84,7 +82,7 @@ fn end(tree: &mut Tree, change: &SessionsChange)
 
 /// Makes the parts of an event's changes in one call, and then begins the session that is opened or
 /// ends the one that expires. If memory runs out, nothing changes.
-fn make(tree: &mut Tree, changes: &Changes, ops: &[Op]) -> Result<(), NoMemory>
+fn make(tree: &mut Tree, changes: &Changes, ops: &[Op]) -> Ample
     requires few { length ops.now ≤ 4294967295 }
     requires numbered { list_all is_numbered ops.now ≡ true }
     requires can { CanMake changes.now ops.now tree.old }
@@ -106,12 +104,7 @@ fn make(tree: &mut Tree, changes: &Changes, ops: &[Op]) -> Result<(), NoMemory>
 /// Makes the changes of an event in a tree that holds the state of the rows: one call of the tree, and
 /// then a session begins or ends. If memory runs out, only the memory for a session may be there that
 /// was not.
-pub(crate) fn write<R: Rows>(
-    alloc: Global,
-    tree: &mut Tree,
-    rows: &R,
-    changes: &Changes,
-) -> Result<(), NoMemory>
+pub(crate) fn write<R: Rows>(alloc: Global, tree: &mut Tree, rows: &R, changes: &Changes) -> Ample
     requires holds { Holds (R.site rows.now) (R.state rows.now) tree.old }
     requires low { tree.old.changes < 16777214 }
     requires ready { MayChange (R.site rows.now) changes.now (R.state rows.now) }
@@ -134,7 +127,7 @@ pub(crate) fn enact_changes(
     tree: &mut Tree,
     config: &Config,
     changes: &Changes,
-) -> Result<(), NoMemory>
+) -> Ample
     requires held { IsHeld config.now tree.old }
     requires low { tree.old.changes < 16777214 }
     requires ready { MayChange config.now changes.now (decoded config.now tree.old) }

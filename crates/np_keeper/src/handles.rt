@@ -1,9 +1,7 @@
 //! The handles of the semaphores.
 
 ghost use Rattle.std.specs.Prelude.{◌≡◌, IfOk};
-ghost use Rattle.np_machine.specs.Tables.{handles_of};
-ghost use Rattle.np_layout.specs.Carried.{IsCarried};
-ghost use Rattle.np_tables.specs.Room.{rows_of};
+ghost use Rattle.np_keeper.specs.Lower.{IsCarried, handles_of, rows_of};
 
 use crate::append::push;
 use np_look::Rows;

@@ -1,7 +1,7 @@
 //! The lists whose rows are found by their place.
 
 ghost use Rattle.std.specs.Prelude.{◌≡◌, IfOk};
-ghost use Rattle.np_layout.specs.Carried.{IsCarried};
+ghost use Rattle.np_keeper.specs.Lower.{IsCarried};
 
 use crate::list::list_of;
 use np_look::Rows;

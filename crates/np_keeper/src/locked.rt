@@ -1,7 +1,7 @@
 //! The requests and the nodes, each with its lock's queue.
 
 ghost use Rattle.std.specs.Prelude.{◌≡◌, slice_get, IfOk};
-ghost use Rattle.np_changes.specs.Prelude.{Fits, IsReached};
+ghost use Rattle.np_keeper.specs.Lower.{Fits, IsReached};
 
 use crate::append::push;
 use crate::queue::{node_queue_of, request_queue_of};

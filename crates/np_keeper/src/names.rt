@@ -1,8 +1,7 @@
 //! What the name of a swept pair's node spells.
 
 ghost use Rattle.std.specs.Prelude.{◌≡◌, drop, take};
-ghost use Rattle.np_text.specs.Request.{sequence_of};
-ghost use Rattle.np_layout.specs.Decoded.{pair_named};
+ghost use Rattle.np_keeper.specs.Lower.{pair_named, sequence_of};
 
 use np_machine::Swept;
 use np_text::{NodeId, read_number, read_request};

@@ -1,7 +1,7 @@
 //! The queues of locks.
 
 ghost use Rattle.std.specs.Prelude.{◌≡◌, IfOk};
-ghost use Rattle.np_changes.specs.Prelude.{Fits, node_queue, request_queue};
+ghost use Rattle.np_keeper.specs.Lower.{Fits, node_queue, request_queue};
 
 use np_look::Rows;
 use np_machine::Queue;

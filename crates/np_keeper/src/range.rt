@@ -2,8 +2,7 @@
 //! functions do nothing: a caller's proof takes the facts from them.
 
 ghost use Rattle.std.specs.Prelude.{◌≡◌, true};
-ghost use Rattle.np_layout.specs.Prelude.{AllByRecursion, IsPart, is_numbered, list_all};
-ghost use Rattle.np_layout.specs.Ready.{IsTyped, IsTypedEdit, IsTypedGrowth, IsTypedNodes, IsTypedRequests};
+ghost use Rattle.np_keeper.specs.Lower.{AllByRecursion, IsPart, IsTyped, IsTypedEdit, IsTypedGrowth, IsTypedNodes, IsTypedRequests, is_numbered, list_all};
 
 use np_changes::{Changes, Growth, NodesChange, RequestEdit, RequestsChange};
 use np_tree_nodes::Op;

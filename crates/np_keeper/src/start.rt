@@ -1,9 +1,7 @@
 //! The tree before the first event.
 
 ghost use Rattle.std.specs.Prelude.{◌≡◌, ◌++◌, ◌∷◌, ◌≤◌, [], length, map, IfOk, OnOk};
-ghost use Rattle.np_changes.specs.Prelude.{IsSound, new_job, no_deeds, start};
-ghost use Rattle.np_layout.specs.Prelude.{IsGood, after_begin, decoded, job_text, new_tree, role_text, with_spare};
-ghost use Rattle.np_layout.specs.First.{first_directories, first_parts, make, make_each};
+ghost use Rattle.np_keeper.specs.Lower.{IsGood, IsSound, after_begin, decoded, first_directories, first_parts, job_text, make, make_each, new_job, new_tree, no_deeds, role_text, start, with_spare};
 ghost use Rattle.np_keeper.specs.Keeper.{IsHeld};
 
 use crate::change::call;
@@ -11,13 +9,13 @@ use np_config::Config;
 use np_layout::{Place, to_path};
 use np_record::{JobRecord, MarkRow, RoleRecord};
 use np_spelling::Record;
-use np_text::{JobId, NoMemory, Phase, PoolId, RequesterId, SemId};
+use np_text::{Ample, JobId, NoMemory, Phase, PoolId, RequesterId, SemId};
 use np_tree::Tree;
 use np_tree_nodes::{Bytes, Mode, Op};
 use std::alloc::Global;
 
 /// A create of a place's node, which no session owns.
-fn push_make(alloc: Global, ops: &mut Vec<Op>, place: Place, bytes: &[u8]) -> Result<(), NoMemory>
+fn push_make(alloc: Global, ops: &mut Vec<Op>, place: Place, bytes: &[u8]) -> Ample
     requires { IsGood place }
     ensures { OnOk result (ops.new.items ≡ ops.old.items ++ make bytes.now place ∷ []) }
 {
@@ -32,7 +30,7 @@ fn push_make(alloc: Global, ops: &mut Vec<Op>, place: Place, bytes: &[u8]) -> Re
 }
 
 /// The directories, each after the one that it is in.
-fn push_directories(alloc: Global, ops: &mut Vec<Op>) -> Result<(), NoMemory>
+fn push_directories(alloc: Global, ops: &mut Vec<Op>) -> Ample
     ensures { OnOk result (ops.new.items ≡ ops.old.items ++ map (make []) first_directories) }
 {
     push_make(alloc, ops, Place::Nodepool, b"")?;
@@ -51,7 +49,7 @@ fn push_directories(alloc: Global, ops: &mut Vec<Op>) -> Result<(), NoMemory>
 }
 
 /// A semaphore for each that the configuration has.
-fn push_semaphores(alloc: Global, ops: &mut Vec<Op>, config: &Config) -> Result<(), NoMemory>
+fn push_semaphores(alloc: Global, ops: &mut Vec<Op>, config: &Config) -> Ample
     requires { length config.now.semaphores ≤ 64 }
     ensures { OnOk result (ops.new.items ≡ ops.old.items
         ++ make_each [] (λ at. Place.Semaphore (record { 0 = at })) config.now.semaphores) }
@@ -65,7 +63,7 @@ fn push_semaphores(alloc: Global, ops: &mut Vec<Op>, config: &Config) -> Result<
 }
 
 /// A record for each job.
-fn push_jobs(alloc: Global, ops: &mut Vec<Op>, config: &Config, text: &[u8]) -> Result<(), NoMemory>
+fn push_jobs(alloc: Global, ops: &mut Vec<Op>, config: &Config, text: &[u8]) -> Ample
     requires { length config.now.jobs ≤ 4096 }
     ensures { OnOk result (ops.new.items ≡ ops.old.items
         ++ make_each text.now (λ at. Place.Job (record { 0 = at })) config.now.jobs) }
@@ -79,12 +77,7 @@ fn push_jobs(alloc: Global, ops: &mut Vec<Op>, config: &Config, text: &[u8]) -> 
 }
 
 /// A record for each launcher, one for each pool.
-fn push_launchers(
-    alloc: Global,
-    ops: &mut Vec<Op>,
-    config: &Config,
-    text: &[u8],
-) -> Result<(), NoMemory>
+fn push_launchers(alloc: Global, ops: &mut Vec<Op>, config: &Config, text: &[u8]) -> Ample
     requires { length config.now.pools ≤ 64 }
     ensures { OnOk result (ops.new.items ≡ ops.old.items
         ++ make_each text.now (λ at. Place.LauncherRole (record { 0 = at })) config.now.pools) }
@@ -98,12 +91,7 @@ fn push_launchers(
 }
 
 /// A record for each cleanup worker, one for each pool.
-fn push_janitors(
-    alloc: Global,
-    ops: &mut Vec<Op>,
-    config: &Config,
-    text: &[u8],
-) -> Result<(), NoMemory>
+fn push_janitors(alloc: Global, ops: &mut Vec<Op>, config: &Config, text: &[u8]) -> Ample
     requires { length config.now.pools ≤ 64 }
     ensures { OnOk result (ops.new.items ≡ ops.old.items
         ++ make_each text.now (λ at. Place.JanitorRole (record { 0 = at })) config.now.pools) }
@@ -117,12 +105,7 @@ fn push_janitors(
 }
 
 /// A record for each requester.
-fn push_requesters(
-    alloc: Global,
-    ops: &mut Vec<Op>,
-    config: &Config,
-    text: &[u8],
-) -> Result<(), NoMemory>
+fn push_requesters(alloc: Global, ops: &mut Vec<Op>, config: &Config, text: &[u8]) -> Ample
     requires { length config.now.requesters ≤ 16 }
     ensures { OnOk result (ops.new.items ≡ ops.old.items
         ++ make_each text.now (λ at. Place.RequesterRole (record { 0 = at }))

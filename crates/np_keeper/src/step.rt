@@ -1,15 +1,14 @@
 //! What an accepted event changes, made in the tree.
 
 ghost use Rattle.std.specs.Prelude.{◌≡◌, ◌<◌, true, is_ok, OnOk, OnErr};
-ghost use Rattle.np_layout.specs.Prelude.{IsStored, decoded, with_spare};
-ghost use Rattle.np_changes.specs.Prelude.{IsReached, State, judge, next};
+ghost use Rattle.np_keeper.specs.Lower.{IsReached, IsStored, State, decoded, judge, next, with_spare};
 ghost use Rattle.np_keeper.specs.Keeper.{IsHeld};
 
 use crate::answer::verdict_on;
 use crate::change::enact_changes;
 use np_config::Config;
 use np_event::Event;
-use np_text::NoMemory;
+use np_text::Ample;
 use np_tree::Tree;
 use std::alloc::Global;
 
@@ -17,7 +16,7 @@ use std::alloc::Global;
 /// 16,777,214 changes were made before. An error says that memory ran out, and then only the memory
 /// for a session may be there that was not. The cost is that of the decision (`judge`), and of
 /// `enact_changes`.
-pub fn enact(alloc: Global, tree: &mut Tree, config: &Config, event: Event) -> Result<(), NoMemory>
+pub fn enact(alloc: Global, tree: &mut Tree, config: &Config, event: Event) -> Ample
     requires held { IsHeld config.now tree.old }
     // A run of the configuration reaches the state.
     requires reached { IsReached config.now (decoded config.now tree.old) }

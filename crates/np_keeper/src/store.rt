@@ -1,8 +1,7 @@
 //! A tree in which a machine writes what changes.
 
 ghost use Rattle.std.specs.Prelude.{◌≡◌, IfOk};
-ghost use Rattle.np_machine.specs.State.{start};
-ghost use Rattle.np_tree.specs.Dates.{IsLater};
+ghost use Rattle.np_keeper.specs.Lower.{IsLater, start};
 ghost use Rattle.np_tree.proofs.LaterLemmas.{later-than-itself};
 ghost use Rattle.np_keeper.specs.Keeper.{Holds};
 
@@ -12,7 +11,7 @@ use crate::start::first_tree;
 use np_changes::Changes;
 use np_config::Config;
 use np_look::{Rows, Store};
-use np_text::NoMemory;
+use np_text::{Ample, NoMemory};
 use np_tree::Tree;
 use std::alloc::Global;
 use std::marker::Model;
@@ -29,7 +28,7 @@ pub struct TreeStore {
 }
 
 impl Model for TreeStore {
-    ghost use Rattle.np_tree_nodes.specs.TreeState.{TreeState};
+    ghost use Rattle.np_keeper.specs.Lower.{TreeState};
 
     ghost Value = { TreeState };
 
@@ -76,7 +75,7 @@ impl Store for TreeStore {
 
     ghost same = { later-than-itself };
 
-    fn write<R: Rows>(&mut self, rows: &R, changes: &Changes) -> Result<(), NoMemory> {
+    fn write<R: Rows>(&mut self, rows: &R, changes: &Changes) -> Ample {
         rows.config().know_soundness();
         changes_are_in_range(changes);
         if self.tree.changes() >= MOST_CHANGES {

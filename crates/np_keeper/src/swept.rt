@@ -1,10 +1,7 @@
 //! The swept pairs of a tree.
 
 ghost use Rattle.std.specs.Prelude.{◌≡◌, length, slice_get, IfOk, OnOk};
-ghost use Rattle.np_layout.specs.Prelude.{NonePass, Rises, insert_before, is_pair_before, option_map, under};
-ghost use Rattle.np_look.specs.Keys.{same_pair};
-ghost use Rattle.np_layout.specs.declared.place.Place.TheVariants.{SweptPairs};
-ghost use Rattle.np_layout.specs.Decoded.{pair_named, swept_at};
+ghost use Rattle.np_keeper.specs.Lower.{NonePass, Rises, SweptPairs, insert_before, is_pair_before, option_map, pair_named, same_pair, swept_at, under};
 
 use crate::names::pair_named;
 use np_layout::{PathText, Place};

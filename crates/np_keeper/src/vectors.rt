@@ -1,8 +1,7 @@
 //! All tables of a state.
 
 ghost use Rattle.std.specs.Prelude.{◌≡◌, ◌<◌, ◌^◌, IfOk};
-ghost use Rattle.np_changes.specs.Prelude.{Fits, IsReached};
-ghost use Rattle.np_layout.specs.Prelude.{IsCarried, IsStored, decoded};
+ghost use Rattle.np_keeper.specs.Lower.{Fits, IsCarried, IsReached, IsStored, decoded};
 
 use crate::handles::all_handles;
 use crate::lists::{

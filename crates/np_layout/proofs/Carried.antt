@@ -10,24 +10,12 @@ use Rattle.np_lists.proofs.Plain.{by_bool}
 
 -- ## handles
 
-through_jobs : (a b k : JobId) → nat_lt a.0 b.0 ≡ true → nat_lt b.0 k.0 ≡ true → nat_lt a.0 k.0 ≡ true
-through_jobs a b k first second = grind (arith, nat_tests)
-
-past-job : (j other : JobId) → (other.0 == j.0) ≡ false → nat_lt j.0 other.0 ≡ false → nat_lt other.0 j.0 ≡ true
-past-job j other apart out = grind (arith, nat_tests)
-
 with-holders : (n : ℕ) (j : JobId) (holders : List JobId) → j.0 < n → AreHolders n holders → AreHolders n (with_handle j holders)
 with-holders n j holders low old = by_bool (λ (b : Bool). AreHolders n (cond b holders (insert_before (λ (other : JobId). nat_lt j.0 other.0) j holders))) (is_among j holders) (λ _. old) (λ out. record {
-  rise = rises-insert_before (λ (a b : JobId). nat_lt a.0 b.0) through_jobs j holders
-      (all-weaker (λ (other : JobId). (other.0 == j.0) ≡ false) (λ (other : JobId). nat_lt j.0 other.0 ≡ false → nat_lt other.0 j.0 ≡ true) (past-job j) holders (none-list_any (λ (other : JobId). other.0 == j.0) holders out)) old.rise;
+  rise = rises-insert_before (λ (a b : JobId). nat_lt a.0 b.0) (λ a b k first second. grind (arith, nat_tests)) j holders
+      (all-weaker (λ (other : JobId). (other.0 == j.0) ≡ false) (λ (other : JobId). nat_lt j.0 other.0 ≡ false → nat_lt other.0 j.0 ≡ true) (λ other apart out. grind (arith, nat_tests)) holders (none-list_any (λ (other : JobId). other.0 == j.0) holders out)) old.rise;
   exist = all-insert_before (λ (other : JobId). other.0 < n) (λ other. nat_lt j.0 other.0) j holders low old.exist;
 })
-
-without-holders : (n : ℕ) (j : JobId) (holders : List JobId) → AreHolders n holders → AreHolders n (without_handle j holders)
-without-holders n j holders old = record {
-  rise = Rises-filter (λ (a b : JobId). nat_lt a.0 b.0) (λ other. not (other.0 == j.0)) holders old.rise;
-  exist = all-filter (λ (other : JobId). other.0 < n) (λ other. not (other.0 == j.0)) holders old.exist;
-}
 
 -- lists of holders that are changed one after another
 all-changed : (n : ℕ) (f : List JobId → List JobId) (semaphores : List SemId) (rows : List (List JobId)) → ((holders : List JobId) → AreHolders n holders → AreHolders n (f holders)) → AllByRecursion (AreHolders n) rows →
@@ -37,18 +25,19 @@ all-changed n f (x ∷ semaphores) rows keeps all = all-changed n f semaphores (
 
 handles-by : (c : Configuration) (change : HandlesChange) (rows : List (List JobId)) → AllByRecursion (AreHolders (length c.jobs)) rows → AllByRecursion (AreHolders (length c.jobs)) (handles_changed c change rows)
 handles-by c HandlesChange.Same rows all = all
-handles-by c (HandlesChange.Release j) rows all = all-changed (length c.jobs) (without_handle j) (semaphores_of c j) rows (without-holders (length c.jobs) j) all
+handles-by c (HandlesChange.Release j) rows all = all-changed (length c.jobs) (without_handle j) (semaphores_of c j) rows
+    (λ holders old. record {
+      rise = Rises-filter (λ (a b : JobId). nat_lt a.0 b.0) (λ other. not (other.0 == j.0)) holders old.rise;
+      exist = all-filter (λ (other : JobId). other.0 < length c.jobs) (λ other. not (other.0 == j.0)) holders old.exist;
+    }) all
 
 -- ## pairs
-
-past-pair : (n : NodeId) (x : ℕ) (pair : Swept) → is_pair n x pair ≡ false → is_pair_before (record { node = n; server = x }) pair ≡ false → is_pair_before pair (record { node = n; server = x }) ≡ true
-past-pair n x pair apart out = grind (arith, nat_tests)
 
 with-pair : (n : NodeId) (x : ℕ) (pairs : List Swept) → Rises is_pair_before pairs → Rises is_pair_before (with_pair n x pairs)
 with-pair n x pairs old = by_bool (λ (b : Bool). Rises is_pair_before (cond b pairs (insert_before (is_pair_after n x) (record { node = n; server = x }) pairs))) (is_swept n x pairs) (λ _. old) (λ out.
     rises-insert_before is_pair_before pair-trans (record { node = n; server = x }) pairs
     (all-weaker (λ (pair : Swept). is_pair n x pair ≡ false) (λ (pair : Swept). is_pair_before (record { node = n; server = x }) pair ≡ false → is_pair_before pair (record { node = n; server = x }) ≡ true)
-    (past-pair n x) pairs (none-list_any (is_pair n x) pairs out)) old)
+    (λ pair apart out. grind (arith, nat_tests)) pairs (none-list_any (is_pair n x) pairs out)) old)
 
 -- ## lengths
 
@@ -64,10 +53,6 @@ length-handles_grown c (Some m) _ s = refl
 length-handles_changed : (c : Configuration) (change : HandlesChange) (rows : List (List JobId)) → length (handles_changed c change rows) ≡ length rows
 length-handles_changed c HandlesChange.Same rows = refl
 length-handles_changed c (HandlesChange.Release j) rows = length-changed (without_handle j) (semaphores_of c j) rows
-
--- there is a list of handles for each semaphore as before
-pub length-handles : (c : Configuration) (s : State) (ch : Changes) → length (changed c ch s).handles ≡ length s.handles
-length-handles c s ch = length-handles_changed c ch.handles (grown c ch.maker ch.grows s).handles ∙ length-handles_grown c ch.maker ch.grows s
 
 -- no job's record is added or removed
 pub length-jobs : (change : JobsChange) (rows : List JobRecord) → length (jobs_changed change rows) ≡ length rows
@@ -154,10 +139,6 @@ texts-end _ rows all = all
 abbrev HavePlaces : List Swept → Type 0
 HavePlaces pairs = AllByRecursion (λ pair. IsGood (SweptPlace pair.node pair.server)) pairs
 
-places-with : (n : NodeId) (x : ℕ) (pairs : List Swept) → IsGood (SweptPlace n x) → HavePlaces pairs → HavePlaces (with_pair n x pairs)
-places-with n x pairs good all = by_bool (λ (b : Bool). HavePlaces (cond b pairs (insert_before (is_pair_after n x) (record { node = n; server = x }) pairs))) (is_swept n x pairs) (λ _. all)
-    (λ _. all-insert_before (λ (pair : Swept). IsGood (SweptPlace pair.node pair.server)) (is_pair_after n x) (record { node = n; server = x }) pairs good all)
-
 module _ (c : Configuration) (s : State) (ch : Changes) (known : IsKnown c s ch) where
   -- the id of a request that grows has a text
   pub new-text : (priority : ℕ) (asked : Asked) → AsksForJob c s ch priority asked ⊎ AsksToKeep c s ch priority asked → HasText (next_id priority s)
@@ -174,14 +155,15 @@ module _ (c : Configuration) (s : State) (ch : Changes) (known : IsKnown c s ch)
   texts-grown (Some m) _ premise = known.carried.good.requests
 
   places-grown : (maker : Option Maker) (growth : Growth) → IsTypedGrowth growth → HavePlaces (grown c maker growth s).swept
-  places-grown maker (Growth.Swept n x) typed = places-with n x s.swept typed known.carried.good.swept
+  places-grown maker (Growth.Swept n x) typed = by_bool (λ (b : Bool). HavePlaces (cond b s.swept (insert_before (is_pair_after n x) (record { node = n; server = x }) s.swept))) (is_swept n x s.swept) (λ _. known.carried.good.swept)
+      (λ _. all-insert_before (λ (pair : Swept). IsGood (SweptPlace pair.node pair.server)) (is_pair_after n x) (record { node = n; server = x }) s.swept typed known.carried.good.swept)
   places-grown None _ typed = known.carried.good.swept
   places-grown (Some m) _ typed = known.carried.good.swept
 
   -- ## lengths
 
   handles-many : length (changed c ch s).handles ≡ length c.semaphores
-  handles-many = length-handles c s ch ∙ known.carried.semaphores
+  handles-many = length-handles_changed c ch.handles (grown c ch.maker ch.grows s).handles ∙ length-handles_grown c ch.maker ch.grows s ∙ known.carried.semaphores
 
   jobs-many : length (changed c ch s).jobs ≡ length c.jobs
   jobs-many = length-jobs ch.jobs (grown c ch.maker ch.grows s).jobs ∙ ap (λ (rows : List JobRecord). length rows) (jobs-grown c ch.maker ch.grows s) ∙ known.carried.jobs
@@ -195,26 +177,21 @@ module _ (c : Configuration) (s : State) (ch : Changes) (known : IsKnown c s ch)
   requesters-many : length (changed c ch s).requesters ≡ length c.requesters
   requesters-many = deed-length change_requester (λ f r rows. grind (arith, length-change_at)) ch.maker ch.deed _ ∙ ap (λ (rows : List RoleRecord). length rows) (same-roles c ch.maker ch.grows s).1.1 ∙ known.carried.requesters
 
-  sessions-few : length (changed c ch s).sessions < 2 ^ 32
-  sessions-few = omega (arith, sessions-length ch.sessions (grown c ch.maker ch.grows s).sessions, sessions-grown c ch.maker ch.grows s, known.fits.sessions)
-
-  nodes-low : AllByRecursion (λ e. IsGood (Node e.id)) (changed c ch s).nodes
-  nodes-low =
-      let most : (changed c ch s).next_node ≤ 2 ^ 32 = omega (arith, next-node c ch.maker ch.grows s, known.fits.next_node) in
-      all-weaker (λ (e : NodeEntry). e.id.0 < (changed c ch s).next_node) (λ (e : NodeEntry). IsGood (Node e.id)) (λ e low. omega arith) (changed c ch s).nodes (numbered c s ch known.invariant.numbered).nodes_below
-
   -- ## all of it
 
   -- each id has a text after the changes
   pub good-later : HasGoodIds (changed c ch s)
   good-later =
       let ordered : IsOrdered c (changed c ch s) = ordered-later c s ch known in
+      let sessions : length (changed c ch s).sessions < 2 ^ 32 = omega (arith, sessions-length ch.sessions (grown c ch.maker ch.grows s).sessions, sessions-grown c ch.maker ch.grows s, known.fits.sessions) in
+      let most : (changed c ch s).next_node ≤ 2 ^ 32 = omega (arith, next-node c ch.maker ch.grows s, known.fits.next_node) in
+      let nodes = all-weaker (λ (e : NodeEntry). e.id.0 < (changed c ch s).next_node) (λ (e : NodeEntry). IsGood (Node e.id)) (λ e low. omega arith) (changed c ch s).nodes (numbered c s ch known.invariant.numbered).nodes_below in
       let requests = texts-end ch.sessions _ (texts-changed ch.maker ch.requests (grown c ch.maker ch.grows s).requests (texts-grown ch.maker ch.grows known.premises.grows)) in
       let registrations = all-weaker (λ (g : Registration). g.pool.0 < length c.pools) (λ (g : Registration). IsGood (Launcher g.pool)) (λ g low. pool-low c g.pool known.sound low) (changed c ch s).registrations ordered.pools in
       let handles = all-weaker (AreHolders (length c.jobs)) (λ (holders : List JobId). AllByRecursion (λ j. IsGood (Job j)) holders)
       (λ holders are. all-weaker (λ (j : JobId). j.0 < length c.jobs) (λ (j : JobId). IsGood (Job j)) (λ j low. job-low c j known.sound low) holders are.exist) (changed c ch s).handles ordered.handles in
       let swept = places-grown ch.maker ch.grows known.typed.grows in
-      search (arith, sessions-few, nodes-low, handles-many, jobs-many, launchers-many, janitors-many, requesters-many, known.sound.few_semaphores, known.sound.demand.few_jobs, known.sound.supply.few_pools, known.sound.few_requesters)
+      search (arith, handles-many, jobs-many, launchers-many, janitors-many, requesters-many, known.sound.few_semaphores, known.sound.demand.few_jobs, known.sound.supply.few_pools, known.sound.few_requesters)
 
   tick-later : (changed c ch s).tick < 2 ^ 32
   tick-later = grind (arith, same-tick c ch.maker ch.grows s, known.fits.tick)

@@ -40,13 +40,12 @@ change_first-id : {X : Type 0} (p : X → Bool) (xs : List X) → change_first p
 change_first-id p [] = refl
 change_first-id p (x ∷ xs) = by_bool (λ (b : Bool). cond b (x ∷ xs) (x ∷ change_first p (λ y. y) xs) ≡ x ∷ xs) (p x) (λ _. refl) (λ _. ap (λ zs. x ∷ zs) (change_first-id p xs))
 
--- a change that leaves the member found as it is leaves the list as it is
-pub change_first-kept : {X : Type 0} (p : X → Bool) (f : X → X) (xs : List X) (e : X) → find p xs ≡ Some e → f e ≡ e → change_first p f xs ≡ xs
-change_first-kept p f xs e there same = change_first-same p f (λ x. x) xs (λ other found. let is : other ≡ e = cc in ap f is ∙ same ∙ sym is) ∙ change_first-id p xs
-
 -- a member that is found keeps its queue
 pub queue-kept : {I K : Type 0} (p : Locked I K → Bool) (queue : List SessionId) (rows : List (Locked I K)) (e : Locked I K) → find p rows ≡ Some e → queue ≡ e.queue → change_first p (λ x. record x { queue = queue }) rows ≡ rows
-queue-kept p queue rows e there same = change_first-kept p (λ x. record x { queue = queue }) rows e there (ap (λ (list : List SessionId). record e { queue = list }) same)
+queue-kept p queue rows e there same =
+    change_first-same p (λ x. record x { queue = queue }) (λ x. x) rows (λ other found.
+    let is : other ≡ e = cc in
+    ap (λ (x : Locked _ _). record x { queue = queue }) is ∙ ap (λ (list : List SessionId). record e { queue = list }) same ∙ sym is) ∙ change_first-id p rows
 
 -- ## the wait of a session
 
@@ -72,9 +71,6 @@ module _ (next : ℕ) (session : SessionId) where
   own-tells : (row : Row) (other : SessionId) → IsWait next row other → own row ≡ it other
   own-tells row other wait = ap own wait.is ∙ one_more other.0 session.0
 
-  own-is : (row : Row) (other : SessionId) (wait : IsWait next row other) → own row ≡ true → row ≡ wait_row wait.number session
-  own-is row other wait owned = wait.is ∙ ap (wait_row wait.number) (session-equal other session (sym (own-tells row other wait) ∙ owned))
-
   -- a row of the session is its wait
   found-waits : (rows : List Row) (queue : List SessionId) (row : Row) → AllZip (IsWait next) rows queue → find own rows ≡ Some row → Waits next session rows row
   found-waits [] queue row all there = absurd cc
@@ -82,7 +78,7 @@ module _ (next : ℕ) (session : SessionId) where
   found-waits (first ∷ rows) (other ∷ queue) row all there = by_bool (λ (b : Bool). cond b (Some first) (find own rows) ≡ Some row → Waits next session (first ∷ rows) row) (own first)
       (λ owned found.
       let same : first ≡ row = cc in
-      let is : first ≡ wait_row all.0.number session = own-is first other all.0 owned in
+      let is : first ≡ wait_row all.0.number session = all.0.is ∙ ap (wait_row all.0.number) (session-equal other session (sym (own-tells first other all.0) ∙ owned)) in
       record { at = 0; number = all.0.number; given = all.0.given; is = sym same ∙ is; there = ap Some is })
       (λ _ found. let rest = found-waits rows queue row all.1 found in record { at = suc rest.at; number = rest.number; given = rest.given; is = rest.is; there = rest.there }) there
 
@@ -91,10 +87,6 @@ module _ (next : ℕ) (session : SessionId) where
   none-waits [] [] all none = tt
   none-waits (first ∷ rows) (other ∷ queue) all none = (sym (own-tells first other all.0) ∙ none.0, none-waits rows queue all.1 none.1)
   none-waits _ _ all none = absurd all
-
-  -- and leaves it as it is
-  left-same : (rows : List Row) (queue : List SessionId) → AllZip (IsWait next) rows queue → find own rows ≡ None → left session queue ≡ queue
-  left-same rows queue all none = filter-not_none it queue (none-waits rows queue all (none-find own rows none))
 
 -- ## a leave at either kind of lock
 
@@ -109,7 +101,7 @@ module _ (session : SessionId) (lock : Place) (place : ℕ → Place) (are : Are
 
   leaves-by : (o : Option Row) → find (own has.next session) (under lock t) ≡ o → Enacts t w (where_there o (λ row. Op.Delete (below (path_of lock) row.name) Any ∷ [])) later more
   leaves-by None none =
-      subst (λ (x : State). Enacts t w [] x more) (sym (same (left-same has.next session (under lock t) queue has.waits none))) (enacts-none s t w more fewer)
+      subst (λ (x : State). Enacts t w [] x more) (sym (same (filter-not_none (it has.next session) queue (none-waits has.next session (under lock t) queue has.waits (none-find (own has.next session) (under lock t) none))))) (enacts-none s t w more fewer)
   leaves-by (Some row) there =
       let waits : Waits has.next session (under lock t) row = found-waits has.next session (under lock t) queue row has.waits there in
       let p : Place = place waits.number in
@@ -156,19 +148,6 @@ node-leaves session n e s t w more stands once there =
     (λ same. ap (λ (list : List NodeEntry). record s { nodes = list }) (queue-kept (λ x. x.id.0 == n.0) (left session queue) s.nodes e there (same ∙ is)))
     (λ number at good waits. node_waits-lay-out s t w n e session number at (may-delete s t w more stands) good there distinct waits)
 
--- ## a lock is cleared
-
--- the deletes of a lock's rows can be requested
-pub part-clear : (lock : Place) (t : TreeState) → IsWhole t.nodes → IsGood lock → AllByRecursion IsPart (delete_parts (path_of lock) (under lock t))
-part-clear lock t whole good =
-    all-mapped (λ (row : Row). is_element row.name ≡ true) IsPart (λ row. Op.Delete (below (path_of lock) row.name) Any) (under lock t)
-    (λ row element. record { path = is_path-below (path_of lock) row.name (is_path-of lock good) element; numbered = refl })
-    (rows-elements (path_of lock) t.nodes whole.paths)
-
--- and they are deletes
-pub clear-deletes : (dir : List ℕ) (rows : List Row) → AllByRecursion IsDelete (delete_parts dir rows)
-clear-deletes dir rows = all-map IsDelete (λ row. Op.Delete (below dir row.name) Any) rows (λ row. tt)
-
 -- # the records of several nodes are changed, one after another
 
 -- ## one node
@@ -189,15 +168,11 @@ abbrev pub changed_each : (NodeEntry → NodeEntry) → List NodeId → List Nod
 changed_each change numbers rows = fold (λ es n. change_first (λ e. e.id.0 == n.0) change es) rows numbers
 
 module _ (change : NodeEntry → NodeEntry) (keeps : (e : NodeEntry) → ((change e).id ≡ e.id) × ((change e).queue ≡ e.queue)) (spells : (e : NodeEntry) → IsNode e.kept → IsNode (change e).kept) where
-  -- the change is one of the record
-  change-kept : (e : NodeEntry) → record e { kept = (change e).kept } ≡ change e
-  change-kept e = λ i. record { id = sym (keeps e).0 i; kept = (change e).kept; queue = sym (keeps e).1 i }
-
   node-change : (s : State) (t : TreeState) (w : ℕ) (n : NodeId) (e : NodeEntry) (more : ℕ) → Stands s t w (more + 1) → AllByRecursion (λ x. IsNode x.kept) s.nodes → node_entry n s.nodes ≡ Some e → IsNode e.kept →
       Enacts t w (change_parts change e) (record s { nodes = change_first (is_node_it n) change s.nodes }) more
   node-change s t w n e more stands all there is =
       let same : put_node n (change e).kept s.nodes ≡ change_first (is_node_it n) change s.nodes =
-      change_first-same (is_node_it n) (λ x. record x { kept = (change e).kept }) change s.nodes (λ x found. let both = sym there ∙ found in let is : e ≡ x = cc in subst (λ (y : NodeEntry). record y { kept = (change e).kept } ≡ change y) is (change-kept e)) in
+      change_first-same (is_node_it n) (λ x. record x { kept = (change e).kept }) change s.nodes (λ x found. let both = sym there ∙ found in let is : e ≡ x = cc in subst (λ (y : NodeEntry). record y { kept = (change e).kept } ≡ change y) is (λ i. record { id = sym (keeps e).0 i; kept = (change e).kept; queue = sym (keeps e).1 i })) in
       subst (λ (id : NodeId). Enacts t w (set (node_text (change e).kept) (Node id) ∷ []) (record s { nodes = change_first (is_node_it n) change s.nodes }) more) (sym (found-node n s.nodes e there))
       (subst (λ (rows : List NodeEntry). Enacts t w (set (node_text (change e).kept) (Node n) ∷ []) (record s { nodes = rows }) more) same
       (enacts-put s t w n e (change e).kept more stands there (spells e is)))
@@ -248,9 +223,6 @@ rises-once n (e ∷ rows) rises = (
 
 -- ## a change that is made once is made of all at once
 
-turned : (a b : ℕ) (c : Bool) → (a == b) ≡ c → (b == a) ≡ c
-turned a b c is = grind (arith, nat_tests)
-
 module _ (change : NodeEntry → NodeEntry) (keeps : (e : NodeEntry) → (change e).id ≡ e.id) (again : (e : NodeEntry) → change (change e) ≡ change e) where
   abbrev pub among : List NodeId → NodeEntry → NodeEntry
   among numbers e = cond (list_any (λ n. n.0 == e.id.0) numbers) (change e) e
@@ -285,16 +257,11 @@ module _ (r : RequestId) where
   all-by : (e : NodeEntry) (b c : Bool) → is_request r e.kept.allocated_to ≡ b → (is_request r e.kept.allocated_to ≡ true → c ≡ true) → cond c (freed_by b e) e ≡ freed_by b e
   all-by e b c is among_them = grind arith
 
+  -- if each node that is allocated to the request is among the numbers, all of the request's are freed
   among-all : (numbers : List NodeId) (rows : List NodeEntry) → AllByRecursion (λ e. is_request r e.kept.allocated_to ≡ true → list_any (λ n. n.0 == e.id.0) numbers ≡ true) rows →
       map (among (freed_from r) (λ e. (freed-keeps e).0) (λ e. again-by e (is_request r e.kept.allocated_to) refl) numbers) rows ≡ all_freed r rows
   among-all numbers [] all = refl
   among-all numbers (e ∷ rows) all = λ i. all-by e (is_request r e.kept.allocated_to) (list_any (λ (n : NodeId). n.0 == e.id.0) numbers) refl all.0 i ∷ among-all numbers rows all.1 i
-
-  -- if each node that is allocated to the request is among the numbers, all of the request's are freed
-  pub each-freed : (numbers : List NodeId) (rows : List NodeEntry) → Rises (λ a b. nat_lt a.id.0 b.id.0) rows → AllByRecursion (λ e. is_request r e.kept.allocated_to ≡ true → list_any (λ n. n.0 == e.id.0) numbers ≡ true) rows →
-      changed_each (freed_from r) numbers rows ≡ all_freed r rows
-  each-freed numbers rows rises all =
-      each-among (freed_from r) (λ e. (freed-keeps e).0) (λ e. again-by e (is_request r e.kept.allocated_to) refl) numbers rows rises ∙ among-all numbers rows all
 
 -- # the parts for a change of nodes
 
@@ -305,26 +272,9 @@ record-deletes s later t w more lock p stands lock_good p_good good lays =
     let waits : List Op = delete_parts (path_of lock) (under lock t) in
     let ends : List Op = delete lock ∷ delete p ∷ [] in
     enacts-deletes s later t w (waits ++ ends) more (stands-less s t w (more + 1) more (omega arith) stands) good
-    (all-joined IsPart waits ends (part-clear lock t stands.whole lock_good) (part-delete lock lock_good, (part-delete p p_good, tt)))
-    (all-joined IsDelete waits ends (clear-deletes (path_of lock) (under lock t)) (tt, (tt, tt))) lays
-
--- ## a record is another
-
--- the new record is among those after the change
-put-spelled : (n : NodeId) (kept : NodeRecord) (e : NodeEntry) (rows : List NodeEntry) → node_entry n rows ≡ Some e → AllByRecursion (λ x. IsNode x.kept) (put_node n kept rows) → IsNode kept
-put-spelled n kept e rows there all =
-    all-find (λ (x : NodeEntry). IsNode x.kept) (is_node_it n) (put_node n kept rows) (record e { kept = kept }) all
-    (find-change_first (is_node_it n) (λ x. record x { kept = kept }) (λ x. refl) rows e there)
-
--- ## a node goes
-
-node-goes : (s : State) (t : TreeState) (w : ℕ) (n : NodeId) (e : NodeEntry) (more : ℕ) → Stands s t w (more + 1) → node_entry n s.nodes ≡ Some e → Enacts t w (node_deletes n t) (record s { nodes = remove_node n s.nodes }) more
-node-goes s t w n e more stands there =
-    let n_good : IsGood (Node n) = node-good n s.nodes e stands.good.nodes there in
-    record-deletes s _ t w more (NodeLock n) (Node n) stands n_good n_good
-    (good-nodes s (remove_node n s.nodes) s.next_node stands.good (all-remove_first (λ (x : NodeEntry). IsGood (Node x.id)) (is_node_it n) s.nodes stands.good.nodes)) (nodes_go-lay-out s t w n e (may-delete s t w more stands) there)
-
--- ## nodes are in use
+    (all-joined IsPart waits ends (all-mapped (λ (row : Row). is_element row.name ≡ true) IsPart (λ row. Op.Delete (below (path_of lock) row.name) Any) (under lock t)
+    (λ row element. record { path = is_path-below (path_of lock) row.name (is_path-of lock lock_good) element; numbered = refl }) (rows-elements (path_of lock) t.nodes stands.whole.paths)) (part-delete lock lock_good, (part-delete p p_good, tt)))
+    (all-joined IsDelete waits ends (all-map IsDelete (λ row. Op.Delete (below (path_of lock) row.name) Any) (under lock t) (λ row. tt)) (tt, (tt, tt))) lays
 
 -- ## the law
 
@@ -334,10 +284,15 @@ nodes-enact maker requests NodesChange.Same s t more stands distinct spelled lat
 nodes-enact maker requests (NodesChange.Put n kept) s t more stands distinct spelled later ready =
     there-by (λ (list : List NodeEntry). record s { nodes = list }) t (writer maker) (more + 32) more s.nodes (put_node n kept s.nodes) (λ o. where_there o (λ e. set (node_text kept) (Node n) ∷ [])) (node_entry n s.nodes) (omega arith) stands refl
     (change_first-absent (is_node_it n) (λ x. record x { kept = kept }) s.nodes)
-    (λ e there. enacts-put s t (writer maker) n e kept more (stands-less s t (writer maker) (more + 32) (more + 1) (omega arith) stands) there (put-spelled n kept e s.nodes there later))
+    (λ e there. enacts-put s t (writer maker) n e kept more (stands-less s t (writer maker) (more + 32) (more + 1) (omega arith) stands) there
+    (all-find (λ (x : NodeEntry). IsNode x.kept) (is_node_it n) (put_node n kept s.nodes) (record e { kept = kept }) later (find-change_first (is_node_it n) (λ x. record x { kept = kept }) (λ x. refl) s.nodes e there)))
 nodes-enact maker requests (NodesChange.Remove n) s t more stands distinct spelled later ready =
     there-by (λ (list : List NodeEntry). record s { nodes = list }) t (writer maker) (more + 32) more s.nodes (remove_node n s.nodes) (λ o. where_there o (λ e. node_deletes n t)) (node_entry n s.nodes) (omega arith) stands refl
-    (remove_first-absent (is_node_it n) s.nodes) (λ e there. node-goes s t (writer maker) n e more (stands-less s t (writer maker) (more + 32) (more + 1) (omega arith) stands) there)
+    (remove_first-absent (is_node_it n) s.nodes) (λ e there.
+    let one : Stands s t (writer maker) (more + 1) = stands-less s t (writer maker) (more + 32) (more + 1) (omega arith) stands in
+    let n_good : IsGood (Node n) = node-good n s.nodes e stands.good.nodes there in
+    record-deletes s _ t (writer maker) more (NodeLock n) (Node n) one n_good n_good
+    (good-nodes s (remove_node n s.nodes) s.next_node stands.good (all-remove_first (λ (x : NodeEntry). IsGood (Node x.id)) (is_node_it n) s.nodes stands.good.nodes)) (nodes_go-lay-out s t (writer maker) n e (may-delete s t (writer maker) more one) there))
 nodes-enact None requests (NodesChange.Leave n) s t more stands distinct spelled later ready = enacts-none s t 1 more (stands-less s t 1 (more + 32) more (omega arith) stands)
 nodes-enact (Some maker) requests (NodesChange.Leave n) s t more stands distinct spelled later ready =
     let queue : List SessionId = left maker.session (node_queue n s.nodes) in
@@ -347,7 +302,8 @@ nodes-enact (Some maker) requests (NodesChange.Leave n) s t more stands distinct
 nodes-enact maker requests (NodesChange.FreeAll r) s t more stands distinct spelled later ready =
     let numbers : List NodeId = nodes_of r requests in
     let few = ready.0 in
-    subst (λ (rows : List NodeEntry). Enacts t (writer maker) (each_changed (freed_from r) numbers s.nodes) (record s { nodes = rows }) more) (each-freed r numbers s.nodes ready.1.0 ready.1.1)
+    subst (λ (rows : List NodeEntry). Enacts t (writer maker) (each_changed (freed_from r) numbers s.nodes) (record s { nodes = rows }) more)
+    (each-among (freed_from r) (λ e. (freed-keeps r e).0) (λ e. again-by r e (is_request r e.kept.allocated_to) refl) numbers s.nodes ready.1.0 ∙ among-all r numbers s.nodes ready.1.1)
     (enacts-each (freed_from r) (freed-keeps r) (freed_from-is r) numbers s t (writer maker) more (stands-less s t (writer maker) (more + 32) (length numbers + more) (omega arith) stands) spelled)
 nodes-enact maker requests (NodesChange.TakeOver numbers) s t more stands distinct spelled later ready =
     let few = ready.0 in

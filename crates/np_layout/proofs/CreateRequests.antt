@@ -3,7 +3,7 @@ use Rattle.np_layout.proofs.Prelude.{AllByRecursion, AllZip, Bool, Equal, Greate
 use Rattle.np_layout.proofs.Names.{is_element-plain, is_path-of, plain_name-append, plain_name-decimal}
 use Rattle.np_layout.proofs.Rows.{none-mapped}
 use Rattle.np_layout.proofs.Steps.{Step, make-new, create-step, free-named, owner-there}
-use Rattle.np_layout.proofs.Elsewhere.{IsApart, Says, Stays, Table, all-tables, all-true, beside-apart, each-table, of_request_locks, of_requests, request_queues-stay, stays-more, table-stays}
+use Rattle.np_layout.proofs.Elsewhere.{IsApart, Says, Stays, Table, all-tables, beside-apart, each-table, of_request_locks, of_requests, request_queues-stay, stays-more, table-stays}
 use Rattle.np_layout.proofs.Deletes.{request-named}
 use Rattle.np_lists.proofs.Plain.{by_bool}
 
@@ -23,9 +23,7 @@ insert-rows row names new [] new_good good = refl
 insert-rows row names new (e ∷ list) new_good good =
     let same : row_before (row new) (row e) ≡ is_id_before new.id e.id =
     ap (λ (name : List ℕ). is_lt (slice_cmp nat_cmp name (row e).name)) (names new) ∙ ap (λ (name : List ℕ). is_lt (slice_cmp nat_cmp (request_text_of new.id) name)) (names e) ∙ id-before new.id e.id new_good good.0 in
-    ap (λ (b : Bool). cond b (row new ∷ row e ∷ map row list) (row e ∷ with_row (row new) (map row list))) same
-    ∙ by_bool (λ (b : Bool). cond b (row new ∷ row e ∷ map row list) (row e ∷ with_row (row new) (map row list)) ≡ map row (cond b (new ∷ e ∷ list) (e ∷ insert_request new list))) (is_id_before new.id e.id) (λ _. refl)
-    (λ _. ap (λ (rows : List Row). row e ∷ rows) (insert-rows row names new list new_good good.1))
+    grind (arith, same, insert-rows row names new list new_good good.1)
 
 -- ## the prefix of a request's name
 
@@ -63,9 +61,6 @@ module _ (s : State) (t : TreeState) (w priority : ℕ) (kept : RequestRecord) (
   owner : owner_at t (path_of Requests) ≡ Some None
   owner = owner-there t Nodepool Requests _ whole tt refl lays.frame.nodepool refl (refl, (refl, (refl, (refl, tt))))
 
-  locks-owner : owner_at t (path_of RequestLocks) ≡ Some None
-  locks-owner = owner-there t Nodepool RequestLocks _ whole tt refl lays.frame.nodepool refl (refl, (refl, (refl, (refl, tt))))
-
   first : Step Requests (Request r) PersistentSequential (request_row entry) t w part
   first =
       let parts = HasParts-below (path_of Requests) (request_prefix r) (is_path-of Requests tt) (is_element-prefix r r_good) in
@@ -80,7 +75,7 @@ module _ (s : State) (t : TreeState) (w priority : ℕ) (kept : RequestRecord) (
 
   second : Step RequestLocks (RequestLock r) Persistent (request_lock_row entry) v w (make [] (RequestLock r))
   second =
-      let v_owner : owner_at v (path_of RequestLocks) ≡ Some None = ap (option_map (λ (seen : Seen). seen.owner)) (first.creates.other_seen RequestLocks tt (λ same. absurd cc)) ∙ locks-owner in
+      let v_owner : owner_at v (path_of RequestLocks) ≡ Some None = ap (option_map (λ (seen : Seen). seen.owner)) (first.creates.other_seen RequestLocks tt (λ same. absurd cc)) ∙ owner-there t Nodepool RequestLocks _ whole tt refl lays.frame.nodepool refl (refl, (refl, (refl, (refl, tt)))) in
       make-new v w RequestLocks (RequestLock r) _ [] Persistent v_owner r_good refl refl (λ counter. refl) (omega arith) first.creates.whole (ap (λ (list : List ℕ). is_in list w) first.creates.live ∙ live) (room-gives v 0 (room-falls t w part 1 room))
       (first.creates.stays.rows RequestLocks tt (beside-apart RequestLocks (Requests ∷ []) refl) ∙ lays.request_locks.rows) (others request_lock_row (λ e. refl) s.requests good.requests none)
 
@@ -89,9 +84,6 @@ module _ (s : State) (t : TreeState) (w priority : ℕ) (kept : RequestRecord) (
 
   stays : Stays (Requests ∷ RequestLocks ∷ []) t u
   stays = stays-more Requests (RequestLocks ∷ []) t v u first.creates.stays second.creates.stays
-
-  lock-queue : HasQueue (RequestLock r) [] u
-  lock-queue = record { next = 0; gives = second.creates.new; waits = subst (λ (rows : List Row). AllZip (IsWait 0) rows []) (sym second.creates.empty) tt }
 
   request-lays : LaysOut (record s { requests = insert_request entry s.requests; next_request = s.next_request + 1 }) u
   request-lays = all-tables _ _ each where
@@ -113,8 +105,8 @@ module _ (s : State) (t : TreeState) (w priority : ℕ) (kept : RequestRecord) (
       rows =
           second.creates.rows ∙ ap (with_row (request_lock_row entry)) (first.creates.stays.rows RequestLocks tt (beside-apart RequestLocks (Requests ∷ []) refl) ∙ lays.request_locks.rows)
           ∙ insert-rows request_lock_row (λ e. refl) entry s.requests r_good good.requests;
-      queues = all-insert_before (λ (e : RequestEntry). HasQueue (RequestLock e.id) e.queue u) (λ (e : RequestEntry). is_id_before r e.id) entry s.requests lock-queue
-          (request_queues-stay dirs t u stays s.requests good.requests (all-true (λ (e : RequestEntry). IsApart (RequestLock e.id) dirs) (λ e. beside-apart (RequestLock e.id) dirs refl) s.requests) lays.request_locks.queues);
+      queues = all-insert_before (λ (e : RequestEntry). HasQueue (RequestLock e.id) e.queue u) (λ (e : RequestEntry). is_id_before r e.id) entry s.requests (record { next = 0; gives = second.creates.new; waits = subst (λ (rows : List Row). AllZip (IsWait 0) rows []) (sym second.creates.empty) tt })
+          (request_queues-stay dirs t u stays s.requests good.requests refl lays.request_locks.queues);
     }
     each k = table-stays s dirs t u good stays (second.creates.live ∙ first.creates.live) (second.creates.begun ∙ first.creates.begun) k refl (each-table s t lays k)
 

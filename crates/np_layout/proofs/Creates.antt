@@ -8,15 +8,11 @@ use Rattle.np_layout.proofs.Rows.{all-put, all-range, any-by_name, any-found, an
 
 -- # a wait at a lock
 
--- a lower wait is before a higher one
-wait-before : (k next : ℕ) (other session : SessionId) → k < next → next < 2 ^ 32 → row_before (wait_row k other) (wait_row next session) ≡ true
-wait-before k next other session low small = ap is_lt (slice_cmp-ten k next (omega arith) small ∙ nat_cmp-less k next low)
-
 -- the waits are before a new one
 waits-before : (next : ℕ) (session : SessionId) (rows : List Row) (queue : List SessionId) → next < 2 ^ 32 → AllZip (IsWait next) rows queue → AllByRecursion (λ other. row_before other (wait_row next session) ≡ true) rows
 waits-before next session [] [] small waits = tt
-waits-before next session (row ∷ rows) (other ∷ queue) small waits = (
-  ap (λ (r : Row). row_before r (wait_row next session)) waits.0.is ∙ wait-before waits.0.number next other session waits.0.given small,
+waits-before next session (row ∷ rows) (other ∷ queue) small waits = let low = waits.0.given in (
+  ap (λ (r : Row). row_before r (wait_row next session)) waits.0.is ∙ ap is_lt (slice_cmp-ten waits.0.number next (omega arith) small ∙ nat_cmp-less waits.0.number next low),
   waits-before next session rows queue small waits.1,
 )
 waits-before next session _ _ small waits = absurd waits
@@ -113,15 +109,11 @@ rises-zip [] [] zip rises = tt
 rises-zip (row ∷ rows) (x ∷ entries) zip rises = (all-zip row x rows entries zip.0 zip.1 rises.0, rises-zip rows entries zip.1 rises.1)
 rises-zip _ _ zip rises = absurd zip
 
--- a lower node is before a higher one
-node-before : (a b : NodeId) (these those : List ℕ) → a.0 < b.0 → b.0 < 2 ^ 32 → row_before (persistent (Node a) these) (persistent (Node b) those) ≡ true
-node-before a b these those low small = ap is_lt (slice_cmp-ten a.0 b.0 (omega arith) small ∙ nat_cmp-less a.0 b.0 low)
-
 -- the nodes are before a new one
 nodes-before : (n : NodeId) (bytes : List ℕ) (rows : List Row) (entries : List NodeEntry) → n.0 < 2 ^ 32 → AllByRecursion (λ e. e.id.0 < n.0) entries → AllZip IsNodeRow rows entries → AllByRecursion (λ other. row_before other (persistent (Node n) bytes) ≡ true) rows
 nodes-before n bytes [] [] small low zip = tt
-nodes-before n bytes (row ∷ rows) (e ∷ entries) small low zip = (
-  ap (λ (r : Row). row_before r (persistent (Node n) bytes)) zip.0.is ∙ node-before e.id n row.bytes bytes low.0 small,
+nodes-before n bytes (row ∷ rows) (e ∷ entries) small low zip = let less = low.0 in (
+  ap (λ (r : Row). row_before r (persistent (Node n) bytes)) zip.0.is ∙ ap is_lt (slice_cmp-ten e.id.0 n.0 (omega arith) small ∙ nat_cmp-less e.id.0 n.0 less),
   nodes-before n bytes rows entries small low.1 zip.1,
 )
 nodes-before n bytes _ _ small low zip = absurd zip
@@ -338,11 +330,8 @@ module _ (s : State) (t handle_tree : TreeState) (x : SemId) (f : List JobId →
     by k = table-stays s (Semaphore x ∷ []) t handle_tree good stays live begun k refl (each-table s t lays k)
 
 -- a handle's name is its own
-pub same-is : (a b : JobId) → (a.0 == b.0) ≡ true → a ≡ b
-same-is a b same = let number : a.0 ≡ b.0 = grind (arith, nat_tests) in ap (λ (n : ℕ). record { 0 = n }) number
-
 pub named-by : (x : SemId) (j other : JobId) (b : Bool) → (other.0 == j.0) ≡ b → IsGood (Handle x j) → IsGood (Handle x other) → bytes_eq (place_name (Handle x other)) (place_name (Handle x j)) ≡ b
-named-by x j other = named-as (Handle x) (λ a b. a.0 == b.0) (λ a b one. cc) (λ a b. refl) same-is (λ a. equal-itself a.0) other j
+named-by x j other = named-as (Handle x) (λ a b. a.0 == b.0) (λ a b one. cc) (λ a b. refl) (λ a b same. let number : a.0 ≡ b.0 = grind (arith, nat_tests) in ap (λ (n : ℕ). record { 0 = n }) number) (λ a. equal-itself a.0) other j
 
 -- a create of a handle lays out the state in which the job has it
 pub handles-lay-out : HandlesLayOut
@@ -369,17 +358,13 @@ handles-lay-out s t w x j whole good lays live room low small new =
           ∙ range-any (is_named (place_name (Semaphore x))) semaphore_row x.0 (length s.handles) 0 (omega arith) (omega arith) (named-here (Semaphore x)))
           (all-put (λ (row : Row). row.owner ≡ None) (map semaphore_row (places s.handles)) [] tt (all-map (λ (row : Row). row.owner ≡ None) semaphore_row (places s.handles) (λ n. refl)))
 
-      -- the job has a handle more
-      more-here : handles_of x (change_at x.0 (with_handle j) s.handles) ≡ insert_before (λ (other : JobId). nat_lt j.0 other.0) j jobs
-      more-here =
-          let there = member-there s.handles x.0 low in
-          ap (λ (o : Option (List JobId)). unwrap_or o []) (slice_get-change_at x.0 (with_handle j) s.handles ∙ ap (option_map (with_handle j)) there.1)
-          ∙ ap (λ (o : Option (List JobId)). with_handle j (unwrap_or o [])) (sym there.1)
-          ∙ ap (λ (b : Bool). cond b jobs (insert_before (λ (other : JobId). nat_lt j.0 other.0) j jobs)) new
-
       each : (u : TreeState) → CreatesRow (Semaphore x) (Handle x j) Persistent (handle_row x j) t u → ((k : Table) → is_touched (Semaphore x ∷ []) k ≡ false → Says s u k) → (k : Table) → Says (record s { handles = change_at x.0 (with_handle j) s.handles }) u k
       each u creates kept k =
-          let rows = creates.rows ∙ ap (with_row (handle_row x j)) x-rows.rows ∙ sym (ap (λ (list : List JobId). by_name (map (handle_row x) list)) more-here ∙ by_name-insert (handle_row x) (λ (other : JobId). nat_lt j.0 other.0) j jobs apart) in
+          let there = member-there s.handles x.0 low in
+          let more_here : handles_of x (change_at x.0 (with_handle j) s.handles) ≡ insert_before (λ (other : JobId). nat_lt j.0 other.0) j jobs =
+          ap (λ (o : Option (List JobId)). unwrap_or o []) (slice_get-change_at x.0 (with_handle j) s.handles ∙ ap (option_map (with_handle j)) there.1)
+          ∙ ap (λ (o : Option (List JobId)). with_handle j (unwrap_or o [])) (sym there.1) ∙ ap (λ (b : Bool). cond b jobs (insert_before (λ (other : JobId). nat_lt j.0 other.0) j jobs)) new in
+          let rows = creates.rows ∙ ap (with_row (handle_row x j)) x-rows.rows ∙ sym (ap (λ (list : List JobId). by_name (map (handle_row x) list)) more_here ∙ by_name-insert (handle_row x) (λ (other : JobId). nat_lt j.0 other.0) j jobs apart) in
           each-table _ u (changed-lays s t u x (with_handle j) good lays creates.stays creates.live creates.begun (record { rows = rows; leaves = creates.leaves x-rows.leaves })) k
 
 -- # a job gives its handle of a semaphore back
@@ -409,12 +394,7 @@ handle-good j x s good has =
 -- ## the handles of one semaphore
 
 without-or : (j : JobId) (o : Option (List JobId)) → unwrap_or (option_map (without_handle j) o) [] ≡ without_handle j (unwrap_or o [])
-without-or j None = refl
-without-or j (Some jobs) = refl
-
--- the semaphore's own handles change
-handles-without : (x : SemId) (j : JobId) (handles : List (List JobId)) → handles_of x (change_at x.0 (without_handle j) handles) ≡ without_handle j (handles_of x handles)
-handles-without x j handles = ap (λ (o : Option (List JobId)). unwrap_or o []) (slice_get-change_at x.0 (without_handle j) handles) ∙ without-or j (slice_get handles x.0)
+without-or j o = grind arith
 
 -- the delete of a handle lays out the state in which the job has none
 pub handles_go-lay-out : HandlesGoLayOut
@@ -454,4 +434,4 @@ handles_go-lay-out s t w x j may has = record { goes = gone.goes; lays = changed
       ∙ by_name-kept (is_other (place_name p)) (map (handle_row x) jobs) (subst (Rises row_before) x-has.rows (rows-rise t (path_of (Semaphore x)) may.whole))
       ∙ ap by_name (filter-mapped (handle_row x) (is_other (place_name p)) (λ other. not (other.0 == j.0)) jobs
       (all-weaker (λ (other : JobId). own (handle_row x other) ≡ (other.0 == j.0)) (λ (other : JobId). is_other (place_name p) (handle_row x other) ≡ not (other.0 == j.0)) (λ other same. ap not same) jobs names)
-      ∙ ap (map (handle_row x)) (sym (handles-without x j s.handles)))
+      ∙ ap (map (handle_row x)) (sym (ap (λ (o : Option (List JobId)). unwrap_or o []) (slice_get-change_at x.0 (without_handle j) s.handles) ∙ without-or j (slice_get s.handles x.0))))

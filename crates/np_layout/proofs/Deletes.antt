@@ -52,9 +52,9 @@ module _ (n : NodeId) where
   node-once s t whole good lays n_good =
       once-told (place_name (Node n)) is_node_it (under Nodes t) s.nodes (rows-rise t (path_of Nodes) whole) (node-tells (under Nodes t) s.nodes n_good good.nodes lays.nodes.rows)
 
-  -- another id has another lock
-  pub node_lock-apart : (id : NodeId) → (id.0 == n.0) ≡ false → NodeLock id ≡ NodeLock n → ⊥
-  node_lock-apart id other same = let is : id ≡ n = cc in let both = ap (λ (x : NodeId). id.0 == x.0) is in let itself = node-itself id in absurd cc
+  -- another id is not it
+  pub node-other : (id : NodeId) → (id.0 == n.0) ≡ false → id ≡ n → ⊥
+  node-other id other is = let both = ap (λ (x : NodeId). id.0 == x.0) is in let itself = node-itself id in absurd cc
 
 -- ## it has another queue
 
@@ -75,7 +75,7 @@ module _ (s : State) (t u : TreeState) (n : NodeId) (e : NodeEntry) (queue : Lis
     each of_nodes = record { rows = zip-change_first (is_node_it n) put IsNodeRow (λ row x is. record { is = is.is; spells = is.spells }) (under Nodes u) s.nodes nodes.rows; gives = nodes.gives }
     each of_node_locks = change-one (is_node_it n) put (λ (x : NodeEntry). IsGood (Node x.id)) (HasNodeLock t) (HasNodeLock u)
         (λ x is x_good old. record { rows = rows-stay (NodeLock n ∷ []) t u stays (Node x.id) x_good refl ∙ old.rows; queue = subst (λ (id : NodeId). HasQueue (NodeLock id) queue u) (sym (node-same x.id n is)) has })
-        (λ x other x_good old. node_lock-stays (NodeLock n ∷ []) t u stays x x_good ((λ same. cc), tt) (node_lock-apart n x.id other, tt) old)
+        (λ x other x_good old. node_lock-stays (NodeLock n ∷ []) t u stays x x_good ((λ same. cc), tt) ((λ same. node-other n x.id other (cc)), tt) old)
         s.nodes (node-once n s t whole good lays (node-good n s.nodes e good.nodes there)) good.nodes lays.node_locks
     each k = others k refl
 
@@ -310,10 +310,6 @@ parts-after s t u w waits lock p goes lays =
 
 -- # a node goes
 
--- another id has another place
-node-apart : (n id : NodeId) → (id.0 == n.0) ≡ false → Node id ≡ Node n → ⊥
-node-apart n id other same = let is : id ≡ n = cc in let both = ap (λ (x : NodeId). id.0 == x.0) is in let itself = node-itself id in absurd cc
-
 module _ (s : State) (t : TreeState) (w : ℕ) (n : NodeId) (e : NodeEntry) (may : MayDelete s t w) (there : node_entry n s.nodes ≡ Some e) where
   abbrev it : NodeEntry → Bool
   it = is_node_it n
@@ -349,13 +345,6 @@ module _ (s : State) (t : TreeState) (w : ℕ) (n : NodeId) (e : NodeEntry) (may
   ends = then-gone s t w (waits ++ delete (NodeLock n) ∷ []) (Node n ∷ NodeLock n ∷ []) Nodes (Node n) record-row.0 may lock-gone.gone n-good refl refl (λ other apart. (apart.0, tt)) record-row.1
       (lock-gone.rows ∙ ap (filter (is_other (place_name (NodeLock n)))) lock.rows)
 
-  -- the locks of the others stay
-  lock-end : (x : NodeEntry) → not (it x) ≡ true → IsGood (Node x.id) × HasNodeLock t x → HasNodeLock ends.gone.u x
-  lock-end x kept has =
-      let other = not-true (it x) kept in
-      node_lock-stays (Nodes ∷ Node n ∷ NodeLock n ∷ []) t ends.gone.u ends.gone.stays x has.0
-      ((λ same. cc), (node-apart n x.id other, ((λ same. cc), tt))) ((λ same. cc), ((λ same. cc), (node_lock-apart n x.id other, tt))) has.1
-
   node-gone : LaysOut (record s { nodes = remove_node n s.nodes }) ends.gone.u
   node-gone = all-tables _ _ each where
     each : (k : Table) → Says (record s { nodes = remove_node n s.nodes }) ends.gone.u k
@@ -366,7 +355,11 @@ module _ (s : State) (t : TreeState) (w : ℕ) (n : NodeId) (e : NodeEntry) (may
       gives = ends.gives s.next_node refl may.lays.nodes.gives;
     }
     each of_node_locks = subst (AllByRecursion (HasNodeLock ends.gone.u)) (filter-removed it s.nodes once)
-        (all-filter_to (λ (x : NodeEntry). IsGood (Node x.id) × HasNodeLock t x) (HasNodeLock ends.gone.u) (λ x. not (it x)) s.nodes lock-end
+        (all-filter_to (λ (x : NodeEntry). IsGood (Node x.id) × HasNodeLock t x) (HasNodeLock ends.gone.u) (λ x. not (it x)) s.nodes
+        (λ x kept has.
+        let other = not-true (it x) kept in
+        node_lock-stays (Nodes ∷ Node n ∷ NodeLock n ∷ []) t ends.gone.u ends.gone.stays x has.0
+        ((λ same. cc), ((λ same. node-other n x.id other (cc)), ((λ same. cc), tt))) ((λ same. cc), ((λ same. cc), ((λ same. node-other n x.id other (cc)), tt))) has.1)
         (all-pair (λ (x : NodeEntry). IsGood (Node x.id)) (HasNodeLock t) s.nodes may.good.nodes may.lays.node_locks))
     each k = table-stays s (Nodes ∷ Node n ∷ NodeLock n ∷ []) t ends.gone.u may.good ends.gone.stays ends.gone.live ends.gone.begun k refl (each-table s t may.lays k)
 
@@ -401,9 +394,9 @@ module _ (s : State) (t : TreeState) (w : ℕ) (r : RequestId) (e : RequestEntry
   request-lock-goes : GoneFrom t w request_waits (RequestLock r ∷ []) RequestLocks (RequestLock r) request-clears.gone.u
   request-lock-goes = then-gone s t w request_waits (RequestLock r ∷ []) RequestLocks (RequestLock r) lock-row.0 may request-clears.gone r-good refl refl (λ other apart. apart) lock-row.1 request-clears.empty
 
-  -- the records' names are those of the locks
+  -- the names of records and of locks tell it
   names : AllByRecursion (λ x. is_named request_name (request_row x) ≡ request_test x) s.requests
-  names = all-weaker (λ (x : RequestEntry). is_named request_name (request_lock_row x) ≡ request_test x) (λ (x : RequestEntry). is_named request_name (request_row x) ≡ request_test x) (λ x same. same) s.requests (lock-names r s.requests r-good may.good.requests)
+  names = lock-names r s.requests r-good may.good.requests
 
   request-record-row : (row : Row) × (find (is_named request_name) (under Requests t) ≡ Some row)
   request-record-row = any-found (is_named request_name) (under Requests t) (ap (list_any (is_named request_name)) may.lays.requests.rows ∙ any-mapped request_row (is_named request_name) request_test s.requests names ∙ found-any request_test e s.requests there)
@@ -415,11 +408,6 @@ module _ (s : State) (t : TreeState) (w : ℕ) (r : RequestId) (e : RequestEntry
       let still : find_named request_name (under Requests v) ≡ Some request-record-row.0 = ap (find_named request_name) (rows-stay (RequestLocks ∷ RequestLock r ∷ []) t v stays Requests tt refl) ∙ request-record-row.1 in
       then-gone s t w (request_waits ++ delete (RequestLock r) ∷ []) (RequestLocks ∷ RequestLock r ∷ []) Requests (Request r) request-record-row.0 may request-lock-goes.gone r-good refl refl (λ other apart. (apart.0, tt)) request-record-row.1
       (bare-leaf v Requests (Request r) request-record-row.0 refl (leaves-stay (RequestLocks ∷ RequestLock r ∷ []) t v stays Requests tt refl refl may.lays.requests.leaves) still)
-
-  -- the queues of the others stay
-  queue-end : (x : RequestEntry) → not (request_test x) ≡ true → IsGood (Request x.id) × HasQueue (RequestLock x.id) x.queue t → HasQueue (RequestLock x.id) x.queue request-ends.gone.u
-  queue-end x kept has =
-      queue-stays (Requests ∷ RequestLocks ∷ RequestLock r ∷ []) t request-ends.gone.u request-ends.gone.stays (RequestLock x.id) x.queue has.0 refl ((λ same. cc), ((λ same. cc), (lock-apart r x.id (not-true (request_test x) kept), tt))) has.1
 
   -- rows of other names are those of other requests
   rows-left : (row : RequestEntry → Row) → AllByRecursion (λ x. is_named request_name (row x) ≡ request_test x) s.requests → filter (is_other request_name) (map row s.requests) ≡ map row (remove_first request_test s.requests)
@@ -439,9 +427,10 @@ module _ (s : State) (t : TreeState) (w : ℕ) (r : RequestId) (e : RequestEntry
     each of_request_locks = record {
       rows =
           rows-stay (Requests ∷ []) request-lock-goes.gone.u request-ends.gone.u request-ends.last RequestLocks tt refl ∙ request-lock-goes.rows ∙ ap (filter (is_other request_name)) may.lays.request_locks.rows
-          ∙ rows-left request_lock_row (lock-names r s.requests r-good may.good.requests);
+          ∙ rows-left request_lock_row names;
       queues = subst (λ (list : List RequestEntry). AllByRecursion (λ x. HasQueue (RequestLock x.id) x.queue request-ends.gone.u) list) (filter-removed request_test s.requests request-is-once)
-          (all-filter_to (λ (x : RequestEntry). IsGood (Request x.id) × HasQueue (RequestLock x.id) x.queue t) (λ (x : RequestEntry). HasQueue (RequestLock x.id) x.queue request-ends.gone.u) (λ x. not (request_test x)) s.requests queue-end
+          (all-filter_to (λ (x : RequestEntry). IsGood (Request x.id) × HasQueue (RequestLock x.id) x.queue t) (λ (x : RequestEntry). HasQueue (RequestLock x.id) x.queue request-ends.gone.u) (λ x. not (request_test x)) s.requests
+          (λ x kept has. queue-stays (Requests ∷ RequestLocks ∷ RequestLock r ∷ []) t request-ends.gone.u request-ends.gone.stays (RequestLock x.id) x.queue has.0 refl ((λ same. cc), ((λ same. cc), (lock-apart r x.id (not-true (request_test x) kept), tt))) has.1)
           (all-pair (λ (x : RequestEntry). IsGood (Request x.id)) (λ (x : RequestEntry). HasQueue (RequestLock x.id) x.queue t) s.requests may.good.requests may.lays.request_locks.queues));
     }
     each k = table-stays s (Requests ∷ RequestLocks ∷ RequestLock r ∷ []) t request-ends.gone.u may.good request-ends.gone.stays request-ends.gone.live request-ends.gone.begun k refl (each-table s t may.lays k)

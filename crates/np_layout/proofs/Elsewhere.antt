@@ -24,11 +24,6 @@ directory Sessions = 16
 directory SweptPairs = 17
 directory other = 0
 
--- what is true of everything is true of each member
-pub all-true : {A : Type 0} (P : A → Type 0) → ((a : A) → P a) → (list : List A) → AllByRecursion P list
-all-true P each [] = tt
-all-true P each (a ∷ list) = (each a, all-true P each list)
-
 -- none of the places is of its kind
 abbrev pub IsBeside : Place → List Place → Type 0
 IsBeside p dirs = list_any (λ dir. eqb (directory p) (directory dir)) dirs ≡ false
@@ -117,10 +112,6 @@ module _ (dirs : List Place) (t u : TreeState) (stays : Stays dirs t u) where
     leaf = rows-stay Tick tt leaf ∙ frame.leaf;
   }
 
-  -- the directories that are always there, with the tick
-  pub frame-stays : (tick : ℕ) → IsBeside Root dirs → IsBeside Nodepool dirs → IsBeside Zuul dirs → IsBeside Tick dirs → IsBeside Poolsim dirs → IsFrame tick t → IsFrame tick u
-  frame-stays tick root nodepool zuul leaf poolsim frame = tick-stays tick tick root nodepool zuul leaf (rows-stay Poolsim tt poolsim ∙ frame.poolsim) frame
-
   -- the queue of a lock
   pub queue-stays : (lock : Place) (queue : List SessionId) → IsGood lock → has_counter lock ≡ true → IsApart lock dirs → HasQueue lock queue t → HasQueue lock queue u
   queue-stays lock queue good has apart is = record {
@@ -129,28 +120,17 @@ module _ (dirs : List Place) (t u : TreeState) (stays : Stays dirs t u) where
     waits = subst (λ (rows : List Row). AllZip (IsWait is.next) rows queue) (sym (stays.rows lock good apart)) is.waits;
   }
 
-  -- the records of requests
-  pub requests-stay : (entries : List RequestEntry) (next : ℕ) → IsBeside Requests dirs → AreRequests entries next t → AreRequests entries next u
-  requests-stay entries next beside are = record { rows = rows-stay Requests tt beside ∙ are.rows; leaves = leaves-stay Requests tt refl beside are.leaves; gives = counter-stays Requests next tt refl beside are.gives }
-
   -- the queues of requests
-  pub request_queues-stay : (entries : List RequestEntry) → AllByRecursion (λ e. IsGood (Request e.id)) entries → AllByRecursion (λ e. IsApart (RequestLock e.id) dirs) entries → AllByRecursion (λ e. HasQueue (RequestLock e.id) e.queue t) entries →
+  pub request_queues-stay : (entries : List RequestEntry) → AllByRecursion (λ e. IsGood (Request e.id)) entries → list_any (λ dir. eqb 5 (directory dir)) dirs ≡ false → AllByRecursion (λ e. HasQueue (RequestLock e.id) e.queue t) entries →
       AllByRecursion (λ e. HasQueue (RequestLock e.id) e.queue u) entries
-  request_queues-stay [] good apart all = tt
-  request_queues-stay (e ∷ entries) good apart all = (queue-stays (RequestLock e.id) e.queue good.0 refl apart.0 all.0, request_queues-stay entries good.1 apart.1 all.1)
+  request_queues-stay [] good beside all = tt
+  request_queues-stay (e ∷ entries) good beside all = (queue-stays (RequestLock e.id) e.queue good.0 refl (beside-apart (RequestLock e.id) dirs beside) all.0, request_queues-stay entries good.1 beside all.1)
 
   -- the locks of requests
   pub request_locks-stay : (entries : List RequestEntry) → AllByRecursion (λ e. IsGood (Request e.id)) entries → IsBeside RequestLocks dirs → list_any (λ dir. eqb 5 (directory dir)) dirs ≡ false → AreRequestLocks entries t → AreRequestLocks entries u
   request_locks-stay entries good beside each_beside are = record {
     rows = rows-stay RequestLocks tt beside ∙ are.rows;
-    queues = request_queues-stay entries good (all-true (λ (e : RequestEntry). IsApart (RequestLock e.id) dirs) (λ e. beside-apart (RequestLock e.id) dirs each_beside) entries) are.queues;
-  }
-
-  -- the records of nodes
-  pub nodes-stay : (entries : List NodeEntry) (next : ℕ) → IsBeside Nodes dirs → AreNodes entries next t → AreNodes entries next u
-  nodes-stay entries next beside are = record {
-    rows = subst (λ (rows : List Row). AllZip IsNodeRow rows entries) (sym (rows-stay Nodes tt beside)) are.rows;
-    gives = counter-stays Nodes next tt refl beside are.gives;
+    queues = request_queues-stay entries good each_beside are.queues;
   }
 
   -- the lock of a node
@@ -165,11 +145,7 @@ module _ (dirs : List Place) (t u : TreeState) (stays : Stays dirs t u) where
   -- the locks of nodes
   pub node_locks-stay : (entries : List NodeEntry) → AllByRecursion (λ e. IsGood (Node e.id)) entries → list_any (λ dir. eqb 7 (directory dir)) dirs ≡ false → list_any (λ dir. eqb 8 (directory dir)) dirs ≡ false → AreNodeLocks entries t → AreNodeLocks entries u
   node_locks-stay entries good beside lock_beside are =
-      node_queues-stay entries good (all-true (λ (e : NodeEntry). IsApart (Node e.id) dirs × IsApart (NodeLock e.id) dirs) (λ e. (beside-apart (Node e.id) dirs beside, beside-apart (NodeLock e.id) dirs lock_beside)) entries) are
-
-  -- the registrations of launchers
-  pub launchers-stay : (registrations : List Registration) → IsBeside Launchers dirs → AreLaunchers registrations t → AreLaunchers registrations u
-  launchers-stay registrations beside are = rows-stay Launchers tt beside ∙ are
+      node_queues-stay entries good (all-weaker (λ (e : NodeEntry). IsGood (Node e.id)) (λ (e : NodeEntry). IsApart (Node e.id) dirs × IsApart (NodeLock e.id) dirs) (λ e _. (beside-apart (Node e.id) dirs beside, beside-apart (NodeLock e.id) dirs lock_beside)) entries good) are
 
   -- the handles of a semaphore
   pub handles-stay : (handles : List (List JobId)) (x : SemId) → IsGood (Semaphore x) → IsApart (Semaphore x) dirs → HasHandles handles t x → HasHandles handles u x
@@ -182,22 +158,6 @@ module _ (dirs : List Place) (t u : TreeState) (stays : Stays dirs t u) where
     each zero at within all = tt
     each (suc count) at within all =
         (handles-stay handles (record { 0 = at }) (omega arith) (beside-apart (Semaphore (record { 0 = at })) dirs each_beside) all.0, each count (at + 1) (omega arith) all.1)
-
-  -- the records of jobs
-  pub jobs-stay : (jobs : List JobRecord) → IsBeside Jobs dirs → AreJobs jobs t → AreJobs jobs u
-  jobs-stay jobs beside are = record { rows = rows-stay Jobs tt beside ∙ are.rows; leaves = leaves-stay Jobs tt refl beside are.leaves }
-
-  -- the records of roles
-  pub roles-stay : (launchers janitors requesters : List RoleRecord) → IsBeside Roles dirs → AreRoles launchers janitors requesters t → AreRoles launchers janitors requesters u
-  roles-stay launchers janitors requesters beside are = record { rows = rows-stay Roles tt beside ∙ are.rows; leaves = leaves-stay Roles tt refl beside are.leaves }
-
-  -- the records of sessions
-  pub sessions-stay : (sessions : List SessionFacts) → IsBeside Sessions dirs → AreSessions sessions t → AreSessions sessions u
-  sessions-stay sessions beside are = record { rows = rows-stay Sessions tt beside ∙ are.rows; leaves = leaves-stay Sessions tt refl beside are.leaves }
-
-  -- the swept pairs
-  pub swept-stay : (swept : List Swept) → IsBeside SweptPairs dirs → AreSwept swept t → AreSwept swept u
-  swept-stay swept beside are = record { rows = rows-stay SweptPairs tt beside ∙ are.rows; leaves = leaves-stay SweptPairs tt refl beside are.leaves }
 
 -- the sessions that are live
 pub live-stays : (t u : TreeState) → u.live ≡ t.live → u.begun ≡ t.begun → (sessions : List SessionFacts) → AreLive sessions t → AreLive sessions u
@@ -278,17 +238,24 @@ is_touched dirs k = list_any (λ kind. list_any (λ dir. eqb kind (directory dir
 pub table-beside : (s : State) (dirs : List Place) (t u : TreeState) → HasGoodIds s → Stays dirs t u → (k : Table) → is_touched dirs k ≡ false → is_live k ≡ false → Says s t k → Says s u k
 table-beside s dirs t u good stays k none rows says = by k (none-list_any (λ kind. list_any (λ dir. eqb kind (directory dir)) dirs) (kinds k) none) rows says where
   by : (k : Table) → NonePass (λ kind. list_any (λ dir. eqb kind (directory dir)) dirs) (kinds k) → is_live k ≡ false → Says s t k → Says s u k
-  by of_frame none rows is = frame-stays dirs t u stays s.tick none.0 none.1.0 none.1.1.0 none.1.1.1.0 none.1.1.1.1.0 is
-  by of_requests none rows is = requests-stay dirs t u stays s.requests s.next_request none.0 is
+  by of_frame none rows is = tick-stays dirs t u stays s.tick s.tick none.0 none.1.0 none.1.1.0 none.1.1.1.0 (rows-stay dirs t u stays Poolsim tt none.1.1.1.1.0 ∙ is.poolsim) is
+  by of_requests none rows is = record {
+    rows = rows-stay dirs t u stays Requests tt none.0 ∙ is.rows;
+    leaves = leaves-stay dirs t u stays Requests tt refl none.0 is.leaves;
+    gives = counter-stays dirs t u stays Requests s.next_request tt refl none.0 is.gives;
+  }
   by of_request_locks none rows is = request_locks-stay dirs t u stays s.requests good.requests none.0 none.1.0 is
-  by of_nodes none rows is = nodes-stay dirs t u stays s.nodes s.next_node none.0 is
+  by of_nodes none rows is = record {
+    rows = subst (λ (rows : List Row). AllZip IsNodeRow rows s.nodes) (sym (rows-stay dirs t u stays Nodes tt none.0)) is.rows;
+    gives = counter-stays dirs t u stays Nodes s.next_node tt refl none.0 is.gives;
+  }
   by of_node_locks none rows is = node_locks-stay dirs t u stays s.nodes good.nodes none.0 none.1.0 is
-  by of_launchers none rows is = launchers-stay dirs t u stays s.registrations none.0 is
+  by of_launchers none rows is = rows-stay dirs t u stays Launchers tt none.0 ∙ is
   by of_semaphores none rows is = semaphores-stay dirs t u stays s.handles good.semaphores none.0 none.1.0 is
-  by of_jobs none rows is = jobs-stay dirs t u stays s.jobs none.0 is
-  by of_roles none rows is = roles-stay dirs t u stays s.launchers s.janitors s.requesters none.0 is
-  by of_sessions none rows is = sessions-stay dirs t u stays s.sessions none.0 is
-  by of_swept none rows is = swept-stay dirs t u stays s.swept none.0 is
+  by of_jobs none rows is = record { rows = rows-stay dirs t u stays Jobs tt none.0 ∙ is.rows; leaves = leaves-stay dirs t u stays Jobs tt refl none.0 is.leaves }
+  by of_roles none rows is = record { rows = rows-stay dirs t u stays Roles tt none.0 ∙ is.rows; leaves = leaves-stay dirs t u stays Roles tt refl none.0 is.leaves }
+  by of_sessions none rows is = record { rows = rows-stay dirs t u stays Sessions tt none.0 ∙ is.rows; leaves = leaves-stay dirs t u stays Sessions tt refl none.0 is.leaves }
+  by of_swept none rows is = record { rows = rows-stay dirs t u stays SweptPairs tt none.0 ∙ is.rows; leaves = leaves-stay dirs t u stays SweptPairs tt refl none.0 is.leaves }
   by of_live none rows is = absurd cc
 
 -- and so does who is live, if nobody begins or ends

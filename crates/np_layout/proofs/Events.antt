@@ -65,80 +65,49 @@ calm-sessions _ s none = tt
 given-alone : (change : HandlesChange) (growth : Growth) (j : JobId) → gives_alone change growth ≡ true → change ≡ HandlesChange.Release j → growth ≡ Growth.Nothing
 given-alone change growth j alone is = grind arith
 
-muted-none : (change : SessionsChange) (session : SessionId) → mutes change ≡ false → change ≡ SessionsChange.Mute session → ⊥
-muted-none change session none is = absurd (let both = sym (ap mutes is) ∙ none in cc)
-
 module _ (c : Configuration) (s : State) where
-  -- the plan of an event is plain if it is calm
-  by-calm : (e : Event) → IsCalm (plan c s e) → IsPlain c s (plan c s e)
-  by-calm e calm =
-      let ch = plan c s e in record {
-        unmade = calm-unmade ch.maker ch.grows calm.0;
-        sessions = calm-sessions ch.sessions (grown c ch.maker ch.grows s) calm.1.0;
-        apart = record { handles = λ j is. given-alone ch.handles ch.grows j calm.1.1 is; sessions = λ session is. absurd (muted-none ch.sessions session calm.1.0 is) };
-      }
-
-  -- nothing changes
-  nothing : IsPlain c s same
-  nothing = record { unmade = tt; sessions = tt; apart = record { handles = λ j is. refl; sessions = λ session is. refl } }
-
-  -- ## each plan
-
   -- each plan is plain
   plain : (e : Event) → IsPlain c s (plan c s e)
   plain (Event.OpenSession role) = record { unmade = refl; sessions = tt; apart = record { handles = λ j is. absurd cc; sessions = λ session is. absurd cc } }
   plain (Event.Crash session) =
-      plan-found (IsPlain c s) nothing (session_of session s) _ (λ facts begun. record { unmade = tt; sessions = (facts, begun); apart = record { handles = λ j is. refl; sessions = λ by is. refl } })
-  plain e = by-calm e (calm c s e refl)
-
-  -- a session begins with no maker
-  pub plan-unmade : (e : Event) → IsUnmade (plan c s e).maker (plan c s e).grows
-  plan-unmade e = (plain e).unmade
-
-  -- a session that the call mutes was begun
-  pub plan-sessions : (e : Event) → SessionReady (in_call (plan c s e).sessions) (grown c (plan c s e).maker (plan c s e).grows s)
-  plan-sessions e = (plain e).sessions
-
-  -- nothing grows beside handles that are given back or beside a session that is muted
-  pub plan-apart : (e : Event) → IsApart (plan c s e)
-  plan-apart e = (plain e).apart
+      plan-found (IsPlain c s) (record { unmade = tt; sessions = tt; apart = record { handles = λ j is. refl; sessions = λ by is. refl } }) (session_of session s) _ (λ facts begun. record { unmade = tt; sessions = (facts, begun); apart = record { handles = λ j is. refl; sessions = λ by is. refl } })
+  plain e =
+      let ch = plan c s e in
+      let is = calm c s e refl in record {
+        unmade = calm-unmade ch.maker ch.grows is.0;
+        sessions = calm-sessions ch.sessions (grown c ch.maker ch.grows s) is.1.0;
+        apart = record { handles = λ j gives. given-alone ch.handles ch.grows j is.1.1 gives; sessions = λ session by. absurd (let both = sym (ap mutes by) ∙ is.1.0 in cc) };
+      }
 
 -- # what grows by an accepted event is ready for the tree
 
--- a request with a number below the next one is not the next one
-not-next : (e : RequestEntry) (priority next : ℕ) → e.id.seq < next → same_request e.id (record { priority = priority; seq = next }) ≡ false
-not-next e priority next below = grind (arith, nat_tests)
-
--- no request has the next id
-next-free : (s : State) → IsNumbered s → (priority : ℕ) → request_entry (next_id priority s) s.requests ≡ None
-next-free s numbered priority =
-    find-none (λ (e : RequestEntry). same_request e.id (next_id priority s)) s.requests
-    (all-weaker (λ (e : RequestEntry). e.id.seq < s.next_request) (λ (e : RequestEntry). same_request e.id (next_id priority s) ≡ false) (λ e below. not-next e priority s.next_request below) s.requests numbered.requests_below)
-
 module _ (c : Configuration) (s : State) (ch : Changes) (known : IsKnown c s ch) where
-  -- a job has a number, and few semaphores that exist
-  handles-ready : (j : JobId) → HasRoom c s j → (j.0 < 2 ^ 32) × ((length (semaphores_of c j) ≤ 8) × AllByRecursion (λ x. x.0 < length s.handles) (semaphores_of c j))
-  handles-ready j room =
-      let row = job-row c known.sound j room.job room.row in
-      let same : room.job.semaphores ≡ semaphores_of c j = ap (λ (o : Option Job). option_map_or (λ job. job.semaphores) o []) (sym room.row) in
-      let few = subst (λ xs. length xs ≤ 8) same row.few_taken in
-      let taken = subst (λ xs. AllByRecursion (λ (x : SemId). x.0 < length s.handles) xs) same (subst (λ (n : ℕ). AllByRecursion (λ (x : SemId). x.0 < n) room.job.semaphores) (sym known.carried.semaphores) row.taken) in
-      (job-low c j known.sound (slice_get_within c.jobs j.0 room.job room.row), (few, taken))
-
   -- what grows is ready for the tree
   pub growth-ready : (growth : Growth) → ch.grows ≡ growth → IsUnmade ch.maker growth → IsTypedGrowth growth → GrowthPremise c s ch growth → GrowthReady c ch.maker growth s
   growth-ready Growth.Nothing is unmade typed premise = tt
   growth-ready (Growth.Session role) is unmade typed premise = let few = known.fits.sessions in (unmade, (omega arith, role-low c role known.sound premise))
   growth-ready (Growth.Registration p) is unmade typed premise = (pool-low c p known.sound (launcher-low c s ch.maker premise.session p known.fits known.premises.maker premise.made_by), premise.free)
-  growth-ready (Growth.Request priority asked) is unmade typed premise = (new-text c s ch known priority asked premise, (new-request c s ch known priority asked premise, next-free s known.invariant.numbered priority))
+  growth-ready (Growth.Request priority asked) is unmade typed premise = (
+    new-text c s ch known priority asked premise,
+    (
+      new-request c s ch known priority asked premise,
+      find-none (λ (e : RequestEntry). same_request e.id (next_id priority s)) s.requests
+          (all-weaker (λ (e : RequestEntry). e.id.seq < s.next_request) (λ (e : RequestEntry). same_request e.id (next_id priority s) ≡ false) (λ e below. grind (arith, nat_tests)) s.requests known.invariant.numbered.requests_below),
+    ),
+  )
   growth-ready (Growth.Node kept) is unmade typed premise =
       let few = known.fits.next_node in
-      (ap (λ (m : Option Maker). is_some m) premise.gains.worked_on.made_by, (new-node c s ch known kept is premise, (omega arith, known.invariant.numbered.nodes_below)))
+      (ap (λ (m : Option Maker). is_some m) premise.gains.worked_on.made_by, (new-node c s ch known kept is premise.request _ premise.gains premise.gains.from, (omega arith, known.invariant.numbered.nodes_below)))
   growth-ready (Growth.JoinRequest r) is unmade typed premise = row-of (λ (e : RequestEntry). e.kept) (request_entry r s.requests) premise.request premise.stands
   growth-ready (Growth.JoinNode n) is unmade typed premise = row-of (λ (e : NodeEntry). e.kept) (node_entry n s.nodes) premise.node premise.stands
   growth-ready (Growth.Allocate n r tenant) is unmade typed premise =
-      (allocated-tenant c s ch known n r tenant is premise, ((request-row c s known.fits known.carried r premise.request premise.worked_on.stands).text, known.carried.spelled.nodes))
-  growth-ready (Growth.Handles j) is unmade typed premise = handles-ready j premise
+      (allocated-tenant c s ch known n r tenant is premise premise.from, ((request-row c s known.fits known.carried r premise.request premise.worked_on.stands).text, known.carried.spelled.nodes))
+  growth-ready (Growth.Handles j) is unmade typed room =
+      let row = job-row c known.sound j room.job room.row in
+      let same : room.job.semaphores ≡ semaphores_of c j = ap (λ (o : Option Job). option_map_or (λ job. job.semaphores) o []) (sym room.row) in
+      let few = subst (λ xs. length xs ≤ 8) same row.few_taken in
+      let taken = subst (λ xs. AllByRecursion (λ (x : SemId). x.0 < length s.handles) xs) same (subst (λ (n : ℕ). AllByRecursion (λ (x : SemId). x.0 < n) room.job.semaphores) (sym known.carried.semaphores) row.taken) in
+      (job-low c j known.sound (slice_get_within c.jobs j.0 room.job room.row), (few, taken))
   growth-ready (Growth.Swept n x) is unmade typed premise = typed
 
 -- # what happens to the nodes by an accepted event is ready for the tree
@@ -164,9 +133,6 @@ module _ (c : Configuration) (s : State) (ch : Changes) (r : RequestId) (frees :
 
 -- ## its nodes
 
-lower-number : (m n : ℕ) → nat_lt m n ≡ true → (m == n) ≡ false
-lower-number m n before = grind (arith, nat_tests)
-
 -- each node is the one that is found by its number
 each-found : (P : NodeEntry → Type 0) (rows : List NodeEntry) → Rises (λ a b. nat_lt a.id.0 b.id.0) rows → ((e : NodeEntry) → node_entry e.id rows ≡ Some e → P e) → AllByRecursion P rows
 each-found P [] rises says = tt
@@ -174,7 +140,7 @@ each-found P (x ∷ rows) rises says = (says x (let here = equal-itself x.id.0 i
   later : (e : NodeEntry) → node_entry e.id rows ≡ Some e → P e
   later e found =
       let before : nat_lt x.id.0 e.id.0 ≡ true = all-find (λ (y : NodeEntry). nat_lt x.id.0 y.id.0 ≡ true) (λ (y : NodeEntry). y.id.0 == e.id.0) rows e rises.0 found in
-      let other : (x.id.0 == e.id.0) ≡ false = lower-number x.id.0 e.id.0 before in
+      let other : (x.id.0 == e.id.0) ≡ false = grind (arith, nat_tests) in
       says e (rw other found)
 
 -- a request that an option names
@@ -182,34 +148,22 @@ named : (r : RequestId) (o : Option RequestId) → is_request r o ≡ true → o
 named r None is = absurd cc
 named r (Some other) is = ap (λ (x : RequestId). Some x) (request-equal other r is)
 
--- the nodes of a request that stands are those of its record
-nodes-are : (s : State) (r : RequestId) (request : RequestRecord) → request_in r s.requests ≡ Some request → request.nodes ≡ nodes_of r s.requests
-nodes-are s r request stands = ap (λ (o : Option RequestRecord). option_map_or (λ k. k.nodes) o []) (sym stands)
-
 -- the node has a place in the list if it is allocated to the request
 abbrev IsAmong : RequestId → List NodeId → NodeEntry → Type 0
 IsAmong r numbers e = is_request r e.kept.allocated_to ≡ true → list_any (λ n. n.0 == e.id.0) numbers ≡ true
 
--- each node that is allocated to a request that stands is in its list
-each-listed : (s : State) → AllocationsListed s → (r : RequestId) (request : RequestRecord) → request_in r s.requests ≡ Some request → (e : NodeEntry) → node_entry e.id s.nodes ≡ Some e → IsAmong r request.nodes e
-each-listed s listed r request stands e found is =
-    let record_found : node_in e.id s.nodes ≡ Some e.kept = ap (λ (o : Option NodeEntry). option_map (λ x. x.kept) o) found in
-    (listed e.id e.kept r record_found (named r e.kept.allocated_to is)).listed request stands
-
 module _ (c : Configuration) (s : State) (fits : Fits c s) (invariant : Invariant c s) (carried : IsCarried c s) where
-  -- the nodes of a request are free
-  free-ready : (tick : ℕ) (r : RequestId) → IsInRows s r → NodesReady (NodesChange.FreeAll r) tick s.requests s.nodes
-  free-ready tick r stands =
-      let request = stands.0 in
-      let same = nodes-are s r request stands.1 in
-      let rises = invariant.numbered.nodes_rise in
-      let few = (request-row c s fits carried r request stands.1).is.few_nodes in
-      let listed : AllByRecursion (IsAmong r request.nodes) s.nodes = each-found (IsAmong r request.nodes) s.nodes rises (each-listed s invariant.owned.allocations r request stands.1) in
-      (subst (λ (numbers : List NodeId). length numbers ≤ 32) same few, (rises, subst (λ (numbers : List NodeId). AllByRecursion (IsAmong r numbers) s.nodes) same listed))
-
   -- what happens to the nodes is ready for the tree
   pub nodes-ready : (ch : Changes) (change : NodesChange) → ch.nodes ≡ change → RequestsPremise c s ch ch.requests → NodesPremise c s ch change → NodesReady change s.tick s.requests s.nodes
-  nodes-ready ch (NodesChange.FreeAll r) is premise of_nodes = free-ready s.tick r (emptied-stands c s ch r is premise of_nodes)
+  nodes-ready ch (NodesChange.FreeAll r) is premise of_nodes =
+      let stands = emptied-stands c s ch r is premise of_nodes in
+      let request = stands.0 in
+      let same : request.nodes ≡ nodes_of r s.requests = ap (λ (o : Option RequestRecord). option_map_or (λ k. k.nodes) o []) (sym stands.1) in
+      let rises = invariant.numbered.nodes_rise in
+      let few = (request-row c s fits carried r request stands.1).is.few_nodes in
+      let listed : AllByRecursion (IsAmong r request.nodes) s.nodes = each-found (IsAmong r request.nodes) s.nodes rises
+      (λ e found it. (invariant.owned.allocations e.id e.kept r (ap (λ (o : Option NodeEntry). option_map (λ x. x.kept) o) found) (named r e.kept.allocated_to it)).listed request stands.1) in
+      (subst (λ (numbers : List NodeId). length numbers ≤ 32) same few, (rises, subst (λ (numbers : List NodeId). AllByRecursion (IsAmong r numbers) s.nodes) same listed))
   nodes-ready ch (NodesChange.TakeOver numbers) is premise of_nodes =
       let takes = of_nodes.1 in
       let few = (request-row c s fits carried of_nodes.0 takes.request takes.request_stands).is.few_nodes in
@@ -233,12 +187,12 @@ pub events-are-ready : RecordsAreSpelled → EventsAreReady
 events-are-ready spelled c s e accepted =
     let ch = plan c s e in
     let known = known-accepted c s e accepted in
-    let grows = growth-ready c s ch known ch.grows refl (plan-unmade c s e) known.typed.grows known.premises.grows in
+    let grows = growth-ready c s ch known ch.grows refl (plain c s e).unmade known.typed.grows known.premises.grows in
     let nodes = nodes-ready c s accepted.fits accepted.invariant accepted.carried ch ch.nodes refl known.premises.requests known.premises.nodes in
     let request_waits = waits-once s s.requests accepted.invariant.queued.at_requests in
     let node_waits = waits-once s s.nodes accepted.invariant.queued.at_nodes in
     let tick : s.tick + 1 < 2 ^ 32 = omega (arith, accepted.fits.tick) in
-    assumption (known.premises, plan-apart c s e, plan-sessions c s e, accepted.carried.spelled, spelled c s e accepted)
+    assumption (known.premises, (plain c s e).apart, (plain c s e).sessions, accepted.carried.spelled, spelled c s e accepted)
 
 -- # the changes of a whole event
 
@@ -283,8 +237,7 @@ spelled-grown c maker growth s ready spelled = record {
 
 -- table after table leaves the state after the call
 called-is : (c : Configuration) (ch : Changes) (g : State) (change : SessionsChange) → with_all c (record ch { sessions = change }) g ≡ settled c (record ch { sessions = in_call change }) g
-called-is c ch g SessionsChange.Same = refl
-called-is c ch g _ = refl
+called-is c ch g change = grind arith
 
 -- the end of a session leaves the changed state
 abbrev pub state_with_end : SessionsChange → State → State
@@ -292,8 +245,7 @@ state_with_end (SessionsChange.End session) s = without_session session s
 state_with_end other s = s
 
 changed-is : (c : Configuration) (ch : Changes) (g : State) (change : SessionsChange) → state_with_end change (settled c (record ch { sessions = in_call change }) g) ≡ settled c (record ch { sessions = change }) g
-changed-is c ch g SessionsChange.Same = refl
-changed-is c ch g _ = refl
+changed-is c ch g change = grind arith
 
 -- sessions count from one
 first-session : (session : SessionId) (s : State) (facts : SessionFacts) → session_of session s ≡ Some facts → 1 ≤ session.0
@@ -332,8 +284,7 @@ begin-last _ t w parts live goes = record { goes = goes; is = refl }
 
 -- the begin of a session does not see the number
 begin-numbered : (growth : Growth) (t : TreeState) (number : ℕ) → with_begin growth (numbered number t) ≡ numbered number (with_begin growth t)
-begin-numbered (Growth.Session role) t number = refl
-begin-numbered _ t number = refl
+begin-numbered growth t number = grind arith
 
 module _ (growths : GrowthsEnact) (tables : TablesEnact) (c : Configuration) (ch : Changes) (s : State) (t : TreeState) (more : ℕ) (ready : IsReady c ch s) (stands : Stands s t (writer ch.maker) (more + 64)) (low : t.changes + 2 < 18_446_744_073_709_551_615) where
   abbrev w : ℕ
@@ -348,18 +299,15 @@ module _ (growths : GrowthsEnact) (tables : TablesEnact) (c : Configuration) (ch
   abbrev parts : List Op
   parts = parts_of c ch s t
 
-  all-is : with_all c ch g ≡ called c ch s
-  all-is = called-is c ch g ch.sessions
-
   grown-enacts : Enacts (with_begin ch.grows t) w (grown_parts c ch.maker ch.grows s) g (more + 56)
   grown-enacts = growths c ch.maker ch.grows s t (more + 56) (stands-less s t w (more + 64) (more + 56 + 8) (omega arith) stands) ready.grows
 
   all-enacts : Enacts (with_begin ch.grows t) w parts (called c ch s) (more + 16)
   all-enacts =
-      subst (λ (later : State). Enacts (with_begin ch.grows t) w parts later (more + 16)) all-is
+      subst (λ (later : State). Enacts (with_begin ch.grows t) w parts later (more + 16)) (called-is c ch g ch.sessions)
       (enacts-joined g (with_all c ch g) (with_begin ch.grows t) w (grown_parts c ch.maker ch.grows s) (settled_parts c ch s t) (more + 56) (more + 16) grown-enacts
       (subst (λ (rest : List Op). Enacts u w rest (with_all c ch g) (more + 16)) (settled-current c ch s t ready.premises ready.apart)
-      (settled-enact tables c ch s t (more + 16) ready (spelled-grown c ch.maker ch.grows s ready.grows ready.spelled) (subst HasSpellings (sym all-is) ready.spelled_later) (stands-less g u w (more + 56) (more + 16 + 40) (omega arith) grown-enacts.leaves))))
+      (settled-enact tables c ch s t (more + 16) ready (spelled-grown c ch.maker ch.grows s ready.grows ready.spelled) (subst HasSpellings (sym (called-is c ch g ch.sessions)) ready.spelled_later) (stands-less g u w (more + 56) (more + 16 + 40) (omega arith) grown-enacts.leaves))))
 
   -- the changes of an accepted event are enacted
   pub events-enact : IsEnacted c ch s t more

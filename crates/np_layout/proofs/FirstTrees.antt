@@ -1,89 +1,10 @@
 -- the first tree of a sound site, from its fixed directories on, and that it can carry the first state
-use Rattle.np_layout.proofs.Prelude.{AllByRecursion, AreHolders, AreSemaphores, Bool, Configuration, Goes, HasGoodIds, HasHandles, HasLeaves, HasRoomFor, HasSpellings, IsGood, IsJob, IsOk, IsOrdered, IsPart, IsRole, IsSound, IsWhole, IsWhole-new_tree, Job, JobId, Jobs, Launchers, LaysOut, List, Nodepool, Nodes, None, Op, Persistent, Place, Poolsim, RequestLocks, Requests, Roles, Root, Row, Seen, Semaphore, Semaphores, Sessions, Some, StartsAreCarried, SweptPairs, Tick, TreeState, Zuul, [], above, after_begin, after_part, after_parts, all-map, answers_from, ap, arith, below, by_name, decimal, digits, directories, false, find_named, first_directories, first_parts, first_tree, fold-append, goes-answered, goes-joined, goes-under-one-number, goes-whole, handle_row, is_in, janitor_role_row, job_row, job_text, launcher_role_row, length, length-map, make, make_each, map, name_of, new_job, new_tree, no_deeds, nothing-below_nothing, option_map, owner_at, path_of, persistent, range_with_len, refl, requester_role_row, role_text, room-falls, room-gives, rows_at, rows_from, seen-is-row, seen_at, seen_in, semaphore_row, start, subst, suc, sym, true, under, with_next_number, with_row, zero, ℕ, ◌++◌, ◌+◌, ◌<◌, ◌^◌, ◌∙◌, ◌∷◌, ◌≡◌, ◌≤◌}
-use Rattle.np_layout.proofs.Names.{IsGood-above, is_path-of, length-two, parts-of}
-use Rattle.np_layout.proofs.Steps.{Step, counter-there, make-step, over_leaves}
-use Rattle.np_layout.proofs.Elsewhere.{IsBeside, Says, Stays, Table, all-tables, live-stays, of_frame, of_jobs, of_launchers, of_live, of_node_locks, of_nodes, of_request_locks, of_requests, of_roles, of_semaphores, of_sessions, of_swept, rows-stay, same-lays, stays-both, stays-more, stays-same, table-beside}
+use Rattle.np_layout.proofs.Prelude.{AllByRecursion, AreHolders, AreSemaphores, Bool, Configuration, Goes, HasGoodIds, HasHandles, HasLeaves, HasRoomFor, HasSpellings, IsGood, IsJob, IsOk, IsOrdered, IsPart, IsRole, IsSound, IsWhole, IsWhole-new_tree, JanitorRole, Job, JobId, Jobs, LauncherRole, Launchers, LaysOut, List, Nodepool, Nodes, None, Op, Persistent, Place, Poolsim, RequestLocks, RequesterRole, Requests, Roles, Root, Row, Seen, Semaphore, Semaphores, Sessions, Some, StartsAreCarried, SweptPairs, Tick, TreeState, Zuul, above, after_begin, after_part, after_parts, all-map, answers_from, ap, arith, below, by_name, decimal, digits, directories, false, find_named, first_directories, first_parts, first_tree, fold-append, goes-answered, goes-joined, goes-under-one-number, goes-whole, handle_row, is_in, janitor_role_row, job_row, job_text, launcher_role_row, length, length-map, make, make_each, map, new_job, new_tree, no_deeds, nothing-below_nothing, option_map, owner_at, path_of, persistent, place_name, places, range_with_len, refl, requester_role_row, role_text, room-falls, room-gives, rows_at, rows_from, seen_at, seen_in, semaphore_row, start, subst, suc, sym, true, under, with_next_number, with_row, zero, ℕ, [], ◌++◌, ◌+◌, ◌<◌, ◌^◌, ◌∙◌, ◌∷◌, ◌≡◌, ◌≤◌}
+use Rattle.np_layout.proofs.Names.{IsGood-above, is_path-of, length-two}
+use Rattle.np_layout.proofs.Steps.{Step, counter-there, make-step, over_leaves, seen-named}
+use Rattle.np_layout.proofs.Elsewhere.{IsBeside, Says, Stays, Table, all-tables, live-stays, of_frame, of_jobs, of_launchers, of_live, of_node_locks, of_nodes, of_request_locks, of_requests, of_roles, of_semaphores, of_sessions, of_swept, rows-stay, same-lays, stays-both, stays-more, stays-same, stays-wider, table-beside}
 use Rattle.np_layout.proofs.Rows.{all-range, get-empty, no_jobs, rows_from-equal, rows_put}
 use Rattle.np_layout.proofs.Sets.{IsTable, janitor-table, janitor_place, job-table, job_place, launcher-table, launcher_place, place_number, requester-table, requester_place}
-
--- # several parts of the first call make the nodes of one kind
-
--- a directory in which the first session can make nodes
-pub record Ready (dir : Place) (t : TreeState) : Type 0 where
-  pub whole : IsWhole t.nodes
-  pub live : is_in t.live 1 ≡ true
-  pub owner : owner_at t (path_of dir) ≡ Some None
-
--- the tree after so many places of one kind, from a number on: a directory has their rows more
-pub record Block (place : ℕ → Place) (dir : Place) (bytes : List ℕ) (at count more : ℕ) (t : TreeState) : Type 0 where
-  pub u : TreeState
-  pub goes : Goes t 1 (map (λ n. make bytes (place n)) (range_with_len at count)) u
-  pub whole : IsWhole u.nodes
-  pub live : u.live ≡ t.live
-  pub begun : u.begun ≡ t.begun
-  pub stays : Stays (dir ∷ []) t u
-  pub rows : under dir u ≡ rows_put (under dir t) (map (λ n. persistent (place n) bytes) (range_with_len at count))
-  pub leaves : HasLeaves dir t → HasLeaves dir u
-  pub seen : (other : Place) → IsGood other → ((n : ℕ) → other ≡ place n → ⊥) → seen_at u (path_of other) ≡ seen_at t (path_of other)
-  pub room : HasRoomFor more u
-
--- a directory that was ready is so when nodes of a kind were made
-pub ready-after : {place : ℕ → Place} {into : Place} {bytes : List ℕ} {at count more : ℕ} {t : TreeState} (b : Block place into bytes at count more t) (dir : Place) → IsGood dir → ((n : ℕ) → dir ≡ place n → ⊥) → Ready dir t → Ready dir b.u
-ready-after b dir good beside ready = record {
-  whole = b.whole;
-  live = ap (λ (list : List ℕ). is_in list 1) b.live ∙ ready.live;
-  owner = ap (option_map (λ (seen : Seen). seen.owner)) (b.seen dir good beside) ∙ ready.owner;
-}
-
--- each good place below an empty directory is free
-pub free-below : (t : TreeState) (dir p : Place) → IsWhole t.nodes → under dir t ≡ [] → IsGood p → above p ≡ Some dir → seen_at t (path_of p) ≡ None
-free-below t dir p whole empty good over =
-    seen-is-row t (path_of p) (path_of dir) whole (is_path-of p good) ((parts-of p good).0 ∙ ap (option_map path_of) over)
-    ∙ ap (λ (rows : List Row). option_map seen_in (find_named (name_of (path_of p)) rows)) empty
-
-module _ {A : Type 0} (place : ℕ → Place) (number : Place → ℕ) (dir : Place) (bytes : List ℕ) (list : List A) (is : IsTable place number dir 0 list) (top : over_leaves (above dir) ≡ false) (beside : (n : ℕ) → dir ≡ place n → ⊥) (short : length bytes ≤ 65536) where
-  -- the nodes of one kind are made, if none of them is there
-  pub block : (count at more : ℕ) (t : TreeState) → at + count ≤ length list → Ready dir t → HasRoomFor (count + more) t → ((n : ℕ) → at ≤ n → n < length list → seen_at t (path_of (place n)) ≡ None) → Block place dir bytes at count more t
-  block zero at more t within ready room free = record {
-    u = t;
-    goes = refl;
-    whole = ready.whole;
-    live = refl;
-    begun = refl;
-    stays = stays-same (dir ∷ []) t;
-    rows = refl;
-    leaves = λ leaves. leaves;
-    seen = λ other good apart. refl;
-    room = let same : 0 + more ≡ more = omega arith in subst (λ (n : ℕ). HasRoomFor n t) same room;
-  }
-  block (suc count) at more t within ready room free =
-      let same : suc count + more ≡ (count + more) + 1 = omega arith in
-      let left = subst (λ (n : ℕ). HasRoomFor n t) same room in
-      let good = is.good at (omega arith) in
-      let counter = counter-there t dir ready.owner in
-      let one : Step dir (place at) Persistent (persistent (place at) bytes) t 1 (make bytes (place at)) =
-      make-step t 1 dir (place at) bytes Persistent counter.0 good (is.over at) top refl short
-      (assumption (ready, counter.1, free at (omega arith) (omega arith), room-gives t (count + more) left)) in
-      let u : TreeState = after_part t 1 (make bytes (place at)) in
-      let next : Ready dir u = record {
-        whole = one.creates.whole;
-        live = ap (λ (known : List ℕ). is_in known 1) one.creates.live ∙ ready.live;
-        owner = ap (option_map (λ (seen : Seen). seen.owner)) (one.creates.other_seen dir (IsGood-above (place at) dir good (is.over at)) (beside at)) ∙ ready.owner;
-      } in
-      let later = block count (at + 1) more u (omega arith) next (room-falls t 1 (make bytes (place at)) (count + more) left)
-      (λ n from below. one.creates.other_seen (place n) (is.good n (omega arith)) (λ equal. let numbers : n ≡ at = sym (is.numbers n) ∙ ap number equal ∙ is.numbers at in absurd (omega arith)) ∙ free n (omega arith) below) in
-      record {
-        u = later.u;
-        goes = (one.ok, later.goes);
-        whole = later.whole;
-        live = later.live ∙ one.creates.live;
-        begun = later.begun ∙ one.creates.begun;
-        stays = stays-both (dir ∷ []) t u later.u one.creates.stays later.stays;
-        rows = later.rows ∙ ap (λ (sorted : List Row). rows_put sorted (map (λ (n : ℕ). persistent (place n) bytes) (range_with_len (at + 1) count))) one.creates.rows;
-        leaves = λ leaves. later.leaves (one.creates.leaves leaves);
-        seen = λ other other_good apart. later.seen other other_good apart ∙ one.creates.other_seen other other_good (apart at);
-        room = later.room;
-      }
 
 -- # the tree of the fixed directories alone
 
@@ -156,25 +77,146 @@ based-says c of_jobs empty = absurd cc
 based-says c of_roles empty = absurd cc
 based-says c k empty = assumption
 
+-- # several parts of the first call make the nodes of one kind
+
+-- the kinds of nodes that are made after the directories, in the order in which they are made; the last number is for the other places
+abbrev pub turn : Place → ℕ
+turn (Semaphore x) = 0
+turn (Job j) = 1
+turn (LauncherRole p) = 2
+turn (JanitorRole p) = 3
+turn (RequesterRole q) = 4
+turn other = 5
+
+-- the tree after these parts, which made the directories and some kinds
+pub record Made (kind more : ℕ) (parts : List Op) (dirs : List Place) (t : TreeState) : Type 0 where
+  pub goes : Goes (after_begin new_tree) 1 parts t
+  pub whole : IsWhole t.nodes
+  pub live : t.live ≡ based.live
+  pub begun : t.begun ≡ based.begun
+  pub stays : Stays dirs based t
+  pub seen : (p : Place) → IsGood p → kind ≤ turn p → seen_at t (path_of p) ≡ seen_at based (path_of p)
+  pub room : HasRoomFor more t
+
+-- the tree after one kind more: a directory has its rows
+pub record After {A : Type 0} {kind rest : ℕ} {parts : List Op} {dirs : List Place} {t : TreeState} (place : ℕ → Place) (dir : Place) (bytes : List ℕ) (list : List A) (more : ℕ) (before : Made kind rest parts dirs t) : Type 0 where
+  pub u : TreeState
+  pub made : Made (kind + 1) more (parts ++ make_each bytes place list) (dir ∷ dirs) u
+  pub stays : Stays (dir ∷ []) t u
+  pub rows : under dir u ≡ rows_put (under dir t) (map (λ n. persistent (place n) bytes) (places list))
+  pub leaves : HasLeaves dir t → HasLeaves dir u
+
+-- a directory in which the first session can make nodes
+pub record Ready (dir : Place) (t : TreeState) : Type 0 where
+  pub whole : IsWhole t.nodes
+  pub live : is_in t.live 1 ≡ true
+  pub owner : owner_at t (path_of dir) ≡ Some None
+
+-- the tree after so many places of one kind, from a number on: a directory has their rows more
+pub record Block (place : ℕ → Place) (dir : Place) (bytes : List ℕ) (kind at count more : ℕ) (t : TreeState) : Type 0 where
+  pub u : TreeState
+  pub goes : Goes t 1 (map (λ n. make bytes (place n)) (range_with_len at count)) u
+  pub whole : IsWhole u.nodes
+  pub live : u.live ≡ t.live
+  pub begun : u.begun ≡ t.begun
+  pub stays : Stays (dir ∷ []) t u
+  pub rows : under dir u ≡ rows_put (under dir t) (map (λ n. persistent (place n) bytes) (range_with_len at count))
+  pub leaves : HasLeaves dir t → HasLeaves dir u
+  pub seen : (other : Place) → IsGood other → kind < turn other → seen_at u (path_of other) ≡ seen_at t (path_of other)
+  pub room : HasRoomFor more u
+
+-- a directory that was ready at first is so when kinds of nodes were made
+pub ready-in : {kind more : ℕ} {parts : List Op} {dirs : List Place} {t : TreeState} (dir : Place) (before : Made kind more parts dirs t) → IsGood dir → kind ≤ turn dir → owner_at based (path_of dir) ≡ Some None → Ready dir t
+ready-in dir before good later owner = record {
+  whole = before.whole;
+  live = ap (λ (known : List ℕ). is_in known 1) before.live ∙ based-shows.live;
+  owner = ap (option_map (λ (seen : Seen). seen.owner)) (before.seen dir good later) ∙ owner;
+}
+
+-- each good place below an empty directory is free
+pub free-below : (t : TreeState) (dir p : Place) → IsWhole t.nodes → under dir t ≡ [] → IsGood p → above p ≡ Some dir → seen_at t (path_of p) ≡ None
+free-below t dir p whole empty good over = seen-named t dir p whole good over ∙ ap (λ (rows : List Row). option_map seen_in (find_named (place_name p) rows)) empty
+
+module _ {A : Type 0} (place : ℕ → Place) (number : Place → ℕ) (dir : Place) (bytes : List ℕ) (list : List A) (kind : ℕ) (is : IsTable place number dir 0 list) (top : over_leaves (above dir) ≡ false) (short : length bytes ≤ 65536) (kinds : (n : ℕ) → turn (place n) ≡ kind) (early : kind < turn dir) where
+  -- a place of a later kind is none of them
+  apart : (p : Place) (n : ℕ) → kind < turn p → p ≡ place n → ⊥
+  apart p n later same = let turns : turn p ≡ kind = ap turn same ∙ kinds n in omega arith
+
+  -- the nodes of one kind are made, if none of them is there
+  pub block : (count at more : ℕ) (t : TreeState) → at + count ≤ length list → Ready dir t → HasRoomFor (count + more) t → ((n : ℕ) → at ≤ n → n < length list → seen_at t (path_of (place n)) ≡ None) → Block place dir bytes kind at count more t
+  block zero at more t within ready room free = record {
+    u = t;
+    goes = refl;
+    whole = ready.whole;
+    live = refl;
+    begun = refl;
+    stays = stays-same (dir ∷ []) t;
+    rows = refl;
+    leaves = λ leaves. leaves;
+    seen = λ other good later. refl;
+    room = let same : 0 + more ≡ more = omega arith in subst (λ (n : ℕ). HasRoomFor n t) same room;
+  }
+  block (suc count) at more t within ready room free =
+      let same : suc count + more ≡ (count + more) + 1 = omega arith in
+      let left = subst (λ (n : ℕ). HasRoomFor n t) same room in
+      let good = is.good at (omega arith) in
+      let counter = counter-there t dir ready.owner in
+      let one : Step dir (place at) Persistent (persistent (place at) bytes) t 1 (make bytes (place at)) =
+      make-step t 1 dir (place at) bytes Persistent counter.0 good (is.over at) top refl short
+      (assumption (ready, counter.1, free at (omega arith) (omega arith), room-gives t (count + more) left)) in
+      let u : TreeState = after_part t 1 (make bytes (place at)) in
+      let next : Ready dir u = record {
+        whole = one.creates.whole;
+        live = ap (λ (known : List ℕ). is_in known 1) one.creates.live ∙ ready.live;
+        owner = ap (option_map (λ (seen : Seen). seen.owner)) (one.creates.other_seen dir (IsGood-above (place at) dir good (is.over at)) (apart dir at early)) ∙ ready.owner;
+      } in
+      let later = block count (at + 1) more u (omega arith) next (room-falls t 1 (make bytes (place at)) (count + more) left)
+      (λ n from below. one.creates.other_seen (place n) (is.good n (omega arith)) (λ equal. let numbers : n ≡ at = sym (is.numbers n) ∙ ap number equal ∙ is.numbers at in absurd (omega arith)) ∙ free n (omega arith) below) in
+      record {
+        u = later.u;
+        goes = (one.ok, later.goes);
+        whole = later.whole;
+        live = later.live ∙ one.creates.live;
+        begun = later.begun ∙ one.creates.begun;
+        stays = stays-both (dir ∷ []) t u later.u one.creates.stays later.stays;
+        rows = later.rows ∙ ap (λ (sorted : List Row). rows_put sorted (map (λ (n : ℕ). persistent (place n) bytes) (range_with_len (at + 1) count))) one.creates.rows;
+        leaves = λ leaves. later.leaves (one.creates.leaves leaves);
+        seen = λ other other_good after. later.seen other other_good after ∙ one.creates.other_seen other other_good (apart other at after);
+        room = later.room;
+      }
+
+  -- so they are after the kinds before
+  pub kind-made : (t : TreeState) (parts : List Op) (dirs : List Place) (more : ℕ) → owner_at based (path_of dir) ≡ Some None → under dir based ≡ [] → IsGood dir → (before : Made kind (length list + more) parts dirs t) → After place dir bytes list more before
+  kind-made t parts dirs more owner empty dir_good before =
+      let b : Block place dir bytes kind 0 (length list) more t = block (length list) 0 more t (omega arith)
+      (ready-in dir before dir_good (omega arith) owner) before.room
+      (λ n from low. let good = is.good n (omega arith) in let turns = kinds n in before.seen (place n) good (omega arith) ∙ free-below based dir (place n) based-whole empty good (is.over n)) in
+      record {
+        u = b.u;
+        made = record {
+          goes = goes-joined (after_begin new_tree) t b.u 1 parts (make_each bytes place list) before.goes b.goes;
+          whole = b.whole;
+          live = b.live ∙ before.live;
+          begun = b.begun ∙ before.begun;
+          stays = stays-both (dir ∷ dirs) based t b.u (stays-wider dirs (dir ∷ dirs) based t (λ other apart. apart.1) before.stays) (stays-wider (dir ∷ []) (dir ∷ dirs) t b.u (λ other apart. (apart.0, tt)) b.stays);
+          seen = λ p good later. b.seen p good (omega arith) ∙ before.seen p good (omega arith);
+          room = b.room;
+        };
+        stays = b.stays;
+        rows = b.rows;
+        leaves = b.leaves;
+      }
+
 -- # the first tree of a sound site
 
 -- the place of each semaphore
 abbrev semaphore_at : ℕ → Place
 semaphore_at n = Semaphore (record { 0 = n })
 
--- a role's first record is short
-short-role : length (role_text no_deeds) ≤ 65536
+-- the first records of roles and of jobs are short
+short-records : (length (role_text no_deeds) ≤ 65536) × (length (job_text new_job) ≤ 65536)
 unfolding digits
-short-role = omega arith
-
--- so is a job's
-short-job : length (job_text new_job) ≤ 65536
-unfolding digits
-short-job = omega arith
-
--- as many members as rows, which are few
-few-made : {A B : Type 0} (rows : List A) (new : B) (limit : ℕ) → length rows ≤ limit → length (map (λ _. new) rows) ≤ limit
-few-made rows new limit few = subst (λ (n : ℕ). n ≤ limit) (sym (length-map rows (λ _. new))) few
+short-records = (omega arith, omega arith)
 
 -- nothing is below what is not there
 bare : (dir : Place) (t : TreeState) → under dir t ≡ [] → HasLeaves dir t
@@ -184,104 +226,55 @@ module _ (c : Configuration) (sound : IsSound c) where
   -- each id of the state before the first event has a text
   pub start-good : HasGoodIds (start c)
   start-good =
-      let semaphores = few-made c.semaphores no_jobs (2 ^ 16) (omega (arith, sound.few_semaphores)) in
+      let semaphores : length (map (λ _. no_jobs) c.semaphores) ≤ 2 ^ 16 = omega (arith, length-map c.semaphores (λ _. no_jobs), sound.few_semaphores) in
       let handles = all-map (λ holders. AllByRecursion (λ j. IsGood (Job j)) holders) (λ _. no_jobs) c.semaphores (λ row. tt) in
-      let pools = few-made c.pools no_deeds (2 ^ 16) (omega (arith, sound.supply.few_pools)) in
-      search (arith, few-made c.jobs new_job (2 ^ 32) (omega (arith, sound.demand.few_jobs)), few-made c.requesters no_deeds (2 ^ 16) (omega (arith, sound.few_requesters)))
+      let pools : length (map (λ _. no_deeds) c.pools) ≤ 2 ^ 16 = omega (arith, length-map c.pools (λ _. no_deeds), sound.supply.few_pools) in
+      let jobs : length (map (λ _. new_job) c.jobs) ≤ 2 ^ 32 = omega (arith, length-map c.jobs (λ _. new_job), sound.demand.few_jobs) in
+      let requesters : length (map (λ _. no_deeds) c.requesters) ≤ 2 ^ 16 = omega (arith, length-map c.requesters (λ _. no_deeds), sound.few_requesters) in
+      search arith
 
   -- ## the tree after each kind
 
   are-semaphores : IsTable semaphore_at place_number Semaphores 0 c.semaphores
   are-semaphores = record { good = λ n low. let few = sound.few_semaphores in omega arith; over = λ n. refl; numbers = λ n. refl }
 
-  are-jobs : IsTable job_place place_number Jobs 0 c.jobs
-  are-jobs = job-table c.jobs (let few = sound.demand.few_jobs in omega arith)
+  -- nothing but the directories is made at first
+  directories-made : Made 0 (length c.semaphores + (length c.jobs + (length c.pools + (length c.pools + (length c.requesters + 1))))) (map (make []) first_directories) [] based
+  directories-made = record {
+    goes = based-goes;
+    whole = based-whole;
+    live = refl;
+    begun = refl;
+    stays = stays-same [] based;
+    seen = λ p good later. refl;
+    room = based-room (length c.semaphores + (length c.jobs + (length c.pools + (length c.pools + (length c.requesters + 1))))) (omega (arith, sound.few_semaphores, sound.demand.few_jobs, sound.supply.few_pools, sound.few_requesters));
+  }
 
-  are-launchers : IsTable launcher_place place_number Roles 0 c.pools
-  are-launchers = launcher-table c.pools (let few = sound.supply.few_pools in omega arith)
+  semaphores : After semaphore_at Semaphores [] c.semaphores (length c.jobs + (length c.pools + (length c.pools + (length c.requesters + 1)))) directories-made
+  semaphores = kind-made semaphore_at place_number Semaphores [] c.semaphores 0 are-semaphores refl (omega arith) (λ n. refl) (omega arith) based _ _ (length c.jobs + (length c.pools + (length c.pools + (length c.requesters + 1)))) based-shows.owners.0 based-shows.semaphores tt directories-made
 
-  are-janitors : IsTable janitor_place place_number Roles 0 c.pools
-  are-janitors = janitor-table c.pools (let few = sound.supply.few_pools in omega arith)
+  jobs : After job_place Jobs (job_text new_job) c.jobs (length c.pools + (length c.pools + (length c.requesters + 1))) semaphores.made
+  jobs = kind-made job_place place_number Jobs (job_text new_job) c.jobs 1 (job-table c.jobs (omega (arith, sound.demand.few_jobs))) refl short-records.1 (λ n. refl) (omega arith) semaphores.u _ _ _ based-shows.owners.1.0 based-shows.jobs tt semaphores.made
 
-  are-requesters : IsTable requester_place place_number Roles 0 c.requesters
-  are-requesters = requester-table c.requesters (let few = sound.few_requesters in omega arith)
+  launchers : After launcher_place Roles (role_text no_deeds) c.pools (length c.pools + (length c.requesters + 1)) jobs.made
+  launchers = kind-made launcher_place place_number Roles (role_text no_deeds) c.pools 2 (launcher-table c.pools (omega (arith, sound.supply.few_pools))) refl short-records.0 (λ n. refl) (omega arith) jobs.u _ _ _ based-shows.owners.1.1.0 based-shows.roles tt jobs.made
 
-  -- a directory is ready at first
-  first-ready : (dir : Place) → owner_at based (path_of dir) ≡ Some None → Ready dir based
-  first-ready dir owner = record { whole = based-whole; live = based-shows.live; owner = owner }
+  janitors : After janitor_place Roles (role_text no_deeds) c.pools (length c.requesters + 1) launchers.made
+  janitors = kind-made janitor_place place_number Roles (role_text no_deeds) c.pools 3 (janitor-table c.pools (omega (arith, sound.supply.few_pools))) refl short-records.0 (λ n. refl) (omega arith) launchers.u _ _ _ based-shows.owners.1.1.0 based-shows.roles tt launchers.made
 
-  -- the semaphores are made
-  semaphores : Block semaphore_at Semaphores [] 0 (length c.semaphores) (length c.jobs + (length c.pools + (length c.pools + (length c.requesters + 1)))) based
-  semaphores =
-      block semaphore_at place_number Semaphores [] c.semaphores are-semaphores refl (λ n same. absurd cc) (omega arith) (length c.semaphores) 0 (length c.jobs + (length c.pools + (length c.pools + (length c.requesters + 1)))) based (omega arith)
-      (first-ready Semaphores based-shows.owners.0)
-      (based-room (length c.semaphores + (length c.jobs + (length c.pools + (length c.pools + (length c.requesters + 1))))) (omega (arith, sound.few_semaphores, sound.demand.few_jobs, sound.supply.few_pools, sound.few_requesters)))
-      (λ n from low. free-below based Semaphores (semaphore_at n) based-whole based-shows.semaphores (are-semaphores.good n (omega arith)) refl)
-
-  -- the jobs are made after them
-  jobs : Block job_place Jobs (job_text new_job) 0 (length c.jobs) (length c.pools + (length c.pools + (length c.requesters + 1))) semaphores.u
-  jobs = block job_place place_number Jobs (job_text new_job) c.jobs are-jobs refl (λ n same. absurd cc) short-job (length c.jobs) 0 (length c.pools + (length c.pools + (length c.requesters + 1))) semaphores.u (omega arith)
-      (ready-after semaphores Jobs tt (λ n same. absurd cc) (first-ready Jobs based-shows.owners.1.0)) semaphores.room
-      (λ n from low. let good = are-jobs.good n (omega arith) in semaphores.seen (job_place n) good (λ m same. absurd cc) ∙ free-below based Jobs (job_place n) based-whole based-shows.jobs good refl)
-
-  -- the directory of roles is ready after the jobs
-  roles-ready : Ready Roles jobs.u
-  roles-ready = ready-after jobs Roles tt (λ n same. absurd cc) (ready-after semaphores Roles tt (λ n same. absurd cc) (first-ready Roles based-shows.owners.1.1.0))
-
-  -- and empty
-  no-roles : under Roles jobs.u ≡ []
-  no-roles = rows-stay (Jobs ∷ []) semaphores.u jobs.u jobs.stays Roles tt refl ∙ rows-stay (Semaphores ∷ []) based semaphores.u semaphores.stays Roles tt refl ∙ based-shows.roles
-
-  -- the launchers are made after the jobs
-  launchers : Block launcher_place Roles (role_text no_deeds) 0 (length c.pools) (length c.pools + (length c.requesters + 1)) jobs.u
-  launchers = block launcher_place place_number Roles (role_text no_deeds) c.pools are-launchers refl (λ n same. absurd cc) short-role (length c.pools) 0 (length c.pools + (length c.requesters + 1)) jobs.u (omega arith) roles-ready jobs.room
-      (λ n from low. free-below jobs.u Roles (launcher_place n) jobs.whole no-roles (are-launchers.good n (omega arith)) refl)
-
-  -- the janitors are made after the launchers
-  janitors : Block janitor_place Roles (role_text no_deeds) 0 (length c.pools) (length c.requesters + 1) launchers.u
-  janitors = block janitor_place place_number Roles (role_text no_deeds) c.pools are-janitors refl (λ n same. absurd cc) short-role (length c.pools) 0 (length c.requesters + 1) launchers.u (omega arith)
-      (ready-after launchers Roles tt (λ n same. absurd cc) roles-ready) launchers.room
-      (λ n from low. let good = are-janitors.good n (omega arith) in launchers.seen (janitor_place n) good (λ m same. absurd cc) ∙ free-below jobs.u Roles (janitor_place n) jobs.whole no-roles good refl)
-
-  -- the requesters are made after the janitors
-  requesters : Block requester_place Roles (role_text no_deeds) 0 (length c.requesters) 1 janitors.u
-  requesters = block requester_place place_number Roles (role_text no_deeds) c.requesters are-requesters refl (λ n same. absurd cc) short-role (length c.requesters) 0 1 janitors.u (omega arith)
-      (ready-after janitors Roles tt (λ n same. absurd cc) (ready-after launchers Roles tt (λ n same. absurd cc) roles-ready)) janitors.room
-      (λ n from low.
-      let good = are-requesters.good n (omega arith) in
-      janitors.seen (requester_place n) good (λ m same. absurd cc) ∙ launchers.seen (requester_place n) good (λ m same. absurd cc) ∙ free-below jobs.u Roles (requester_place n) jobs.whole no-roles good refl)
-
-  -- each role's record is made in one directory
-  roles-stay : Stays (Roles ∷ []) jobs.u requesters.u
-  roles-stay = stays-both (Roles ∷ []) jobs.u janitors.u requesters.u (stays-both (Roles ∷ []) jobs.u launchers.u janitors.u launchers.stays janitors.stays) requesters.stays
-
-  -- the directory of the tick is ready after the requesters
-  poolsim-ready : Ready Poolsim requesters.u
-  poolsim-ready =
-      ready-after requesters Poolsim tt (λ n same. absurd cc)
-      (ready-after janitors Poolsim tt (λ n same. absurd cc)
-      (ready-after launchers Poolsim tt (λ n same. absurd cc)
-      (ready-after jobs Poolsim tt (λ n same. absurd cc)
-      (ready-after semaphores Poolsim tt (λ n same. absurd cc) (first-ready Poolsim based-shows.owners.1.1.1.0)))))
-
-  -- there is no tick yet
-  tick-free : seen_at requesters.u (path_of Tick) ≡ None
-  tick-free =
-      requesters.seen Tick tt (λ n same. absurd cc)
-      ∙ janitors.seen Tick tt (λ n same. absurd cc)
-      ∙ launchers.seen Tick tt (λ n same. absurd cc)
-      ∙ jobs.seen Tick tt (λ n same. absurd cc)
-      ∙ semaphores.seen Tick tt (λ n same. absurd cc)
-      ∙ based-shows.free
+  requesters : After requester_place Roles (role_text no_deeds) c.requesters 1 janitors.made
+  requesters = kind-made requester_place place_number Roles (role_text no_deeds) c.requesters 4 (requester-table c.requesters (omega (arith, sound.few_requesters))) refl short-records.0 (λ n. refl) (omega arith) janitors.u _ _ _ based-shows.owners.1.1.0 based-shows.roles tt janitors.made
 
   -- the tick is made last
   ticked : Step Poolsim Tick Persistent (persistent Tick (decimal 0)) requesters.u 1 (make (decimal 0) Tick)
   ticked =
+      let before = requesters.made in
+      let ready : Ready Poolsim requesters.u = ready-in Poolsim before tt (omega arith) based-shows.owners.1.1.1.0 in
       let short = length-two 0 (omega arith) in
-      let counter = counter-there requesters.u Poolsim poolsim-ready.owner in
-      let room : HasRoomFor (0 + 1) requesters.u = requesters.room in
+      let counter = counter-there requesters.u Poolsim ready.owner in
+      let room : HasRoomFor (0 + 1) requesters.u = before.room in
       make-step requesters.u 1 Poolsim Tick (decimal 0) Persistent counter.0 tt refl refl refl (omega arith)
-      (record { whole = poolsim-ready.whole; live = poolsim-ready.live; owner = poolsim-ready.owner; gives = counter.1; free = tick-free; room = room-gives requesters.u 0 room })
+      (record { whole = ready.whole; live = ready.live; owner = ready.owner; gives = counter.1; free = before.seen Tick tt (omega arith) ∙ based-shows.free; room = room-gives requesters.u 0 room })
 
   -- all that is made
   abbrev made : TreeState
@@ -290,29 +283,25 @@ module _ (c : Configuration) (sound : IsSound c) where
   -- each part of the first call is accepted, and all of them leave what is made
   made-goes : Goes (after_begin new_tree) 1 (first_parts c) made
   made-goes =
-      let from : TreeState = after_begin new_tree in
-      let p1 : List Op = map (make []) first_directories in
-      let p2 : List Op = p1 ++ make_each [] semaphore_at c.semaphores in
-      let p3 : List Op = p2 ++ make_each (job_text new_job) job_place c.jobs in
-      let p4 : List Op = p3 ++ make_each (role_text no_deeds) launcher_place c.pools in
-      let p5 : List Op = p4 ++ make_each (role_text no_deeds) janitor_place c.pools in
-      let g2 = goes-joined from based semaphores.u 1 p1 (make_each [] semaphore_at c.semaphores) based-goes semaphores.goes in
-      let g3 = goes-joined from semaphores.u jobs.u 1 p2 (make_each (job_text new_job) job_place c.jobs) g2 jobs.goes in
-      let g4 = goes-joined from jobs.u launchers.u 1 p3 (make_each (role_text no_deeds) launcher_place c.pools) g3 launchers.goes in
-      let g5 = goes-joined from launchers.u janitors.u 1 p4 (make_each (role_text no_deeds) janitor_place c.pools) g4 janitors.goes in
-      let g6 = goes-joined from janitors.u requesters.u 1 p5 (make_each (role_text no_deeds) requester_place c.requesters) g5 requesters.goes in
-      goes-joined from requesters.u made 1 (p5 ++ make_each (role_text no_deeds) requester_place c.requesters) (make (decimal 0) Tick ∷ []) g6 (ticked.ok, refl)
+      let parts : List Op =
+      map (make []) first_directories ++ make_each [] semaphore_at c.semaphores ++ make_each (job_text new_job) job_place c.jobs ++ make_each (role_text no_deeds) launcher_place c.pools
+      ++ make_each (role_text no_deeds) janitor_place c.pools ++ make_each (role_text no_deeds) requester_place c.requesters in
+      goes-joined (after_begin new_tree) requesters.u made 1 parts (make (decimal 0) Tick ∷ []) requesters.made.goes (ticked.ok, refl)
 
   -- ## the tree lays out the state
 
-  from-jobs : Stays (Roles ∷ Poolsim ∷ []) jobs.u made
-  from-jobs = stays-more Roles (Poolsim ∷ []) jobs.u requesters.u made roles-stay ticked.creates.stays
+  from-jobs : Stays (Roles ∷ Roles ∷ Roles ∷ Poolsim ∷ []) jobs.u made
+  from-jobs = stays-more Roles _ jobs.u launchers.u made launchers.stays (stays-more Roles _ launchers.u janitors.u made janitors.stays (stays-more Roles _ janitors.u requesters.u made requesters.stays ticked.creates.stays))
 
-  from-semaphores : Stays (Jobs ∷ Roles ∷ Poolsim ∷ []) semaphores.u made
-  from-semaphores = stays-more Jobs (Roles ∷ Poolsim ∷ []) semaphores.u jobs.u made jobs.stays from-jobs
+  from-semaphores : Stays (Jobs ∷ Roles ∷ Roles ∷ Roles ∷ Poolsim ∷ []) semaphores.u made
+  from-semaphores = stays-more Jobs _ semaphores.u jobs.u made jobs.stays from-jobs
 
-  from-based : Stays (Semaphores ∷ Jobs ∷ Roles ∷ Poolsim ∷ []) based made
-  from-based = stays-more Semaphores (Jobs ∷ Roles ∷ Poolsim ∷ []) based semaphores.u made semaphores.stays from-semaphores
+  from-based : Stays (Semaphores ∷ Jobs ∷ Roles ∷ Roles ∷ Roles ∷ Poolsim ∷ []) based made
+  from-based = stays-more Semaphores _ based semaphores.u made semaphores.stays from-semaphores
+
+  -- the directory of roles is empty before the first of them
+  no-roles : under Roles jobs.u ≡ []
+  no-roles = rows-stay (Jobs ∷ Semaphores ∷ []) based jobs.u jobs.made.stays Roles tt refl ∙ based-shows.roles
 
   -- a semaphore has no handles
   semaphore-empty : (n : ℕ) → n < length c.semaphores → HasHandles (start c).handles semaphores.u (record { 0 = n })
@@ -355,14 +344,8 @@ module _ (c : Configuration) (sound : IsSound c) where
   -- what is made lays out the state before the first event
   made-lays : LaysOut (start c) made
   made-lays = all-tables _ _ each where
-    stay : (p : Place) → IsGood p → IsBeside p (Semaphores ∷ Jobs ∷ Roles ∷ Poolsim ∷ []) → under p made ≡ under p based
-    stay = rows-stay (Semaphores ∷ Jobs ∷ Roles ∷ Poolsim ∷ []) based made from-based
-
-    before : under Poolsim requesters.u ≡ under Poolsim based
-    before =
-        rows-stay (Roles ∷ []) jobs.u requesters.u roles-stay Poolsim tt refl
-        ∙ rows-stay (Jobs ∷ []) semaphores.u jobs.u jobs.stays Poolsim tt refl
-        ∙ rows-stay (Semaphores ∷ []) based semaphores.u semaphores.stays Poolsim tt refl
+    stay : (p : Place) → IsGood p → IsBeside p (Semaphores ∷ Jobs ∷ Roles ∷ Roles ∷ Roles ∷ Poolsim ∷ []) → under p made ≡ under p based
+    stay = rows-stay _ based made from-based
 
     no_jobs_yet : under Jobs semaphores.u ≡ []
     no_jobs_yet = rows-stay (Semaphores ∷ []) based semaphores.u semaphores.stays Jobs tt refl ∙ based-shows.jobs
@@ -372,11 +355,11 @@ module _ (c : Configuration) (sound : IsSound c) where
       root = stay Root tt refl ∙ based-shows.root;
       nodepool = stay Nodepool tt refl ∙ based-shows.nodepool;
       zuul = stay Zuul tt refl ∙ based-shows.zuul;
-      poolsim = ticked.creates.rows ∙ ap (with_row (persistent Tick (decimal 0))) (before ∙ based-shows.poolsim);
+      poolsim = ticked.creates.rows ∙ ap (with_row (persistent Tick (decimal 0))) (rows-stay (Roles ∷ Roles ∷ Roles ∷ Jobs ∷ Semaphores ∷ []) based requesters.u requesters.made.stays Poolsim tt refl ∙ based-shows.poolsim);
       leaf = stay Tick tt refl ∙ based-shows.leaf;
     }
-    each of_semaphores = table-beside (start c) (Jobs ∷ Roles ∷ Poolsim ∷ []) semaphores.u made start-good from-semaphores of_semaphores refl refl semaphores-lie
-    each of_jobs = table-beside (start c) (Roles ∷ Poolsim ∷ []) jobs.u made start-good from-jobs of_jobs refl refl (record {
+    each of_semaphores = table-beside (start c) (Jobs ∷ Roles ∷ Roles ∷ Roles ∷ Poolsim ∷ []) semaphores.u made start-good from-semaphores of_semaphores refl refl semaphores-lie
+    each of_jobs = table-beside (start c) (Roles ∷ Roles ∷ Roles ∷ Poolsim ∷ []) jobs.u made start-good from-jobs of_jobs refl refl (record {
       rows = jobs.rows ∙ ap (λ (sorted : List Row). rows_put sorted (map (λ n. persistent (job_place n) (job_text new_job)) (range_with_len 0 (length c.jobs)))) no_jobs_yet ∙ ap by_name (rows_from-equal job_row new_job c.jobs 0);
       leaves = jobs.leaves (bare Jobs semaphores.u no_jobs_yet);
     })
@@ -384,9 +367,8 @@ module _ (c : Configuration) (sound : IsSound c) where
       rows = roles-made;
       leaves = requesters.leaves (janitors.leaves (launchers.leaves (bare Roles jobs.u no-roles)));
     })
-    each of_live = live-stays based made (ticked.creates.live ∙ requesters.live ∙ janitors.live ∙ launchers.live ∙ jobs.live ∙ semaphores.live)
-        (ticked.creates.begun ∙ requesters.begun ∙ janitors.begun ∙ launchers.begun ∙ jobs.begun ∙ semaphores.begun) [] (based-says c of_live refl)
-    each k = table-beside (start c) (Semaphores ∷ Jobs ∷ Roles ∷ Poolsim ∷ []) based made start-good from-based k refl refl (based-says c k refl)
+    each of_live = live-stays based made (ticked.creates.live ∙ requesters.made.live) (ticked.creates.begun ∙ requesters.made.begun) [] (based-says c of_live refl)
+    each k = table-beside (start c) (Semaphores ∷ Jobs ∷ Roles ∷ Roles ∷ Roles ∷ Poolsim ∷ []) based made start-good from-based k refl refl (based-says c k refl)
 
   -- the first tree lays out the state before the first event: the change number is not seen
   pub first-lays : LaysOut (start c) (first_tree c)
@@ -399,20 +381,12 @@ module _ (c : Configuration) (sound : IsSound c) where
 
 -- # a tree can carry the state before the first event
 
--- a job that nobody has begun has a spelling
-new-job : IsJob new_job
-new-job = search arith
-
--- so has a role that has done nothing
-no-deeds : IsRole no_deeds
-no-deeds = search arith
-
 roles-spelled : {A : Type 0} (rows : List A) → AllByRecursion IsRole (map (λ _. no_deeds) rows)
-roles-spelled rows = all-map IsRole (λ _. no_deeds) rows (λ row. no-deeds)
+roles-spelled rows = all-map IsRole (λ _. no_deeds) rows (λ row. search arith)
 
 -- a tree can carry the state before the first event of a sound site
 pub starts-are-carried : StartsAreCarried
 starts-are-carried c sound =
-    let spelled : HasSpellings (start c) = assumption (all-map IsJob (λ _. new_job) c.jobs (λ row. new-job), roles-spelled c.pools, roles-spelled c.requesters) in
+    let spelled : HasSpellings (start c) = assumption (all-map IsJob (λ _. new_job) c.jobs (λ row. search arith), roles-spelled c.pools, roles-spelled c.requesters) in
     let ordered : IsOrdered c (start c) = assumption (all-map (AreHolders (length c.jobs)) (λ _. no_jobs) c.semaphores (λ row. record { rise = tt; exist = tt })) in
     search (arith, start-good c sound, length-map c.semaphores (λ _. no_jobs), length-map c.jobs (λ _. new_job), length-map c.pools (λ _. no_deeds), length-map c.requesters (λ _. no_deeds))

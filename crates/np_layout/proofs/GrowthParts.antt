@@ -7,13 +7,11 @@ use Rattle.np_layout.proofs.Sessions.{sessions-lay-out}
 use Rattle.np_layout.proofs.Sets.{nodes-lay-out}
 use Rattle.np_layout.proofs.Spelled.{granted-is}
 use Rattle.np_layout.proofs.ChangeParts.{good-nodes, good-requests, good-tables, queue-kept, there-by}
-use Rattle.np_layout.proofs.Stands.{enacts-deletes, enacts-joined, enacts-less, enacts-none, enacts-parts, enacts-set, in-more, live-after, node-short, part-create, part-delete, part-wait, request-short, room-less, session-short, stands-less}
+use Rattle.np_layout.proofs.Stands.{enacts-deletes, enacts-joined, enacts-none, enacts-parts, enacts-set, in-more, live-after, node-short, part-create, part-delete, part-wait, request-short, room-less, session-short, stands-less}
 use Rattle.np_layout.proofs.Deletes.{node-good, node-same as node-is, request-good}
 use Rattle.np_lists.proofs.Plain.{by_bool}
 
--- # what grows by a record of its own: a session, a request and a node
-
--- ## a session
+-- # a session begins
 
 -- the begin of a session, and the create of its record by the tree's first session
 pub session-grows : (s : State) (t : TreeState) (role : Role) (more : ℕ) → Stands s t 1 (more + 1) → length s.sessions + 1 < 2 ^ 32 → length (session_text (record { mute = false; role = role })) ≤ 65_536 →
@@ -29,47 +27,6 @@ session-grows s t role more stands small short =
     let whole = goes-whole from (after_parts from 1 (part ∷ [])) 1 (part ∷ []) stands.whole (part-create place (session_text (record { mute = false; role = role })) Persistent small, tt) lays.goes in
     let room = room-falls from 1 part more begun in
     record { goes = lays.goes; leaves = assumption lays }
-
--- ## a request
-
-part-request : (r : RequestId) (bytes : List ℕ) → IsGood (Request r) → AllByRecursion IsPart (request_parts r bytes)
-part-request r bytes good = (
-  record { path = is_path-below (path_of Requests) (request_prefix r) (is_path-of Requests tt) (is_element-prefix r good); numbered = refl },
-  (part-create (RequestLock r) [] Persistent good, tt),
-)
-
--- the creates of a request's record and of its lock
-pub request-grows : (s : State) (t : TreeState) (w priority : ℕ) (kept : RequestRecord) (more : ℕ) → Stands s t w (more + 2) → IsGood (Request (next_id priority s)) → length (request_record_text kept) ≤ 65_536 → request_entry (next_id priority s) s.requests ≡ None →
-    Enacts t w (request_parts (next_id priority s) (request_record_text kept)) (record s { requests = insert_request (record { id = next_id priority s; kept = kept; queue = [] }) s.requests; next_request = s.next_request + 1 }) more
-request-grows s t w priority kept more stands r_good short none =
-    let r : RequestId = next_id priority s in
-    let entry : RequestEntry = record { id = r; kept = kept; queue = [] } in
-    enacts-parts s (record s { requests = insert_request entry s.requests; next_request = s.next_request + 1 }) t w (request_parts r (request_record_text kept)) more
-    (stands-less s t w (more + 2) (2 + more) (omega arith) stands)
-    (good-requests s (insert_request entry s.requests) (s.next_request + 1) stands.good (all-insert_before (λ (e : RequestEntry). IsGood (Request e.id)) (λ (e : RequestEntry). is_id_before r e.id) entry s.requests r_good stands.good.requests))
-    (part-request r (request_record_text kept) r_good)
-    (grown_requests-lay-out s t w priority kept stands.whole stands.good stands.lays stands.live (room-less t (more + 2) 2 (omega arith) stands.room) r_good short none)
-
--- ## a node
-
-part-node : (n : NodeId) (bytes : List ℕ) → IsGood (Node n) → AllByRecursion IsPart (node_parts n bytes)
-part-node n bytes good = (
-  record { path = is_path-of Nodes tt; numbered = refl },
-  (part-create (NodeLock n) [] Persistent good, (part-wait (NodeLock n) good, tt)),
-)
-
--- the creates of a node's record, of its lock and of its maker's wait there
-pub node-grows : (s : State) (t : TreeState) (session : SessionId) (kept : NodeRecord) (more : ℕ) → Stands s t (tree_session session) (more + 3) → IsNode kept → length (node_text kept) ≤ 65_536 → s.next_node < 2 ^ 32 → AllByRecursion (λ e. e.id.0 < s.next_node) s.nodes →
-    Enacts t (tree_session session) (node_parts (record { 0 = s.next_node }) (node_text kept)) (record s { nodes = s.nodes ++ record { id = record { 0 = s.next_node }; kept = kept; queue = session ∷ [] } ∷ []; next_node = s.next_node + 1 }) more
-node-grows s t session kept more stands is_node short small low =
-    let w : ℕ = tree_session session in
-    let n : NodeId = record { 0 = s.next_node } in
-    let entry : NodeEntry = record { id = n; kept = kept; queue = session ∷ [] } in
-    enacts-parts s (record s { nodes = s.nodes ++ entry ∷ []; next_node = s.next_node + 1 }) t w (node_parts n (node_text kept)) more
-    (stands-less s t w (more + 3) (3 + more) (omega arith) stands)
-    (good-nodes s (s.nodes ++ entry ∷ []) (s.next_node + 1) stands.good (all-push (λ (e : NodeEntry). IsGood (Node e.id)) s.nodes entry stands.good.nodes small))
-    (part-node n (node_text kept) small)
-    (grown_nodes-lay-out s t session kept (node_text kept) stands.whole stands.good stands.lays stands.live (room-less t (more + 3) 3 (omega arith) stands.room) (is_node, inl refl) short low)
 
 -- # who joins a queue, and a node that is allocated
 
@@ -173,44 +130,26 @@ kept-at (suc i) f (x ∷ xs) same = ap (λ (rest : List _). x ∷ rest) (kept-at
 among-there : (j : JobId) (x : SemId) (handles : List (List JobId)) (jobs : List JobId) (b : Bool) → has_handle j handles x ≡ b → slice_get handles x.0 ≡ Some jobs → is_among j jobs ≡ b
 among-there j x handles jobs b has there = ap (λ (o : Option (List JobId)). is_among j (unwrap_or o [])) (sym there) ∙ has
 
--- a job with a handle gets no other
-again-same : (j : JobId) (x : SemId) (handles : List (List JobId)) → has_handle j handles x ≡ true → change_at x.0 (with_handle j) handles ≡ handles
-again-same j x handles has = kept-at x.0 (with_handle j) handles (λ jobs there.
-    ap (λ (b : Bool). cond b jobs (insert_before (λ (other : JobId). nat_lt j.0 other.0) j jobs)) (among-there j x handles jobs true has there))
-
--- a job with no handle has none to give back
-none-same : (j : JobId) (x : SemId) (handles : List (List JobId)) → has_handle j handles x ≡ false → change_at x.0 (without_handle j) handles ≡ handles
-none-same j x handles has = kept-at x.0 (without_handle j) handles (λ jobs there.
-    filter-not_none (λ (other : JobId). other.0 == j.0) jobs (none-list_any (λ (other : JobId). other.0 == j.0) jobs (among-there j x handles jobs false has there)))
-
 -- ## ids
 
 -- the state with other handles: as many semaphores, and each job has a place
 handles-good : (s : State) (list : List (List JobId)) → HasGoodIds s → length list ≡ length s.handles → AllByRecursion AreJobs list → HasGoodIds (record s { handles = list })
 handles-good s list good same all = search (arith, good)
 
-with-good : (j : JobId) (x : SemId) (s : State) → IsGood (Job j) → HasGoodIds s → HasGoodIds (record s { handles = change_at x.0 (with_handle j) s.handles })
-with-good j x s small good =
-    handles-good s (change_at x.0 (with_handle j) s.handles) good (length-change_at x.0 (with_handle j) s.handles)
-    (all-change_at AreJobs x.0 (with_handle j) s.handles (λ jobs all. by_bool (λ (b : Bool). AreJobs (cond b jobs (insert_before (λ (other : JobId). nat_lt j.0 other.0) j jobs))) (is_among j jobs) (λ _. all)
-    (λ _. all-insert_before (λ (k : JobId). IsGood (Job k)) (λ (other : JobId). nat_lt j.0 other.0) j jobs small all)) good.handles)
-
-without-good : (j : JobId) (x : SemId) (s : State) → HasGoodIds s → HasGoodIds (record s { handles = change_at x.0 (without_handle j) s.handles })
-without-good j x s good =
-    handles-good s (change_at x.0 (without_handle j) s.handles) good (length-change_at x.0 (without_handle j) s.handles)
-    (all-change_at AreJobs x.0 (without_handle j) s.handles (λ jobs all. all-filter (λ (k : JobId). IsGood (Job k)) (λ other. not (other.0 == j.0)) jobs all) good.handles)
-
 -- ## handles are made
 
 acquire-by : (j : JobId) (x : SemId) (s : State) (t : TreeState) (w more : ℕ) (b : Bool) → has_handle j s.handles x ≡ b → j.0 < 2 ^ 32 → x.0 < length s.handles → Stands s t w (more + 1) →
     Enacts t w (cond b [] (make [] (Handle x j) ∷ [])) (record s { handles = change_at x.0 (with_handle j) s.handles }) more
 acquire-by j x s t w more true has small low stands =
-    subst (λ (list : List (List JobId)). Enacts t w [] (record s { handles = list }) more) (sym (again-same j x s.handles has))
+    subst (λ (list : List (List JobId)). Enacts t w [] (record s { handles = list }) more) (sym (kept-at x.0 (with_handle j) s.handles (λ jobs there.
+    ap (λ (b : Bool). cond b jobs (insert_before (λ (other : JobId). nat_lt j.0 other.0) j jobs)) (among-there j x s.handles jobs true has there))))
     (enacts-none s t w more (stands-less s t w (more + 1) more (omega arith) stands))
 acquire-by j x s t w more false has small low stands =
     let x_good : x.0 < 2 ^ 16 = omega (arith, stands.good.semaphores) in
     enacts-parts s (record s { handles = change_at x.0 (with_handle j) s.handles }) t w (make [] (Handle x j) ∷ []) more (stands-less s t w (more + 1) (1 + more) (omega arith) stands)
-    (with-good j x s small stands.good) (part-create (Handle x j) [] Persistent (x_good, small), tt)
+    (handles-good s (change_at x.0 (with_handle j) s.handles) stands.good (length-change_at x.0 (with_handle j) s.handles)
+    (all-change_at AreJobs x.0 (with_handle j) s.handles (λ jobs all. by_bool (λ (b : Bool). AreJobs (cond b jobs (insert_before (λ (other : JobId). nat_lt j.0 other.0) j jobs))) (is_among j jobs) (λ _. all)
+    (λ _. all-insert_before (λ (k : JobId). IsGood (Job k)) (λ (other : JobId). nat_lt j.0 other.0) j jobs small all)) stands.good.handles)) (part-create (Handle x j) [] Persistent (x_good, small), tt)
     (made-lays-out s t w x j stands.whole stands.good stands.lays stands.live (room-less t (more + 1) 1 (omega arith) stands.room) low small has)
 
 -- the parts that make a job's handles lay out the state in which it has them
@@ -237,10 +176,12 @@ release-by j x s t w more true has stands =
     let lays : DeleteLaysOut (record s { handles = change_at x.0 (without_handle j) s.handles }) t w (Handle x j) =
     gone-lays-out s t w x j (record { whole = stands.whole; good = stands.good; lays = stands.lays; live = stands.live; room = room-less t (more + 1) 1 (omega arith) stands.room }) has in
     enacts-deletes s (record s { handles = change_at x.0 (without_handle j) s.handles }) t w (delete (Handle x j) ∷ []) (more + 1) stands
-    (without-good j x s stands.good) (part-delete (Handle x j) (handle-good j x s stands.good has), tt) (tt, tt)
+    (handles-good s (change_at x.0 (without_handle j) s.handles) stands.good (length-change_at x.0 (without_handle j) s.handles)
+    (all-change_at AreJobs x.0 (without_handle j) s.handles (λ jobs all. all-filter (λ (k : JobId). IsGood (Job k)) (λ other. not (other.0 == j.0)) jobs all) stands.good.handles)) (part-delete (Handle x j) (handle-good j x s stands.good has), tt) (tt, tt)
     (record { goes = (lays.goes, refl); lays = lays.lays })
 release-by j x s t w more false has stands =
-    subst (λ (list : List (List JobId)). Enacts t w [] (record s { handles = list }) (more + 1)) (sym (none-same j x s.handles has)) (enacts-none s t w (more + 1) stands)
+    subst (λ (list : List (List JobId)). Enacts t w [] (record s { handles = list }) (more + 1)) (sym (kept-at x.0 (without_handle j) s.handles (λ jobs there.
+    filter-not_none (λ (other : JobId). other.0 == j.0) jobs (none-list_any (λ (other : JobId). other.0 == j.0) jobs (among-there j x s.handles jobs false has there))))) (enacts-none s t w (more + 1) stands)
 
 -- the parts that give a job's handles back lay out the state in which it has none of them
 pub release-enacts : (j : JobId) (semaphores : List SemId) (s : State) (t : TreeState) (w more : ℕ) → Stands s t w (more + 1) →
@@ -258,21 +199,13 @@ release-enacts j (x ∷ semaphores) s t w more stands =
 pub handles-enact : HandlesEnact
 handles-enact c w HandlesChange.Same s t more stands = enacts-none s t w more (stands-less s t w (more + 1) more (omega arith) stands)
 handles-enact c w (HandlesChange.Release j) s t more stands =
-    enacts-less (record s { handles = all_without_handle j (semaphores_of c j) s.handles }) t w (release_parts j (semaphores_of c j) s.handles) (more + 1) more (omega arith)
-    (release-enacts j (semaphores_of c j) s t w more stands)
+    let enacts = release-enacts j (semaphores_of c j) s t w more stands in
+    record { goes = enacts.goes; leaves = stands-less _ _ w (more + 1) more (omega arith) enacts.leaves }
 
--- # the parts that mark a pair as swept and that register a launcher
-
--- ## a pair is swept
+-- # the parts that mark a pair as swept
 
 abbrev ArePairs : List Swept → Type 0
 ArePairs list = AllByRecursion (λ pair. IsGood (SweptPlace pair.node pair.server)) list
-
-swept-good : (n : NodeId) (server : ℕ) (s : State) → IsGood (SweptPlace n server) → HasGoodIds s → HasGoodIds (record s { swept = with_pair n server s.swept })
-swept-good n server s is_good good =
-    let pairs : ArePairs (with_pair n server s.swept) = by_bool (λ (b : Bool). ArePairs (cond b s.swept (insert_before (is_pair_after n server) (record { node = n; server = server }) s.swept))) (is_swept n server s.swept) (λ _. good.swept)
-    (λ _. all-insert_before (λ (pair : Swept). IsGood (SweptPlace pair.node pair.server)) (is_pair_after n server) (record { node = n; server = server }) s.swept is_good good.swept) in
-    assumption good
 
 -- the part for a swept pair, if it was not, lays out the state in which it is
 pub swept-enacts : (n : NodeId) (server : ℕ) (s : State) (t : TreeState) (w more : ℕ) → IsGood (SweptPlace n server) → Stands s t w (more + 1) →
@@ -283,24 +216,11 @@ swept-enacts n server s t w more is_good stands =
     let same : with_pair n server s.swept ≡ s.swept = ap (λ (b : Bool). cond b s.swept (insert_before (is_pair_after n server) (record { node = n; server = server }) s.swept)) is in
     subst (λ (list : List Swept). Enacts t w [] (record s { swept = list }) more) (sym same) (enacts-none s t w more (stands-less s t w (more + 1) more (omega arith) stands)))
     (λ is. enacts-parts s (record s { swept = with_pair n server s.swept }) t w (make [] (SweptPlace n server) ∷ []) more (stands-less s t w (more + 1) (1 + more) (omega arith) stands)
-    (swept-good n server s is_good stands.good) (part-create (SweptPlace n server) [] Persistent is_good, tt)
+    (let good = stands.good in
+    let pairs : ArePairs (with_pair n server s.swept) = by_bool (λ (b : Bool). ArePairs (cond b s.swept (insert_before (is_pair_after n server) (record { node = n; server = server }) s.swept))) (is_swept n server s.swept) (λ _. good.swept)
+    (λ _. all-insert_before (λ (pair : Swept). IsGood (SweptPlace pair.node pair.server)) (is_pair_after n server) (record { node = n; server = server }) s.swept is_good good.swept) in
+    assumption good) (part-create (SweptPlace n server) [] Persistent is_good, tt)
     (swept_pairs-lay-out s t w n server stands.whole stands.good stands.lays stands.live (room-less t (more + 1) 1 (omega arith) stands.room) is_good is))
-
--- ## a launcher registers
-
-registers-good : (session : SessionId) (p : PoolId) (s : State) → IsGood (Launcher p) → HasGoodIds s → HasGoodIds (registers s session p)
-registers-good session p s is_good good =
-    let all = all-insert_before (λ (g : Registration). IsGood (Launcher g.pool)) (λ (g : Registration). nat_lt p.0 g.pool.0) (record { pool = p; session = session }) s.registrations is_good good.registrations in
-    assumption good
-
--- the part for a registration lays out the state in which the launcher is registered
-pub registration-enacts : (session : SessionId) (p : PoolId) (s : State) (t : TreeState) (more : ℕ) → IsGood (Launcher p) → registered p s.registrations ≡ None → Stands s t (tree_session session) (more + 1) →
-    Enacts t (tree_session session) (Op.Create (path_of (Launcher p)) [] Ephemeral ∷ []) (registers s session p) more
-registration-enacts session p s t more is_good new stands =
-    enacts-parts s (registers s session p) t (tree_session session) (Op.Create (path_of (Launcher p)) [] Ephemeral ∷ []) more
-    (stands-less s t (tree_session session) (more + 1) (1 + more) (omega arith) stands)
-    (registers-good session p s is_good stands.good) (part-create (Launcher p) [] Ephemeral is_good, tt)
-    (registrations-lay-out s t session p stands.whole stands.good stands.lays stands.live (room-less t (more + 1) 1 (omega arith) stands.room) is_good new)
 
 -- # the parts for what grows
 
@@ -313,24 +233,40 @@ pub growths-enact : GrowthsEnact
 growths-enact c maker Growth.Nothing s t more stands ready = none s t (writer maker) more stands
 growths-enact c None (Growth.Session role) s t more stands ready = session-grows s t role more (stands-less s t 1 (more + 8) (more + 1) (omega arith) stands) ready.1.0 (session-short false role ready.1.1)
 growths-enact c (Some maker) (Growth.Session role) s t more stands ready = absurd (let is = ready.0 in cc)
-growths-enact c None (Growth.Registration p) s t more stands ready = none s t 1 more stands
 growths-enact c (Some maker) (Growth.Registration p) s t more stands ready =
-    registration-enacts maker.session p s t more ready.0 ready.1 (stands-less s t (tree_session maker.session) (more + 8) (more + 1) (omega arith) stands)
+    let w : ℕ = tree_session maker.session in
+    enacts-parts s (registers s maker.session p) t w (Op.Create (path_of (Launcher p)) [] Ephemeral ∷ []) more (stands-less s t w (more + 8) (1 + more) (omega arith) stands)
+    (let good = stands.good in
+    let all = all-insert_before (λ (g : Registration). IsGood (Launcher g.pool)) (λ (g : Registration). nat_lt p.0 g.pool.0) (record { pool = p; session = maker.session }) s.registrations ready.0 good.registrations in
+    assumption good) (part-create (Launcher p) [] Ephemeral ready.0, tt)
+    (registrations-lay-out s t maker.session p stands.whole stands.good stands.lays stands.live (room-less t (more + 8) 1 (omega arith) stands.room) ready.0 ready.1)
 growths-enact c maker (Growth.Request priority asked) s t more stands ready =
-    request-grows s t (writer maker) priority (new_record asked) more (stands-less s t (writer maker) (more + 8) (more + 2) (omega arith) stands) ready.0 (request-short (new_record asked) ready.1.0) ready.1.1
+    let w : ℕ = writer maker in
+    let r : RequestId = next_id priority s in
+    let text : List ℕ = request_record_text (new_record asked) in
+    let entry : RequestEntry = record { id = r; kept = new_record asked; queue = [] } in
+    enacts-parts s (record s { requests = insert_request entry s.requests; next_request = s.next_request + 1 }) t w (request_parts r text) more (stands-less s t w (more + 8) (2 + more) (omega arith) stands)
+    (good-requests s (insert_request entry s.requests) (s.next_request + 1) stands.good (all-insert_before (λ (e : RequestEntry). IsGood (Request e.id)) (λ (e : RequestEntry). is_id_before r e.id) entry s.requests ready.0 stands.good.requests))
+    (record { path = is_path-below (path_of Requests) (request_prefix r) (is_path-of Requests tt) (is_element-prefix r ready.0); numbered = refl }, (part-create (RequestLock r) [] Persistent ready.0, tt))
+    (grown_requests-lay-out s t w priority (new_record asked) stands.whole stands.good stands.lays stands.live (room-less t (more + 8) 2 (omega arith) stands.room) ready.0 (request-short (new_record asked) ready.1.0) ready.1.1)
 growths-enact c None (Growth.Node kept) s t more stands ready = absurd (let is = ready.0 in cc)
 growths-enact c (Some maker) (Growth.Node kept) s t more stands ready =
-    node-grows s t maker.session kept more (stands-less s t (tree_session maker.session) (more + 8) (more + 3) (omega arith) stands) ready.1.0 (node-short kept ready.1.0) ready.1.1.0 ready.1.1.1
-growths-enact c None (Growth.JoinRequest r) s t more stands ready = none s t 1 more stands
+    let w : ℕ = tree_session maker.session in
+    let n : NodeId = record { 0 = s.next_node } in
+    let small = ready.1.1.0 in
+    let entry : NodeEntry = record { id = n; kept = kept; queue = maker.session ∷ [] } in
+    enacts-parts s (record s { nodes = s.nodes ++ entry ∷ []; next_node = s.next_node + 1 }) t w (node_parts n (node_text kept)) more (stands-less s t w (more + 8) (3 + more) (omega arith) stands)
+    (good-nodes s (s.nodes ++ entry ∷ []) (s.next_node + 1) stands.good (all-push (λ (e : NodeEntry). IsGood (Node e.id)) s.nodes entry stands.good.nodes small))
+    (record { path = is_path-of Nodes tt; numbered = refl }, (part-create (NodeLock n) [] Persistent small, (part-wait (NodeLock n) small, tt)))
+    (grown_nodes-lay-out s t maker.session kept (node_text kept) stands.whole stands.good stands.lays stands.live (room-less t (more + 8) 3 (omega arith) stands.room) (ready.1.0, inl refl) (node-short kept ready.1.0) ready.1.1.1)
 growths-enact c (Some maker) (Growth.JoinRequest r) s t more stands ready =
     request-joins s t maker.session r ready.0 more (stands-less s t (tree_session maker.session) (more + 8) (more + 1) (omega arith) stands) ready.1
-growths-enact c None (Growth.JoinNode n) s t more stands ready = none s t 1 more stands
 growths-enact c (Some maker) (Growth.JoinNode n) s t more stands ready =
     node-joins s t maker.session n ready.0 more (stands-less s t (tree_session maker.session) (more + 8) (more + 1) (omega arith) stands) ready.1
-growths-enact c None (Growth.Allocate n r tenant) s t more stands ready = none s t 1 more stands
 growths-enact c (Some maker) (Growth.Allocate n r tenant) s t more stands ready =
     node-allocated r tenant maker.session ready.1.0 ready.0 s t more (stands-less s t (tree_session maker.session) (more + 8) (more + 2) (omega arith) stands) ready.1.1 n
 growths-enact c maker (Growth.Handles j) s t more stands ready =
     let few = ready.1.0 in
     acquire-enacts j (semaphores_of c j) s t (writer maker) more ready.0 ready.1.1 (stands-less s t (writer maker) (more + 8) (length (semaphores_of c j) + more) (omega arith) stands)
 growths-enact c maker (Growth.Swept n x) s t more stands ready = swept-enacts n x s t (writer maker) more ready (stands-less s t (writer maker) (more + 8) (more + 1) (omega arith) stands)
+growths-enact c None _ s t more stands ready = none s t 1 more stands

@@ -23,8 +23,7 @@ plain-digits [] digits = refl
 plain-digits (d ∷ ds) digits = grind (arith, nat_tests, plain-digits ds)
 
 plain_name-some : (bs : List ℕ) → 0 < length bs → list_all is_plain bs ≡ true → is_plain_name bs ≡ true
-plain_name-some [] some plain = absurd (omega arith)
-plain_name-some (b ∷ bs) some plain = plain
+plain_name-some bs some plain = grind arith
 
 pub plain_name-append : (xs ys : List ℕ) → is_plain_name xs ≡ true → list_all is_plain ys ≡ true → is_plain_name (xs ++ ys) ≡ true
 plain_name-append [] ys first second = absurd (cc)
@@ -48,14 +47,11 @@ plain_name-request id has =
     let most = has.most in
     plain_name-append (decimal id.priority) (45 ∷ ten_digits_of id.seq) (plain_name-decimal id.priority (omega arith)) (plain-ten id.seq)
 
-plain_name-swept : (n server : ℕ) → server < 2 ^ 64 → is_plain_name ((ten_digits_of n ++ 45 ∷ []) ++ decimal server) ≡ true
-plain_name-swept n server small =
-    plain_name-append (ten_digits_of n ++ 45 ∷ []) (decimal server) (plain_name-append (ten_digits_of n) (45 ∷ []) (plain_name-ten n) refl) (plain-decimal server small)
-
 -- only the root has no such name
 pub plain_name-of : (p : Place) → IsGood p → is_plain_name (place_name p) ≡ is_some (above p)
 plain_name-of (Request id) good = plain_name-request id good
-plain_name-of (Swept n server) good = plain_name-swept n.0 server good.1
+plain_name-of (Swept n server) good =
+    plain_name-append (ten_digits_of n.0 ++ 45 ∷ []) (decimal server) (plain_name-append (ten_digits_of n.0) (45 ∷ []) (plain_name-ten n.0) refl) (plain-decimal server good.1)
 plain_name-of p good = search (arith, plain_name-request, plain_name-ten, plain_name-decimal, plain-ten, plain-decimal)
 
 -- ## what such names are
@@ -65,10 +61,7 @@ kept-plain [] plain = refl
 kept-plain (b ∷ bs) plain = grind (arith, nat_tests, kept-plain bs)
 
 not_dots : (bs : List ℕ) → is_plain_name bs ≡ true → not (is_dots bs) ≡ true
-not_dots [] plain = absurd (cc)
-not_dots (b ∷ []) plain = grind (arith, nat_tests)
-not_dots (b ∷ c ∷ []) plain = grind (arith, nat_tests)
-not_dots (b ∷ c ∷ d ∷ bs) plain = refl
+not_dots bs plain = grind (arith, nat_tests)
 
 all-plain : (bs : List ℕ) → is_plain_name bs ≡ true → list_all is_plain bs ≡ true
 all-plain [] plain = refl
@@ -82,9 +75,6 @@ IsAscii-all [] plain = IsAscii-nil
 IsAscii-all (b ∷ bs) plain =
     let parts = and_parts (is_plain b) (list_all is_plain bs) plain in
     IsAscii-cons b bs (let is = parts.0 in grind (arith, nat_tests)) (IsAscii-all bs parts.1)
-
-pub IsAscii-plain : (bs : List ℕ) → is_plain_name bs ≡ true → IsAscii bs
-IsAscii-plain bs plain = IsAscii-all bs (all-plain bs plain)
 
 -- # each path is that of the place above it, and the name below it
 
@@ -101,16 +91,13 @@ one_part path name = sym (append_assoc path (47 ∷ []) name)
 two_parts : (path front back : List ℕ) → (path ++ 47 ∷ front) ++ back ≡ (path ++ 47 ∷ []) ++ (front ++ back)
 two_parts path front back = append_assoc path (47 ∷ front) back ∙ one_part path (front ++ back)
 
--- with two slashes
-three_parts : (path middle front back : List ℕ) → (path ++ (middle ++ 47 ∷ front)) ++ back ≡ ((path ++ middle) ++ 47 ∷ []) ++ (front ++ back)
-three_parts path middle front back =
-    ap (λ xs. xs ++ back) (sym (append_assoc path middle (47 ∷ front))) ∙ two_parts (path ++ middle) front back
-
 pub path_of-below : (p : Place) → path_of p ≡ path_below (above p) (place_name p)
 unfolding path_of
 path_of-below (RequestWait id wait) = two_parts (codes "/nodepool/requests-lock/" ++ request_text_of id) (codes "lock-") (ten_digits_of wait)
 path_of-below (NodeLock n) = one_part (codes "/nodepool/nodes/" ++ ten_digits_of n.0) (codes "lock")
-path_of-below (NodeWait n wait) = three_parts (codes "/nodepool/nodes/" ++ ten_digits_of n.0) (codes "/lock") (codes "lock-") (ten_digits_of wait)
+path_of-below (NodeWait n wait) =
+    let path : List ℕ = codes "/nodepool/nodes/" ++ ten_digits_of n.0 in
+    ap (λ xs. xs ++ ten_digits_of wait) (sym (append_assoc path (codes "/lock") (codes "/lock-"))) ∙ two_parts (path ++ codes "/lock") (codes "lock-") (ten_digits_of wait)
 path_of-below p = refl
 
 pub path_of-joined : (p dir : Place) → above p ≡ Some dir → path_of p ≡ below (path_of dir) (place_name p)
@@ -134,16 +121,10 @@ pub IsGood-above : (p dir : Place) → IsGood p → above p ≡ Some dir → IsG
 IsGood-above p dir good same = subst (Above IsGood) same (above-is_good p good)
 
 shorter : (path name : List ℕ) → is_element name ≡ true → length path < length (below path name)
-shorter [] name is = omega arith
-shorter (b ∷ []) [] is = absurd (cc)
-shorter (b ∷ []) (n ∷ name) is = omega arith
-shorter (b ∷ c ∷ bs) name is = simp length-append (omega arith)
+shorter path name is = grind (arith, length-append)
 
 named : (p dir : Place) → IsGood p → above p ≡ Some dir → is_element (place_name p) ≡ true
 named p dir good same = is_element-plain (place_name p) (plain_name-of p good ∙ ap is_some same)
-
-pub is_plain-below : (p dir : Place) → IsGood p → above p ≡ Some dir → is_plain_name (place_name p) ≡ true
-is_plain-below p dir good same = plain_name-of p good ∙ ap is_some same
 
 -- a fact that is true of a place if it is true of the one above is true of each place
 pub from_above : (P : Place → Type 0) → ((p : Place) → IsGood p → Above P (above p) → P p) → (n : ℕ) (p : Place) → length (path_of p) < n → IsGood p → P p
@@ -195,7 +176,7 @@ IsAscii-of = each_place (λ p. IsAscii (path_of p)) (λ p good there. subst IsAs
   where
     at : (p : Place) → IsGood p → (o : Option Place) → above p ≡ o → Above (λ q. IsAscii (path_of q)) o → IsAscii (path_below o (place_name p))
     at p good None same there = IsAscii-slash
-    at p good (Some dir) same there = IsAscii-below (path_of dir) (place_name p) there (IsAscii-plain (place_name p) (is_plain-below p dir good same))
+    at p good (Some dir) same there = IsAscii-below (path_of dir) (place_name p) there (IsAscii-all (place_name p) (all-plain (place_name p) (plain_name-of p good ∙ ap is_some same)))
 
 -- # a directory and a name in it are those of one place
 
@@ -244,7 +225,7 @@ child_in Jobs name = option_map (λ n. Job (record { 0 = n })) (number_of four_b
 child_in Roles name = role_in name
 child_in Sessions name = option_map (λ n. Session (record { 0 = n })) (sequence_of name)
 child_in SweptPairs name = swept_from (sequence_of (take 10 name)) (number_of 18_446_744_073_709_551_615 (drop 11 name))
-child_in record_place name = None
+child_in other name = None
 
 -- the place with no directory above it is the root
 abbrev child_of : Option Place → List ℕ → Option Place
@@ -264,10 +245,7 @@ swept-parts n server n_small server_small =
     ap (take 10) whole ∙ take_at (ten_digits_of n) (45 ∷ decimal server) 10 (length-ten n n_small) in
     let back : drop 11 ((ten_digits_of n ++ 45 ∷ []) ++ decimal server) ≡ decimal server =
     drop_at (ten_digits_of n ++ 45 ∷ []) (decimal server) 11 (let ten = length-ten n n_small in simp length-append (omega arith)) in
-    ap (λ xs. swept_from (sequence_of xs) (number_of 18_446_744_073_709_551_615 (drop 11 ((ten_digits_of n ++ 45 ∷ []) ++ decimal server)))) front
-    ∙ ap (λ ys. swept_from (sequence_of (ten_digits_of n)) (number_of 18_446_744_073_709_551_615 ys)) back
-    ∙ ap (λ o. swept_from o (number_of 18_446_744_073_709_551_615 (decimal server))) (sequence_of-ten_digits_of n n_small)
-    ∙ ap (swept_from (Some n)) (number_of-decimal 18_446_744_073_709_551_615 server (omega arith) (omega arith))
+    rw (front, back, sequence_of-ten_digits_of n n_small, number_of-decimal 18_446_744_073_709_551_615 server (omega arith) (omega arith)) refl
 
 -- a place is that of its name in the directory above it
 child_of-name : (p : Place) → IsGood p → child_of (above p) (place_name p) ≡ Some p

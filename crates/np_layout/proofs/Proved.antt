@@ -1,6 +1,6 @@
 -- the laws of the source files, each with what it is proved from
 use Rattle.np_layout.proofs.Prelude.{EventsAreEnacted, EventsAreReady, EventsEnact, plan-next}
-use Rattle.np_layout.specs.PlaceLaws.{NamesAreLast, ParentsAreAbove}
+use Rattle.np_layout.specs.Place.{NamesAreLast, ParentsAreAbove}
 use Rattle.np_layout.proofs.Carried.{steps-are-carried}
 use Rattle.np_layout.proofs.ChangeParts.{deeds-enact, jobs-enact, nodes-enact, requests-enact, sessions-enact, ticks-enact}
 use Rattle.np_layout.proofs.Events.{events-are-enacted, events-are-ready, events-enact}

@@ -4,7 +4,7 @@ use Rattle.np_spelling.specs.Reading.{node_in}
 use Rattle.np_layout.specs.Prelude.{Node}
 use Rattle.np_layout.proofs.Names.{same_names}
 use Rattle.np_lists.proofs.Plain.{by_bool}
-use Rattle.np_layout.proofs.Rows.{all-both, all-put, any-by_name, any-found, any-mapped, at-range, found-any, put_all, put_all-by_name, put_all-rises}
+use Rattle.np_layout.proofs.Rows.{all-both, all-put, any-by_name, any-found, any-mapped, at-range, found-any, put_all, put_all-rows, put_all-rises}
 use Rattle.np_layout.proofs.Deletes.{all-pair, named-as}
 use Rattle.np_layout.proofs.Steps.{seen-named}
 use Rattle.np_layout.proofs.Sets.{IsTable, any-first, any-last, janitor-table, janitor_place, job-table, job_place, launcher-table, launcher_place, place_number, requester-table, requester_place, table-any}
@@ -40,10 +40,6 @@ module _ {X : Type 0} (key : X → ℕ) where
   none-later n x xs low later =
       all-weaker (λ y. key_before x y ≡ true) (λ y. (key y == n) ≡ false) (λ y before. grind (arith, nat_tests)) xs later
 
-  low-later : (at : ℕ) (x : X) (xs : List X) → at ≤ key x → AllByRecursion (λ y. key_before x y ≡ true) xs → AllByRecursion (λ y. at + 1 ≤ key y) xs
-  low-later at x xs low later =
-      all-weaker (λ y. key_before x y ≡ true) (λ y. at + 1 ≤ key y) (λ y before. grind (arith, nat_tests)) xs later
-
   module _ (f : ℕ → Option X) (limit : ℕ) where
     abbrev IsFound : ℕ → List X → Type 0
     IsFound at xs = (n : ℕ) → at ≤ n → n < limit → f n ≡ find (λ x. key x == n) xs
@@ -56,7 +52,7 @@ module _ {X : Type 0} (key : X → ℕ) where
         ap (λ (o : Option X). cons_option o (filter_map f (range_with_len (at + 1) count))) (found at (omega arith) (omega arith))
         ∙ filter_map-range [] count (at + 1) (omega arith) tt tt tt (λ n more within. found n (omega arith) within)
     filter_map-range (x ∷ xs) (suc count) at same rises low high found =
-        let later = low-later at x xs low.0 rises.0 in
+        let least = low.0 in let later = all-weaker (λ y. key_before x y ≡ true) (λ y. at + 1 ≤ key y) (λ y before. grind (arith, nat_tests)) xs rises.0 in
         let rest : List X = filter_map f (range_with_len (at + 1) count) in
         by_bool (λ (b : Bool). f at ≡ cond b (Some x) (find (λ y. key y == at) xs) → cons_option (f at) rest ≡ x ∷ xs) (key x == at)
         (λ is here. ap (λ (o : Option X). cons_option o rest) here ∙ ap (λ (ys : List X). x ∷ ys) (filter_map-range xs count (at + 1) (omega arith) rises.1 later high.1 (λ n more within.
@@ -81,47 +77,28 @@ request-read r d is = value-of (request_record_text r) (request_record_in (reque
 pub node-read : (n d : NodeRecord) (bytes : List ℕ) → SpellsNode n bytes → unwrap_or (node_in bytes).0 d ≡ n
 node-read n d bytes spells = value-of bytes (node_in bytes) n d (node_all bytes n spells)
 
--- a job's record
-pub job-read : (j d : JobRecord) → IsJob j → unwrap_or (job_in (job_text j)).0 d ≡ j
-job-read j d is = value-of (job_text j) (job_in (job_text j)) j d (job_all (job_text j) j (is, refl))
-
--- a role's record
-pub role-read : (r d : RoleRecord) → IsRole r → unwrap_or (role_in (role_text r)).0 d ≡ r
-role-read r d is = value-of (role_text r) (role_in (role_text r)) r d (role_all (role_text r) r (is, refl))
-
 -- a session's record
 pub session-read : (s d : SessionRecord) → IsSession s → unwrap_or (session_in (session_text s)).0 d ≡ s
 session-read s d is = value-of (session_text s) (session_in (session_text s)) s d (session_all (session_text s) s (is, refl))
 
 -- ## names
 
--- a request's name
-pub request_named-text : (id : RequestId) → HasText id → request_named (request_text_of id) ≡ id
-request_named-text id has = ap (λ (o : Option RequestId). unwrap_or o (record { priority = 0; seq = 0 })) (request_of-text id has)
-
 -- a node's name
 pub node_named-digits : (n : NodeId) → n.0 < 2 ^ 32 → node_named (ten_digits_of n.0) ≡ n
 node_named-digits n small = ap (λ (o : Option ℕ). record { 0 = unwrap_or o 0 }) (sequence_of-ten_digits_of n.0 small)
 
-eleven : (n : NodeId) → n.0 < 2 ^ 32 → length (ten_digits_of n.0 ++ codes "-") ≡ 11
-eleven n small = length-append (ten_digits_of n.0) (codes "-") ∙ ap (λ (k : ℕ). k + 1) (length-ten n.0 small)
-
-server-of : (n : NodeId) (server : ℕ) → n.0 < 2 ^ 32 → server < 2 ^ 64 → unwrap_or (number_of max_u64 (drop 11 (ten_digits_of n.0 ++ codes "-" ++ decimal server))) 0 ≡ server
-server-of n server small fits =
-    ap (λ (text : List ℕ). unwrap_or (number_of max_u64 text) 0) (drop_at (ten_digits_of n.0 ++ codes "-") (decimal server) 11 (eleven n small))
-    ∙ ap (λ (o : Option ℕ). unwrap_or o 0) (number_of-decimal max_u64 server (omega arith) (omega arith))
-
-node-of : (n : NodeId) (server : ℕ) → n.0 < 2 ^ 32 → node_named (take 10 (ten_digits_of n.0 ++ codes "-" ++ decimal server)) ≡ n
-node-of n server small =
-    ap (λ (text : List ℕ). node_named (take 10 text)) (append_assoc (ten_digits_of n.0) (codes "-") (decimal server))
-    ∙ ap node_named (take_at (ten_digits_of n.0) (codes "-" ++ decimal server) 10 (length-ten n.0 small))
-    ∙ node_named-digits n small
-
 -- a swept pair's name
 pub pair_named-place : (pair : Swept) → IsGood (SweptPlace pair.node pair.server) → pair_named (place_name (SweptPlace pair.node pair.server)) ≡ pair
 pair_named-place pair good =
-    let node = node-of pair.node pair.server good.0 in
-    let server = server-of pair.node pair.server good.0 good.1 in
+    let n : NodeId = pair.node in
+    let small = good.0 in
+    let fits = good.1 in
+    let node =
+    ap (λ (text : List ℕ). node_named (take 10 text)) (append_assoc (ten_digits_of n.0) (codes "-") (decimal pair.server))
+    ∙ ap node_named (take_at (ten_digits_of n.0) (codes "-" ++ decimal pair.server) 10 (length-ten n.0 small)) ∙ node_named-digits n small in
+    let server =
+    ap (λ (text : List ℕ). unwrap_or (number_of max_u64 text) 0) (drop_at (ten_digits_of n.0 ++ codes "-") (decimal pair.server) 11 (length-append (ten_digits_of n.0) (codes "-") ∙ ap (λ (k : ℕ). k + 1) (length-ten n.0 small)))
+    ∙ ap (λ (o : Option ℕ). unwrap_or o 0) (number_of-decimal max_u64 pair.server (omega arith) (omega arith)) in
     λ i. record { node = node i; server = server i }
 
 -- # the row of a name among rows in the order of their names, and the bytes at its path
@@ -135,32 +112,24 @@ find-by_name name rows row any only =
     let is = all-find (λ (other : Row). is_named name other ≡ true → other ≡ row) (is_named name) (by_name rows) found.0 (all-put (λ (other : Row). is_named name other ≡ true → other ≡ row) rows [] tt only) found.1 (find-passes (is_named name) (by_name rows) found.0 found.1) in
     found.1 ∙ ap Some is
 
-find-nothing : (name : List ℕ) (rows : List Row) → list_any (is_named name) rows ≡ false → find_named name (by_name rows) ≡ None
-find-nothing name rows any = find-none (is_named name) (by_name rows) (none-list_any (is_named name) (by_name rows) (any-by_name (is_named name) rows ∙ any))
-
 -- ## the rows of members with numbers
 
 module _ {X : Type 0} (key : X → ℕ) (row : X → Row) (name : List ℕ) (n : ℕ) (xs : List X) (rises : Rises (key_before key) xs) (names : AllByRecursion (λ x. is_named name (row x) ≡ (key x == n)) xs) where
   abbrev is_key : X → Bool
   is_key x = key x == n
 
+  -- the row of a name is that of the member with the name's number, if there is one
   keyed-by : (o : Option X) → find is_key xs ≡ o → find_named name (by_name (map row xs)) ≡ option_map row o
-  keyed-by None is = find-nothing name (map row xs) (any-mapped row (is_named name) is_key xs names ∙ list_any-none is_key xs (none-find is_key xs is))
+  keyed-by None is =
+      find-none (is_named name) (by_name (map row xs)) (none-list_any (is_named name) (by_name (map row xs))
+      (any-by_name (is_named name) (map row xs) ∙ any-mapped row (is_named name) is_key xs names ∙ list_any-none is_key xs (none-find is_key xs is)))
   keyed-by (Some x) is =
       find-by_name name (map row xs) (row x) (any-mapped row (is_named name) is_key xs names ∙ found-any is_key x xs is)
       (all-mapped (λ y. (is_named name (row y) ≡ (key y == n)) × ((key y == n) ≡ true → y ≡ x)) (λ (other : Row). is_named name other ≡ true → other ≡ row x) row xs
       (λ y both named. ap row (both.1 (sym both.0 ∙ named)))
       (all-pair (λ y. is_named name (row y) ≡ (key y == n)) (λ y. (key y == n) ≡ true → y ≡ x) xs names (only-found key n xs x rises is)))
 
-  -- the row of a name is that of the member with the name's number, if there is one
-  pub find-keyed : find_named name (by_name (map row xs)) ≡ option_map row (find is_key xs)
-  find-keyed = keyed-by (find is_key xs) refl
-
 -- ## names of places
-
--- siblings with the same name are the same
-pub named-same : (p q : Place) → IsGood p → IsGood q → above q ≡ above p → (row : Row) → row.name ≡ place_name q → is_named (place_name p) row ≡ true → q ≡ p
-named-same p q p_good q_good over row name named = same_names q p q_good p_good over (sym name ∙ bytes_eq-is row.name (place_name p) named)
 
 -- what is true of the row of each member is true of a table's rows
 pub all-rows_from : {A : Type 0} (P : Row → Type 0) (row : ℕ → A → Row) (list : List A) (at : ℕ) → ((k n : ℕ) (a : A) → at + k ≡ n → slice_get list k ≡ Some a → P (row n a)) → AllByRecursion P (rows_from row at list)
@@ -207,8 +176,8 @@ module _ {X : Type 0} (key : X → ℕ) (row : X → Row) (read : ℕ → Row �
       let least = all-weaker (λ (x : X). key x < limit) (λ (x : X). 0 ≤ key x) (λ x small. omega arith) xs low in
       filter_map-range key (λ n. option_map (read n) (find_named (place_name (place n)) (by_name (map row xs)))) limit xs limit 0 (omega arith) rises least low
       (λ n from most.
-      ap (option_map (read n)) (find-keyed key row (place_name (place n)) n xs rises
-      (all-weaker (λ (x : X). key x < limit) (λ (x : X). is_named (place_name (place n)) (row x) ≡ (key x == n)) (λ x small. names x n small most) xs low))
+      ap (option_map (read n)) (keyed-by key row (place_name (place n)) n xs rises
+      (all-weaker (λ (x : X). key x < limit) (λ (x : X). is_named (place_name (place n)) (row x) ≡ (key x == n)) (λ x small. names x n small most) xs low) (find (λ x. key x == n) xs) refl)
       ∙ read-by n (find (λ x. key x == n) xs) refl)
 
 -- ## registrations
@@ -286,7 +255,7 @@ module _ {A : Type 0} (place : ℕ → Place) (number : Place → ℕ) (dir : Pl
   table-same t all read whole rows_are back each_kept within = map-places (λ n. read (text_at (place n) t)) list 0 each where
     only : (k : ℕ) (a : A) → IsGood (place k) → slice_get list k ≡ Some a → AllByRecursion (λ other. is_named (place_name (place k)) other ≡ true → other ≡ persistent (place k) (text a)) all
     only k a good there = all-weaker (IsKept dir at text) (λ (other : Row). is_named (place_name (place k)) other ≡ true → other ≡ persistent (place k) (text a)) (λ other row named.
-        let places = named-same (place k) row.place good row.good (row.over ∙ sym (is.over k)) other (ap (λ (r : Row). r.name) row.is) named in
+        let places = same_names row.place (place k) row.good good (row.over ∙ sym (is.over k)) (sym (ap (λ (r : Row). r.name) row.is) ∙ bytes_eq-is other.name (place_name (place k)) named) in
         let members = some_injective row.kept a (sym row.there ∙ ap at places ∙ same k ∙ there) in
         row.is ∙ λ i. persistent (places i) (text (members i))) all each_kept
 
@@ -309,7 +278,7 @@ job_kept jobs other = None
 pub jobs-same : (t : TreeState) (jobs : List JobRecord) → IsWhole t.nodes → AreJobs jobs t → length jobs ≤ 2 ^ 32 → AllByRecursion IsJob jobs → map (job_at t) (range_with_len 0 (length jobs)) ≡ jobs
 jobs-same t jobs whole are few spelled =
     table-same job_place place_number Jobs jobs (job-table jobs few) job_text (job_kept jobs) (λ n. refl) t (rows_from job_row 0 jobs) (λ bytes. unwrap_or (job_in bytes).0 new_job) whole are.rows
-    (λ k j there. job-read j new_job (all-at IsJob jobs k j spelled there)) (rows-kept job_place place_number Jobs jobs (job-table jobs few) job_text (job_kept jobs) (λ n. refl)) (λ test any. any)
+    (λ k j there. value-of (job_text j) (job_in (job_text j)) j new_job (job_all (job_text j) j (all-at IsJob jobs k j spelled there, refl))) (rows-kept job_place place_number Jobs jobs (job-table jobs few) job_text (job_kept jobs) (λ n. refl)) (λ test any. any)
 
 -- ## roles
 
@@ -341,7 +310,7 @@ module _ (t : TreeState) (launchers janitors requesters : List RoleRecord) (whol
   kind-same : (place : ℕ → Place) (list : List RoleRecord) → IsTable place place_number Roles 0 list → ((n : ℕ) → role_kept (place n) ≡ slice_get list n) →
       ((test : Row → Bool) → list_any test (rows_from (λ n kept. persistent (place n) (role_text kept)) 0 list) ≡ true → list_any test (first ++ second ++ third) ≡ true) → AllByRecursion IsRole list → map (λ n. role_at (place n) t) (range_with_len 0 (length list)) ≡ list
   kind-same place list is same within spelled =
-      table-same place place_number Roles list is role_text role_kept same t (first ++ second ++ third) (λ bytes. unwrap_or (role_in bytes).0 no_deeds) whole are.rows (λ k kept there. role-read kept no_deeds (all-at IsRole list k kept spelled there)) all-kept within
+      table-same place place_number Roles list is role_text role_kept same t (first ++ second ++ third) (λ bytes. unwrap_or (role_in bytes).0 no_deeds) whole are.rows (λ k kept there. value-of (role_text kept) (role_in (role_text kept)) kept no_deeds (role_all (role_text kept) kept (all-at IsRole list k kept spelled there, refl))) all-kept within
 
   -- each launcher is what its text spells
   pub launchers-same : AllByRecursion IsRole launchers → map (λ pool. role_at (launcher_place pool) t) (range_with_len 0 (length launchers)) ≡ launchers
@@ -364,6 +333,6 @@ pair_in row = pair_named row.name
 pub swept-same : (t : TreeState) (swept : List Swept) → AreSwept swept t → Rises is_pair_before swept → AllByRecursion (λ pair. IsGood (SweptPlace pair.node pair.server)) swept → swept_at t ≡ swept
 swept-same t swept are rises good =
     ap (λ (rows : List Row). put_all [] (map pair_in rows)) are.rows
-    ∙ put_all-by_name pair_in (map swept_row swept)
+    ∙ put_all-rows pair_in (map swept_row swept) []
     ∙ ap (put_all []) (map-back swept_row pair_in swept (all-weaker (λ (pair : Swept). IsGood (SweptPlace pair.node pair.server)) (λ (pair : Swept). pair_in (swept_row pair) ≡ pair) pair_named-place swept good))
     ∙ put_all-rises swept rises

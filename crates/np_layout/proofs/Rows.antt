@@ -199,12 +199,8 @@ module _ {A : Type 0} (row : ℕ → A → Row) (name bytes : List ℕ) (limit k
 -- the row of a member is there
 pub rows_from-any : {A : Type 0} (row : ℕ → A → Row) (test : Row → Bool) (list : List A) (at j k : ℕ) (old : A) → at + j ≡ k → slice_get list j ≡ Some old → test (row k old) ≡ true → list_any test (rows_from row at list) ≡ true
 rows_from-any row test [] at j k old same there passes = absurd cc
-rows_from-any row test (a ∷ list) at zero k old same there passes =
-    let is : old ≡ a = cc in
-    let at_k : k ≡ at = omega arith in
-    or_left (test (row at a)) (list_any test (rows_from row (at + 1) list)) (subst (λ (x : _). test (row at x) ≡ true) is (subst (λ (n : ℕ). test (row n old) ≡ true) at_k passes))
-rows_from-any row test (a ∷ list) at (suc j) k old same there passes =
-    or_right (test (row at a)) (list_any test (rows_from row (at + 1) list)) (rows_from-any row test list (at + 1) j k old (omega arith) there passes)
+rows_from-any row test (a ∷ list) at zero k old same there passes = grind arith
+rows_from-any row test (a ∷ list) at (suc j) k old same there passes = grind (arith, rows_from-any row test list (at + 1) j k old)
 
 -- ## ranges
 
@@ -332,10 +328,7 @@ module _ {A : Type 0} (p : A → Bool) where
   -- all that do not pass are all but the first that does
   pub filter-removed : (list : List A) → IsOnce p list → filter (λ x. not (p x)) list ≡ remove_first p list
   filter-removed [] once = refl
-  filter-removed (a ∷ list) once =
-      let rest = filter (λ (x : A). not (p x)) list in
-      by_bool (λ (b : Bool). cond (not b) (a ∷ rest) rest ≡ cond b list (a ∷ remove_first p list)) (p a)
-      (λ is. filter-not_none p list (once.0 is)) (λ is. ap (λ (xs : List A). a ∷ xs) (filter-removed list once.1))
+  filter-removed (a ∷ list) once = grind (arith, nat_tests, once.0, filter-not_none p list, filter-removed list once.1)
 
   module _ (f : A → A) where
     module _ (G P Q : A → Type 0) (one : (a : A) → p a ≡ true → G a → P a → Q (f a)) (others : (a : A) → p a ≡ false → G a → P a → Q a) where
@@ -443,15 +436,12 @@ module _ (f : Row → Swept) where
   put_all-with row [] sorted = refl
   put_all-with row (other ∷ rows) sorted = grind (arith, nat_tests, put_all-with row rows (put (f other) sorted), swap (f row) (f other) sorted)
 
-  put_all-rows : (rows sorted : List Row) → put_all [] (map f (rows_put sorted rows)) ≡ put_all (put_all [] (map f sorted)) (map f rows)
+  -- nor in what order the rows are
+  pub put_all-rows : (rows sorted : List Row) → put_all [] (map f (rows_put sorted rows)) ≡ put_all (put_all [] (map f sorted)) (map f rows)
   put_all-rows [] sorted = refl
   put_all-rows (row ∷ rows) sorted =
       put_all-rows rows (with_row row sorted)
       ∙ ap (λ (list : List Swept). put_all list (map f rows)) (put_all-with row sorted [] ∙ order-put-last (f row) (map f sorted) [])
-
-  -- nor in what order the rows are
-  pub put_all-by_name : (rows : List Row) → put_all [] (map f (by_name rows)) ≡ put_all [] (map f rows)
-  put_all-by_name rows = put_all-rows rows []
 
 -- # two things that a test tells apart are not equal
 

@@ -77,11 +77,8 @@ module _ (s : State) (t : TreeState) (role : Role) (whole : IsWhole t.nodes) (go
   owner : owner_at from (path_of Sessions) ≡ Some None
   owner = owner-there from Poolsim Sessions _ whole tt refl lays.frame.poolsim refl (refl, (refl, (refl, (refl, (refl, tt)))))
 
-  from-room : HasRoomFor 1 from
-  from-room = record { change = room.change; versions = room.versions; counters = room.counters; rows = room.rows; few = room.few }
-
   step : Step Sessions place Persistent (session_row new facts) from 1 (make bytes place)
-  step = make-new from 1 Sessions place _ bytes Persistent owner small refl refl (λ counter. refl) short whole (in-more t.live 1 (t.begun + 1) lays.live.first) (room-gives from 0 from-room) lays.sessions.rows
+  step = make-new from 1 Sessions place _ bytes Persistent owner small refl refl (λ counter. refl) short whole (in-more t.live 1 (t.begun + 1) lays.live.first) (room-gives from 0 (assumption room)) lays.sessions.rows
       (none-named (session_row new facts) (rows_from session_row 1 s.sessions) (sessions-before s.sessions 1 new facts (omega arith) small))
 
   abbrev u : TreeState
@@ -212,9 +209,6 @@ module _ (s : State) (t : TreeState) (session : SessionId) (whole : IsWhole t.no
       let free : is_owner z (seen_of node.0).owner ≡ false = ap (λ (x : Seen). is_owner z x.owner) (sym row.2) ∙ ap (is_owner z) owner in
       shows.counters (path_of p) (seen_of node.0) seen free ∙ gives
 
-  plain-at : (p : Place) (rows : List Row) → under p t ≡ rows → ArePlain rows → ArePlain (under p t)
-  plain-at p rows same plain = subst ArePlain (sym same) plain
-
   owned-tells : (rows : List Row) (queue : List SessionId) (next : ℕ) → AllZip (IsWait next) rows queue → AllZip (λ row other. is_owner z row.owner ≡ is_session other session) rows queue
   owned-tells [] [] next all = tt
   owned-tells (row ∷ rows) (other ∷ queue) next all = (ap (λ (r : Row). is_owner z r.owner) all.0.is ∙ one_more other.0 session.0, owned-tells rows queue next all.1)
@@ -240,7 +234,7 @@ module _ (s : State) (t : TreeState) (session : SessionId) (whole : IsWhole t.no
   request-queues : (entries : List RequestEntry) → AllByRecursion (λ e. IsGood (Request e.id)) entries → AllByRecursion (λ e. HasQueue (RequestLock e.id) e.queue t) entries → AllByRecursion (λ e. HasQueue (RequestLock e.id) e.queue ended_tree) (map (request_left session) entries)
   request-queues [] all_good all = tt
   request-queues (e ∷ entries) all_good all =
-      (queue-ends (RequestLock e.id) RequestLocks e.queue all_good.0 refl (plain-at RequestLocks (map request_lock_row s.requests) lays.request_locks.rows locks-plain) all.0, request-queues entries all_good.1 all.1)
+      (queue-ends (RequestLock e.id) RequestLocks e.queue all_good.0 refl (subst ArePlain (sym lays.request_locks.rows) locks-plain) all.0, request-queues entries all_good.1 all.1)
 
   node-locks : (entries : List NodeEntry) → AllByRecursion (λ e. IsGood (NodePlace e.id)) entries → AllByRecursion (HasNodeLock t) entries → AllByRecursion (HasNodeLock ended_tree) (map (node_left session) entries)
   node-locks [] all_good all = tt

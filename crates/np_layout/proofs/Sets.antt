@@ -107,12 +107,6 @@ module _ (s : State) (t : TreeState) (j : JobId) (change : JobRecord → JobReco
   job-good : IsGood (Job j)
   job-good = table-good job_place place_number Jobs 0 s.jobs (job-table s.jobs good.jobs) job_text j.0 j.0 old job-first there
 
-  -- the job's row alone changes
-  job-rows : map (put_bytes (place_name (Job j)) job_bytes) (by_name (rows_from job_row 0 s.jobs)) ≡ by_name (rows_from job_row 0 (change_at j.0 change s.jobs))
-  job-rows =
-      by_name-each (put_bytes (place_name (Job j)) job_bytes) (put-name (place_name (Job j)) job_bytes) (rows_from job_row 0 s.jobs)
-      ∙ ap by_name (table-change job_place place_number Jobs 0 s.jobs (job-table s.jobs good.jobs) job_text j.0 j.0 old job-first there change)
-
   -- a set of a job's record lays out the state with that record
   pub job_changes-lay-out : SetLaysOut (record s { jobs = change_at j.0 change s.jobs }) t (Job j) job_bytes
   job_changes-lay-out = sets-lay-out s _ t Jobs (Job j) job_bytes whole good lays job-good refl any each where
@@ -122,7 +116,13 @@ module _ (s : State) (t : TreeState) (j : JobId) (change : JobRecord → JobReco
         ∙ table-any job_place place_number Jobs 0 s.jobs (job-table s.jobs good.jobs) job_text j.0 j.0 old job-first there
 
     each : (u : TreeState) → SetsRow Jobs (Job j) job_bytes t u → ((k : Table) → is_touched (Jobs ∷ []) k ≡ false → Says s u k) → (k : Table) → Says (record s { jobs = change_at j.0 change s.jobs }) u k
-    each u sets stays of_jobs = record { rows = sets.each ∙ ap (λ (rows : List Row). map (put_bytes (place_name (Job j)) job_bytes) rows) lays.jobs.rows ∙ job-rows; leaves = sets.leaves lays.jobs.leaves }
+    each u sets stays of_jobs = record {
+      rows =
+          sets.each ∙ ap (λ (rows : List Row). map (put_bytes (place_name (Job j)) job_bytes) rows) lays.jobs.rows
+          ∙ by_name-each (put_bytes (place_name (Job j)) job_bytes) (put-name (place_name (Job j)) job_bytes) (rows_from job_row 0 s.jobs)
+          ∙ ap by_name (table-change job_place place_number Jobs 0 s.jobs (job-table s.jobs good.jobs) job_text j.0 j.0 old job-first there change);
+      leaves = sets.leaves lays.jobs.leaves;
+    }
     each u sets stays k = stays k refl
 
 -- so does the set of another record
@@ -139,82 +139,58 @@ jobs-lay-out s t j old kept whole good lays there =
 abbrev role_rows : List RoleRecord → List RoleRecord → List RoleRecord → List Row
 role_rows launchers janitors requesters = rows_from launcher_role_row 0 launchers ++ rows_from janitor_role_row 0 janitors ++ rows_from requester_role_row 0 requesters
 
--- each table is changed alone
-put-roles : (f : Row → Row) (a1 a2 b1 b2 c1 c2 : List Row) → map f a1 ≡ a2 → map f b1 ≡ b2 → map f c1 ≡ c2 → map f (a1 ++ b1 ++ c1) ≡ a2 ++ b2 ++ c2
-put-roles f a1 a2 b1 b2 c1 c2 a b c =
-    map-append f (a1 ++ b1) c1
-    ∙ ap (λ (rows : List Row). rows ++ map f c1) (map-append f a1 b1 ∙ ap (λ (rows : List Row). rows ++ map f b1) a ∙ ap (λ (rows : List Row). a2 ++ rows) b)
-    ∙ ap (λ (rows : List Row). a2 ++ b2 ++ rows) c
+-- if a row is there, and the rows of each table change to those of other records, the set lays those out
+role-set : (s : State) (t : TreeState) → IsWhole t.nodes → HasGoodIds s → LaysOut s t → (p : Place) (bytes : List ℕ) (launchers janitors requesters : List RoleRecord) → IsGood p → above p ≡ Some Roles →
+    map (put_bytes (place_name p) bytes) (rows_from launcher_role_row 0 s.launchers) ≡ rows_from launcher_role_row 0 launchers → map (put_bytes (place_name p) bytes) (rows_from janitor_role_row 0 s.janitors) ≡ rows_from janitor_role_row 0 janitors →
+    map (put_bytes (place_name p) bytes) (rows_from requester_role_row 0 s.requesters) ≡ rows_from requester_role_row 0 requesters → list_any (is_named (place_name p)) (role_rows s.launchers s.janitors s.requesters) ≡ true →
+    SetLaysOut (record s { launchers = launchers; janitors = janitors; requesters = requesters }) t p bytes
+role-set s t whole good lays p bytes launchers janitors requesters p_good over of_launchers of_janitors of_requesters any =
+    sets-lay-out s _ t Roles p bytes whole good lays p_good over
+    (ap (list_any (is_named (place_name p))) lays.roles.rows ∙ any-by_name (is_named (place_name p)) (role_rows s.launchers s.janitors s.requesters) ∙ any) each where
+      rows : map (put_bytes (place_name p) bytes) (role_rows s.launchers s.janitors s.requesters) ≡ role_rows launchers janitors requesters
+      rows = simp map-append (λ i. of_launchers i ++ of_janitors i ++ of_requesters i)
 
-module _ (s : State) (t : TreeState) (whole : IsWhole t.nodes) (good : HasGoodIds s) (lays : LaysOut s t) where
-  -- if a row is there, and the rows change to those of other records, the set lays those out
-  role-set : (p : Place) (role_bytes : List ℕ) (launchers janitors requesters : List RoleRecord) → IsGood p → above p ≡ Some Roles →
-      map (put_bytes (place_name p) role_bytes) (role_rows s.launchers s.janitors s.requesters) ≡ role_rows launchers janitors requesters →
-      list_any (is_named (place_name p)) (role_rows s.launchers s.janitors s.requesters) ≡ true →
-      SetLaysOut (record s { launchers = launchers; janitors = janitors; requesters = requesters }) t p role_bytes
-  role-set p role_bytes launchers janitors requesters p_good over rows any =
-      sets-lay-out s _ t Roles p role_bytes whole good lays p_good over
-      (ap (list_any (is_named (place_name p))) lays.roles.rows ∙ any-by_name (is_named (place_name p)) (role_rows s.launchers s.janitors s.requesters) ∙ any) each where
-        each : (u : TreeState) → SetsRow Roles p role_bytes t u → ((k : Table) → is_touched (Roles ∷ []) k ≡ false → Says s u k) → (k : Table) → Says (record s { launchers = launchers; janitors = janitors; requesters = requesters }) u k
-        each u sets stays of_roles = record {
-          rows =
-              sets.each ∙ ap (λ (list : List Row). map (put_bytes (place_name p) role_bytes) list) lays.roles.rows
-              ∙ by_name-each (put_bytes (place_name p) role_bytes) (put-name (place_name p) role_bytes) (role_rows s.launchers s.janitors s.requesters)
-              ∙ ap by_name rows;
-          leaves = sets.leaves lays.roles.leaves;
-        }
-        each u sets stays k = stays k refl
-
-  module _ (change : RoleRecord → RoleRecord) (old : RoleRecord) where
-    abbrev role_bytes : List ℕ
-    role_bytes = role_text (change old)
-
-    -- a launcher's record
-    launcher-set : (p : PoolId) → slice_get s.launchers p.0 ≡ Some old → SetLaysOut (change_role change (Role.Launcher p) s) t (LauncherRole p) role_bytes
-    launcher-set p there =
-        let p_good = table-good launcher_place place_number Roles 0 s.launchers (launcher-table s.launchers good.launchers) role_text p.0 p.0 old (omega arith) there in
-        role-set (LauncherRole p) role_bytes (change_at p.0 change s.launchers) s.janitors s.requesters p_good refl
-        (put-roles (put_bytes (place_name (LauncherRole p)) role_bytes) (rows_from launcher_role_row 0 s.launchers) (rows_from launcher_role_row 0 (change_at p.0 change s.launchers)) (rows_from janitor_role_row 0 s.janitors) (rows_from janitor_role_row 0 s.janitors) (rows_from requester_role_row 0 s.requesters) (rows_from requester_role_row 0 s.requesters)
-        (table-change launcher_place place_number Roles 0 s.launchers (launcher-table s.launchers good.launchers) role_text p.0 p.0 old (omega arith) there change)
-        (table-others janitor_place place_number Roles 0 s.janitors (janitor-table s.janitors good.janitors) role_text (LauncherRole p) role_bytes p_good refl (λ n same. cc))
-        (table-others requester_place place_number Roles 0 s.requesters (requester-table s.requesters good.requesters) role_text (LauncherRole p) role_bytes p_good refl (λ n same. cc)))
-        (any-first (is_named (place_name (LauncherRole p))) (rows_from launcher_role_row 0 s.launchers ++ rows_from janitor_role_row 0 s.janitors) (rows_from requester_role_row 0 s.requesters)
-        (any-first (is_named (place_name (LauncherRole p))) (rows_from launcher_role_row 0 s.launchers) (rows_from janitor_role_row 0 s.janitors)
-        (table-any launcher_place place_number Roles 0 s.launchers (launcher-table s.launchers good.launchers) role_text p.0 p.0 old (omega arith) there)))
-
-    -- a janitor's record
-    janitor-set : (p : PoolId) → slice_get s.janitors p.0 ≡ Some old → SetLaysOut (change_role change (Role.Janitor p) s) t (JanitorRole p) role_bytes
-    janitor-set p there =
-        let p_good = table-good janitor_place place_number Roles 0 s.janitors (janitor-table s.janitors good.janitors) role_text p.0 p.0 old (omega arith) there in
-        role-set (JanitorRole p) role_bytes s.launchers (change_at p.0 change s.janitors) s.requesters p_good refl
-        (put-roles (put_bytes (place_name (JanitorRole p)) role_bytes) (rows_from launcher_role_row 0 s.launchers) (rows_from launcher_role_row 0 s.launchers) (rows_from janitor_role_row 0 s.janitors) (rows_from janitor_role_row 0 (change_at p.0 change s.janitors)) (rows_from requester_role_row 0 s.requesters) (rows_from requester_role_row 0 s.requesters)
-        (table-others launcher_place place_number Roles 0 s.launchers (launcher-table s.launchers good.launchers) role_text (JanitorRole p) role_bytes p_good refl (λ n same. cc))
-        (table-change janitor_place place_number Roles 0 s.janitors (janitor-table s.janitors good.janitors) role_text p.0 p.0 old (omega arith) there change)
-        (table-others requester_place place_number Roles 0 s.requesters (requester-table s.requesters good.requesters) role_text (JanitorRole p) role_bytes p_good refl (λ n same. cc)))
-        (any-first (is_named (place_name (JanitorRole p))) (rows_from launcher_role_row 0 s.launchers ++ rows_from janitor_role_row 0 s.janitors) (rows_from requester_role_row 0 s.requesters)
-        (any-last (is_named (place_name (JanitorRole p))) (rows_from launcher_role_row 0 s.launchers) (rows_from janitor_role_row 0 s.janitors)
-        (table-any janitor_place place_number Roles 0 s.janitors (janitor-table s.janitors good.janitors) role_text p.0 p.0 old (omega arith) there)))
-
-    -- a requester's record
-    requester-set : (q : RequesterId) → slice_get s.requesters q.0 ≡ Some old → SetLaysOut (change_role change (Role.Requester q) s) t (RequesterRole q) role_bytes
-    requester-set q there =
-        let q_good = table-good requester_place place_number Roles 0 s.requesters (requester-table s.requesters good.requesters) role_text q.0 q.0 old (omega arith) there in
-        role-set (RequesterRole q) role_bytes s.launchers s.janitors (change_at q.0 change s.requesters) q_good refl
-        (put-roles (put_bytes (place_name (RequesterRole q)) role_bytes) (rows_from launcher_role_row 0 s.launchers) (rows_from launcher_role_row 0 s.launchers) (rows_from janitor_role_row 0 s.janitors) (rows_from janitor_role_row 0 s.janitors) (rows_from requester_role_row 0 s.requesters) (rows_from requester_role_row 0 (change_at q.0 change s.requesters))
-        (table-others launcher_place place_number Roles 0 s.launchers (launcher-table s.launchers good.launchers) role_text (RequesterRole q) role_bytes q_good refl (λ n same. cc))
-        (table-others janitor_place place_number Roles 0 s.janitors (janitor-table s.janitors good.janitors) role_text (RequesterRole q) role_bytes q_good refl (λ n same. cc))
-        (table-change requester_place place_number Roles 0 s.requesters (requester-table s.requesters good.requesters) role_text q.0 q.0 old (omega arith) there change))
-        (any-last (is_named (place_name (RequesterRole q))) (rows_from launcher_role_row 0 s.launchers ++ rows_from janitor_role_row 0 s.janitors) (rows_from requester_role_row 0 s.requesters)
-        (table-any requester_place place_number Roles 0 s.requesters (requester-table s.requesters good.requesters) role_text q.0 q.0 old (omega arith) there))
+      each : (u : TreeState) → SetsRow Roles p bytes t u → ((k : Table) → is_touched (Roles ∷ []) k ≡ false → Says s u k) → (k : Table) → Says (record s { launchers = launchers; janitors = janitors; requesters = requesters }) u k
+      each u sets stays of_roles = record {
+        rows =
+            sets.each ∙ ap (λ (list : List Row). map (put_bytes (place_name p) bytes) list) lays.roles.rows
+            ∙ by_name-each (put_bytes (place_name p) bytes) (put-name (place_name p) bytes) (role_rows s.launchers s.janitors s.requesters) ∙ ap by_name rows;
+        leaves = sets.leaves lays.roles.leaves;
+      }
+      each u sets stays k = stays k refl
 
 -- a set of the record of a role lays out the state with that record
 pub roles-lay-out : RolesLayOut
 roles-lay-out s t (Role.Launcher p) place change old whole good lays at there =
-    subst (λ (q : Place). SetLaysOut (change_role change (Role.Launcher p) s) t q (role_text (change old))) (some_injective (LauncherRole p) place at) (launcher-set s t whole good lays change old p there)
+    let bytes : List ℕ = role_text (change old) in
+    let named : Row → Bool = is_named (place_name (LauncherRole p)) in
+    let p_good = table-good launcher_place place_number Roles 0 s.launchers (launcher-table s.launchers good.launchers) role_text p.0 p.0 old (omega arith) there in
+    subst (λ (q : Place). SetLaysOut (change_role change (Role.Launcher p) s) t q bytes) (some_injective (LauncherRole p) place at)
+    (role-set s t whole good lays (LauncherRole p) bytes (change_at p.0 change s.launchers) s.janitors s.requesters p_good refl
+    (table-change launcher_place place_number Roles 0 s.launchers (launcher-table s.launchers good.launchers) role_text p.0 p.0 old (omega arith) there change)
+    (table-others janitor_place place_number Roles 0 s.janitors (janitor-table s.janitors good.janitors) role_text (LauncherRole p) bytes p_good refl (λ n same. cc))
+    (table-others requester_place place_number Roles 0 s.requesters (requester-table s.requesters good.requesters) role_text (LauncherRole p) bytes p_good refl (λ n same. cc))
+    (any-first named (rows_from launcher_role_row 0 s.launchers ++ rows_from janitor_role_row 0 s.janitors) (rows_from requester_role_row 0 s.requesters) (any-first named (rows_from launcher_role_row 0 s.launchers) (rows_from janitor_role_row 0 s.janitors) (table-any launcher_place place_number Roles 0 s.launchers (launcher-table s.launchers good.launchers) role_text p.0 p.0 old (omega arith) there))))
 roles-lay-out s t (Role.Janitor p) place change old whole good lays at there =
-    subst (λ (q : Place). SetLaysOut (change_role change (Role.Janitor p) s) t q (role_text (change old))) (some_injective (JanitorRole p) place at) (janitor-set s t whole good lays change old p there)
-roles-lay-out s t (Role.Requester q) place change old whole good lays at there =
-    subst (λ (r : Place). SetLaysOut (change_role change (Role.Requester q) s) t r (role_text (change old))) (some_injective (RequesterRole q) place at) (requester-set s t whole good lays change old q there)
+    let bytes : List ℕ = role_text (change old) in
+    let named : Row → Bool = is_named (place_name (JanitorRole p)) in
+    let p_good = table-good janitor_place place_number Roles 0 s.janitors (janitor-table s.janitors good.janitors) role_text p.0 p.0 old (omega arith) there in
+    subst (λ (q : Place). SetLaysOut (change_role change (Role.Janitor p) s) t q bytes) (some_injective (JanitorRole p) place at)
+    (role-set s t whole good lays (JanitorRole p) bytes s.launchers (change_at p.0 change s.janitors) s.requesters p_good refl
+    (table-others launcher_place place_number Roles 0 s.launchers (launcher-table s.launchers good.launchers) role_text (JanitorRole p) bytes p_good refl (λ n same. cc))
+    (table-change janitor_place place_number Roles 0 s.janitors (janitor-table s.janitors good.janitors) role_text p.0 p.0 old (omega arith) there change)
+    (table-others requester_place place_number Roles 0 s.requesters (requester-table s.requesters good.requesters) role_text (JanitorRole p) bytes p_good refl (λ n same. cc))
+    (any-first named (rows_from launcher_role_row 0 s.launchers ++ rows_from janitor_role_row 0 s.janitors) (rows_from requester_role_row 0 s.requesters) (any-last named (rows_from launcher_role_row 0 s.launchers) (rows_from janitor_role_row 0 s.janitors) (table-any janitor_place place_number Roles 0 s.janitors (janitor-table s.janitors good.janitors) role_text p.0 p.0 old (omega arith) there))))
+roles-lay-out s t (Role.Requester p) place change old whole good lays at there =
+    let bytes : List ℕ = role_text (change old) in
+    let named : Row → Bool = is_named (place_name (RequesterRole p)) in
+    let p_good = table-good requester_place place_number Roles 0 s.requesters (requester-table s.requesters good.requesters) role_text p.0 p.0 old (omega arith) there in
+    subst (λ (q : Place). SetLaysOut (change_role change (Role.Requester p) s) t q bytes) (some_injective (RequesterRole p) place at)
+    (role-set s t whole good lays (RequesterRole p) bytes s.launchers s.janitors (change_at p.0 change s.requesters) p_good refl
+    (table-others launcher_place place_number Roles 0 s.launchers (launcher-table s.launchers good.launchers) role_text (RequesterRole p) bytes p_good refl (λ n same. cc))
+    (table-others janitor_place place_number Roles 0 s.janitors (janitor-table s.janitors good.janitors) role_text (RequesterRole p) bytes p_good refl (λ n same. cc))
+    (table-change requester_place place_number Roles 0 s.requesters (requester-table s.requesters good.requesters) role_text p.0 p.0 old (omega arith) there change)
+    (any-last named (rows_from launcher_role_row 0 s.launchers ++ rows_from janitor_role_row 0 s.janitors) (rows_from requester_role_row 0 s.requesters) (table-any requester_place place_number Roles 0 s.requesters (requester-table s.requesters good.requesters) role_text p.0 p.0 old (omega arith) there)))
 roles-lay-out s t Role.Reaper place change old whole good lays at there = absurd cc
 
 -- # a set of a session's record
@@ -266,12 +242,9 @@ module _ (s : State) (t : TreeState) (session : SessionId) (facts : SessionFacts
   first : 1 + (session.0 - 1) ≡ session.0
   first = let not_zero = eqb-false session.0 0 (session-by (slice_get s.sessions (session.0 - 1)) facts (session.0 == 0) is).0 in omega arith
 
-  session-good : IsGood (Session session)
-  session-good = table-good session_at session_number Sessions 1 s.sessions is-sessions text at session.0 facts first there
-
   -- a set of a session's record to mute lays out the state in which it is
   pub mutes-lay-out : SetLaysOut (record s { sessions = change_session session muted s.sessions }) t (Session session) session_bytes
-  mutes-lay-out = sets-lay-out s _ t Sessions (Session session) session_bytes whole good lays session-good refl any each where
+  mutes-lay-out = sets-lay-out s _ t Sessions (Session session) session_bytes whole good lays (table-good session_at session_number Sessions 1 s.sessions is-sessions text at session.0 facts first there) refl any each where
     any : list_any (is_named (place_name (Session session))) (under Sessions t) ≡ true
     any = ap (list_any (is_named (place_name (Session session)))) lays.sessions.rows ∙ table-any session_at session_number Sessions 1 s.sessions is-sessions text at session.0 facts first there
 
@@ -352,7 +325,7 @@ module _ (s : State) (t : TreeState) (r : RequestId) (change : RequestRecord →
   r-good = request-good r s.requests request-entry.0 good.requests request-entry.1
 
   names : AllByRecursion (λ x. named (request_row x) ≡ is_request_it r x) s.requests
-  names = all-weaker (λ (x : RequestEntry). named (request_lock_row x) ≡ is_request_it r x) (λ (x : RequestEntry). named (request_row x) ≡ is_request_it r x) (λ x same. same) s.requests (lock-names r s.requests r-good good.requests)
+  names = lock-names r s.requests r-good good.requests
 
   -- its row changes with it
   rows-change : change_first named (row_with bytes) (map request_row s.requests) ≡ map request_row request_changed

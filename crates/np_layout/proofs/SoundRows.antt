@@ -63,13 +63,10 @@ tenant-by : (c : Configuration) → IsSound c → (j : JobId) (o : Option Job) �
 tenant-by c sound j None is = tt
 tenant-by c sound j (Some job) is = let row = job-row c sound j job is in row.tenant
 
-tenant-of : (c : Configuration) → IsSound c → (o : Option JobId) → IfSome (option_map (λ job. job.tenant) (option_and_then (λ j. slice_get c.jobs j.0) o)) (λ t. t.0 < 2 ^ 16)
-tenant-of c sound None = tt
-tenant-of c sound (Some j) = tenant-by c sound j (slice_get c.jobs j.0) refl
-
 -- the number of a request's tenant fits its type
-pub tenant-low : (c : Configuration) → IsSound c → (request : RequestRecord) → IfSome (tenant_of_request c request) (λ t. t.0 < 2 ^ 16)
-tenant-low c sound request = tenant-of c sound request.job
+pub tenant-low : (c : Configuration) → IsSound c → (o : Option JobId) → IfSome (option_map (λ job. job.tenant) (option_and_then (λ j. slice_get c.jobs j.0) o)) (λ t. t.0 < 2 ^ 16)
+tenant-low c sound None = tt
+tenant-low c sound (Some j) = tenant-by c sound j (slice_get c.jobs j.0) refl
 
 -- ## offers
 

@@ -30,6 +30,11 @@ all-change_found P p f (x ∷ xs) new all =
 pub queue-keeps : {I K : Type 0} (P : K → Type 0) (p : Locked I K → Bool) (queue : List SessionId) (rows : List (Locked I K)) → AllByRecursion (λ e. P e.kept) rows → AllByRecursion (λ e. P e.kept) (change_first p (λ e. record e { queue = queue }) rows)
 queue-keeps P p queue rows all = all-change_first (λ (e : Locked _ _). P e.kept) p (λ e. record e { queue = queue }) rows (λ e is. is) all
 
+-- what any session does keeps what is true of some rows, and so does what nobody does
+by_maker-keeps : {A : Type 0} (P : A → Type 0) (f : SessionId → A → A) (maker : Option Maker) (rows : A) → ((session : SessionId) (old : A) → P old → P (f session old)) → P rows → P (by_maker maker f rows)
+by_maker-keeps P f None rows keeps all = all
+by_maker-keeps P f (Some m) rows keeps all = keeps m.session rows all
+
 -- the pool of a launcher is in the configuration
 pub launcher-low : (c : Configuration) (s : State) (maker : Option Maker) (session : SessionId) (p : PoolId) → Fits c s → MakerPremise s maker → maker ≡ Some (record { session = session; role = Role.Launcher p }) → p.0 < length c.pools
 launcher-low c s None session p fits heard made = absurd cc
@@ -99,21 +104,13 @@ worker-low c s ch p r request known works = launcher-low c s ch.maker works.sess
 -- ## the parts of a job
 
 -- what a new job has when it asks
-asks-ends : (p : Phase) (e : Option Ending) → is_new p ≡ true → EndsIn p e → EndsIn Phase.Asked e
-asks-ends p e is ends = grind arith
-
-asks-parts : (p : Phase) (pool : Option PoolId) (request : Option RequestId) (id : RequestId) → is_new p ≡ true → HasParts p pool request → HasParts Phase.Asked pool (Some id)
-asks-parts p pool request id is parts = grind arith
+when-asks : (p : Phase) (e : Option Ending) (pool : Option PoolId) (request : Option RequestId) (id : RequestId) → is_new p ≡ true → EndsIn p e → HasParts p pool request → EndsIn Phase.Asked e × HasParts Phase.Asked pool (Some id)
+when-asks p e pool request id is ends parts = (grind arith, grind arith)
 
 -- what an asked job has when it takes over nodes
-takes-ends : (p : Phase) (e : Option Ending) → is_asked p ≡ true → EndsIn p e → EndsIn Phase.Using e
-takes-ends p e is ends = grind arith
-
-takes-parts : (s : RequestState) (pool : Option PoolId) (request : Option RequestId) (r : RequestId) → is_fulfilled s ≡ true → IsServed s pool → request ≡ Some r → HasParts Phase.Using pool request
-takes-parts s pool request r is served of_job = grind arith
-
-takes-pool : (s : RequestState) (pool : Option PoolId) → is_fulfilled s ≡ true → IsServed s pool → IfSome pool (λ p. p.0 < 2 ^ 16)
-takes-pool s pool is served = grind arith
+when-takes : (p : Phase) (e : Option Ending) (s : RequestState) (pool : Option PoolId) (request : Option RequestId) (r : RequestId) → is_asked p ≡ true → EndsIn p e → is_fulfilled s ≡ true → IsServed s pool → request ≡ Some r →
+    EndsIn Phase.Using e × (HasParts Phase.Using pool request × IfSome pool (λ p. p.0 < 2 ^ 16))
+when-takes p e s pool request r asked ends is served of_job = (grind arith, (grind arith, grind arith))
 
 -- what any job has when it ends
 over-parts : (p : Phase) (pool : Option PoolId) (request : Option RequestId) → HasParts p pool request → HasParts Phase.Over pool request
@@ -132,23 +129,6 @@ module _ (c : Configuration) (s : State) (ch : Changes) (known : IsKnown c s ch)
   job-there : (j : JobId) (k : JobRecord) → slice_get s.jobs j.0 ≡ Some k → IsJob k
   job-there j k there = all-at IsJob s.jobs j.0 k known.carried.spelled.jobs there
 
-  asked-is : (priority : ℕ) (asked : Asked) (asks : AsksForJob c s ch priority asked) → IsJob (record asks.kept { phase = Phase.Asked; request = Some (next_id asks.job.priority s) })
-  asked-is priority asked asks =
-      let is : IsJob asks.kept = job-there asks.number asks.kept asks.stands in
-      let ending = asks-ends asks.kept.phase asks.kept.ending asks.new is.ending in
-      let parts = asks-parts asks.kept.phase asks.kept.pool asks.kept.request (next_id asks.job.priority s) asks.new is.parts in
-      assumption (is, priority-text c s asks.job.priority known.fits (job-row c known.sound asks.number asks.job asks.row).priority)
-
-  taken-is : (r : RequestId) (takes : TakesOver c s ch r) → IsJob (record takes.kept { nodes = map unended takes.request.nodes; phase = Phase.Using; pool = takes.request.pool })
-  taken-is r takes =
-      let is : IsJob takes.kept = job-there takes.number takes.kept takes.stands in
-      let row : RequestRow c r takes.request = request-row c s known.fits known.carried r takes.request takes.request_stands in
-      let ending = takes-ends takes.kept.phase takes.kept.ending takes.asked is.ending in
-      let parts = takes-parts takes.request.state takes.request.pool takes.kept.request r takes.fulfilled row.is.served takes.of_job in
-      let pool = takes-pool takes.request.state takes.request.pool takes.fulfilled row.is.served in
-      let nodes = all-mapped IsNodeId IsMarked unended takes.request.nodes (λ n low. low) row.is.nodes in
-      search (arith, is.request, row.is.few_nodes, length-map takes.request.nodes unended)
-
   -- one change puts one record
   as-put : (i j : JobId) (put later : JobRecord) → ch.jobs ≡ JobsChange.Put j later → ch.jobs ≡ JobsChange.Put i put → IsJob put → IsJob later
   as-put i j put later one other is =
@@ -163,8 +143,18 @@ module _ (c : Configuration) (s : State) (ch : Changes) (known : IsKnown c s ch)
         ⊎ (((r : RequestId) × (takes : TakesOver c s ch r) × ((ch.requests ≡ RequestsChange.Remove r) × (takes.number ≡ j)))
         ⊎ (FinishesJob c s ch j puts.kept later
         ⊎ (Withdraws s ch j puts.kept × (ch.requests ≡ request_after_withdraw puts.kept.request)))) → IsJob later
-    by (inl (priority, asked, asks, rest)) = as-put asks.number j (record asks.kept { phase = Phase.Asked; request = Some (next_id asks.job.priority s) }) later at asks.puts (asked-is priority asked asks)
-    by (inr (inl (r, takes, rest))) = as-put takes.number j (record takes.kept { nodes = map unended takes.request.nodes; phase = Phase.Using; pool = takes.request.pool }) later at takes.puts (taken-is r takes)
+    by (inl (priority, asked, asks, rest)) =
+        let is : IsJob asks.kept = job-there asks.number asks.kept asks.stands in
+        let has = when-asks asks.kept.phase asks.kept.ending asks.kept.pool asks.kept.request (next_id asks.job.priority s) asks.new is.ending is.parts in
+        as-put asks.number j (record asks.kept { phase = Phase.Asked; request = Some (next_id asks.job.priority s) }) later at asks.puts
+        (assumption (is, has.0, has.1, priority-text c s asks.job.priority known.fits (job-row c known.sound asks.number asks.job asks.row).priority))
+    by (inr (inl (r, takes, rest))) =
+        let is : IsJob takes.kept = job-there takes.number takes.kept takes.stands in
+        let row : RequestRow c r takes.request = request-row c s known.fits known.carried r takes.request takes.request_stands in
+        let has = when-takes takes.kept.phase takes.kept.ending takes.request.state takes.request.pool takes.kept.request r takes.asked is.ending takes.fulfilled row.is.served takes.of_job in
+        let nodes = all-mapped IsNodeId IsMarked unended takes.request.nodes (λ n low. low) row.is.nodes in
+        as-put takes.number j (record takes.kept { nodes = map unended takes.request.nodes; phase = Phase.Using; pool = takes.request.pool }) later at takes.puts
+        (search (arith, has.0, has.1.0, has.1.1, is.request, row.is.few_nodes, length-map takes.request.nodes unended))
     by (inr (inr (inl finishes))) = subst IsJob (sym finishes.record_after) (over-is puts.kept (ending_of puts.kept) (job-there j puts.kept puts.stands))
     by (inr (inr (inr (withdraws, rest)))) =
         as-put j j (record puts.kept { ending = Some Ending.Withdrawn; phase = Phase.Over }) later at withdraws.puts (over-is puts.kept Ending.Withdrawn (job-there j puts.kept puts.stands))
@@ -173,10 +163,6 @@ module _ (c : Configuration) (s : State) (ch : Changes) (known : IsKnown c s ch)
   jobs-by JobsChange.Same at premise = known.carried.spelled.jobs
   jobs-by (JobsChange.Put j later) at premise = all-set IsJob s.jobs j.0 later (put-is j later at premise) known.carried.spelled.jobs
   jobs-by (JobsChange.EndNode j n) at premise = all-change_at IsJob j.0 (with_mark n) s.jobs (marked-is n) known.carried.spelled.jobs
-
-  -- each job has a spelling after the changes
-  pub jobs-spelled : AllByRecursion IsJob (jobs_changed ch.jobs (grown c ch.maker ch.grows s).jobs)
-  jobs-spelled = subst (λ (rows : List JobRecord). AllByRecursion IsJob (jobs_changed ch.jobs rows)) (sym (jobs-grown c ch.maker ch.grows s)) (jobs-by ch.jobs refl known.premises.jobs)
 
 -- # each node has a spelling after an accepted event
 
@@ -221,92 +207,68 @@ module _ (c : Configuration) (s : State) (ch : Changes) (known : IsKnown c s ch)
 
   -- ## what grows
 
-  -- a new node of the request's next label
-  made-is : (p : PoolId) (r : RequestId) (request : RequestRecord) (l : LabelId) → RequestRow c r request → p.0 < length c.pools → next_label request ≡ Some l → IsNode (new_node c s r p request l)
-  made-is p r request l row low next = search (arith, row.text, all-at IsLabel request.labels (length request.nodes) l row.is.labels next, pool-low c p known.sound low, tick-low, tenant-low c known.sound request)
-
-  made-by : (kept : NodeRecord) → ch.grows ≡ Growth.Node kept → (r : RequestId) (n : NodeId) (gains : Gains c s ch r n) → IsTaken c s ch gains.pool r gains.request gains.label n ⊎ IsMade c s ch gains.pool r gains.request gains.label n → IsNode kept
-  made-by kept is r n gains (inl taken) = let other : Growth.Node kept ≡ Growth.Allocate n r (tenant_of_request c gains.request) = sym is ∙ taken.grows in absurd cc
-  made-by kept is r n gains (inr made) =
+  -- a node that grows has a spelling
+  pub new-node : (kept : NodeRecord) → ch.grows ≡ Growth.Node kept → (r : RequestId) (n : NodeId) (gains : Gains c s ch r n) → IsTaken c s ch gains.pool r gains.request gains.label n ⊎ IsMade c s ch gains.pool r gains.request gains.label n → IsNode kept
+  new-node kept is r n gains (inl taken) = let other : Growth.Node kept ≡ Growth.Allocate n r (tenant_of_request c gains.request) = sym is ∙ taken.grows in absurd cc
+  new-node kept is r n gains (inr made) =
       let both : Growth.Node kept ≡ Growth.Node (new_node c s r gains.pool gains.request gains.label) = sym is ∙ made.grows in
       let same : kept ≡ new_node c s r gains.pool gains.request gains.label = cc in
       let row : RequestRow c r gains.request = request-row c s known.fits known.carried r gains.request gains.worked_on.stands in
-      subst IsNode (sym same) (made-is gains.pool r gains.request gains.label row (worker-low c s ch gains.pool r gains.request known gains.worked_on) gains.next)
-
-  -- a node that grows has a spelling
-  pub new-node : (kept : NodeRecord) → ch.grows ≡ Growth.Node kept → GrowthPremise c s ch (Growth.Node kept) → IsNode kept
-  new-node kept is premise = made-by kept is premise.request (record { 0 = s.next_node }) premise.gains premise.gains.from
-
-  tenant-by : (n : NodeId) (r : RequestId) (tenant : Option TenantId) → ch.grows ≡ Growth.Allocate n r tenant → (gains : Gains c s ch r n) → IsTaken c s ch gains.pool r gains.request gains.label n ⊎ IsMade c s ch gains.pool r gains.request gains.label n → IfSome tenant (λ t. t.0 < 2 ^ 16)
-  tenant-by n r tenant is gains (inl taken) =
-      let both : Growth.Allocate n r tenant ≡ Growth.Allocate n r (tenant_of_request c gains.request) = sym is ∙ taken.grows in
-      let same : tenant ≡ tenant_of_request c gains.request = cc in
-      subst (λ (o : Option TenantId). IfSome o (λ t. t.0 < 2 ^ 16)) (sym same) (tenant-low c known.sound gains.request)
-  tenant-by n r tenant is gains (inr made) = let other : Growth.Allocate n r tenant ≡ Growth.Node (new_node c s r gains.pool gains.request gains.label) = sym is ∙ made.grows in absurd cc
+      subst IsNode (sym same) (search (
+        arith,
+        row.text,
+        all-at IsLabel gains.request.labels (length gains.request.nodes) gains.label row.is.labels gains.next,
+        pool-low c gains.pool known.sound (worker-low c s ch gains.pool r gains.request known gains.worked_on),
+        tick-low,
+        tenant-low c known.sound gains.request.job,
+      ))
 
   -- the number of the tenant that a node is allocated for fits its type
-  pub allocated-tenant : (n : NodeId) (r : RequestId) (tenant : Option TenantId) → ch.grows ≡ Growth.Allocate n r tenant → Gains c s ch r n → IfSome tenant (λ t. t.0 < 2 ^ 16)
-  allocated-tenant n r tenant is gains = tenant-by n r tenant is gains gains.from
-
-  allocated-is : (n : NodeId) (r : RequestId) (tenant : Option TenantId) (session : SessionId) → ch.grows ≡ Growth.Allocate n r tenant → Gains c s ch r n → (e : NodeEntry) → IsNode e.kept → IsNode (allocated r tenant session e).kept
-  allocated-is n r tenant session grows gains e is =
-      let row : RequestRow c r gains.request = request-row c s known.fits known.carried r gains.request gains.worked_on.stands in
-      granted-is e.kept (Some r) tenant is row.text (allocated-tenant n r tenant grows gains)
+  pub allocated-tenant : (n : NodeId) (r : RequestId) (tenant : Option TenantId) → ch.grows ≡ Growth.Allocate n r tenant → (gains : Gains c s ch r n) → IsTaken c s ch gains.pool r gains.request gains.label n ⊎ IsMade c s ch gains.pool r gains.request gains.label n → IfSome tenant (λ t. t.0 < 2 ^ 16)
+  allocated-tenant n r tenant is gains (inl taken) =
+      let both : Growth.Allocate n r tenant ≡ Growth.Allocate n r (tenant_of_request c gains.request) = sym is ∙ taken.grows in
+      let same : tenant ≡ tenant_of_request c gains.request = cc in
+      subst (λ (o : Option TenantId). IfSome o (λ t. t.0 < 2 ^ 16)) (sym same) (tenant-low c known.sound gains.request.job)
+  allocated-tenant n r tenant is gains (inr made) = let other : Growth.Allocate n r tenant ≡ Growth.Node (new_node c s r gains.pool gains.request gains.label) = sym is ∙ made.grows in absurd cc
 
   nodes-grown : (maker : Option Maker) (growth : Growth) → ch.grows ≡ growth → GrowthPremise c s ch growth → AreNodes (grown c maker growth s).nodes
-  nodes-grown maker (Growth.Node kept) is premise = all-push (λ (e : NodeEntry). IsNode e.kept) s.nodes _ known.carried.spelled.nodes (new-node kept is premise)
+  nodes-grown maker (Growth.Node kept) is premise = all-push (λ (e : NodeEntry). IsNode e.kept) s.nodes _ known.carried.spelled.nodes (new-node kept is premise.request _ premise.gains premise.gains.from)
   nodes-grown (Some m) (Growth.JoinNode n) is premise = queue-keeps IsNode (λ e. e.id.0 == n.0) _ s.nodes known.carried.spelled.nodes
   nodes-grown (Some m) (Growth.Allocate n r tenant) is premise =
-      all-change_first (λ (e : NodeEntry). IsNode e.kept) (λ e. e.id.0 == n.0) (allocated r tenant m.session) s.nodes (allocated-is n r tenant m.session is premise) known.carried.spelled.nodes
+      all-change_first (λ (e : NodeEntry). IsNode e.kept) (λ e. e.id.0 == n.0) (allocated r tenant m.session) s.nodes
+      (λ e kept.
+      let row : RequestRow c r premise.request = request-row c s known.fits known.carried r premise.request premise.worked_on.stands in
+      granted-is e.kept (Some r) tenant kept row.text (allocated-tenant n r tenant is premise premise.from)) known.carried.spelled.nodes
   nodes-grown None _ is premise = known.carried.spelled.nodes
   nodes-grown (Some m) _ is premise = known.carried.spelled.nodes
 
   -- ## a record that is put
 
-  started-is : (n : NodeId) (k kept : NodeRecord) → NodeRow c s n k → Starts s ch k kept → kept.start < 2 ^ 32 → IsNode kept
-  started-is n k kept row starts low =
+  put-by : (n : NodeId) (k kept : NodeRecord) → NodeRow c s n k → IsTypedNodes (NodesChange.Put n kept) → Starts s ch k kept ⊎ (Reports c s ch k kept ⊎ (EndsNode s ch n k kept ⊎ (GivesUp s ch k kept ⊎ Frees s ch k kept))) → IsNode kept
+  put-by n k kept row typed (inl starts) =
       let few = row.attempts starts.idle in
       let start : kept.start ≡ starts.start = ap (λ (x : NodeRecord). x.start) starts.record_after in
       subst IsNode (sym starts.record_after)
-      (worked-is k (k.attempts + 1) true k.server k.since starts.start k.state row.is (omega arith) row.is.server row.is.since (subst (λ (x : ℕ). x < 2 ^ 32) start low))
-
-  reported-is : (n : NodeId) (k kept : NodeRecord) → NodeRow c s n k → Reports c s ch k kept → IfSome kept.server (λ server. server < 2 ^ 64) → IsNode kept
-  reported-is n k kept row reports low =
+      (worked-is k (k.attempts + 1) true k.server k.since starts.start k.state row.is (omega arith) row.is.server row.is.since (subst (λ (x : ℕ). x < 2 ^ 32) start typed.0))
+  put-by n k kept row typed (inr (inl reports)) =
       let later : NodeRecord = launched (retries_of c k.pool) s.tick reports.outcome k in
       subst IsNode (sym reports.record_after)
       (worked-is k k.attempts false later.server later.since k.start later.state row.is row.is.attempts
-      (subst (λ (x : NodeRecord). IfSome x.server (λ server. server < 2 ^ 64)) reports.record_after low) (since-low s.tick k reports.outcome tick-low row.is.since) row.is.start)
-
-  ended-is : (n : NodeId) (k kept : NodeRecord) → NodeRow c s n k → EndsNode s ch n k kept → IsNode kept
-  ended-is n k kept row ends =
+      (subst (λ (x : NodeRecord). IfSome x.server (λ server. server < 2 ^ 64)) reports.record_after typed.1) (since-low s.tick k reports.outcome tick-low row.is.since) row.is.start)
+  put-by n k kept row typed (inr (inr (inl ends))) =
       subst IsNode (sym ends.record_after) (worked-is k k.attempts k.in_flight k.server s.tick k.start (ended_as ends.as_what) row.is row.is.attempts row.is.server tick-low row.is.start)
-
-  given-is : (n : NodeId) (k kept : NodeRecord) → NodeRow c s n k → GivesUp s ch k kept → IsNode kept
-  given-is n k kept row gives =
+  put-by n k kept row typed (inr (inr (inr (inl gives)))) =
       subst IsNode (sym gives.record_after) (worked-is k k.attempts false k.server k.since k.start NodeState.Deleting row.is row.is.attempts row.is.server row.is.since row.is.start)
-
-  put-by : (n : NodeId) (k kept : NodeRecord) → NodeRow c s n k → IsTypedNodes (NodesChange.Put n kept) → Starts s ch k kept ⊎ (Reports c s ch k kept ⊎ (EndsNode s ch n k kept ⊎ (GivesUp s ch k kept ⊎ Frees s ch k kept))) → IsNode kept
-  put-by n k kept row typed (inl starts) = started-is n k kept row starts typed.0
-  put-by n k kept row typed (inr (inl reports)) = reported-is n k kept row reports typed.1
-  put-by n k kept row typed (inr (inr (inl ends))) = ended-is n k kept row ends
-  put-by n k kept row typed (inr (inr (inr (inl gives)))) = given-is n k kept row gives
   put-by n k kept row typed (inr (inr (inr (inr frees)))) = subst IsNode (sym frees.record_after) (freed-is k row.is)
 
-  node-put-is : (n : NodeId) (kept : NodeRecord) → PutsNode c s ch n kept → IsTypedNodes (NodesChange.Put n kept) → IsNode kept
-  node-put-is n kept puts typed = put-by n puts.node kept (node-row c s known.fits known.invariant known.carried n puts.node puts.held.stands) typed puts.way
-
   -- ## all changes
-
-  leave : (maker : Option Maker) (n : NodeId) (rows : List NodeEntry) → AreNodes rows → AreNodes (by_maker maker (λ session old. put_node_queue n (left session (node_queue n old)) old) rows)
-  leave None n rows all = all
-  leave (Some m) n rows all = queue-keeps IsNode (λ e. e.id.0 == n.0) _ rows all
 
   nodes-by : (tick : ℕ) (change : NodesChange) (rows : List NodeEntry) → tick < 2 ^ 32 → NodesPremise c s ch change → IsTypedNodes change → AreNodes rows → AreNodes (nodes_changed ch.maker tick change rows)
   nodes-by tick NodesChange.Same rows low premise typed all = all
   nodes-by tick (NodesChange.Put n kept) rows low premise typed all =
-      all-change_first (λ (e : NodeEntry). IsNode e.kept) (λ e. e.id.0 == n.0) (λ e. record e { kept = kept }) rows (λ e is. node-put-is n kept premise typed) all
+      all-change_first (λ (e : NodeEntry). IsNode e.kept) (λ e. e.id.0 == n.0) (λ e. record e { kept = kept }) rows (λ e is. put-by n premise.node kept (node-row c s known.fits known.invariant known.carried n premise.node premise.held.stands) typed premise.way) all
   nodes-by tick (NodesChange.Remove n) rows low premise typed all = all-remove_first (λ (e : NodeEntry). IsNode e.kept) (λ e. e.id.0 == n.0) rows all
-  nodes-by tick (NodesChange.Leave n) rows low premise typed all = leave ch.maker n rows all
+  nodes-by tick (NodesChange.Leave n) rows low premise typed all = by_maker-keeps AreNodes _ ch.maker rows (λ session old is. queue-keeps IsNode (λ e. e.id.0 == n.0) _ old is) all
   nodes-by tick (NodesChange.FreeAll r) rows low premise typed all = all-mapped (λ (e : NodeEntry). IsNode e.kept) (λ (e : NodeEntry). IsNode e.kept) (freed_from r) rows (freed_from-is r) all
   nodes-by tick (NodesChange.TakeOver numbers) rows low premise typed all = all-in_use tick numbers rows low all
 
@@ -346,23 +308,15 @@ declined-served failed = grind arith
 module _ (c : Configuration) (s : State) (ch : Changes) (known : IsKnown c s ch) where
   -- ## what grows
 
-  -- what a job asks for has a spelling
-  pub asked-for_job : (priority : ℕ) (asked : Asked) → AsksForJob c s ch priority asked → IsRequest (new_record asked)
-  asked-for_job priority asked asks =
+  -- a request that grows has a spelling: what a job asks for, and what a launcher asks for to keep it ready
+  pub new-request : (priority : ℕ) (asked : Asked) → AsksForJob c s ch priority asked ⊎ AsksToKeep c s ch priority asked → IsRequest (new_record asked)
+  new-request priority asked (inl asks) =
       let row : JobRow c asks.job = job-row c known.sound asks.number asks.job asks.row in
       let low = job-low c asks.number known.sound (slice_get_within c.jobs asks.number.0 asks.job asks.row) in
       subst (λ (a : Asked). IsRequest (new_record a)) (sym asks.asks) (search (arith, row.few, row.labels, row.relative, low))
-
-  -- so has what a launcher asks for to keep it ready
-  pub asked-to_keep : (priority : ℕ) (asked : Asked) → AsksToKeep c s ch priority asked → IsRequest (new_record asked)
-  asked-to_keep priority asked asks =
+  new-request priority asked (inr asks) =
       let low = pool-low c asks.pool known.sound (launcher-low c s ch.maker asks.session asks.pool known.fits known.premises.maker asks.made_by) in
       subst (λ (a : Asked). IsRequest (new_record a)) (sym asks.asks) (search (arith, low, label-low c known.sound asks.pool asks.label asks.offered))
-
-  -- a request that grows has a spelling
-  pub new-request : (priority : ℕ) (asked : Asked) → AsksForJob c s ch priority asked ⊎ AsksToKeep c s ch priority asked → IsRequest (new_record asked)
-  new-request priority asked (inl asks) = asked-for_job priority asked asks
-  new-request priority asked (inr asks) = asked-to_keep priority asked asks
 
   requests-grown : (maker : Option Maker) (growth : Growth) → GrowthPremise c s ch growth → AreRequests (grown c maker growth s).requests
   requests-grown maker (Growth.Request priority asked) premise =
@@ -378,94 +332,56 @@ module _ (c : Configuration) (s : State) (ch : Changes) (known : IsKnown c s ch)
   found-row : (r : RequestId) (k : RequestRecord) → request_in r s.requests ≡ Some k → RequestRow c r k
   found-row r k there = request-row c s known.fits known.carried r k there
 
-  served-is : (r : RequestId) (k : RequestRecord) (p : PoolId) → request_in r s.requests ≡ Some k → p.0 < length c.pools → IsRequest (edited (RequestEdit.Serve p) k)
-  served-is r k p there low = state-is k RequestState.Pending (Some p) (found-row r k there).is (pool-low c p known.sound low)
-
-  added-is : (r : RequestId) (n : NodeId) (gains : Gains c s ch r n) → IsRequest (edited (RequestEdit.AddNode n) gains.request)
-  added-is r n gains =
-      let k : RequestRecord = gains.request in
-      let row : RequestRow c r k = found-row r k gains.worked_on.stands in
-      let few : length (k.nodes ++ n ∷ []) ≤ JOB_LABELS = simp length-append (omega (arith, row.labels, slice_get_within k.labels (length k.nodes) gains.label gains.next)) in
-      assumption (row.is, all-push IsNodeId k.nodes n row.is.nodes (gained-number c s ch gains.pool r k gains.label n known gains.from))
-
-  declined-is : (r : RequestId) (p : PoolId) (why : Reason) (failed : Bool) → IsReason why → (may : MayDecline c s ch r p why failed) → IsRequest (edited (RequestEdit.Decline p why failed) may.request)
-  declined-is r p why failed reason may =
-      let k : RequestRecord = may.request in
-      let row : RequestRow c r k = found-row r k may.worked_on.stands in
-      let low : p.0 < length c.pools = worker-low c s ch p r k known may.worked_on in
-      let declined : Declined = record { pool = p; reason = why } in
-      let few : length (k.declined ++ declined ∷ []) ≤ POOLS = simp length-append (omega (arith, row.declined p low may.undeclined)) in
-      let all = all-push IsDeclined k.declined declined row.is.declined (record { pool = pool-low c p known.sound low; reason = reason }) in
-      search (arith, row.is, declined-served failed)
-
-  fulfilled-is : (r : RequestId) (may : MayFulfil s ch r) → IsRequest (edited RequestEdit.Fulfil may.request)
-  fulfilled-is r may =
-      let row : RequestRow c r may.request = found-row r may.request may.worked_on.stands in
-      state-is may.request RequestState.Fulfilled may.request.pool row.is (fulfilled-served may.pool may.request.state may.request.pool may.pending row.is.served)
-
-  request-given-is : (r : RequestId) (k : RequestRecord) → request_in r s.requests ≡ Some k → IsRequest (edited RequestEdit.GiveBack k)
-  request-given-is r k there = search (arith, (found-row r k there).is)
-
-  failed-is : (r : RequestId) (k : RequestRecord) → request_in r s.requests ≡ Some k → is_requested k.state ≡ true → IsRequest (edited RequestEdit.Fail k)
-  failed-is r k there requested =
-      let row : RequestRow c r k = found-row r k there in
-      state-is k RequestState.Failed k.pool row.is (failed-served k.state k.pool requested row.is.served)
-
-  revised-is : (r : RequestId) (k : RequestRecord) (relative : ℕ) → request_in r s.requests ≡ Some k → relative < 2 ^ 32 → IsRequest (edited (RequestEdit.Revise relative) k)
-  revised-is r k relative there low = assumption (low, (found-row r k there).is)
-
   -- one request is found
   as-found : (r : RequestId) (change : RequestEdit) (request k : RequestRecord) → request_in r s.requests ≡ Some request → request_in r s.requests ≡ Some k → IsRequest (edited change request) → IsRequest (edited change k)
   as-found r change request k one other is = let same : request ≡ k = cc in subst (λ (x : RequestRecord). IsRequest (edited change x)) same is
 
   edited-is : (r : RequestId) (change : RequestEdit) → EditPremise c s ch r change → IsTypedEdit change → (k : RequestRecord) → request_in r s.requests ≡ Some k → IsRequest (edited change k)
-  edited-is r (RequestEdit.Serve p) premise typed k there = served-is r k p there (worker-low c s ch p r premise.request known premise.worked_on)
-  edited-is r (RequestEdit.AddNode n) premise typed k there = as-found r (RequestEdit.AddNode n) premise.0.request k premise.0.worked_on.stands there (added-is r n premise.0)
-  edited-is r (RequestEdit.Decline p why failed) premise typed k there = as-found r (RequestEdit.Decline p why failed) premise.request k premise.worked_on.stands there (declined-is r p why failed typed premise)
-  edited-is r RequestEdit.Fulfil premise typed k there = as-found r RequestEdit.Fulfil premise.0.request k premise.0.worked_on.stands there (fulfilled-is r premise.0)
-  edited-is r RequestEdit.GiveBack premise typed k there = request-given-is r k there
-  edited-is r RequestEdit.Fail premise typed k there = as-found r RequestEdit.Fail premise.request k premise.stands there (failed-is r premise.request premise.stands premise.requested)
-  edited-is r (RequestEdit.Revise relative) premise typed k there = revised-is r k relative there typed
-
-  edit-rows : (r : RequestId) (change : RequestEdit) → EditPremise c s ch r change → IsTypedEdit change → AreRequests (requests_changed ch.maker (RequestsChange.Edit r change) s.requests)
-  edit-rows r change premise typed =
-      all-change_found (λ (e : RequestEntry). IsRequest e.kept) (λ e. same_request e.id r) (λ e. record e { kept = edited change e.kept }) s.requests
-      (λ e found. edited-is r change premise typed e.kept (ap (λ (o : Option RequestEntry). option_map (λ x. x.kept) o) found)) known.carried.spelled.requests
+  edited-is r (RequestEdit.Serve p) premise typed k there = state-is k RequestState.Pending (Some p) (found-row r k there).is (pool-low c p known.sound (worker-low c s ch p r premise.request known premise.worked_on))
+  edited-is r (RequestEdit.AddNode n) premise typed k there =
+      let gains = premise.0 in
+      let old : RequestRecord = gains.request in
+      let row : RequestRow c r old = found-row r old gains.worked_on.stands in
+      let few : length (old.nodes ++ n ∷ []) ≤ JOB_LABELS = simp length-append (omega (arith, row.labels, slice_get_within old.labels (length old.nodes) gains.label gains.next)) in
+      as-found r (RequestEdit.AddNode n) old k gains.worked_on.stands there (assumption (row.is, all-push IsNodeId old.nodes n row.is.nodes (gained-number c s ch gains.pool r old gains.label n known gains.from)))
+  edited-is r (RequestEdit.Decline p why failed) may typed k there =
+      let old : RequestRecord = may.request in
+      let row : RequestRow c r old = found-row r old may.worked_on.stands in
+      let low : p.0 < length c.pools = worker-low c s ch p r old known may.worked_on in
+      let declined : Declined = record { pool = p; reason = why } in
+      let few : length (old.declined ++ declined ∷ []) ≤ POOLS = simp length-append (omega (arith, row.declined p low may.undeclined)) in
+      let all = all-push IsDeclined old.declined declined row.is.declined (record { pool = pool-low c p known.sound low; reason = typed }) in
+      as-found r (RequestEdit.Decline p why failed) old k may.worked_on.stands there (search (arith, row.is, declined-served failed))
+  edited-is r RequestEdit.Fulfil premise typed k there =
+      let may = premise.0 in
+      let is = (found-row r may.request may.worked_on.stands).is in
+      as-found r RequestEdit.Fulfil may.request k may.worked_on.stands there (state-is may.request RequestState.Fulfilled may.request.pool is (fulfilled-served may.pool may.request.state may.request.pool may.pending is.served))
+  edited-is r RequestEdit.GiveBack premise typed k there = search (arith, (found-row r k there).is)
+  edited-is r RequestEdit.Fail premise typed k there =
+      let old : RequestRecord = premise.request in
+      let is = (found-row r old premise.stands).is in
+      as-found r RequestEdit.Fail old k premise.stands there (state-is old RequestState.Failed old.pool is (failed-served old.state old.pool premise.requested is.served))
+  edited-is r (RequestEdit.Revise relative) premise typed k there = assumption (typed, (found-row r k there).is)
 
   -- ## all changes
-
-  request-leave : (maker : Option Maker) (r : RequestId) (rows : List RequestEntry) → AreRequests rows → AreRequests (by_maker maker (λ session old. put_request_queue r (left session (request_queue r old)) old) rows)
-  request-leave None r rows all = all
-  request-leave (Some m) r rows all = queue-keeps IsRequest (λ e. same_request e.id r) _ rows all
 
   requests-by : (change : RequestsChange) → RequestsPremise c s ch change → IsTypedRequests change → AreRequests (grown c ch.maker ch.grows s).requests → AreRequests (requests_changed ch.maker change (grown c ch.maker ch.grows s).requests)
   requests-by RequestsChange.Same premise typed all = all
   requests-by (RequestsChange.Edit r change) premise typed all =
-      subst (λ (rows : List RequestEntry). AreRequests (requests_changed ch.maker (RequestsChange.Edit r change) rows)) (sym (same-requests c ch.maker ch.grows s (edit-leaves c s ch r change premise))) (edit-rows r change premise typed)
+      subst (λ (rows : List RequestEntry). AreRequests (requests_changed ch.maker (RequestsChange.Edit r change) rows)) (sym (same-requests c ch.maker ch.grows s (edit-leaves c s ch r change premise)))
+      (all-change_found (λ (e : RequestEntry). IsRequest e.kept) (λ e. same_request e.id r) (λ e. record e { kept = edited change e.kept }) s.requests
+      (λ e found. edited-is r change premise typed e.kept (ap (λ (o : Option RequestEntry). option_map (λ x. x.kept) o) found)) known.carried.spelled.requests)
   requests-by (RequestsChange.Remove r) premise typed all = all-remove_first (λ (e : RequestEntry). IsRequest e.kept) (λ e. same_request e.id r) (grown c ch.maker ch.grows s).requests all
-  requests-by (RequestsChange.Leave r) premise typed all = request-leave ch.maker r (grown c ch.maker ch.grows s).requests all
+  requests-by (RequestsChange.Leave r) premise typed all = by_maker-keeps AreRequests _ ch.maker (grown c ch.maker ch.grows s).requests (λ session old is. queue-keeps IsRequest (λ e. same_request e.id r) _ old is) all
 
   -- the end of a session changes no record
   requests-end : (change : SessionsChange) (rows : List RequestEntry) → AreRequests rows → AreRequests (requests_left change rows)
   requests-end (SessionsChange.End session) rows all = all-mapped (λ (e : RequestEntry). IsRequest e.kept) (λ (e : RequestEntry). IsRequest e.kept) (request_left session) rows (λ e is. is) all
   requests-end _ rows all = all
 
-  -- each request has a spelling after the changes, whether or not a session ends
-  pub requests-spelled : (change : SessionsChange) → AreRequests (requests_left change (requests_changed ch.maker ch.requests (grown c ch.maker ch.grows s).requests))
-  requests-spelled change = requests-end change (requests_changed ch.maker ch.requests (grown c ch.maker ch.grows s).requests) (requests-by ch.requests known.premises.requests known.typed.requests (requests-grown ch.maker ch.grows known.premises.grows))
-
 -- # each record has a spelling after an accepted event
 
 -- ## roles
-
-role-is : (k : RoleRecord) → RoleFits k → IsRole k
-role-is k fits = record { acts = omega (arith, fits.acts); starts = omega (arith, fits.starts); strikes = omega (arith, fits.strikes) }
-
-acted-is : (k : RoleRecord) → RoleFits k → IsRole (one_more_act k)
-acted-is k fits = record { acts = omega (arith, fits.acts); starts = omega (arith, fits.starts); strikes = omega (arith, fits.strikes) }
-
-role-started-is : (k : RoleRecord) → RoleFits k → IsRole (one_more_act (one_more_start k))
-role-started-is k fits = record { acts = omega (arith, fits.acts); starts = omega (arith, fits.starts); strikes = omega (arith, fits.strikes) }
 
 struck-is : (counted : Bool) (k : RoleRecord) → RoleFits k → IsRole (struck_unless counted k)
 struck-is counted k fits = grind arith
@@ -475,7 +391,7 @@ abbrev Keeps : ((RoleRecord → RoleRecord) → Role → List RoleRecord → Lis
 Keeps change = (f : RoleRecord → RoleRecord) (r : Role) (rows : List RoleRecord) → ((k : RoleRecord) → RoleFits k → IsRole (f k)) → AllByRecursion RoleFits rows → AllByRecursion IsRole rows → AllByRecursion IsRole (change f r rows)
 
 one-changed : (i : ℕ) (f : RoleRecord → RoleRecord) (rows : List RoleRecord) → ((k : RoleRecord) → RoleFits k → IsRole (f k)) → AllByRecursion RoleFits rows → AllByRecursion IsRole (change_at i f rows)
-one-changed i f rows each all = all-change_at_to RoleFits IsRole role-is i f rows each all
+one-changed i f rows each all = all-change_at_to RoleFits IsRole (λ k fits. omega (arith, fits.acts, fits.starts, fits.strikes)) i f rows each all
 
 launchers-keep : Keeps change_launcher
 launchers-keep f (Role.Launcher p) rows each fits all = one-changed p.0 f rows each fits
@@ -493,8 +409,8 @@ requesters-keep f _ rows each fits all = all
 deed-is : (change : (RoleRecord → RoleRecord) → Role → List RoleRecord → List RoleRecord) → Keeps change → (maker : Option Maker) (what : Option Deed) (rows : List RoleRecord) → AllByRecursion RoleFits rows → AllByRecursion IsRole rows → AllByRecursion IsRole (with_deed change maker what rows)
 deed-is change keeps maker None rows fits all = all
 deed-is change keeps None (Some Deed.Acts) rows fits all = all
-deed-is change keeps (Some m) (Some Deed.Acts) rows fits all = keeps one_more_act m.role rows acted-is fits all
-deed-is change keeps maker (Some (Deed.StartsAndActs p)) rows fits all = keeps (λ k. one_more_act (one_more_start k)) (Role.Launcher p) rows role-started-is fits all
+deed-is change keeps (Some m) (Some Deed.Acts) rows fits all = keeps one_more_act m.role rows (λ k low. omega (arith, low.acts, low.starts, low.strikes)) fits all
+deed-is change keeps maker (Some (Deed.StartsAndActs p)) rows fits all = keeps (λ k. one_more_act (one_more_start k)) (Role.Launcher p) rows (λ k low. omega (arith, low.acts, low.starts, low.strikes)) fits all
 deed-is change keeps maker (Some (Deed.Strikes r counted)) rows fits all = keeps (struck_unless counted) r rows (struck-is counted) fits all
 
 -- ## sessions
@@ -511,18 +427,17 @@ sessions-end (SessionsChange.End session) rows all = all-change_at (λ (f : Sess
 module _ (c : Configuration) (s : State) (ch : Changes) (known : IsKnown c s ch) where
   sessions-grown : (maker : Option Maker) (growth : Growth) → GrowthPremise c s ch growth → AreSessions (grown c maker growth s).sessions
   sessions-grown maker (Growth.Session r) premise = all-push (λ (f : SessionFacts). IsSessionRole f.role) s.sessions _ known.carried.spelled.sessions (role-low c r known.sound premise)
-  sessions-grown None (Growth.Registration p) premise = known.carried.spelled.sessions
-  sessions-grown (Some m) (Growth.Registration p) premise = known.carried.spelled.sessions
-  sessions-grown maker _ premise = known.carried.spelled.sessions
+  sessions-grown None _ premise = known.carried.spelled.sessions
+  sessions-grown (Some m) _ premise = known.carried.spelled.sessions
 
   -- ## all tables
 
   -- each record has a spelling after the changes, whatever happens to sessions
   pub all-spelled : (change : SessionsChange) → HasSpellings (changed c (record ch { sessions = change }) s)
   all-spelled change = record {
-    requests = requests-spelled c s ch known change;
+    requests = requests-end c s ch known change _ (requests-by c s ch known ch.requests known.premises.requests known.typed.requests (requests-grown c s ch known ch.maker ch.grows known.premises.grows));
     nodes = nodes-spelled c s ch known change;
-    jobs = jobs-spelled c s ch known;
+    jobs = subst (λ (rows : List JobRecord). AllByRecursion IsJob (jobs_changed ch.jobs rows)) (sym (jobs-grown c ch.maker ch.grows s)) (jobs-by c s ch known ch.jobs refl known.premises.jobs);
     launchers = subst (λ (rows : List RoleRecord). AllByRecursion IsRole (with_deed change_launcher ch.maker ch.deed rows)) (sym (same-roles c ch.maker ch.grows s).0) (deed-is change_launcher launchers-keep ch.maker ch.deed s.launchers known.fits.launchers known.carried.spelled.launchers);
     janitors = subst (λ (rows : List RoleRecord). AllByRecursion IsRole (with_deed change_janitor ch.maker ch.deed rows)) (sym (same-roles c ch.maker ch.grows s).1.0) (deed-is change_janitor janitors-keep ch.maker ch.deed s.janitors known.fits.janitors known.carried.spelled.janitors);
     requesters = subst (λ (rows : List RoleRecord). AllByRecursion IsRole (with_deed change_requester ch.maker ch.deed rows)) (sym (same-roles c ch.maker ch.grows s).1.1) (deed-is change_requester requesters-keep ch.maker ch.deed s.requesters known.fits.requesters known.carried.spelled.requesters);

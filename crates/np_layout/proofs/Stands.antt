@@ -23,9 +23,6 @@ room-less t more less fewer room = record {
 pub stands-less : (s : State) (t : TreeState) (w more less : ℕ) → less ≤ more → Stands s t w more → Stands s t w less
 stands-less s t w more less fewer stands = record { whole = stands.whole; good = stands.good; lays = stands.lays; live = stands.live; room = room-less t more less fewer stands.room }
 
-pub enacts-less : (s : State) (t : TreeState) (w : ℕ) (parts : List Op) (more less : ℕ) → less ≤ more → Enacts t w parts s more → Enacts t w parts s less
-enacts-less s t w parts more less fewer enacts = record { goes = enacts.goes; leaves = stands-less s (after_parts t w parts) w more less fewer enacts.leaves }
-
 -- ## parts joined
 
 pub enacts-none : (s : State) (t : TreeState) (w more : ℕ) → Stands s t w more → Enacts t w [] s more
@@ -63,9 +60,6 @@ enacts-parts s later t w parts more stands good proper lays =
 pub part-create : (p : Place) (bytes : List ℕ) (mode : Mode) → IsGood p → IsPart (Op.Create (path_of p) bytes mode)
 part-create p bytes mode good = record { path = is_path-of p good; numbered = refl }
 
-pub part-set : (p : Place) (bytes : List ℕ) → IsGood p → IsPart (set bytes p)
-part-set p bytes good = record { path = is_path-of p good; numbered = refl }
-
 pub part-delete : (p : Place) → IsGood p → IsPart (delete p)
 part-delete p good = record { path = is_path-of p good; numbered = refl }
 
@@ -75,7 +69,7 @@ part-wait lock good = record { path = is_path-below (path_of lock) (codes "lock-
 -- a set takes the room of one
 pub enacts-set : (s later : State) (t : TreeState) (w : ℕ) (p : Place) (bytes : List ℕ) (more : ℕ) → Stands s t w (more + 1) → IsGood p → HasGoodIds later → length bytes ≤ 65_536 → SetLaysOut later t p bytes → Enacts t w (set bytes p ∷ []) later more
 enacts-set s later t w p bytes more stands good_place good short lays =
-    enacts-parts s later t w (set bytes p ∷ []) more (stands-less s t w (more + 1) (1 + more) (omega arith) stands) good (part-set p bytes good_place, tt)
+    enacts-parts s later t w (set bytes p ∷ []) more (stands-less s t w (more + 1) (1 + more) (omega arith) stands) good (record { path = is_path-of p good_place; numbered = refl }, tt)
     (record { goes = (lays.goes w stands.live short (room-less t (more + 1) 1 (omega arith) stands.room), refl); lays = lays.lays w })
 
 -- ## deletes take no room
@@ -111,14 +105,11 @@ without-stays more path nodes room = record {
   rows = λ dir. let low = room.rows dir in let fewer = rows-without dir path nodes in omega arith;
 }
 
-room-delete : (t : TreeState) (w more : ℕ) (path : List ℕ) (expect : Expect) → HasRoomFor more t → HasRoomFor more (after_part t w (Op.Delete path expect))
-room-delete t w more path expect room =
-    let nodes = without-stays more path (without_child_above (next_change t) (parent_of path) t.nodes) (above-stays more (next_change t) (parent_of path) t.nodes (record { versions = room.versions; counters = room.counters; rows = room.rows })) in
-    record { change = room.change; versions = nodes.versions; counters = nodes.counters; rows = nodes.rows; few = room.few }
-
 room-deletes : (t : TreeState) (w more : ℕ) (parts : List Op) → AllByRecursion IsDelete parts → HasRoomFor more t → HasRoomFor more (after_parts t w parts)
 room-deletes t w more [] all room = room
-room-deletes t w more (Op.Delete path expect ∷ parts) all room = room-deletes (after_part t w (Op.Delete path expect)) w more parts all.1 (room-delete t w more path expect room)
+room-deletes t w more (Op.Delete path expect ∷ parts) all room =
+    let nodes = without-stays more path (without_child_above (next_change t) (parent_of path) t.nodes) (above-stays more (next_change t) (parent_of path) t.nodes (record { versions = room.versions; counters = room.counters; rows = room.rows })) in
+    room-deletes (after_part t w (Op.Delete path expect)) w more parts all.1 (record { change = room.change; versions = nodes.versions; counters = nodes.counters; rows = nodes.rows; few = room.few })
 room-deletes t w more (other ∷ parts) all room = absurd all.0
 
 pub enacts-deletes : (s later : State) (t : TreeState) (w : ℕ) (parts : List Op) (more : ℕ) → Stands s t w more → HasGoodIds later → AllByRecursion IsPart parts → AllByRecursion IsDelete parts → PartsLayOut later t w parts → Enacts t w parts later more
@@ -157,10 +148,7 @@ ending-short : (e : Ending) → length (ending_word e) ≤ 9
 ending-short e = grind arith
 
 reason-short : (r : Reason) → IsReason r → length (reason_text_of r) ≤ 17
-reason-short (Reason.NoLabel l) is = let two = length-two l.0 is in simp length-append (omega arith)
-reason-short Reason.NeverFits is = lit≤ tt
-reason-short Reason.TenantNeverFits is = lit≤ tt
-reason-short (Reason.Spent n) is = let four = length-four n.0 is in simp length-append (omega arith)
+reason-short r is = grind (arith, length-append, length-two, length-four)
 
 -- ## roles and sessions
 
@@ -169,10 +157,7 @@ pub role-short : (r : RoleRecord) → IsRole r → length (role_text r) ≤ 65_5
 role-short r is = simp length-append (omega (arith, length-four r.acts is.acts, length-four r.starts is.starts, length-four r.strikes is.strikes))
 
 role_name-short : (r : Role) → IsSessionRole r → length (role_name r) ≤ 20
-role_name-short (Role.Launcher p) is = let two = length-two p.0 is in simp length-append (omega arith)
-role_name-short (Role.Janitor p) is = let two = length-two p.0 is in simp length-append (omega arith)
-role_name-short (Role.Requester q) is = let two = length-two q.0 is in simp length-append (omega arith)
-role_name-short Role.Reaper is = absurd is
+role_name-short r is = grind (arith, length-append, length-two)
 
 -- so does a session's
 pub session-short : (mute : Bool) (role : Role) → IsSessionRole role → length (session_text (record { mute = mute; role = role })) ≤ 65_536
@@ -181,16 +166,13 @@ session-short mute role is = simp length-append (omega (arith, flag-short mute, 
 -- ## nodes
 
 node_front-short : (o : Option RequestId) → IfSome o HasText → length (node_front o) ≤ 60
-node_front-short None is = lit≤ tt
-node_front-short (Some id) is = let text = length-request id is in simp length-append (omega arith)
+node_front-short o is = grind (arith, length-append, length-request)
 
 node_server-short : (o : Option ℕ) → IfSome o (λ server. server < 2 ^ 64) → length (node_server o) ≤ 60
-node_server-short None is = lit≤ tt
-node_server-short (Some server) is = let eight = decimal-short server is in simp length-append (omega arith)
+node_server-short o is = grind (arith, length-append, decimal-short)
 
 node_tenant-short : (o : Option TenantId) → IfSome o (λ t. t.0 < 2 ^ 16) → length (node_tenant o) ≤ 60
-node_tenant-short None is = lit≤ tt
-node_tenant-short (Some t) is = let two = length-two t.0 is in simp length-append (omega arith)
+node_tenant-short o is = grind (arith, length-append, length-two)
 
 -- so does a node's
 pub node-short : (n : NodeRecord) → IsNode n → length (node_text n) ≤ 65_536
@@ -204,55 +186,32 @@ node-short n is =
 
 -- ## jobs
 
-marked-short : (m : Marked) → IsMarked m → length (marked_text m) ≤ 31
-marked-short m is = simp length-append (omega (arith, length-four m.node.0 is, flag-short m.ended))
-
 job_front-short : (o : Option Ending) → length (job_front o) ≤ 60
-job_front-short None = lit≤ tt
-job_front-short (Some e) = let word = ending-short e in simp length-append (omega arith)
+job_front-short o = grind (arith, length-append, ending-short)
 
 job_end-short : (pool : Option PoolId) (request : Option RequestId) → IfSome pool (λ p. p.0 < 2 ^ 16) → IfSome request HasText → length (job_end pool request) ≤ 60
-job_end-short None None is_pool is_request = lit≤ tt
-job_end-short None (Some id) is_pool is_request = let text = length-request id is_request in simp length-append (omega arith)
-job_end-short (Some p) None is_pool is_request = let two = length-two p.0 is_pool in simp length-append (omega arith)
-job_end-short (Some p) (Some id) is_pool is_request = simp length-append (omega (arith, length-two p.0 is_pool, length-request id is_request))
+job_end-short pool request is_pool is_request = grind (arith, length-append, length-two, length-request)
 
 -- so does a job's
 pub job-short : (j : JobRecord) → IsJob j → length (job_text j) ≤ 65_536
 job-short j is =
-    let nodes = list-short IsMarked marked_text marked-short j.nodes is.nodes in
+    let nodes = list-short IsMarked marked_text (λ m low. simp length-append (omega (arith, length-four m.node.0 low, flag-short m.ended))) j.nodes is.nodes in
     simp length-append (omega (arith, is.few, job_front-short j.ending, nodes, phase-short j.phase, job_end-short j.pool j.request is.pool is.request))
 
 -- ## requests
 
-declined-short : (d : Declined) → IsDeclined d → length (declined_text d) ≤ 31
-declined-short d is = simp length-append (omega (arith, length-two d.pool.0 is.pool, reason-short d.reason is.reason))
-
-label-short : (l : LabelId) → IsLabel l → length (label_text l) ≤ 31
-label-short l is = let two = length-two l.0 is in omega arith
-
-node_id-short : (n : NodeId) → IsNodeId n → length (node_id_text n) ≤ 31
-node_id-short n is = let four = length-four n.0 is in omega arith
-
 asked-short : (job : Option JobId) (pinned : Option PoolId) → IsAsked job pinned → length (request_job job) + length (request_pinned pinned) ≤ 60
-asked-short (Some j) None is = let four = length-four j.0 is in simp length-append (omega arith)
-asked-short None (Some p) is = let two = length-two p.0 is in simp length-append (omega arith)
-asked-short (Some j) (Some p) is = absurd is
-asked-short None None is = absurd is
+asked-short job pinned is = grind (arith, length-append, length-two, length-four)
 
 served-short : (s : RequestState) (pool : Option PoolId) → IsServed s pool → length (request_pool pool) ≤ 60
-served-short s None is = lit≤ tt
-served-short RequestState.Requested (Some p) is = absurd is
-served-short RequestState.Failed (Some p) is = absurd is
-served-short RequestState.Pending (Some p) is = let two = length-two p.0 is in simp length-append (omega arith)
-served-short RequestState.Fulfilled (Some p) is = let two = length-two p.0 is in simp length-append (omega arith)
+served-short s pool is = grind (arith, length-append, length-two)
 
 -- so does a request's
 pub request-short : (r : RequestRecord) → IsRequest r → length (request_record_text r) ≤ 65_536
 request-short r is =
-    let declined = list-short IsDeclined declined_text declined-short r.declined is.declined in
-    let labels = list-short IsLabel label_text label-short r.labels is.labels in
-    let nodes = list-short IsNodeId node_id_text node_id-short r.nodes is.nodes in
+    let declined = list-short IsDeclined declined_text (λ d has. simp length-append (omega (arith, length-two d.pool.0 has.pool, reason-short d.reason has.reason))) r.declined is.declined in
+    let labels = list-short IsLabel label_text (λ l low. let two = length-two l.0 low in omega arith) r.labels is.labels in
+    let nodes = list-short IsNodeId node_id_text (λ n low. let four = length-four n.0 low in omega arith) r.nodes is.nodes in
     simp length-append (omega (arith, is.few_declined, is.few_labels, is.few_nodes, asked-short r.job r.pinned is.asked, served-short r.state r.pool is.served, length-four r.relative_priority is.relative_priority, request_state-short r.state))
 
 -- # the parts for what may not fail, one table after another
@@ -269,14 +228,11 @@ leaves_requests other = false
 pub same-requests : (c : Configuration) (maker : Option Maker) (growth : Growth) (s : State) → leaves_requests growth ≡ true → (grown c maker growth s).requests ≡ s.requests
 same-requests c maker growth s leaves = grind arith
 
-gains-leave : (c : Configuration) (s : State) (ch : Changes) (r : RequestId) (n : NodeId) → Gains c s ch r n → leaves_requests ch.grows ≡ true
-gains-leave c s ch r n gains = by gains.from where
-  by : IsTaken c s ch gains.pool r gains.request gains.label n ⊎ IsMade c s ch gains.pool r gains.request gains.label n → leaves_requests ch.grows ≡ true
+pub edit-leaves : (c : Configuration) (s : State) (ch : Changes) (r : RequestId) (change : RequestEdit) → EditPremise c s ch r change → leaves_requests ch.grows ≡ true
+edit-leaves c s ch r (RequestEdit.AddNode n) premise = by premise.0.from where
+  by : IsTaken c s ch premise.0.pool r premise.0.request premise.0.label n ⊎ IsMade c s ch premise.0.pool r premise.0.request premise.0.label n → leaves_requests ch.grows ≡ true
   by (inl taken) = ap leaves_requests taken.grows
   by (inr made) = ap leaves_requests made.grows
-
-pub edit-leaves : (c : Configuration) (s : State) (ch : Changes) (r : RequestId) (change : RequestEdit) → EditPremise c s ch r change → leaves_requests ch.grows ≡ true
-edit-leaves c s ch r (RequestEdit.AddNode n) premise = gains-leave c s ch r n premise.0
 edit-leaves c s ch r RequestEdit.Fulfil premise = ap leaves_requests premise.0.same_size
 edit-leaves c s ch r change premise = ap leaves_requests premise.same_size
 
@@ -459,12 +415,6 @@ module _ (laws : TablesEnact) (c : Configuration) (ch : Changes) (s : State) (t 
       ready.node_waits ready.spelled.nodes ready.nodes
       (stands-less (with_requests ch g) (after_parts u w first_parts) w (more + 39) (more + 7 + 32) (omega arith) stands) spelled_later.nodes
 
-  jobs-enact : (v : TreeState) → Stands (with_nodes ch g) v w (more + 7) → Enacts v w (jobs_parts ch.jobs g.jobs) (with_jobs ch g) (more + 6)
-  jobs-enact v stands = laws.jobs w ch.jobs (with_nodes ch g) v (more + 6) (stands-less (with_nodes ch g) v w (more + 7) (more + 6 + 1) (omega arith) stands) spelled_later.jobs
-
-  handles-enact : (v : TreeState) → Stands (with_jobs ch g) v w (more + 6) → Enacts v w (handles_parts c ch.handles g.handles) (with_handles c ch g) (more + 5)
-  handles-enact v stands = laws.handles c w ch.handles (with_jobs ch g) v (more + 5) (stands-less (with_jobs ch g) v w (more + 6) (more + 5 + 1) (omega arith) stands)
-
   deeds-enact : (v : TreeState) → Stands (with_handles c ch g) v w (more + 5) → Enacts v w (deed_parts ch.maker ch.deed g) (with_deeds ch.maker ch.deed (with_handles c ch g)) (more + 4)
   deeds-enact v stands =
       subst (λ (parts : List Op). Enacts v w parts (with_deeds ch.maker ch.deed (with_handles c ch g)) (more + 4)) (deed-same ch.maker ch.deed (with_handles c ch g) g refl refl refl)
@@ -477,20 +427,17 @@ module _ (laws : TablesEnact) (c : Configuration) (ch : Changes) (s : State) (t 
       (stands-less (with_deeds ch.maker ch.deed (with_handles c ch g)) v w (more + 4) (more + 3 + 1) (omega arith) stands) spelled_grown.sessions
       (session-ready ch.sessions (with_deeds ch.maker ch.deed (with_handles c ch g)) g refl ready.sessions))
 
-  ticks-enact : (v : TreeState) → Stands (with_sessions c ch g) v w (more + 3) → Enacts v w (tick_parts ch.ticks g.tick) (with_all c ch g) more
-  ticks-enact v stands =
-      laws.ticks w ch.ticks (with_sessions c ch g) v more (stands-less (with_sessions c ch g) v w (more + 3) (more + 1) (omega arith) stands) (omega (arith, ready.tick, same-tick c ch.maker ch.grows s))
-
   -- the parts for what may not fail are accepted, and leave a tree of the state after the call
   pub settled-enact : Stands g u w (more + 40) → Enacts u w (settled_parts c ch g t) (with_all c ch g) more
   settled-enact stands =
       let requests = requests-enact stands in
       let nodes = enacts-joined _ _ _ _ _ _ _ _ requests (nodes-enact requests.leaves) in
-      let jobs = enacts-joined _ _ _ _ _ _ _ _ nodes (jobs-enact _ nodes.leaves) in
-      let handles = enacts-joined _ _ _ _ _ _ _ _ jobs (handles-enact _ jobs.leaves) in
+      let jobs = enacts-joined _ _ _ _ _ _ _ _ nodes (laws.jobs w ch.jobs (with_nodes ch g) _ (more + 6) (stands-less (with_nodes ch g) _ w (more + 7) (more + 6 + 1) (omega arith) nodes.leaves) spelled_later.jobs) in
+      let handles = enacts-joined _ _ _ _ _ _ _ _ jobs (laws.handles c w ch.handles (with_jobs ch g) _ (more + 5) (stands-less (with_jobs ch g) _ w (more + 6) (more + 5 + 1) (omega arith) jobs.leaves)) in
       let deeds = enacts-joined _ _ _ _ _ _ _ _ handles (deeds-enact _ handles.leaves) in
       let sessions = enacts-joined _ _ _ _ _ _ _ _ deeds (sessions-enact _ deeds.leaves) in
-      enacts-joined _ _ _ _ _ _ _ _ sessions (ticks-enact _ sessions.leaves)
+      enacts-joined _ _ _ _ _ _ _ _ sessions
+      (laws.ticks w ch.ticks (with_sessions c ch g) _ more (stands-less (with_sessions c ch g) _ w (more + 3) (more + 1) (omega arith) sessions.leaves) (omega (arith, ready.tick, same-tick c ch.maker ch.grows s)))
 
 -- ## read from the state before what grows
 
@@ -548,9 +495,7 @@ create-begun t w name bytes mode o = grind (arith, under-begun)
 
 -- the begin of a session and a part change different things
 part-begun : (t : TreeState) (w : ℕ) (part : Op) → after_part (after_begin t) w part ≡ after_begin (after_part t w part)
-part-begun t w (Op.Create path bytes mode) = create-begun t w (name_of path) bytes mode (parent_of path)
-part-begun t w (Op.CreateUnder parent bytes mode) = under-begun t w parent [] bytes mode (at_path t.nodes parent)
-part-begun t w part = refl
+part-begun t w part = grind (arith, create-begun, under-begun)
 
 pub parts-begun : (t : TreeState) (w : ℕ) (parts : List Op) → after_parts (after_begin t) w parts ≡ after_begin (after_parts t w parts)
 parts-begun t w [] = refl

@@ -354,13 +354,10 @@ delete-goes t w dir p row good over whole live change there bare =
 session-self : (a : SessionId) → is_session a a ≡ true
 session-self a = grind (arith, nat_tests)
 
-owner-is : (a b : Row) → a ≡ b → a.owner ≡ b.owner
-owner-is a b same = ap (λ (row : Row). row.owner) same
-
 -- rows of one owner are waits of one session
 waits-same : (number other : ℕ) (a b : SessionId) → wait_row number a ≡ wait_row other b → a ≡ b
 waits-same number other a b same =
-    let owners : Some (a.0 + 1) ≡ Some (b.0 + 1) = owner-is (wait_row number a) (wait_row other b) same in
+    let owners : Some (a.0 + 1) ≡ Some (b.0 + 1) = ap (λ (row : Row). row.owner) same in
     let numbers : a.0 + 1 ≡ b.0 + 1 = cc in
     let plain : a.0 ≡ b.0 = omega arith in
     ap (λ (n : ℕ). record { 0 = n }) plain
@@ -408,10 +405,6 @@ module _ (next number : ℕ) (session : SessionId) where
     tells rows queue at rises.1 distinct.1 all.1 there,
   )
 
-  -- without the wait the rows are the queue without the session
-  pub waits-left : (rows : List Row) (queue : List SessionId) (at : ℕ) → Rises row_before rows → AreDistinct queue → AllZip (IsWait next) rows queue → slice_get rows at ≡ Some wait → AllZip (IsWait next) (filter (is_other wait.name) rows) (left session queue)
-  waits-left rows queue at rises distinct all there = zip-filter (λ other. is_session other session) (IsWait next) (is_named wait.name) rows queue (tells rows queue at rises distinct all there) all
-
 -- ## the wait is there, with nothing below it
 
 -- a row at its place is found by its name
@@ -448,5 +441,6 @@ queue-left s t u w lock p session number at queue may named distinct is there de
   next = is.next;
   gives = deletes.counter ∙ is.gives;
   waits = subst (λ (rows : List Row). AllZip (IsWait is.next) rows (left session queue)) (sym (deletes.rows ∙ ap (λ (name : List ℕ). filter (is_other name) (under lock t)) named))
-      (waits-left is.next number session (under lock t) queue at (rows-rise t (path_of lock) may.whole) distinct is.waits there);
+      (zip-filter (λ other. is_session other session) (IsWait is.next) (is_named (wait_row number session).name) (under lock t) queue
+      (tells is.next number session (under lock t) queue at (rows-rise t (path_of lock) may.whole) distinct is.waits there) is.waits);
 }

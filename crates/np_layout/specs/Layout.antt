@@ -1,13 +1,14 @@
 -- when a tree lays a state out: the rows of each directory are those of one table of the state
 -- (Nodepool developer guide: `/nodepool`; what is below `/poolsim` is own)
-use Rattle.std.specs.Prelude.{◌≡◌, ◌<◌, ℕ, ◌+◌, true, List, [], ◌∷◌, ◌++◌, length, map, Option, Some}
+use Rattle.std.specs.Prelude.{◌≡◌, ◌<◌, ℕ, ◌+◌, true, List, [], ◌∷◌, ◌++◌, length, map, Option, Some, IsOk}
 use Rattle.std.specs.Fmt.{decimal}
 use Rattle.np_tree.specs.TreeState.{TreeState}
 use Rattle.np_layout.specs.Place.{path_of}
 use Rattle.np_layout.specs.declared.place.Place.{Place}
 use Rattle.np_layout.specs.declared.place.Place.TheVariants.{Root, Nodepool, Requests, RequestLocks, RequestLock, Nodes, Node, NodeLock, Launchers, Zuul, Semaphores, Semaphore, Poolsim, Jobs, Roles, Sessions, SweptPairs, Tick}
-use Rattle.np_layout.specs.Rows.{by_name, handle_row, janitor_role_row, job_row, launcher_role_row, launcher_row, persistent, places, request_lock_row, request_row, requester_role_row, rows_from, semaphore_row, session_row, swept_row, wait_row}
-use Rattle.np_layout.specs.Lower.{AllByRecursion, AllZip, JobId, JobRecord, NodeEntry, Registration, RequestEntry, RoleRecord, Row, SemId, SessionFacts, SessionId, SpellsNode, State, Swept, below, counter_at, handles_of, is_in, range_with_len, rows_at}
+use Rattle.np_layout.specs.Rows.{by_name, handle_row, janitor_role_row, job_row, launcher_role_row, launcher_row, persistent, places, request_lock_row, request_row, requester_role_row, rows_from, semaphore_row, session_row, swept_row, wait_row, first_parts, first_tree}
+use Rattle.np_tree.specs.Calls.{after_begin}
+use Rattle.np_layout.specs.Lower.{AllByRecursion, AllZip, Configuration, IsSound, JobId, JobRecord, NodeEntry, Registration, RequestEntry, RoleRecord, Row, SemId, SessionFacts, SessionId, SpellsNode, State, Swept, answers_from, below, counter_at, handles_of, is_in, new_tree, range_with_len, rows_at, start}
 
 -- the children of a place
 abbrev pub under : Place → TreeState → List Row
@@ -127,3 +128,13 @@ pub record LaysOut (s : State) (t : TreeState) : Type 0 where
   pub sessions : AreSessions s.sessions t
   pub swept : AreSwept s.swept t
   pub live : AreLive s.sessions t
+
+-- what is true of each sound site
+
+-- the call that makes the first tree is accepted
+abbrev pub FirstCallsAreAccepted : Type 0
+FirstCallsAreAccepted = (c : Configuration) → IsSound c → IsOk (answers_from 0 (after_begin new_tree) 1 (first_parts c))
+
+-- the first tree lays out the state before the first event
+abbrev pub FirstTreesLayOut : Type 0
+FirstTreesLayOut = (c : Configuration) → IsSound c → LaysOut (start c) (first_tree c)

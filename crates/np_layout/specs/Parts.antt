@@ -1,8 +1,8 @@
 -- what a tree is asked to do for the changes of an event: the parts of one call, in the order of the
 -- changes, and the session that makes it
-use Rattle.std.specs.Prelude.{ℕ, ◌+◌, Bool, true, false, ◌==◌, if◌then◌else◌, List, [], ◌∷◌, ◌++◌, find, length, slice_get, Option, Some, None}
+use Rattle.std.specs.Prelude.{ℕ, ◌+◌, Bool, true, false, ◌==◌, if◌then◌else◌, List, [], ◌∷◌, ◌++◌, find, length, slice_get, Option, Some, None, ◌≡◌}
 use Rattle.std.specs.Fmt.{decimal}
-use Rattle.np_layout.specs.Prelude.{Any, Ephemeral, Op, TreeState, after_begin, after_end, after_multi, below, delete, is_owner, job_text, make, node_deletes, node_parts, node_text, path_of, place_of_role, request_deletes, request_parts, request_record_text, role_text, session_text, set, tree_session, under, wait_at}
+use Rattle.np_layout.specs.Prelude.{Any, Ephemeral, Op, TreeState, after_begin, after_end, after_multi, below, delete, is_owner, job_text, make, node_deletes, node_parts, node_text, path_of, place_of_role, request_deletes, request_parts, request_record_text, role_text, session_text, set, tree_session, under, wait_at, Goes, HasGoodIds, HasRoomFor, IsWhole, LaysOut, after_parts, is_in}
 use Rattle.np_layout.specs.declared.place.Place.{Place}
 use Rattle.np_layout.specs.declared.place.Place.TheVariants.{Request, RequestLock, Node, NodeLock, Launcher, Handle, Job, Session, Swept, Tick}
 use Rattle.np_layout.specs.Lower.{Changes, Configuration, Deed, Growth, HandlesChange, JobId, JobRecord, JobsChange, LauncherOf, Maker, NodeEntry, NodeId, NodesChange, RequestEntry, RequestId, RequestsChange, Role, RoleRecord, SemId, SessionId, SessionsChange, State, TenantId, allocated, change_at, change_first, edited, freed_from, has_handle, in_use, is_queued, is_swept, new_record, next_id, node_entry, node_queue, one_more_act, one_more_start, option_map_or, request_in, request_queue, role_in, semaphores_of, session_of, struck_unless, with_handle, with_mark, without_handle}
@@ -144,3 +144,18 @@ with_end other t = t
 -- the tree after the changes
 abbrev pub enacted : Configuration → Changes → State → TreeState → TreeState
 enacted c ch s t = with_end ch.sessions (with_begin ch.grows (after_multi t (writer ch.maker) (parts_of c ch s t)))
+
+-- parts that go from a tree of one state to a tree of another
+
+-- the tree lays the state out, and the session can make so many more creates and sets
+pub record Stands (s : State) (t : TreeState) (w more : ℕ) : Type 0 where
+  pub whole : IsWhole t.nodes
+  pub good : HasGoodIds s
+  pub lays : LaysOut s t
+  pub live : is_in t.live w ≡ true
+  pub room : HasRoomFor more t
+
+-- the parts are accepted one after another, and what they leave lays out the later state
+pub record Enacts (t : TreeState) (w : ℕ) (parts : List Op) (later : State) (more : ℕ) : Type 0 where
+  pub goes : Goes t w parts (after_parts t w parts)
+  pub leaves : Stands later (after_parts t w parts) w more

@@ -1,11 +1,10 @@
 -- one law for each table that an event may change: the parts for the change are accepted, and leave a
 -- tree of the changed state
-use Rattle.std.specs.Prelude.{◌≡◌, ◌<◌, ◌≤◌, ◌+◌, ◌^◌, ◌==◌, ℕ, Bool, true, List, length, Option, Some, None, if◌then◌else◌, is_some, IfSome, nat_lt}
-use Rattle.np_layout.specs.Prelude.{AreDistinct, HasSpellings, IsGood, IsJob, IsNode, IsRequest, IsSessionRole, TreeState}
+use Rattle.std.specs.Prelude.{◌≡◌, ◌<◌, ◌≤◌, ◌+◌, ◌^◌, ◌==◌, ℕ, Bool, true, List, length, Option, Some, None, if◌then◌else◌, is_some, IfSome, nat_lt, is_ok}
+use Rattle.np_layout.specs.Prelude.{AreDistinct, HasSpellings, IsGood, IsJob, IsNode, IsRequest, IsSessionRole, TreeState, Goes, HasGoodIds, HasRoomFor, IsWhole, LaysOut, after_parts, IsCarried, IsStored}
 use Rattle.np_layout.specs.declared.place.Place.TheVariants.{Request, Launcher, Swept}
-use Rattle.np_layout.specs.Parts.{deed_parts, grown_parts, handles_parts, jobs_parts, nodes_of, nodes_parts, requests_parts, session_parts, tick_parts, with_begin, writer}
-use Rattle.np_layout.specs.Stands.{Enacts, Stands}
-use Rattle.np_layout.specs.Lower.{AllByRecursion, Configuration, Deed, Growth, HandlesChange, JobsChange, Maker, NodeEntry, NodesChange, RequestEntry, RequestsChange, Rises, SessionFacts, SessionsChange, State, change_janitor, change_launcher, change_requester, grown, handles_changed, is_request, jobs_changed, list_any, new_record, next_id, node_entry, nodes_changed, registered, request_entry, requests_changed, semaphores_of, session_of, sessions_changed, with_deed}
+use Rattle.np_layout.specs.Parts.{deed_parts, grown_parts, handles_parts, jobs_parts, nodes_of, nodes_parts, requests_parts, session_parts, tick_parts, with_begin, writer, enacted, parts_of, Enacts, Stands}
+use Rattle.np_layout.specs.Lower.{AllByRecursion, Changes, Configuration, Deed, Event, Fits, Growth, HandlesChange, Invariant, IsReason, IsSound, JobId, JobsChange, Maker, NodeEntry, NodesChange, Premises, RequestEdit, RequestEntry, RequestsChange, Rises, SessionFacts, SessionId, SessionsChange, State, change_janitor, change_launcher, change_requester, changed, grown, handles_changed, is_request, jobs_changed, judge, list_any, new_record, next, next_id, node_entry, nodes_changed, plan, registered, request_entry, requests_changed, semaphores_of, session_of, sessions_changed, start, with_deed}
 
 -- ## what grows
 
@@ -87,3 +86,114 @@ SessionsEnact = (w : ℕ) (change : SessionsChange) (s : State) (t : TreeState) 
 abbrev pub TicksEnact : Type 0
 TicksEnact = (w : ℕ) (ticks : Bool) (s : State) (t : TreeState) (more : ℕ) → Stands s t w (more + 1) → s.tick + 1 < 2 ^ 32 →
     Enacts t w (tick_parts ticks s.tick) (record s { tick = if ticks then s.tick + 1 else s.tick }) more
+
+-- the law of a whole event: if a tree lays a state out, the parts for the changes of an accepted event are
+-- accepted, and what they leave lays out the changed state
+
+-- the end of a session has no part in the call
+abbrev pub in_call : SessionsChange → SessionsChange
+in_call SessionsChange.Same = SessionsChange.Same
+in_call (SessionsChange.Mute session) = SessionsChange.Mute session
+in_call (SessionsChange.End session) = SessionsChange.Same
+
+-- the state after the call, before a session ends
+abbrev pub called : Configuration → Changes → State → State
+called c ch s = changed c (record ch { sessions = in_call ch.sessions }) s
+
+-- nothing grows beside handles that are given back, and beside a session that is muted
+pub record IsApart (ch : Changes) : Type 0 where
+  pub handles : (j : JobId) → ch.handles ≡ HandlesChange.Release j → ch.grows ≡ Growth.Nothing
+  pub sessions : (session : SessionId) → ch.sessions ≡ SessionsChange.Mute session → ch.grows ≡ Growth.Nothing
+
+-- what the changes of an accepted event need of the state
+pub record IsReady (c : Configuration) (ch : Changes) (s : State) : Type 0 where
+  pub premises : Premises c s ch
+  pub apart : IsApart ch
+  pub grows : GrowthReady c ch.maker ch.grows s
+  pub nodes : NodesReady ch.nodes s.tick s.requests s.nodes
+  pub sessions : SessionReady (in_call ch.sessions) (grown c ch.maker ch.grows s)
+  pub request_waits : WaitOnce s.requests
+  pub node_waits : AllByRecursion (λ e. AreDistinct e.queue) s.nodes
+  pub spelled : HasSpellings s
+  pub spelled_later : HasSpellings (called c ch s)
+  pub tick : s.tick + 1 < 2 ^ 32
+
+-- the call is accepted, and the tree after it, and after the begin or the end of a session, lays out the
+-- changed state; the call and the end each have one change number
+pub record IsEnacted (c : Configuration) (ch : Changes) (s : State) (t : TreeState) (more : ℕ) : Type 0 where
+  pub goes : Goes t (writer ch.maker) (parts_of c ch s t) (after_parts t (writer ch.maker) (parts_of c ch s t))
+  pub whole : IsWhole (enacted c ch s t).nodes
+  pub good : HasGoodIds (changed c ch s)
+  pub lays : LaysOut (changed c ch s) (enacted c ch s t)
+  pub numbers : (enacted c ch s t).changes ≤ t.changes + 2
+  pub room : HasRoomFor more (enacted c ch s t)
+
+-- an event takes the room of at most 64 parts
+abbrev pub EventsEnact : Type 0
+EventsEnact = (c : Configuration) (ch : Changes) (s : State) (t : TreeState) (more : ℕ) → IsReady c ch s → Stands s t (writer ch.maker) (more + 64) → t.changes + 2 < 18_446_744_073_709_551_615 →
+    IsEnacted c ch s t more
+
+-- every accepted event is ready for the tree, and leaves a state that a tree can carry
+
+-- ## numbers that come with an event are within their types
+
+abbrev pub IsTypedEdit : RequestEdit → Type 0
+IsTypedEdit (RequestEdit.Serve p) = Unit {0}
+IsTypedEdit (RequestEdit.AddNode n) = Unit {0}
+IsTypedEdit (RequestEdit.Decline p why failed) = IsReason why
+IsTypedEdit RequestEdit.Fulfil = Unit {0}
+IsTypedEdit RequestEdit.GiveBack = Unit {0}
+IsTypedEdit RequestEdit.Fail = Unit {0}
+IsTypedEdit (RequestEdit.Revise relative) = relative < 2 ^ 32
+
+abbrev pub IsTypedRequests : RequestsChange → Type 0
+IsTypedRequests RequestsChange.Same = Unit {0}
+IsTypedRequests (RequestsChange.Edit r change) = IsTypedEdit change
+IsTypedRequests (RequestsChange.Remove r) = Unit {0}
+IsTypedRequests (RequestsChange.Leave r) = Unit {0}
+
+abbrev pub IsTypedNodes : NodesChange → Type 0
+IsTypedNodes NodesChange.Same = Unit {0}
+IsTypedNodes (NodesChange.Put n kept) = (kept.start < 2 ^ 32) × IfSome kept.server (λ server. server < 2 ^ 64)
+IsTypedNodes (NodesChange.Remove n) = Unit {0}
+IsTypedNodes (NodesChange.Leave n) = Unit {0}
+IsTypedNodes (NodesChange.FreeAll r) = Unit {0}
+IsTypedNodes (NodesChange.TakeOver numbers) = Unit {0}
+
+abbrev pub IsTypedGrowth : Growth → Type 0
+IsTypedGrowth (Growth.Swept n x) = IsGood (Swept n x)
+IsTypedGrowth other = Unit {0}
+
+pub record IsTyped (ch : Changes) : Type 0 where
+  pub grows : IsTypedGrowth ch.grows
+  pub requests : IsTypedRequests ch.requests
+  pub nodes : IsTypedNodes ch.nodes
+
+-- ## the laws
+
+-- an event that is accepted in a state with what holds of every state of a run
+pub record IsAccepted (c : Configuration) (s : State) (e : Event) : Type 0 where
+  pub sound : IsSound c
+  pub fits : Fits c s
+  pub invariant : Invariant c s
+  pub carried : IsCarried c s
+  pub accepted : is_ok (judge c s e) ≡ true
+  pub typed : IsTyped (plan c s e)
+
+-- each record has a spelling after the call
+abbrev pub RecordsAreSpelled : Type 0
+RecordsAreSpelled = (c : Configuration) (s : State) (e : Event) → IsAccepted c s e → HasSpellings (called c (plan c s e) s)
+
+abbrev pub EventsAreReady : Type 0
+EventsAreReady = (c : Configuration) (s : State) (e : Event) → IsAccepted c s e → IsReady c (plan c s e) s
+
+abbrev pub StartsAreCarried : Type 0
+StartsAreCarried = (c : Configuration) → IsSound c → IsCarried c (start c)
+
+abbrev pub StepsAreCarried : Type 0
+StepsAreCarried = (c : Configuration) (s : State) (e : Event) → IsAccepted c s e → IsCarried c (next c s e)
+
+-- the tree enacts it: the call of its changes is accepted, and leaves a tree of the state after it
+abbrev pub EventsAreEnacted : Type 0
+EventsAreEnacted = (c : Configuration) (s : State) (e : Event) (t : TreeState) (more : ℕ) → IsAccepted c s e → Stands s t (writer (plan c s e).maker) (more + 64) → t.changes + 2 < 18_446_744_073_709_551_615 →
+    IsEnacted c (plan c s e) s t more × IsStored c (next c s e) (enacted c (plan c s e) s t)

@@ -2,7 +2,7 @@
 
 ghost use Rattle.std.specs.Prelude.{◌≡◌, ◌+◌, ◌≤◌, ◌<◌, ◌++◌, length, drop};
 ghost use Rattle.std.specs.Fmt.{decimal};
-ghost use Rattle.np_machine.specs.Prelude.{request_text_of, ten_digits_of};
+ghost use Rattle.np_layout.specs.Lower.{request_text_of, ten_digits_of};
 
 use np_text::{RequestId, request_text, ten_digits};
 use std::marker::Model;

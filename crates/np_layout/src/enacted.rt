@@ -1,7 +1,6 @@
 //! Laws of the parts. Each function does nothing: its contract is the law.
 
-ghost use Rattle.np_layout.specs.Events.{EventsEnact};
-ghost use Rattle.np_layout.specs.Ways.{DeedsEnact, GrowthsEnact, HandlesEnact, JobsEnact, NodesEnact, RequestsEnact, SessionsEnact, TicksEnact};
+ghost use Rattle.np_layout.specs.Ways.{EventsEnact, DeedsEnact, GrowthsEnact, HandlesEnact, JobsEnact, NodesEnact, RequestsEnact, SessionsEnact, TicksEnact};
 
 /// The parts for what grows are accepted, and leave a tree of the grown state.
 pub fn growths_are_enacted()

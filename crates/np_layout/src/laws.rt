@@ -1,9 +1,8 @@
 //! Laws of the layout. Each function does nothing: its contract is the law.
 #![tactic(auto, using(crate::proofs::Proved::sets))]
 
-ghost use Rattle.np_layout.specs.Creates.{GrownNodesLayOut, GrownRequestsLayOut, HandlesLayOut, NodeWaitsLayOut, RegistrationsLayOut, RequestWaitsLayOut, SessionsLayOut, SweptPairsLayOut};
-ghost use Rattle.np_layout.specs.Deletes.{HandlesGoLayOut, NodeWaitsGoLayOut, NodesGoLayOut, RequestWaitsGoLayOut, RequestsGoLayOut, SessionEndsLayOut};
-ghost use Rattle.np_layout.specs.Laws.{FirstCallsAreAccepted, FirstTreesLayOut};
+ghost use Rattle.np_layout.specs.Deletes.{GrownNodesLayOut, GrownRequestsLayOut, HandlesLayOut, NodeWaitsLayOut, RegistrationsLayOut, RequestWaitsLayOut, SessionsLayOut, SweptPairsLayOut, HandlesGoLayOut, NodeWaitsGoLayOut, NodesGoLayOut, RequestWaitsGoLayOut, RequestsGoLayOut, SessionEndsLayOut};
+ghost use Rattle.np_layout.specs.Layout.{FirstCallsAreAccepted, FirstTreesLayOut};
 ghost use Rattle.np_layout.specs.Sets.{JobChangesLayOut, JobsLayOut, MutesLayOut, NodesLayOut, RequestsLayOut, RolesLayOut, TicksLayOut};
 
 /// The first tree of each sound site lays out the state before the first event, and the one call

@@ -3,10 +3,10 @@
 //!
 //! `specs/Layout` says when a tree lays a state out: the rows of each directory are those of one
 //! table of the state, with their bytes and owners, and nothing else is there. `specs/Rows` has the
-//! row of each record, lock and mark, and `specs/First` the call that makes the tree before the first
+//! row of each record, lock and mark, and the call that makes the tree before the first
 //! event. `specs/Sets` says what one set of a node's bytes does: if a tree lays a state out, the
 //! set of a record to another record's text lays out the state with that record, and the set is
-//! accepted. `specs/Creates` says the same of what grows: a handle, a swept pair, a registration, a
+//! accepted. `specs/Deletes` says the same of what grows: a handle, a swept pair, a registration, a
 //! wait at a lock, a session, a request and a node, each made by the creates of its records and locks.
 //! `specs/Deletes` says the same of what goes: a handle, a wait, a request or a node with its waits, and
 //! a session that ends.
@@ -21,14 +21,14 @@
 //! lock, with the ids that it is for. `specs/Place` says what each place's path is, in which directory
 //! it is and under which name, and for which ids a place has a path (`IsGood`). `PathText` is a path's
 //! text for the tree's readers, made without memory, and `to_path` makes a `Path` of it for the calls
-//! that change the tree. `specs/PlaceLaws` has what is true of all places, each a public function that
+//! that change the tree. It has what is true of all places, each a public function that
 //! does nothing: paths are in the grammar, a path is its directory's and its name, no two places have
 //! the same, names are in order as their ids are, and 64 bytes are room for each.
 //!
 //! `specs/Parts` says what the tree is asked to do for an event's changes: the parts of one call, in
 //! the order of the changes, and a session that begins or ends after it. `specs/Ways` says of each
 //! table that an event may change that the parts for it are accepted and leave a tree that lays the
-//! changed state out. `specs/Events` says the same of the changes of a whole event. `specs/Ready` says
+//! changed state out. It says the same of the changes of a whole event. `specs/Ways` says
 //! that each accepted event of a run has what these need of its changes and of the state, and that the
 //! state after it is one that a tree can carry again.
 #![tactic(auto)]

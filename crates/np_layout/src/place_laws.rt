@@ -1,7 +1,7 @@
 //! Laws of the places. Each function does nothing: its contract is the law.
 #![tactic(auto, using(crate::proofs::Proved::place_names))]
 
-ghost use Rattle.np_layout.specs.PlaceLaws.{AboveIsGood, LongestIsAWait, NamesAreApart, NamesAreLast, NodesRise, ParentsAreAbove, PathsAreApart, PathsAreJoined, PathsAreInTheGrammar, PathsFit, RequestLocksRise, RequestsRise, SessionsRise, WaitsForNodesRise, WaitsForRequestsRise};
+ghost use Rattle.np_layout.specs.Place.{AboveIsGood, LongestIsAWait, NamesAreApart, NamesAreLast, NodesRise, ParentsAreAbove, PathsAreApart, PathsAreJoined, PathsAreInTheGrammar, PathsFit, RequestLocksRise, RequestsRise, SessionsRise, WaitsForNodesRise, WaitsForRequestsRise};
 
 /// The path of each place is in the grammar of paths.
 pub fn paths_are_in_the_grammar()

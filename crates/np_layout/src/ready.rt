@@ -1,7 +1,7 @@
 //! The laws. Each function does nothing: its contract is the law.
 #![tactic(auto, using(crate::proofs::Proved::events_laws))]
 
-ghost use Rattle.np_layout.specs.Ready.{EventsAreEnacted, EventsAreReady, RecordsAreSpelled, StartsAreCarried, StepsAreCarried};
+ghost use Rattle.np_layout.specs.Ways.{EventsAreEnacted, EventsAreReady, RecordsAreSpelled, StartsAreCarried, StepsAreCarried};
 
 /// Each record of the state after the call of an accepted event has a spelling.
 pub fn every_record_is_spelled()

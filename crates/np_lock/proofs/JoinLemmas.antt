@@ -1,5 +1,5 @@
 -- a queue with one session more
-use Rattle.np_lock.proofs.Prelude.{AllByRecursion, Bool, Creates, EphemeralSequential, HasParts-below, IsGivenOut, IsQueue, IsWhole, List, Node, NonePass, Ok, Option, Rises, Row, Some, TreeState, Wait, after_create, all-push, all-weaker, ap, arith, below, child-line, child_answer-passed, counter_at, creates-show, false, insert_before-end, is_in, is_lt, is_path, is_path-below, join_answer, leb-true, list_any, map, name_of, nat_cmp, nat_cmp-more, not, of_others, option_map, parent_of, prefix, queue_at, refl, row_before, row_given, row_of_wait, slice_cmp, slice_cmp-ten, subst, sym, ten_digits_of, true, wait_path, with_row, ℕ, [], ◌++◌, ◌+◌, ◌<◌, ◌==◌, ◌||◌, ◌∙◌, ◌∷◌, ◌≡◌, ◌≤◌}
+use Rattle.np_lock.proofs.Prelude.{AllByRecursion, Creates, EphemeralSequential, HasParts-below, IsGivenOut, IsQueue, IsWhole, List, Node, NonePass, Ok, Option, Rises, Some, TreeState, Wait, after_create, all-push, all-weaker, ap, arith, below, child-line, child_answer-passed, counter_at, creates-show, false, insert_before-end, is_in, is_lt, is_path, is_path-below, join_answer, leb-true, list_any, map, map-append, name_of, nat_cmp, nat_cmp-more, nat_tests, not, of_others, option_map, parent_of, prefix, queue_at, refl, row_before, row_given, row_of_wait, slice_cmp, slice_cmp-ten, subst, sym, ten_digits_of, true, wait_path, with_row, ℕ, [], ◌++◌, ◌+◌, ◌<◌, ◌==◌, ◌∙◌, ◌∷◌, ◌≡◌, ◌≤◌}
 use Rattle.np_lock.proofs.WaitLemmas.{queue-waits}
 
 -- ## the path
@@ -22,26 +22,17 @@ last-by : (counter session : ℕ) (waits : List Wait) → counter ≤ 2147483647
 last-by counter session [] low given = tt
 last-by counter session (w ∷ waits) low given = (not-before counter w.number given.0 low, last-by counter session waits low given.1)
 
-map-push : (waits : List Wait) (new : Wait) → map row_of_wait waits ++ row_of_wait new ∷ [] ≡ map row_of_wait (waits ++ new ∷ [])
-map-push [] new = refl
-map-push (w ∷ waits) new = ap (λ (rows : List Row). row_of_wait w ∷ rows) (map-push waits new)
-
 with_row-last : (counter session : ℕ) (waits : List Wait) → counter ≤ 2147483647 → AllByRecursion (IsGivenOut (Some counter)) waits →
     with_row (row_of_wait (record { number = counter; session = session })) (map row_of_wait waits) ≡ map row_of_wait (waits ++ record { number = counter; session = session } ∷ [])
 with_row-last counter session waits low given =
     let new : Wait = record { number = counter; session = session } in
-    insert_before-end (λ other. row_before (row_of_wait new) other) (row_of_wait new) (map row_of_wait waits) (last-by counter session waits low given) ∙ map-push waits new
+    insert_before-end (λ other. row_before (row_of_wait new) other) (row_of_wait new) (map row_of_wait waits) (last-by counter session waits low given) ∙ sym (map-append row_of_wait waits (new ∷ []))
 
 -- ## each session once
 
-other-then : (session : ℕ) (w : Wait) (waits : List Wait) (b : Bool) → (w.session == session) ≡ b → (b || list_any (λ s. s == session) (map (λ (v : Wait). v.session) waits)) ≡ false →
-    (list_any (λ s. s == session) (map (λ (v : Wait). v.session) waits) ≡ false → AllByRecursion (λ (v : Wait). not (v.session == session) ≡ true) waits) → AllByRecursion (λ (v : Wait). not (v.session == session) ≡ true) (w ∷ waits)
-other-then session w waits true is left later = absurd cc
-other-then session w waits false is left later = (ap not is, later left)
-
 others-by : (session : ℕ) (waits : List Wait) → list_any (λ s. s == session) (map (λ (w : Wait). w.session) waits) ≡ false → AllByRecursion (λ (w : Wait). not (w.session == session) ≡ true) waits
 others-by session [] none = tt
-others-by session (w ∷ waits) none = other-then session w waits (w.session == session) refl none (others-by session waits)
+others-by session (w ∷ waits) none = (grind (arith, nat_tests), others-by session waits (grind (arith, nat_tests)))
 
 rises-push : (waits : List Wait) (new : Wait) → AllByRecursion (λ (w : Wait). of_others w new ≡ true) waits → Rises of_others waits → Rises of_others (waits ++ new ∷ [])
 rises-push [] new all rises = (tt, tt)
@@ -49,18 +40,11 @@ rises-push (w ∷ waits) new all rises = (all-push (λ (v : Wait). of_others w v
 
 -- ## the queue
 
-sessions-push : (waits : List Wait) (new : Wait) → map (λ (w : Wait). w.session) (waits ++ new ∷ []) ≡ map (λ (w : Wait). w.session) waits ++ new.session ∷ []
-sessions-push [] new = refl
-sessions-push (w ∷ waits) new = ap (λ (ss : List ℕ). w.session ∷ ss) (sessions-push waits new)
-
-given-in : (o : Option ℕ) (counter : ℕ) (waits : List Wait) → o ≡ Some counter → AllByRecursion (IsGivenOut o) waits → AllByRecursion (IsGivenOut (Some counter)) waits
-given-in o counter waits is given = subst (λ (p : Option ℕ). AllByRecursion (IsGivenOut p) waits) is given
-
 IsQueue-created : (t u : TreeState) (dir : List ℕ) (counter session : ℕ) (waits : List Wait) → counter ≤ 2147483647 → counter_at t dir ≡ Some counter → IsQueue t dir waits → is_in (queue_at t dir) session ≡ false → Creates EphemeralSequential dir (row_given EphemeralSequential counter session prefix []) t u →
     IsQueue u dir (waits ++ record { number = counter; session = session } ∷ [])
 IsQueue-created t u dir counter session waits low gives queue none creates =
     let new : Wait = record { number = counter; session = session } in
-    let given = given-in (counter_at t dir) counter waits gives queue.given in
+    let given = subst (λ (o : Option ℕ). AllByRecursion (IsGivenOut o) waits) gives queue.given in
     let more : counter_at u dir ≡ Some (counter + 1) = creates.counter ∙ ap (option_map (λ (c : ℕ). c + 1)) gives in
     let absent : list_any (λ s. s == session) (map (λ (w : Wait). w.session) waits) ≡ false = sym (ap (λ (q : List ℕ). is_in q session) (queue-waits t dir waits queue)) ∙ none in
     record {
@@ -96,4 +80,4 @@ pub queue-joined : (t : TreeState) (session : ℕ) (dir : List ℕ) (waits : Lis
 queue-joined t session dir waits queue joins =
     let new : Wait = record { number = joins.counter; session = session } in
     queue-waits (after_create t session (wait_path dir) [] EphemeralSequential) dir (waits ++ new ∷ []) joins.queue
-    ∙ sessions-push waits new ∙ sym (ap (λ (q : List ℕ). q ++ session ∷ []) (queue-waits t dir waits queue))
+    ∙ map-append (λ (w : Wait). w.session) waits (new ∷ []) ∙ sym (ap (λ (q : List ℕ). q ++ session ∷ []) (queue-waits t dir waits queue))

@@ -1,8 +1,8 @@
 -- how a queue changes with the tree
-use Rattle.np_lock.proofs.Prelude.{AllByRecursion, Any, Bool, EmptiesAreLocks, EndsLeave, Err, IsGivenOut, IsOk, IsQueue, IsTree, List, Node, None, Ok, OpDone, Option, PartsJoin, PartsLeave, QueuesAreShown, Result, Rises-filter, Row, Some, TreeRefusal, TreeState, Wait, after_end, all-filter, ap, at_path, children_of-ephemeral, cond, counter_at, delete_answer, ends-show, eqb-true, false, filter, is_kept, is_owner, join_answer, map, not, of_others, ok-then, option_map, refl, row_of, row_of_wait, rows_at, seen_of, subst, sym, true, unspent-goes, without, ℕ, [], ◌++◌, ◌==◌, ◌>>=◌, ◌>>◌, ◌∙◌, ◌∷◌, ◌≡◌}
+use Rattle.np_lock.proofs.Prelude.{AllByRecursion, Any, EmptiesAreLocks, EndsLeave, Err, IsGivenOut, IsOk, IsQueue, IsTree, List, Node, None, Ok, OpDone, Option, PartsJoin, PartsLeave, QueuesAreShown, Result, Rises-filter, Some, TreeRefusal, TreeState, Wait, after_end, all-filter, ap, at_path, children_of-ephemeral, counter_at, delete_answer, ends-show, eqb-true, false, false_from_ne_true, filter, is_kept, is_owner, join_answer, map, not, of_others, ok-then, option_map, refl, row_of, row_of_wait, rows_at, seen_of, subst, sym, unspent-goes, without, ℕ, [], ◌++◌, ◌==◌, ◌>>=◌, ◌∙◌, ◌∷◌, ◌≡◌}
 use Rattle.np_lock.proofs.JoinLemmas.{Joins-accepted, queue-joined}
 use Rattle.np_lock.proofs.LeaveLemmas.{Leaves-path, left-sessions, left_by, of_session}
-use Rattle.np_lock.proofs.WaitLemmas.{queue-waits}
+use Rattle.np_lock.proofs.WaitLemmas.{filter-shown, queue-waits}
 
 pub queues-are-shown : QueuesAreShown
 queues-are-shown t u dir waits rows counter queue =
@@ -31,14 +31,8 @@ parts-leave t s dir path is tree lock there change =
 
 -- ## the end of a session
 
-kept-then : (s : ℕ) (w : Wait) (waits : List Wait) (b : Bool) → filter (is_kept s) (map row_of_wait waits) ≡ map row_of_wait (left_by s waits) →
-    cond (not b) (row_of_wait w ∷ filter (is_kept s) (map row_of_wait waits)) (filter (is_kept s) (map row_of_wait waits)) ≡ map row_of_wait (cond (not b) (w ∷ left_by s waits) (left_by s waits))
-kept-then s w waits true later = later
-kept-then s w waits false later = ap (λ (rows : List Row). row_of_wait w ∷ rows) later
-
 kept-waits : (s : ℕ) (waits : List Wait) → filter (is_kept s) (map row_of_wait waits) ≡ map row_of_wait (left_by s waits)
-kept-waits s [] = refl
-kept-waits s (w ∷ waits) = kept-then s w waits (w.session == s) (kept-waits s waits)
+kept-waits s waits = filter-shown row_of_wait (is_kept s) waits
 
 -- the directory of a wait exists
 there-by : (nodes : List Node) (dir : List ℕ) (w : Wait) (o : Option Node) → at_path nodes dir ≡ o → IsGivenOut (option_map (λ (n : Node). n.facts.counter) o) w → (n : Node) × (at_path nodes dir ≡ Some n)
@@ -46,21 +40,18 @@ there-by nodes dir w None there given = absurd given
 there-by nodes dir w (Some n) there given = (n, there)
 
 -- and no session owns it
-owner-by : (s : ℕ) (o : Option ℕ) (b : Bool) → is_owner s o ≡ b → (o ≡ Some s → ⊥) → is_owner s o ≡ false
-owner-by s None b is other = refl
-owner-by s (Some owner) false is other = is
-owner-by s (Some owner) true is other = absurd (other (ap Some (eqb-true owner s is)))
+owner-by : (s : ℕ) (o : Option ℕ) → (o ≡ Some s → ⊥) → is_owner s o ≡ false
+owner-by s None other = refl
+owner-by s (Some owner) other = false_from_ne_true (owner == s) (λ is. other (ap Some (eqb-true owner s is)))
 
 stays : (t : TreeState) (s : ℕ) (dir : List ℕ) (w : Wait) (waits : List Wait) → IsTree t → IsQueue t dir (w ∷ waits) → counter_at (after_end t s) dir ≡ counter_at t dir
 stays t s dir w waits tree queue =
     let node = there-by t.nodes dir w (at_path t.nodes dir) refl queue.given.0 in
     let n : Node = node.0 in
-    let free : is_owner s n.facts.owner ≡ false = owner-by s n.facts.owner (is_owner s n.facts.owner) refl (λ owned.
+    let free : is_owner s n.facts.owner ≡ false = owner-by s n.facts.owner (λ owned.
     let none : rows_at t dir ≡ [] = ap (map row_of) (children_of-ephemeral t.nodes dir n s tree.whole.stand node.1 owned) in
-    some-rows (sym queue.rows ∙ none)) in
-    (ends-show t s tree.whole).counters dir (seen_of n) (ap (option_map seen_of) node.1) free where
-      some-rows : {r : Row} {rs : List Row} → r ∷ rs ≡ [] → ⊥
-      some-rows e = cc
+    absurd (let some : row_of_wait w ∷ map row_of_wait waits ≡ [] = sym queue.rows ∙ none in cc)) in
+    (ends-show t s tree.whole).counters dir (seen_of n) (ap (option_map seen_of) node.1) free
 
 given-end : (t : TreeState) (s : ℕ) (dir : List ℕ) (waits : List Wait) → IsTree t → IsQueue t dir waits → AllByRecursion (IsGivenOut (counter_at (after_end t s) dir)) (left_by s waits)
 given-end t s dir [] tree queue = tt

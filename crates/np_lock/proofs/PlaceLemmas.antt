@@ -1,5 +1,5 @@
 -- the place of a session in a queue
-use Rattle.np_lock.proofs.Prelude.{Bool, Err, Leaves, List, LockFault, None, Option, Releases, Some, ahead_in, ap, arith, cond, drop, drop_all, false, filter-not_none, first_of, is_in, is_owner, length, list_any, none-list_any, position_from, position_from-zero, refl, slice_get, suc, sym, true, without, zero, ℕ, [], ◌++◌, ◌+◌, ◌==◌, ◌||◌, ◌∙◌, ◌∷◌, ◌≡◌, ◌≤◌}
+use Rattle.np_lock.proofs.Prelude.{Bool, Err, Leaves, List, LockFault, None, Option, Releases, Some, ahead_in, ap, arith, cond, drop, drop-past, drop-there, drop_all, false, filter-not_none, first_of, is_in, is_owner, length, list_any, none-list_any, past-end, position_from, position_from-zero, refl, slice_get, suc, sym, true, without, ℕ, [], ◌+◌, ◌==◌, ◌∙◌, ◌∷◌, ◌≡◌, ◌≤◌}
 use Rattle.np_lock.specs.declared.answer.LockFault.TheVariants.{NoMemory, Refused}
 
 abbrev pub is_session : ℕ → ℕ → Bool
@@ -12,30 +12,11 @@ IsAsked session queue at = ahead_in queue session ≡ position_from (is_session 
 pub IsAsked-none : (session : ℕ) (queue : List ℕ) → IsAsked session queue 0
 IsAsked-none session queue = position_from-zero (is_session session) queue
 
-drop-some : (xs : List ℕ) (at x : ℕ) → slice_get xs at ≡ Some x → drop at xs ≡ x ∷ drop (suc at) xs
-drop-some [] at x is = absurd cc
-drop-some (y ∷ xs) zero x is = let same : y ≡ x = cc in ap (λ (z : ℕ). z ∷ xs) same
-drop-some (y ∷ xs) (suc at) x is = drop-some xs at x is
-
-drop-nil : (n : ℕ) → drop {A = ℕ} n [] ≡ []
-drop-nil zero = refl
-drop-nil (suc n) = refl
-
-drop-none : (xs : List ℕ) (at : ℕ) → slice_get xs at ≡ None → drop at xs ≡ []
-drop-none [] at is = drop-nil at
-drop-none (y ∷ xs) zero is = absurd cc
-drop-none (y ∷ xs) (suc at) is = drop-none xs at is
-
-get-none : (xs : List ℕ) (at : ℕ) → slice_get xs at ≡ None → slice_get xs (suc at) ≡ None
-get-none [] at is = refl
-get-none (y ∷ xs) zero is = absurd cc
-get-none (y ∷ xs) (suc at) is = get-none xs at is
-
 -- the session at the place is that one
 here-by : (session : ℕ) (queue : List ℕ) (at : ℕ) (o : Option ℕ) → slice_get queue at ≡ o → is_owner session o ≡ true → IsAsked session queue at → ahead_in queue session ≡ Some at
 here-by session queue at None there is asked = absurd cc
 here-by session queue at (Some s) there is asked =
-    asked ∙ ap (position_from (is_session session) at) (drop-some queue at s there)
+    asked ∙ ap (position_from (is_session session) at) (drop-there queue at s there)
     ∙ ap (λ (b : Bool). cond b (Some at) (position_from (is_session session) (at + 1) (drop (suc at) queue))) is
 
 pub ahead-here : (session : ℕ) (queue : List ℕ) (at : ℕ) → is_owner session (slice_get queue at) ≡ true → IsAsked session queue at → ahead_in queue session ≡ Some at
@@ -44,10 +25,10 @@ ahead-here session queue at is asked = here-by session queue at (slice_get queue
 -- or it is not
 more-by : (session : ℕ) (queue : List ℕ) (at : ℕ) (o : Option ℕ) → slice_get queue at ≡ o → is_owner session o ≡ false → IsAsked session queue at → ahead_in queue session ≡ position_from (is_session session) (at + 1) (drop (suc at) queue)
 more-by session queue at None there is asked =
-    asked ∙ ap (position_from (is_session session) at) (drop-none queue at there)
-    ∙ sym (ap (position_from (is_session session) (at + 1)) (drop-none queue (suc at) (get-none queue at there)))
+    asked ∙ ap (position_from (is_session session) at) (drop-past queue at there)
+    ∙ sym (ap (position_from (is_session session) (at + 1)) (drop_all (suc at) queue (omega (arith, past-end queue at there))))
 more-by session queue at (Some s) there is asked =
-    asked ∙ ap (position_from (is_session session) at) (drop-some queue at s there)
+    asked ∙ ap (position_from (is_session session) at) (drop-there queue at s there)
     ∙ ap (λ (b : Bool). cond b (Some at) (position_from (is_session session) (at + 1) (drop (suc at) queue))) is
 
 pub IsAsked-more : (session : ℕ) (queue : List ℕ) (at : ℕ) → is_owner session (slice_get queue at) ≡ false → IsAsked session queue at → IsAsked session queue (at + 1)
@@ -62,17 +43,11 @@ ahead-none session queue at past asked = asked ∙ ap (position_from (is_session
 
 any-some : (p : ℕ → Bool) (xs : List ℕ) (i at : ℕ) → position_from p i xs ≡ Some at → list_any p xs ≡ true
 any-some p [] i at is = absurd cc
-any-some p (x ∷ xs) i at is = any-some-by p x xs i at (p x) is (any-some p xs (i + 1) at) where
-  any-some-by : (q : ℕ → Bool) (y : ℕ) (ys : List ℕ) (j k : ℕ) (b : Bool) → cond b (Some j) (position_from q (j + 1) ys) ≡ Some k → (position_from q (j + 1) ys ≡ Some k → list_any q ys ≡ true) → (b || list_any q ys) ≡ true
-  any-some-by q y ys j k true there later = refl
-  any-some-by q y ys j k false there later = later there
+any-some p (x ∷ xs) i at is = grind (arith, any-some p xs (i + 1) at)
 
 any-none : (p : ℕ → Bool) (xs : List ℕ) (i : ℕ) → position_from p i xs ≡ None → list_any p xs ≡ false
 any-none p [] i is = refl
-any-none p (x ∷ xs) i is = any-none-by p xs i (p x) is (any-none p xs (i + 1)) where
-  any-none-by : (q : ℕ → Bool) (ys : List ℕ) (j : ℕ) (b : Bool) → cond b (Some j) (position_from q (j + 1) ys) ≡ None → (position_from q (j + 1) ys ≡ None → list_any q ys ≡ false) → (b || list_any q ys) ≡ false
-  any-none-by q ys j true there later = absurd cc
-  any-none-by q ys j false there later = later there
+any-none p (x ∷ xs) i is = grind (arith, any-none p xs (i + 1))
 
 pub there-some : (queue : List ℕ) (session at : ℕ) → ahead_in queue session ≡ Some at → is_in queue session ≡ true
 there-some queue session at is = any-some (is_session session) queue 0 at (sym (IsAsked-none session queue) ∙ is)

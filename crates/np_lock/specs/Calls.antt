@@ -1,11 +1,52 @@
--- what each call of a lock answers, and what it does to the tree
-use Rattle.std.specs.Prelude.{◌≡◌, ⊤, ℕ, zero, suc, ◌<◌, ◌==◌, Bool, true, false, List, [], ◌∷◌, ◌++◌, find, position, slice_get, Option, Some, None, Result, Ok, Err, IsOk, if◌then◌else◌}
-use Rattle.np_tree.specs.Prelude.{Any, EphemeralSequential, NoMemory, Op, Row, TreeRefusal, TreeState, after_create, after_delete, below, create_answer, is_in, is_none, is_owner, option_map, rows_at, where_found, with_next_number}
-use Rattle.np_lock.specs.Queue.{queue_at, wait_path}
+-- a lock is a directory, and its queue is the sessions of its children (ZooKeeper recipes, locks: the lowest sequence node holds)
+use Rattle.std.specs.Prelude.{◌≡◌, ◌<◌, ℕ, ◌==◌, Bool, not, List, [], codes, map, filter_map, Option, Some, None, ⊤, zero, suc, true, false, ◌∷◌, ◌++◌, find, position, slice_get, Result, Ok, Err, IsOk, if◌then◌else◌}
+use Rattle.np_tree.specs.Prelude.{AllByRecursion, EphemeralSequential, Rises, TreeState, below, counter_at, Any, NoMemory, Op, Row, TreeRefusal, after_create, after_delete, create_answer, is_in, is_none, is_owner, option_map, rows_at, where_found, with_next_number, IsTree, IsWhole, after_end, after_part, is_path, part_answer, without}
+use Rattle.np_tree.specs.Views.{row_given}
 use Rattle.np_lock.specs.declared.answer.Place.{Place}
 use Rattle.np_lock.specs.declared.answer.Place.TheVariants.{Held, Queued}
 use Rattle.np_lock.specs.declared.answer.Tried.{Tried}
 use Rattle.np_lock.specs.declared.answer.LockFault.{LockFault}
+
+-- what each name in a queue begins with
+abbrev pub prefix : List ℕ
+prefix = codes "lock-"
+
+-- a place in a queue: the number of its sequence node, and the session that waits there
+pub record Wait : Type 0 where
+  pub number : ℕ
+  pub session : ℕ
+
+-- its row: an ephemeral sequence node without bytes
+abbrev pub row_of_wait : Wait → Row
+row_of_wait wait = row_given EphemeralSequential wait.number wait.session prefix []
+
+-- the number was given by the counter of the directory
+abbrev pub IsGivenOut : Option ℕ → Wait → Type 0
+IsGivenOut None wait = ⊥
+IsGivenOut (Some counter) wait = wait.number < counter
+
+abbrev pub of_others : Wait → Wait → Bool
+of_others this that = not (this.session == that.session)
+
+-- a directory whose children are such nodes, at most one of each session. A path without a node
+-- counts as such a directory, and so does a directory without children
+pub record IsQueue (t : TreeState) (dir : List ℕ) (waits : List Wait) : Type 0 where
+  pub rows : rows_at t dir ≡ map row_of_wait waits
+  pub given : AllByRecursion (IsGivenOut (counter_at t dir)) waits
+  pub once : Rises of_others waits
+
+abbrev pub IsLock : TreeState → List ℕ → Type 0
+IsLock t dir = (waits : List Wait) × IsQueue t dir waits
+
+-- the sessions that wait, in the order of their sequence nodes
+abbrev pub queue_at : TreeState → List ℕ → List ℕ
+queue_at t dir = filter_map (λ row. row.owner) (rows_at t dir)
+
+-- the path that a session's node is created by
+abbrev pub wait_path : List ℕ → List ℕ
+wait_path dir = below dir prefix
+
+-- what each call of a lock answers, and what it does to the tree
 
 -- ## places
 
@@ -107,3 +148,27 @@ abbrev pub LeavesBy : Option (List ℕ) → Result (Option Op) NoMemory → Type
 LeavesBy None result = result ≡ Ok None
 LeavesBy (Some path) (Ok part) = part ≡ Some (leave_part path)
 LeavesBy (Some path) (Err _) = ⊤
+
+-- how a queue changes with the tree
+
+-- a queue is determined by the rows and the counter of its directory
+abbrev pub QueuesAreShown : Type 0
+QueuesAreShown = (t u : TreeState) (dir : List ℕ) (waits : List Wait) → rows_at u dir ≡ rows_at t dir → counter_at u dir ≡ counter_at t dir → IsQueue t dir waits → IsQueue u dir waits
+
+-- a directory without children is a lock that nobody waits for
+abbrev pub EmptiesAreLocks : Type 0
+EmptiesAreLocks = (t : TreeState) (dir : List ℕ) → rows_at t dir ≡ [] → IsQueue t dir []
+
+-- the part of a session that joins, once it is accepted
+abbrev pub PartsJoin : Type 0
+PartsJoin = (t : TreeState) (s : ℕ) (dir : List ℕ) → is_path dir ≡ true → IsWhole t.nodes → IsLock t dir → is_in (queue_at t dir) s ≡ false → IsOk (part_answer t s (join_part dir)) →
+    (IsLock (after_part t s (join_part dir)) dir) × (queue_at (after_part t s (join_part dir)) dir ≡ queue_at t dir ++ s ∷ [])
+
+-- the part of a session that leaves
+abbrev pub PartsLeave : Type 0
+PartsLeave = (t : TreeState) (s : ℕ) (dir path : List ℕ) → is_path dir ≡ true → IsTree t → IsLock t dir → path_in t s dir ≡ Some path → t.changes < 18_446_744_073_709_551_615 →
+    (IsOk (part_answer t s (leave_part path))) × (IsLock (after_part t s (leave_part path)) dir) × (queue_at (after_part t s (leave_part path)) dir ≡ without (queue_at t dir) s)
+
+-- the end of a session takes it out of each queue
+abbrev pub EndsLeave : Type 0
+EndsLeave = (t : TreeState) (s : ℕ) (dir : List ℕ) → IsTree t → IsLock t dir → (IsLock (after_end t s) dir) × (queue_at (after_end t s) dir ≡ without (queue_at t dir) s)

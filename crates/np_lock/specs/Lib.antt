@@ -1,4 +1,2 @@
-pub mod Queue
 pub mod Faults
 pub mod Calls
-pub mod Laws

@@ -1,6 +1,6 @@
 //! Laws of queues. Each function does nothing: its contract is the law.
 
-ghost use Rattle.np_lock.specs.Laws.{EmptiesAreLocks, EndsLeave, PartsJoin, PartsLeave, QueuesAreShown};
+ghost use Rattle.np_lock.specs.Calls.{EmptiesAreLocks, EndsLeave, PartsJoin, PartsLeave, QueuesAreShown};
 
 /// The rows and the counter of a directory determine its queue. A directory without children is a
 /// lock that nobody waits for.

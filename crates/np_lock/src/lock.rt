@@ -2,8 +2,7 @@
 
 ghost use Rattle.std.specs.Prelude.{◌≡◌, [], ◌∷◌, ◌++◌, Some, true, false, is_some, length, slice_get, IfOk, OnOk, OnErr};
 ghost use Rattle.np_tree.specs.Prelude.{after_delete, is_in, is_owner, is_path, with_next_number, without};
-ghost use Rattle.np_lock.specs.Queue.{IsLock, queue_at, wait_path};
-ghost use Rattle.np_lock.specs.Calls.{Enqueues, Joins, Leaves, LeavesBy, Releases, Tries, after_enqueue, after_join, after_release, after_try, ahead_in, first_of, held_by, join_answer, join_part, joined, path_in, place_with};
+ghost use Rattle.np_lock.specs.Calls.{IsLock, queue_at, wait_path, Enqueues, Joins, Leaves, LeavesBy, Releases, Tries, after_enqueue, after_join, after_release, after_try, ahead_in, first_of, held_by, join_answer, join_part, joined, path_in, place_with};
 
 use crate::answer::{LockFault, Place, Tried};
 use np_path::Path;

@@ -5,7 +5,7 @@ use Rattle.np_layout.specs.Prelude.{HasRoomFor, IsStored, IsWhole, LaysOut, Tree
 use Rattle.np_layout.specs.declared.place.Place.TheVariants.{Node}
 use Rattle.np_layout.proofs.Deletes.{is_node_it}
 use Rattle.np_layout.proofs.Sets.{nodes-lay-out}
-use Rattle.np_layout.specs.Stands.{Stands}
+use Rattle.np_layout.specs.Parts.{Stands}
 use Rattle.np_layout.proofs.Stands.{room-after, room-less, stands-numbered}
 use Rattle.np_layout.proofs.OneState.{trees-have-one_state}
 use Rattle.np_keeper.specs.Keeper.{IsHeld, most_changes, room_left}

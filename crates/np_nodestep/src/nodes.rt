@@ -9,7 +9,7 @@ ghost use Rattle.np_nodestep.specs.Nodes.{is_node_event};
 
 use np_config::Config;
 use np_event::{Event, Reply};
-use np_text::NoMemory;
+use np_text::Ample;
 use np_tree::Tree;
 use std::alloc::Global;
 
@@ -30,12 +30,7 @@ pub fn judge_node(tree: &Tree, config: &Config, event: Event) -> Reply
 /// fewer than 16,777,214 changes were made before. An error says that memory ran out, and then
 /// only the memory for a session may be there that was not. The cost is that of the decision
 /// (`judge_node`), and of the changes.
-pub fn enact_node(
-    alloc: Global,
-    tree: &mut Tree,
-    config: &Config,
-    event: Event,
-) -> Result<(), NoMemory>
+pub fn enact_node(alloc: Global, tree: &mut Tree, config: &Config, event: Event) -> Ample
     requires group { is_node_event event ≡ true }
     requires held { IsHeld config.now tree.old }
     // A run of the configuration reaches the state.

@@ -1,5 +1,5 @@
 -- what the acceptance of a planned event says of the state, and that states which agree at its spots accept it alike
-use Rattle.np_planned.proofs.Prelude.{Agree, AllByRecursion, Answer, Bool, Configuration, Done, Err, Event, HasText, IfSome, Invariant, IsGood, IsLive, IsLiveQueue, IsNodeId, IsQueued, IsRequest, IsServed, IsSession, IsSessionRole, IsStored, LabelId, List, NodeEntry, NodeId, NodeRecord, None, Ok, Option, Place, PoolId, Reason, Refusal, RequestEntry, RequestId, RequestRecord, RequestState, Result, Role, SessionFacts, SessionId, Some, Spot, SpotsDecide, StandsIn, State, TreeState, all-find, by_bool, find, and_parts, ap, arith, by_node_holder, by_registrant, by_request_holder, cond, eqb-true, false, found, found-node, found-some, holder, in_pending_by, in_state_for, is_building, is_failed_node, is_filled, is_node_it, is_ok, is_pending, is_pending_by, is_planned, is_pool, is_queued, is_request_it, is_session, is_session_of, is_true, judge, kept_of, launcher, launcher-maker, launcher-role, length, list_any, listed, maker, nat_tests, need, need-ok, node_at, node_entry, node_holder, node_in, node_queue, none_missing, not, not_declined, of_node, of_nodes, of_pool, of_reason, of_request, of_role, option_map, option_map_or, refl, registered, request-good, request_at, request_entry, request_holder, request_in, request_queue, role_of, session-sound, session_of, slice_get, slice_get_within, spots_of, starts_of, subst, sym, true, unfilled, unlock_request_as, wrong_node, wrong_request, ℕ, [], ◌&&◌, ◌*◌, ◌++◌, ◌+◌, ◌-◌, ◌<◌, ◌==◌, ◌>>=◌, ◌>>◌, ◌^◌, ◌∷◌, ◌||◌, ◌≡◌, ◌≤◌}
+use Rattle.np_planned.proofs.Prelude.{Agree, AllByRecursion, Answer, Bool, Configuration, Done, Err, Event, HasText, IfSome, Invariant, IsGood, IsLive, IsLiveQueue, IsNodeId, IsQueued, IsRequest, IsServed, IsSession, IsSessionRole, IsStored, LabelId, List, NodeEntry, NodeId, NodeRecord, None, Ok, Option, Place, PoolId, Reason, Refusal, RequestEntry, RequestId, RequestRecord, RequestState, Result, Role, SessionFacts, SessionId, Some, Spot, SpotsDecide, StandsIn, State, TreeState, all-find, and_parts, ap, arith, by_bool, by_node_holder, by_registrant, by_request_holder, cond, eqb-true, false, find, found, found-node, found-ok, found-some, from-map_some, holder-queued, in_pending_by, in_state_for, is_building, is_failed_node, is_filled, is_node_it, is_ok, is_pending, is_pending_by, is_planned, is_pool, is_queued, is_request_it, is_session, is_session_of, is_true, judge, kept_of, launcher, launcher-maker, launcher-role, length, list_any, listed, maker, nat_tests, need, need-ok, node_at, node_entry, node_holder, node_in, node_queue, none_missing, not, not_declined, of_node, of_nodes, of_pool, of_reason, of_request, of_role, option_map, option_map_or, refl, registered, request-good, request_at, request_entry, request_holder, request_in, request_queue, role_of, session-sound, session_of, slice_get, slice_get_within, spots_of, starts_of, subst, sym, true, unfilled, unlock_request_as, wrong_node, wrong_request, ℕ, [], ◌&&◌, ◌*◌, ◌++◌, ◌+◌, ◌-◌, ◌<◌, ◌==◌, ◌>>=◌, ◌>>◌, ◌^◌, ◌||◌, ◌∷◌, ◌≡◌, ◌≤◌}
 
 -- # rows of tests of which all pass
 
@@ -21,9 +21,7 @@ by-found (Err refusal) q rest other same step ok = absurd cc
 -- what is answered in the end plays no part
 last-ok : {B E : Type 0} (first second third : Result (Unit {0}) E) (x y : B) → is_ok (first >> (second >> (third >> Ok x))) ≡ true → is_ok (first >> (second >> (third >> Ok y))) ≡ true
 last-ok (Ok a) (Ok b) (Ok d) x y ok = refl
-last-ok (Ok a) (Ok b) (Err refusal) x y ok = absurd cc
-last-ok (Ok a) (Err refusal) third x y ok = absurd cc
-last-ok (Err refusal) second third x y ok = absurd cc
+last-ok _ _ _ x y ok = absurd cc
 
 -- a test and the rest
 both-ok : {B E : Type 0} (first : Result (Unit {0}) E) (rest : Result B E) → is_ok (first >> rest) ≡ true → (is_ok first ≡ true) × (is_ok rest ≡ true)
@@ -31,8 +29,7 @@ both-ok (Ok a) rest ok = (refl, ok)
 both-ok (Err refusal) rest ok = absurd cc
 
 need-true : {E : Type 0} (b : Bool) (refusal : E) → is_ok (need b refusal) ≡ true → b ≡ true
-need-true true refusal ok = refl
-need-true false refusal ok = absurd cc
+need-true b refusal ok = grind arith
 
 -- # a planned event that is accepted is accepted in each state that agrees at its spots
 
@@ -51,15 +48,12 @@ module _ (c : Configuration) (s u : State) (x : SessionId) (r : RequestId) where
       ok
 
   unlock-as : Agree s u (of_request r) → (role : Role) → is_ok (unlock_request_as s x r role) ≡ true → is_ok (unlock_request_as u x r role) ≡ true
-  unlock-as agree (Role.Launcher p) ok =
+  unlock-as agree (Role.Requester q) ok = absurd cc
+  unlock-as agree Role.Reaper ok = absurd cc
+  unlock-as agree role ok =
       let request : request_in r s.requests ≡ request_in r u.requests = agree.0 in
       let queue : request_queue r s.requests ≡ request_queue r u.requests = agree.1.0 in
       rw (sym request, sym queue) ok
-  unlock-as agree (Role.Janitor p) ok =
-      let request : request_in r s.requests ≡ request_in r u.requests = agree.0 in
-      let queue : request_queue r s.requests ≡ request_queue r u.requests = agree.1.0 in
-      rw (sym request, sym queue) ok
-  unlock-as agree other ok = absurd cc
 
   true-same : (p : PoolId) (request : RequestRecord) (why : Reason) → Agree s u (of_reason why) → is_true c u p request why ≡ is_true c s p request why
   true-same p request (Reason.Spent n) agree = let node : node_in n s.nodes ≡ node_in n u.nodes = agree.0 in rw node refl
@@ -67,12 +61,11 @@ module _ (c : Configuration) (s u : State) (x : SessionId) (r : RequestId) where
 
   filled-by : (p : PoolId) (l : LabelId) (o f : Option NodeEntry) → option_map (λ (e : NodeEntry). e.kept) o ≡ option_map (λ (e : NodeEntry). e.kept) f → option_map_or (λ (e : NodeEntry). e.queue) o [] ≡ option_map_or (λ (e : NodeEntry). e.queue) f [] → is_filled p x r l o ≡ is_filled p x r l f
   filled-by p l None None kept queue = refl
-  filled-by p l None (Some f) kept queue = absurd cc
-  filled-by p l (Some e) None kept queue = absurd cc
   filled-by p l (Some e) (Some f) kept queue =
       let record_is : e.kept ≡ f.kept = cc in
       let queue_is : e.queue ≡ f.queue = queue in
       rw (record_is, queue_is) refl
+  filled-by p l _ _ kept queue = absurd cc
 
   unfilled-same : (p : PoolId) (labels : List LabelId) (numbers : List NodeId) → Agree s u (of_nodes numbers) → unfilled p x r u.nodes labels numbers ≡ unfilled p x r s.nodes labels numbers
   unfilled-same p [] numbers agree = refl
@@ -123,16 +116,13 @@ pub record IsMaker (s : State) (x : SessionId) (role : Role) : Type 0 where
   pub live : facts.live ≡ true
   pub is : facts.role ≡ role
 
-maker-by : (s : State) (x : SessionId) (role : Role) (o : Option SessionFacts) → session_of x s ≡ o → (found o Refusal.NoSession >>= λ facts. need facts.live Refusal.Expired >> (need (not facts.mute) Refusal.Crashed >> Ok facts.role)) ≡ Ok role → IsMaker s x role
-maker-by s x role None there is = absurd cc
-maker-by s x role (Some facts) there is =
-    let first = need-ok facts.live Refusal.Expired (need (not facts.mute) Refusal.Crashed >> Ok facts.role) role is in
-    let second = need-ok (not facts.mute) Refusal.Crashed (Ok facts.role) role first.1 in
-    let last : Ok facts.role ≡ Ok role = second.1 in
-    record { facts = facts; there = there; live = first.0; is = cc }
-
 maker-is : (s : State) (x : SessionId) (role : Role) → maker s x ≡ Ok role → IsMaker s x role
-maker-is s x role is = maker-by s x role (session_of x s) refl is
+maker-is s x role is =
+    let facts = found-ok (session_of x s) Refusal.NoSession (λ (f : SessionFacts). need f.live Refusal.Expired >> (need (not f.mute) Refusal.Crashed >> Ok f.role)) role is in
+    let first = need-ok facts.0.live Refusal.Expired (need (not facts.0.mute) Refusal.Crashed >> Ok facts.0.role) role facts.2 in
+    let second = need-ok (not facts.0.mute) Refusal.Crashed (Ok facts.0.role) role first.1 in
+    let last : Ok facts.0.role ≡ Ok role = second.1 in
+    record { facts = facts.0; there = facts.1; live = first.0; is = cc }
 
 -- a node is there
 abbrev pub HasNode : State → NodeId → Type 0
@@ -168,10 +158,6 @@ live-queued u x [] live queued = absurd cc
 live-queued u x (y ∷ queue) live queued =
     by_bool (λ b. (b || is_queued x queue) ≡ true → IsLive u x) (is_session y x) (λ is _. subst (IsLive u) (same-session x y is) live.0) (λ is rest. live-queued u x queue live.1 rest) queued
 
-first-queued : (x : SessionId) (queue : List SessionId) → is_session_of x (holder queue) ≡ true → is_queued x queue ≡ true
-first-queued x [] first = absurd cc
-first-queued x (y ∷ queue) first = rw first refl
-
 -- the queue of whatever entry
 queue-live : {E : Type 0} (u : State) (queue : E → List SessionId) (p : E → Bool) (entries : List E) → AllByRecursion (λ e. IsLiveQueue u (queue e)) entries → AllByRecursion (IsLive u) (option_map_or queue (find p entries) [])
 queue-live u queue p [] all = tt
@@ -179,11 +165,6 @@ queue-live u queue p (e ∷ entries) all =
     by_bool (λ b. AllByRecursion (IsLive u) (option_map_or queue (cond b (Some e) (find p entries)) [])) (p e) (λ _. all.0.live) (λ _. queue-live u queue p entries all.1)
 
 -- ## ids that have a path
-
--- an entry is there if its record is
-pub kept-there : {E K : Type 0} (f : E → K) (o : Option E) (k : K) → option_map f o ≡ Some k → (e : E) × ((o ≡ Some e) × (f e ≡ k))
-kept-there f None k is = absurd cc
-kept-there f (Some e) k is = (e, (refl, cc))
 
 module _ (c : Configuration) (s : State) (t : TreeState) (stored : IsStored c s t) where
   pub session-known : (x : SessionId) (facts : SessionFacts) → session_of x s ≡ Some facts → IsGood (Place.Session x)
@@ -200,19 +181,19 @@ module _ (c : Configuration) (s : State) (t : TreeState) (stored : IsStored c s 
 
   request-known : (r : RequestId) (request : RequestRecord) → request_in r s.requests ≡ Some request → HasText r × IsRequest request
   request-known r request is =
-      let e = kept-there (λ (e : RequestEntry). e.kept) (request_entry r s.requests) request is in
-      (request-good r s.requests e.0 stored.carried.good.requests e.1.0, subst IsRequest e.1.1 (all-find (λ (x : RequestEntry). IsRequest x.kept) (is_request_it r) s.requests e.0 stored.carried.spelled.requests e.1.0))
+      let e = from-map_some (λ (e : RequestEntry). e.kept) (request_entry r s.requests) request is in
+      (request-good r s.requests e.0 stored.carried.good.requests e.1, subst IsRequest e.2 (all-find (λ (x : RequestEntry). IsRequest x.kept) (is_request_it r) s.requests e.0 stored.carried.spelled.requests e.1))
 
   node-known : (n : NodeId) → HasNode s n → n.0 < 2 ^ 32
   node-known n has =
-      let e = kept-there (λ (e : NodeEntry). e.kept) (node_entry n s.nodes) has.0 has.1 in
-      subst (λ (id : NodeId). IsGood (Place.Node id)) (found-node n s.nodes e.0 e.1.0) (all-find (λ (x : NodeEntry). IsGood (Place.Node x.id)) (is_node_it n) s.nodes e.0 stored.carried.good.nodes e.1.0)
+      let e = from-map_some (λ (e : NodeEntry). e.kept) (node_entry n s.nodes) has.0 has.1 in
+      subst (λ (id : NodeId). IsGood (Place.Node id)) (found-node n s.nodes e.0 e.1) (all-find (λ (x : NodeEntry). IsGood (Place.Node x.id)) (is_node_it n) s.nodes e.0 stored.carried.good.nodes e.1)
 
   -- ## the spots of each event
 
   request-lives : (x : SessionId) (r : RequestId) → is_ok (by_request_holder s r x) ≡ true → (u : State) → IsQueued u → request_queue r s.requests ≡ request_queue r u.requests → IsLive u x
   request-lives x r holds u live same =
-      let first = first-queued x (request_queue r s.requests) (need-true (is_session_of x (request_holder r s.requests)) Refusal.NotHeld holds) in
+      let first = holder-queued x (request_queue r s.requests) (need-true (is_session_of x (request_holder r s.requests)) Refusal.NotHeld holds) in
       live-queued u x (request_queue r u.requests) (queue-live u (λ (e : RequestEntry). e.queue) (is_request_it r) u.requests live.at_requests) (subst (λ (queue : List SessionId). is_queued x queue ≡ true) same first)
 
   -- an event of a session that waits for a node, or for a request
@@ -303,8 +284,7 @@ module _ (c : Configuration) (s : State) (t : TreeState) (stored : IsStored c s 
       none
 
   is-pending : (state : RequestState) → is_pending state ≡ true → state ≡ RequestState.Pending
-  is-pending RequestState.Pending is = refl
-  is-pending other is = absurd cc
+  is-pending state is = grind arith
 
   -- one that is pending has no more nodes than labels
   complete : (x : SessionId) (p : PoolId) (r : RequestId) (request : RequestRecord) → request_in r s.requests ≡ Some request → is_ok (in_pending_by p request >> (none_missing (unfilled p x r s.nodes request.labels request.nodes) >> Ok Done.Plain)) ≡ true → Invariant c s → AllByRecursion (HasNode s) request.nodes
@@ -327,7 +307,7 @@ module _ (c : Configuration) (s : State) (t : TreeState) (stored : IsStored c s 
       let k = passes-of (node_at s n) _ pool.passes in
       let holds = (both-ok (by_node_holder s n x) _ (both-ok (of_pool pool.found k.found) _ k.passes).1).0 in
       at-node x (Role.Launcher pool.found) n k.found (maker-is s x (Role.Launcher pool.found) (launcher-maker s x pool.found pool.is)) k.is
-      (first-queued x (node_queue n s.nodes) (need-true (is_session_of x (node_holder n s.nodes)) Refusal.NotHeld holds))
+      (holder-queued x (node_queue n s.nodes) (need-true (is_session_of x (node_holder n s.nodes)) Refusal.NotHeld holds))
   made (Event.UnlockNode x n) planned ok =
       let makes = passes-of (maker s x) _ ok in
       let k = passes-of (node_at s n) _ makes.passes in

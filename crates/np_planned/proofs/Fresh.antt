@@ -1,12 +1,11 @@
 -- the spots of a planned event whose paths are fresh, and the first that is not
-use Rattle.np_planned.proofs.Prelude.{Agree, AllByRecursion, AllZip, BadRecord, Bool, Configuration, FirstAt, FreshCommits, HasNodeLock, HasParts-below, HasQueue, HasText, HavePaths, IfSome, Invariant, IsFreshPath, IsGood, IsLive, IsRead, IsSession, IsStored, IsWait, List, Node, NodeEntry, NodeId, None, Ok, Option, Place, PoolId, Registration, RequestEntry, RequestId, Result, Role, Row, Seen, SessionFacts, SessionId, SessionRecord, Since, Some, Spot, SpotsHaveParents, SpotsHavePaths, StaleHasParent, Stat, State, Tag, TreeState, above, all-find, answer, ap, arith, at_path, below, bytes-seen, bytes_at, change_at_path, change_by, codes, cond, false, find, find_named, found-node, fresh-listed, fresh-seen, get_or, invariant-Runs, is_fresh, is_fresh_by, is_node_it, is_path, is_path-of, is_some, is_stale, kept_of, length, map, node-read, node-unread, node-waits, node_all, node_entry, node_in, node_queue, node_record_in, not, not-false, not-true, of_node, of_nodes, option_and_then, option_map, parts-of, path_at, path_of, paths_at, persistent, place_name, place_of, refl, registered, registered-owner, request-queue, request-read, request-unread, request-waits, request_all, request_entry, request_in, request_queue, request_record_in, seen-named, seen_at, seen_in, seen_of, session-bytes, session-read, session-sound, session_in, session_of, session_text, slice_get, spots_of, stale-is-later, stat_above, stat_at, stat_of, subst, suc, sym, tag_of, tags_at, test-says-fresh, true, under, unwrap_or, zero, ℕ, [], ◌*◌, ◌++◌, ◌+◌, ◌<◌, ◌==◌, ◌^◌, ◌∙◌, ◌∷◌, ◌≡◌}
-use Rattle.np_planned.proofs.Accepted.{IsMaker, Stand, at_end, at_node, at_pool, at_reason, at_request, kept-there, made, session-known, spots-decide}
+use Rattle.np_planned.proofs.Prelude.{Agree, AllByRecursion, AllZip, BadRecord, Bool, Configuration, FirstAt, FreshCommits, HasNodeLock, HasParts-below, HasQueue, HasText, HavePaths, IfSome, Invariant, IsFreshPath, IsGood, IsLive, IsRead, IsSession, IsStored, IsWait, List, Node, NodeEntry, NodeId, None, Ok, Option, Place, PoolId, Registration, RequestEntry, RequestId, Result, Role, Row, Seen, SessionFacts, SessionId, SessionRecord, Since, Some, Spot, SpotsHaveParents, SpotsHavePaths, StaleHasParent, Stat, State, Tag, TreeState, above, all-find, answer, ap, arith, at_path, below, by_bool, bytes-seen, bytes_at, change_at_path, change_by, codes, cond, false, find, find_named, found-node, fresh-listed, fresh-seen, from-map_some, get_or, get_or_from_slice_get, invariant-Runs, is_fresh, is_fresh_by, is_node_it, is_path, is_path-of, is_some, is_stale, kept_of, length, map, node-read, node-unread, node-waits, node_all, node_entry, node_in, node_queue, node_record_in, not, not-false, not-true, of_node, of_nodes, option_and_then, option_map, parts-of, path_at, path_of, paths_at, persistent, place_name, place_of, refl, registered, registered-owner, request-queue, request-read, request-unread, request-waits, request_all, request_entry, request_in, request_queue, request_record_in, seen-named, seen_at, seen_in, seen_of, session-bytes, session-read, session-sound, session_in, session_of, session_text, slice_get, spots_of, stale-is-later, stat_above, stat_at, stat_of, subst, suc, sym, tag_of, tags_at, test-says-fresh, true, under, unwrap_or, zero, ℕ, [], ◌*◌, ◌++◌, ◌+◌, ◌<◌, ◌==◌, ◌^◌, ◌∙◌, ◌∷◌, ◌≡◌}
+use Rattle.np_planned.proofs.Accepted.{IsMaker, Stand, at_end, at_node, at_pool, at_reason, at_request, made, session-known, spots-decide}
 
 -- # what is fresh in a later tree is the same in the states of both trees
 
 owner-seen : (nodes : List Node) (o : Option Node) → option_and_then (λ (stat : Stat). stat.owner) (option_map (stat_of nodes) o) ≡ option_and_then (λ (seen : Seen). seen.owner) (option_map seen_of o)
-owner-seen nodes None = refl
-owner-seen nodes (Some n) = refl
+owner-seen nodes o = grind arith
 
 -- what is read from the same bytes is the same
 one-kept : {A : Type 0} (o q : Option A) (r : Result A BadRecord) → IsRead o r → IsRead q r → o ≡ q
@@ -21,22 +20,15 @@ numbered k = record { 0 = k }
 -- the same owners are the same sessions
 registered-by : (f g : Option Registration) → option_map (λ (r : Registration). r.session.0 + 1) f ≡ option_map (λ (r : Registration). r.session.0 + 1) g → option_map (λ (r : Registration). r.session) f ≡ option_map (λ (r : Registration). r.session) g
 registered-by None None same = refl
-registered-by None (Some g) same = absurd cc
-registered-by (Some f) None same = absurd cc
 registered-by (Some f) (Some g) same =
     let more : f.session.0 + 1 ≡ g.session.0 + 1 = cc in
     let number : f.session.0 ≡ g.session.0 = omega arith in
     ap (λ (k : ℕ). Some (numbered k)) number
+registered-by _ _ same = absurd cc
 
 -- and so are the sessions that wait
 waits-by : (n m : ℕ) (rows others : List Row) (queue queued : List SessionId) → map tag_of rows ≡ map tag_of others → AllZip (IsWait n) rows queue → AllZip (IsWait m) others queued → queue ≡ queued
 waits-by n m [] [] [] [] same first second = refl
-waits-by n m [] [] (x ∷ queue) queued same first second = absurd first
-waits-by n m [] [] [] (y ∷ queued) same first second = absurd second
-waits-by n m [] (other ∷ others) queue queued same first second = absurd cc
-waits-by n m (row ∷ rows) [] queue queued same first second = absurd cc
-waits-by n m (row ∷ rows) (other ∷ others) [] queued same first second = absurd first
-waits-by n m (row ∷ rows) (other ∷ others) (x ∷ queue) [] same first second = absurd second
 waits-by n m (row ∷ rows) (other ∷ others) (x ∷ queue) (y ∷ queued) same first second =
     let head : tag_of row ≡ tag_of other = cc in
     let rest : map tag_of rows ≡ map tag_of others = cc in
@@ -44,6 +36,7 @@ waits-by n m (row ∷ rows) (other ∷ others) (x ∷ queue) (y ∷ queued) same
     let more : x.0 + 1 ≡ y.0 + 1 = cc in
     let number : x.0 ≡ y.0 = omega arith in
     ap (λ (k : ℕ). numbered k ∷ queue) number ∙ ap (λ (list : List SessionId). y ∷ list) (waits-by n m rows others queue queued rest first.1 second.1)
+waits-by n m _ _ _ _ same first second = grind arith
 
 module _ (c : Configuration) (s u : State) (t v : TreeState) (z : ℕ) (stored : IsStored c s t) (later : IsStored c u v) (since : Since z t v) where
   -- ## the trees
@@ -184,12 +177,10 @@ spots-have-paths c journal s t e runs stored planned ok =
 -- ## parents
 
 seen-stat : (nodes : List Node) (o : Option Node) (seen : Seen) → option_map seen_of o ≡ Some seen → is_some (option_map (stat_of nodes) o) ≡ true
-seen-stat nodes None seen is = absurd cc
-seen-stat nodes (Some n) seen is = refl
+seen-stat nodes o seen is = grind arith
 
 counter-stat : (nodes : List Node) (o : Option Node) (next : ℕ) → option_map (λ (n : Node). n.facts.counter) o ≡ Some next → is_some (option_map (stat_of nodes) o) ≡ true
-counter-stat nodes None next is = absurd cc
-counter-stat nodes (Some n) next is = refl
+counter-stat nodes o next is = grind arith
 
 module _ (c : Configuration) (s u : State) (t v : TreeState) (z : ℕ) (stored : IsStored c s t) (later : IsStored c u v) (since : Since z t v) where
   -- above each spot there is a node if those before it are fresh
@@ -206,7 +197,7 @@ module _ (c : Configuration) (s u : State) (t v : TreeState) (z : ℕ) (stored :
 
   dir-stands : (p dir : Place) → IsGood p → above p ≡ Some dir → find_named (place_name p) (under dir v) ≡ Some (persistent p []) → is_some (stat_at v (path_of p)) ≡ true
   dir-stands p dir good over found =
-      seen-stat v.nodes (at_path v.nodes (path_of p)) (seen_in (persistent p [])) (seen-named v p dir later.whole good over ∙ ap (option_map seen_in) found)
+      seen-stat v.nodes (at_path v.nodes (path_of p)) (seen_in (persistent p [])) (seen-named v dir p later.whole good over ∙ ap (option_map seen_in) found)
 
   above-record : (p dir : Place) → IsGood p → above p ≡ Some dir → is_some (stat_at v (path_of dir)) ≡ true → is_some (stat_above v (path_of p)) ≡ true
   above-record p dir good over stands =
@@ -229,8 +220,8 @@ module _ (c : Configuration) (s u : State) (t v : TreeState) (z : ℕ) (stored :
     above-record (Place.Request r) Place.Requests good refl (dir-stands Place.Requests Place.Nodepool tt refl (ap (find_named (place_name Place.Requests)) later.lays.frame.nodepool)),
     λ fresh.
         let same = request-same c s u t v z stored later since r good ((test-says-fresh v z (path_of (Place.Request r))).0 fresh) in
-        let e = kept-there (λ (e : RequestEntry). e.kept) (request_entry r u.requests) k (sym same ∙ there) in
-        let queue = request-queue u v r e.0 later.lays e.1.0 in
+        let e = from-map_some (λ (e : RequestEntry). e.kept) (request_entry r u.requests) k (sym same ∙ there) in
+        let queue = request-queue u v r e.0 later.lays e.1 in
         (above-wait (Place.RequestLock r) good (counter-stat v.nodes (at_path v.nodes (path_of (Place.RequestLock r))) queue.next queue.gives), λ _. parented rest stand holds),
   )
   parented _ (at_node n rest good there stand) holds = (
@@ -238,9 +229,9 @@ module _ (c : Configuration) (s u : State) (t v : TreeState) (z : ℕ) (stored :
     λ fresh.
         let has = there holds in
         let same = node-same c s u t v z stored later since n good ((test-says-fresh v z (path_of (Place.Node n))).0 fresh) in
-        let e = kept-there (λ (e : NodeEntry). e.kept) (node_entry n u.nodes) has.0 (sym same ∙ has.1) in
-        let lock = all-find (HasNodeLock v) (is_node_it n) u.nodes e.0 later.lays.node_locks e.1.0 in
-        let queue : HasQueue (Place.NodeLock n) (e.0).queue v = subst (λ (id : NodeId). HasQueue (Place.NodeLock id) (e.0).queue v) (found-node n u.nodes e.0 e.1.0) lock.queue in
+        let e = from-map_some (λ (e : NodeEntry). e.kept) (node_entry n u.nodes) has.0 (sym same ∙ has.1) in
+        let lock = all-find (HasNodeLock v) (is_node_it n) u.nodes e.0 later.lays.node_locks e.1 in
+        let queue : HasQueue (Place.NodeLock n) (e.0).queue v = subst (λ (id : NodeId). HasQueue (Place.NodeLock id) (e.0).queue v) (found-node n u.nodes e.0 e.1) lock.queue in
         (above-wait (Place.NodeLock n) good (counter-stat v.nodes (at_path v.nodes (path_of (Place.NodeLock n))) queue.next queue.gives), λ _. parented rest stand holds),
   )
   parented _ (at_reason n good) holds = (node-parented n good, λ _. tt)
@@ -264,28 +255,18 @@ first-at p (b ∷ list) (suc at) a there passes before =
 
 -- what is at a place is what was read there
 pub item-at : {A : Type 0} (list : List A) (at : ℕ) (a b : A) → slice_get list at ≡ Some a → b ≡ get_or list at b → b ≡ a
-item-at [] at a b there is = absurd cc
-item-at (d ∷ list) zero a b there is = let same : d ≡ a = cc in is ∙ same
-item-at (d ∷ list) (suc at) a b there is = item-at list at a b there is
+item-at list at a b there is = is ∙ get_or_from_slice_get list at a b there
 
 -- ## one path
 
 module _ (t : TreeState) (z : ℕ) (path : List ℕ) where
-  change-by : (b : Bool) (change : ℕ) → is_fresh t z path ≡ b → Some change ≡ cond b None (Some (change_at_path t path)) → (is_stale t z path ≡ true) × (change ≡ change_at_path t path)
-  change-by true change is told = absurd cc
-  change-by false change is told = (ap not is, cc)
-
   -- a path with a last change isn't fresh
   pub stale-some : (change : ℕ) → Some change ≡ cond (is_fresh t z path) None (Some (change_at_path t path)) → (is_stale t z path ≡ true) × (change ≡ change_at_path t path)
-  stale-some change told = change-by (is_fresh t z path) change refl told
-
-  none-by : (b : Bool) → is_fresh t z path ≡ b → None ≡ cond b None (Some (change_at_path t path)) → is_fresh t z path ≡ true
-  none-by true is told = is
-  none-by false is told = absurd cc
+  stale-some change told = by_bool (λ b. Some change ≡ cond b None (Some (change_at_path t path)) → (not b ≡ true) × (change ≡ change_at_path t path)) (is_fresh t z path) (λ _ is. absurd cc) (λ _ is. (refl, cc)) told
 
   -- and one without is
   pub fresh-none : None ≡ cond (is_fresh t z path) None (Some (change_at_path t path)) → is_fresh t z path ≡ true
-  fresh-none told = none-by (is_fresh t z path) refl told
+  fresh-none told = by_bool (λ b. None ≡ cond b None (Some (change_at_path t path)) → b ≡ true) (is_fresh t z path) (λ _ _. refl) (λ _ is. absurd cc) told
 
 -- the change is later if there is a node above
 later-by : (z : ℕ) (above here : Option Stat) → is_some above ≡ true → is_fresh_by z above here ≡ false → z < change_by above here

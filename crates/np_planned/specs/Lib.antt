@@ -1,5 +1,3 @@
+pub mod Lower
 pub mod Spots
-pub mod Agree
-pub mod Commits
 pub mod Stale
-pub mod Paths

@@ -1,9 +1,7 @@
 -- the planned events, and their spots: what of the tree the judgement of each reads
-use Rattle.std.specs.Prelude.{ℕ, List, [], ◌∷◌, ◌++◌, codes, map, Option, Some, None}
-use Rattle.np_changes.specs.Prelude.{Event, NodeId, Reason, RequestId, Role, State, option_map_or, request_in, role_of}
-use Rattle.np_layout.specs.Prelude.{below, path_of}
-use Rattle.np_layout.specs.declared.place.Place.{Place}
+use Rattle.std.specs.Prelude.{ℕ, List, [], ◌∷◌, ◌++◌, codes, map, Option, Some, None, ◌≡◌, true, is_ok}
 use Rattle.np_planned.specs.declared.spot.Spot.{Spot}
+use Rattle.np_planned.specs.Lower.{AreFreshPaths, Configuration, Entry, Event, IsStored, NodeId, Place, Reason, RequestId, Role, Runs, Since, State, TreeState, below, is_planned, judge, option_map_or, path_of, request_in, role_of}
 
 -- ## one spot
 
@@ -72,3 +70,11 @@ spots_of s (Event.Decline session r why) = Spot.Session session ∷ of_role (rol
 spots_of s (Event.TakeReady session r n) = Spot.Session session ∷ of_role (role_of session s) ++ of_request r ++ of_node n
 spots_of s (Event.Fulfil session r) = Spot.Session session ∷ of_role (role_of session s) ++ of_request r ++ of_nodes (listed r s)
 spots_of s _ = []
+
+-- what was planned over a tree is accepted over a later one where the spots are fresh
+
+-- an event that was accepted in the state of a tree is accepted in the state of a later tree, which a run leads to, if the
+-- event's spots are there as they were
+abbrev pub FreshCommits : Type 0
+FreshCommits = (c : Configuration) (journal : List Entry) (s u : State) (t v : TreeState) (z : ℕ) (e : Event) → Runs c journal u → IsStored c s t → IsStored c u v → Since z t v →
+    AreFreshPaths z v (paths_at (spots_of s e)) → is_planned e ≡ true → is_ok (judge c s e) ≡ true → is_ok (judge c u e) ≡ true

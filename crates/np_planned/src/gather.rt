@@ -1,8 +1,7 @@
 //! The spots of an event in a state, and their paths.
 
 ghost use Rattle.std.specs.Prelude.{◌≡◌, ◌<◌, ◌≤◌, ◌++◌, ◌∷◌, [], IfOk, length};
-ghost use Rattle.np_changes.specs.Prelude.{AllByRecursion, role_of};
-ghost use Rattle.np_layout.specs.Place.{IsGood};
+ghost use Rattle.np_planned.specs.Lower.{AllByRecursion, IsGood, role_of};
 ghost use Rattle.np_planned.specs.Spots.{listed, of_node, of_nodes, of_reason, of_request, of_role, paths_at, place_of, spots_of};
 ghost use Rattle.np_planned.specs.declared.spot.Spot.TheVariants.{Session};
 

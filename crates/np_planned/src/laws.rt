@@ -1,8 +1,7 @@
 //! Laws of planned events. Each function does nothing: its contract is the law.
 
-ghost use Rattle.np_planned.specs.Agree.{SpotsDecide};
-ghost use Rattle.np_planned.specs.Commits.{FreshCommits};
-ghost use Rattle.np_planned.specs.Paths.{SpotsHaveParents, SpotsHavePaths};
+ghost use Rattle.np_planned.specs.Stale.{SpotsDecide, SpotsHaveParents, SpotsHavePaths};
+ghost use Rattle.np_planned.specs.Spots.{FreshCommits};
 
 /// A planned event that is accepted in one state is accepted in each state that agrees with it at the
 /// event's spots.

@@ -2,13 +2,14 @@
 //! judgement of its event read is still as it was.
 //!
 //! `specs/Spots` says which events are planned, and of which records, registrations and locks the
-//! judgement of each reads: its spots, and their paths. `specs/Agree` says that nothing else counts, and
-//! `specs/Commits` that an event is accepted in the state of a later tree where its paths are fresh.
+//! judgement of each reads: its spots, and their paths; and that an event is
+//! accepted in the state of a later tree where its paths are fresh. `specs/Stale` says that nothing
+//! else counts.
 //!
 //! `spots` reads an event's spots of a state, and `paths_of` makes their paths.
 //!
 //! `first_stale` tests paths by the stats that a `StatRead` reads, and finds the first that is not
-//! fresh. `specs/Paths` says that what it asks of the paths holds of those of an accepted event.
+//! fresh. `specs/Stale` says that what it asks of the paths holds of those of an accepted event.
 #![tactic(auto)]
 
 mod gather;

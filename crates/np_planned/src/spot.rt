@@ -1,7 +1,7 @@
 //! What of the tree the judgement of an event reads.
 
 ghost use Rattle.std.specs.Prelude.{◌≡◌, IfOk, codes};
-ghost use Rattle.np_layout.specs.Prelude.{IsGood, below};
+ghost use Rattle.np_planned.specs.Lower.{IsGood, below};
 ghost use Rattle.np_planned.specs.Spots.{path_at, place_of};
 
 use np_layout::{Place, to_path};

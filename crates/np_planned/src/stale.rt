@@ -1,7 +1,7 @@
 //! The first path that isn't as it was.
 
 ghost use Rattle.std.specs.Prelude.{◌≡◌, ◌<◌, ◌≤◌, ◌+◌, ◌*◌, None, Some, length, IfSome, MatchOption, if◌then◌else◌};
-ghost use Rattle.np_watch.specs.Fresh.{AreFreshPaths, change_at_path, is_fresh};
+ghost use Rattle.np_planned.specs.Lower.{AreFreshPaths, change_at_path, is_fresh};
 ghost use Rattle.np_planned.specs.Stale.{StaleHasParent, IsFirstStale};
 
 use crate::stats::StatRead;

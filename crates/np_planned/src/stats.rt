@@ -1,7 +1,7 @@
 //! Reading stats, with a count of the reads.
 
 ghost use Rattle.std.specs.Prelude.{◌≡◌, ◌<◌, ◌+◌, ℕ};
-ghost use Rattle.np_layout.specs.Prelude.{TreeState, stat_at};
+ghost use Rattle.np_planned.specs.Lower.{TreeState, stat_at};
 
 use np_tree::{Stat, Tree};
 use std::marker::Model;

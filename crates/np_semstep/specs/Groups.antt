@@ -1,9 +1,19 @@
--- the groups of all events
-use Rattle.std.specs.Prelude.{ℕ, ◌+◌, Bool, true, false, cond}
+-- which events are those of semaphores
+use Rattle.std.specs.Prelude.{Bool, true, false, ℕ, ◌+◌, cond}
 use Rattle.np_event.specs.declared.event.Event.{Event}
 use Rattle.np_reqstep.specs.Requests.{is_request_event}
 use Rattle.np_nodestep.specs.Nodes.{is_node_event}
-use Rattle.np_semstep.specs.Semaphores.{is_semaphore_event}
+
+-- acquire, take, finish, withdraw and release
+abbrev pub is_semaphore_event : Event → Bool
+is_semaphore_event (Event.Acquire session j) = true
+is_semaphore_event (Event.Take session j) = true
+is_semaphore_event (Event.Finish session j) = true
+is_semaphore_event (Event.Withdraw session j) = true
+is_semaphore_event (Event.Release session j) = true
+is_semaphore_event other = false
+
+-- the groups of all events
 
 -- a tick, and the events that begin, stop or end a session
 abbrev pub is_session_event : Event → Bool

@@ -1,2 +1,1 @@
-pub mod Semaphores
 pub mod Groups

@@ -1,6 +1,6 @@
 //! The events of semaphores, over a coordination tree that the caller has.
 //!
-//! `specs/Semaphores` says which events these are. `judge_semaphore` answers one of them, and
+//! `specs/Groups` says which events these are. `judge_semaphore` answers one of them, and
 //! `enact_semaphore` makes the changes of one that is accepted. A law says that each event is in one
 //! group: of requests, of nodes, of semaphores or of sessions.
 #![tactic(auto)]

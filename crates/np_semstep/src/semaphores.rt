@@ -5,11 +5,11 @@ ghost use Rattle.np_layout.specs.Prelude.{decoded, with_spare};
 ghost use Rattle.np_changes.specs.Prelude.{Fits, IsReached, State, judge, next, reply_of};
 ghost use Rattle.np_keeper.specs.Carried.{IsStored};
 ghost use Rattle.np_keeper.specs.Keeper.{IsHeld};
-ghost use Rattle.np_semstep.specs.Semaphores.{is_semaphore_event};
+ghost use Rattle.np_semstep.specs.Groups.{is_semaphore_event};
 
 use np_config::Config;
 use np_event::{Event, Reply};
-use np_text::NoMemory;
+use np_text::Ample;
 use np_tree::Tree;
 use std::alloc::Global;
 
@@ -30,12 +30,7 @@ pub fn judge_semaphore(tree: &Tree, config: &Config, event: Event) -> Reply
 /// fewer than 16,777,214 changes were made before. An error says that memory ran out, and then
 /// only the memory for a session may be there that was not. The cost is that of the decision
 /// (`judge_semaphore`), and of the changes.
-pub fn enact_semaphore(
-    alloc: Global,
-    tree: &mut Tree,
-    config: &Config,
-    event: Event,
-) -> Result<(), NoMemory>
+pub fn enact_semaphore(alloc: Global, tree: &mut Tree, config: &Config, event: Event) -> Ample
     requires group { is_semaphore_event event ≡ true }
     requires held { IsHeld config.now tree.old }
     // A run of the configuration reaches the state.

@@ -1,7 +1,6 @@
 //! The records of jobs.
 ghost use Rattle.std.specs.Prelude.{◌≡◌, ◌++◌, ◌∷◌, [], OnOk, IfSome, codes, length};
-ghost use Rattle.np_text.specs.Request.{HasText};
-ghost use Rattle.np_text.specs.Word.{ending_word, phase_word};
+ghost use Rattle.np_spelling.specs.Lower.{HasText, ending_word, phase_word};
 ghost use Rattle.np_spelling.specs.Reading.{answer, asked_end_in, chosen, ending_by, job_end_in, job_front_in, job_in, no_end_in, open_phase_in, over_end_in, phase_in, using_end_in};
 ghost use Rattle.np_spelling.specs.Spelling.{IsJob, SpellsJob, job_end, job_front, job_text, joined};
 
@@ -12,7 +11,7 @@ use crate::kind::Record;
 use crate::list::{put_list, row};
 use crate::text::{put, put_number_between, put_request_between, put_u16_behind};
 use np_record::{JobRecord, MarkRow};
-use np_text::{Ending, NoMemory, Phase, PoolId, RequestId};
+use np_text::{Ample, Ending, NoMemory, Phase, PoolId, RequestId};
 use std::alloc::Global;
 
 fn ending_by(first: u8) -> Ending
@@ -154,7 +153,7 @@ fn read_job(bytes: &[u8]) -> Result<JobRecord, BadRecord>
     cursor.answer(bytes.len(), found)
 }
 
-fn put_front(out: &mut Vec<u8>, ending: Option<Ending>) -> Result<(), NoMemory>
+fn put_front(out: &mut Vec<u8>, ending: Option<Ending>) -> Ample
     ensures { OnOk result (out.new.items ≡ out.old.items ++ job_front ending) }
 {
     match ending {
@@ -163,7 +162,7 @@ fn put_front(out: &mut Vec<u8>, ending: Option<Ending>) -> Result<(), NoMemory>
     }
 }
 
-fn put_ending(out: &mut Vec<u8>, ending: Ending) -> Result<(), NoMemory>
+fn put_ending(out: &mut Vec<u8>, ending: Ending) -> Ample
     ensures { OnOk result (out.new.items ≡ out.old.items ++ joined (codes "{\"ending\":\"" ∷ ending_word ending ∷ codes "\",\"nodes\":" ∷ [])) }
 {
     put(out, b"{\"ending\":\"")?;
@@ -171,7 +170,7 @@ fn put_ending(out: &mut Vec<u8>, ending: Ending) -> Result<(), NoMemory>
     put(out, b"\",\"nodes\":")
 }
 
-fn put_phase(out: &mut Vec<u8>, phase: Phase) -> Result<(), NoMemory>
+fn put_phase(out: &mut Vec<u8>, phase: Phase) -> Ample
     ensures { OnOk result (out.new.items ≡ out.old.items ++ joined (codes ",\"phase\":\"" ∷ phase_word phase ∷ codes "\"" ∷ [])) }
 {
     put(out, b",\"phase\":\"")?;
@@ -179,7 +178,7 @@ fn put_phase(out: &mut Vec<u8>, phase: Phase) -> Result<(), NoMemory>
     put(out, b"\"")
 }
 
-fn put_pool_and_request(out: &mut Vec<u8>, pool: PoolId, id: RequestId) -> Result<(), NoMemory>
+fn put_pool_and_request(out: &mut Vec<u8>, pool: PoolId, id: RequestId) -> Ample
     requires { HasText id }
     ensures { OnOk result (out.new.items ≡ out.old.items ++ job_end (Some pool) (Some id)) }
 {
@@ -188,11 +187,7 @@ fn put_pool_and_request(out: &mut Vec<u8>, pool: PoolId, id: RequestId) -> Resul
     Ok(())
 }
 
-fn put_end(
-    out: &mut Vec<u8>,
-    pool: Option<PoolId>,
-    request: Option<RequestId>,
-) -> Result<(), NoMemory>
+fn put_end(out: &mut Vec<u8>, pool: Option<PoolId>, request: Option<RequestId>) -> Ample
     requires { IfSome request HasText }
     ensures { OnOk result (out.new.items ≡ out.old.items ++ job_end pool request) }
 {
@@ -204,7 +199,7 @@ fn put_end(
     }
 }
 
-fn put_job(out: &mut Vec<u8>, job: &JobRecord) -> Result<(), NoMemory>
+fn put_job(out: &mut Vec<u8>, job: &JobRecord) -> Ample
     requires { IsJob job.now }
     ensures { OnOk result (out.new.items ≡ out.old.items ++ job_text job.now) }
 {

@@ -8,7 +8,7 @@ use crate::cursor::Cursor;
 use crate::text::{put, put_number_between};
 use crate::word::{flag, flag_word};
 use np_record::{Declined, Item, Marked, Row};
-use np_text::{LabelId, NoMemory, NodeId, PoolId, Reason, put_number, put_reason};
+use np_text::{Ample, LabelId, NodeId, PoolId, Reason, put_number, put_reason};
 
 /// An item of a list.
 pub(crate) trait Part: Item {
@@ -19,7 +19,7 @@ pub(crate) trait Part: Item {
     ghost word: { Self → List ℕ };
 
     /// Appends an item.
-    fn put_part(self, out: &mut Vec<u8>) -> Result<(), NoMemory>
+    fn put_part(self, out: &mut Vec<u8>) -> Ample
         ensures { OnOk result (out.new.items ≡ out.old.items ++ Self.word self) };
 
     /// Passes an item.
@@ -73,7 +73,7 @@ pub(crate) fn row<T: Part, const N: usize>(cursor: &mut Cursor) -> Option<Row<T,
 
 /// Appends further items, each after a comma, and the bracket.
 #[tactic(auto, using(crate::proofs::Readers::writing))]
-fn put_rest<T: Part>(out: &mut Vec<u8>, items: &[T]) -> Result<(), NoMemory>
+fn put_rest<T: Part>(out: &mut Vec<u8>, items: &[T]) -> Ample
     ensures { OnOk result (out.new.items ≡ out.old.items ++ rest_text T.word items.now) }
 {
     for item in items {
@@ -84,7 +84,7 @@ fn put_rest<T: Part>(out: &mut Vec<u8>, items: &[T]) -> Result<(), NoMemory>
 }
 
 /// Appends a list in brackets.
-pub(crate) fn put_list<T: Part>(out: &mut Vec<u8>, items: &[T]) -> Result<(), NoMemory>
+pub(crate) fn put_list<T: Part>(out: &mut Vec<u8>, items: &[T]) -> Ample
     ensures { OnOk result (out.new.items ≡ out.old.items ++ list_text T.word items.now) }
 {
     let [first, others @ ..] = items else {
@@ -100,7 +100,7 @@ impl Part for LabelId {
 
     ghost word = { label_text };
 
-    fn put_part(self, out: &mut Vec<u8>) -> Result<(), NoMemory> {
+    fn put_part(self, out: &mut Vec<u8>) -> Ample {
         put_number(out, u64::from(self.0))
     }
 
@@ -115,7 +115,7 @@ impl Part for NodeId {
 
     ghost word = { node_id_text };
 
-    fn put_part(self, out: &mut Vec<u8>) -> Result<(), NoMemory> {
+    fn put_part(self, out: &mut Vec<u8>) -> Ample {
         put_number(out, u64::from(self.0))
     }
 
@@ -130,7 +130,7 @@ impl Part for Marked {
 
     ghost word = { marked_text };
 
-    fn put_part(self, out: &mut Vec<u8>) -> Result<(), NoMemory> {
+    fn put_part(self, out: &mut Vec<u8>) -> Ample {
         put_number_between(out, b"[", u64::from(self.node.0), b",")?;
         put(out, flag_word(self.ended))?;
         put(out, b"]")
@@ -171,7 +171,7 @@ impl Part for Declined {
 
     ghost word = { declined_text };
 
-    fn put_part(self, out: &mut Vec<u8>) -> Result<(), NoMemory> {
+    fn put_part(self, out: &mut Vec<u8>) -> Ample {
         put_number_between(out, b"[", u64::from(self.pool.0), b",\"")?;
         put_reason(out, self.reason)?;
         put(out, b"\"]")

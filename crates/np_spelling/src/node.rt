@@ -1,8 +1,7 @@
 //! The records of nodes.
 ghost use Rattle.std.specs.Prelude.{◌≡◌, ◌++◌, ◌∷◌, [], OnOk, IfSome, codes, length};
 ghost use Rattle.std.specs.Fmt.{decimal};
-ghost use Rattle.np_text.specs.Request.{HasText};
-ghost use Rattle.np_text.specs.Word.{node_state_word};
+ghost use Rattle.np_spelling.specs.Lower.{HasText, node_state_word};
 ghost use Rattle.np_spelling.specs.Reading.{answer, chosen, node_age_in, node_front_in, node_head_in, node_in, node_place_in, node_server_in, node_state_by, node_state_in, node_tenant_in};
 ghost use Rattle.np_spelling.specs.Spelling.{IsNode, SpellsNode, flag_text, joined, node_front, node_server, node_tenant, node_text};
 
@@ -15,7 +14,7 @@ use crate::text::{
 };
 use crate::word::{flag, flag_word};
 use np_record::NodeRecord;
-use np_text::{LabelId, NoMemory, NodeState, PoolId, RequestId, TenantId};
+use np_text::{Ample, LabelId, NoMemory, NodeState, PoolId, RequestId, TenantId};
 use std::alloc::Global;
 
 #[tactic(auto, unfolding(crate::specs::Reading::node_front_in))]
@@ -153,7 +152,7 @@ fn read_node(bytes: &[u8]) -> Result<NodeRecord, BadRecord>
     cursor.answer(bytes.len(), found)
 }
 
-fn put_front(out: &mut Vec<u8>, allocated_to: Option<RequestId>) -> Result<(), NoMemory>
+fn put_front(out: &mut Vec<u8>, allocated_to: Option<RequestId>) -> Ample
     requires { IfSome allocated_to HasText }
     ensures { OnOk result (out.new.items ≡ out.old.items ++ node_front allocated_to) }
 {
@@ -163,7 +162,7 @@ fn put_front(out: &mut Vec<u8>, allocated_to: Option<RequestId>) -> Result<(), N
     }
 }
 
-fn put_head(out: &mut Vec<u8>, node: &NodeRecord) -> Result<(), NoMemory>
+fn put_head(out: &mut Vec<u8>, node: &NodeRecord) -> Ample
     requires { IfSome node.now.allocated_to HasText }
     ensures { OnOk result (out.new.items ≡ out.old.items ++ joined (node_front node.now.allocated_to ∷ decimal node.now.attempts ∷ codes ",\"in-flight\":" ∷ flag_text node.now.in_flight ∷ [])) }
 {
@@ -174,7 +173,7 @@ fn put_head(out: &mut Vec<u8>, node: &NodeRecord) -> Result<(), NoMemory>
     Ok(())
 }
 
-fn put_server(out: &mut Vec<u8>, server: Option<u64>) -> Result<(), NoMemory>
+fn put_server(out: &mut Vec<u8>, server: Option<u64>) -> Ample
     ensures { OnOk result (out.new.items ≡ out.old.items ++ node_server server) }
 {
     match server {
@@ -183,7 +182,7 @@ fn put_server(out: &mut Vec<u8>, server: Option<u64>) -> Result<(), NoMemory>
     }
 }
 
-fn put_place(out: &mut Vec<u8>, node: &NodeRecord) -> Result<(), NoMemory>
+fn put_place(out: &mut Vec<u8>, node: &NodeRecord) -> Ample
     ensures { OnOk result (out.new.items ≡ out.old.items ++ joined (codes ",\"label\":" ∷ decimal node.now.label.0 ∷ codes ",\"pool\":" ∷ decimal node.now.pool.0 ∷ node_server node.now.server ∷ [])) }
 {
     put_u16_behind(out, b",\"label\":", node.label.0)?;
@@ -191,7 +190,7 @@ fn put_place(out: &mut Vec<u8>, node: &NodeRecord) -> Result<(), NoMemory>
     put_server(out, node.server)
 }
 
-fn put_age(out: &mut Vec<u8>, node: &NodeRecord) -> Result<(), NoMemory>
+fn put_age(out: &mut Vec<u8>, node: &NodeRecord) -> Ample
     ensures { OnOk result (out.new.items ≡ out.old.items ++ joined (decimal node.now.since ∷ codes ",\"start\":" ∷ decimal node.now.start ∷ codes ",\"state\":\"" ∷ node_state_word node.now.state ∷ codes "\"" ∷ [])) }
 {
     put_u32_behind(out, b"", node.since)?;
@@ -201,7 +200,7 @@ fn put_age(out: &mut Vec<u8>, node: &NodeRecord) -> Result<(), NoMemory>
     put(out, b"\"")
 }
 
-fn put_tenant(out: &mut Vec<u8>, tenant: Option<TenantId>) -> Result<(), NoMemory>
+fn put_tenant(out: &mut Vec<u8>, tenant: Option<TenantId>) -> Ample
     ensures { OnOk result (out.new.items ≡ out.old.items ++ node_tenant tenant) }
 {
     match tenant {
@@ -210,7 +209,7 @@ fn put_tenant(out: &mut Vec<u8>, tenant: Option<TenantId>) -> Result<(), NoMemor
     }
 }
 
-fn put_node(out: &mut Vec<u8>, node: &NodeRecord) -> Result<(), NoMemory>
+fn put_node(out: &mut Vec<u8>, node: &NodeRecord) -> Ample
     requires { IsNode node.now }
     ensures { OnOk result (out.new.items ≡ out.old.items ++ node_text node.now) }
 {

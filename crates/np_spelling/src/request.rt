@@ -1,7 +1,7 @@
 //! The records of requests.
 ghost use Rattle.std.specs.Prelude.{◌≡◌, ◌++◌, ◌∷◌, [], OnOk, codes, length};
 ghost use Rattle.std.specs.Fmt.{decimal};
-ghost use Rattle.np_text.specs.Word.{request_state_word};
+ghost use Rattle.np_spelling.specs.Lower.{request_state_word};
 ghost use Rattle.np_spelling.specs.Reading.{answer, request_job_in, request_pinned_in, request_pool_in, other_state_in, request_record_in, request_state_in, served_state_in};
 ghost use Rattle.np_spelling.specs.Spelling.{IsRequest, SpellsRequest, declined_text, joined, label_text, list_text, request_job, request_pinned, request_pool, request_record_text};
 
@@ -11,7 +11,7 @@ use crate::kind::Record;
 use crate::list::{put_list, row};
 use crate::text::{put, put_number_between, put_u32_behind};
 use np_record::{DeclineRow, LabelRow, NodeRow, RequestRecord};
-use np_text::{JobId, NoMemory, PoolId, RequestState};
+use np_text::{Ample, JobId, NoMemory, PoolId, RequestState};
 use std::alloc::Global;
 
 #[tactic(auto, unfolding(crate::specs::Reading::request_job_in))]
@@ -120,7 +120,7 @@ fn read_request_record(bytes: &[u8]) -> Result<RequestRecord, BadRecord>
     cursor.answer(bytes.len(), found)
 }
 
-fn put_job(out: &mut Vec<u8>, job: Option<JobId>) -> Result<(), NoMemory>
+fn put_job(out: &mut Vec<u8>, job: Option<JobId>) -> Ample
     ensures { OnOk result (out.new.items ≡ out.old.items ++ request_job job) }
 {
     match job {
@@ -129,7 +129,7 @@ fn put_job(out: &mut Vec<u8>, job: Option<JobId>) -> Result<(), NoMemory>
     }
 }
 
-fn put_pinned(out: &mut Vec<u8>, pinned: Option<PoolId>) -> Result<(), NoMemory>
+fn put_pinned(out: &mut Vec<u8>, pinned: Option<PoolId>) -> Ample
     ensures { OnOk result (out.new.items ≡ out.old.items ++ request_pinned pinned) }
 {
     match pinned {
@@ -138,7 +138,7 @@ fn put_pinned(out: &mut Vec<u8>, pinned: Option<PoolId>) -> Result<(), NoMemory>
     }
 }
 
-fn put_pool(out: &mut Vec<u8>, pool: Option<PoolId>) -> Result<(), NoMemory>
+fn put_pool(out: &mut Vec<u8>, pool: Option<PoolId>) -> Ample
     ensures { OnOk result (out.new.items ≡ out.old.items ++ request_pool pool) }
 {
     match pool {
@@ -152,7 +152,7 @@ fn put_pool(out: &mut Vec<u8>, pool: Option<PoolId>) -> Result<(), NoMemory>
     }
 }
 
-fn put_front(out: &mut Vec<u8>, request: &RequestRecord) -> Result<(), NoMemory>
+fn put_front(out: &mut Vec<u8>, request: &RequestRecord) -> Ample
     ensures { OnOk result (out.new.items ≡ out.old.items ++ joined (codes "{\"declined\":" ∷ list_text declined_text request.now.declined ∷ request_job request.now.job ∷ list_text label_text request.now.labels ∷ codes ",\"nodes\":" ∷ [])) }
 {
     put(out, b"{\"declined\":")?;
@@ -162,7 +162,7 @@ fn put_front(out: &mut Vec<u8>, request: &RequestRecord) -> Result<(), NoMemory>
     put(out, b",\"nodes\":")
 }
 
-fn put_end(out: &mut Vec<u8>, request: &RequestRecord) -> Result<(), NoMemory>
+fn put_end(out: &mut Vec<u8>, request: &RequestRecord) -> Ample
     ensures { OnOk result (out.new.items ≡ out.old.items ++ joined (request_pool request.now.pool ∷ decimal request.now.relative_priority ∷ codes ",\"state\":\"" ∷ request_state_word request.now.state ∷ codes "\"}" ∷ [])) }
 {
     put_pool(out, request.pool)?;
@@ -172,7 +172,7 @@ fn put_end(out: &mut Vec<u8>, request: &RequestRecord) -> Result<(), NoMemory>
     put(out, b"\"}")
 }
 
-fn put_request_record(out: &mut Vec<u8>, request: &RequestRecord) -> Result<(), NoMemory>
+fn put_request_record(out: &mut Vec<u8>, request: &RequestRecord) -> Ample
     ensures { OnOk result (out.new.items ≡ out.old.items ++ request_record_text request.now) }
 {
     put_front(out, request)?;

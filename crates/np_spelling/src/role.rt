@@ -8,7 +8,7 @@ use crate::fault::BadRecord;
 use crate::kind::Record;
 use crate::text::{put, put_u32_behind};
 use np_record::RoleRecord;
-use np_text::NoMemory;
+use np_text::{Ample, NoMemory};
 use std::alloc::Global;
 
 #[tactic(auto, unfolding(crate::specs::Reading::role_in))]
@@ -34,7 +34,7 @@ fn read_role(bytes: &[u8]) -> Result<RoleRecord, BadRecord>
     cursor.answer(bytes.len(), found)
 }
 
-fn put_role(out: &mut Vec<u8>, role: &RoleRecord) -> Result<(), NoMemory>
+fn put_role(out: &mut Vec<u8>, role: &RoleRecord) -> Ample
     ensures { OnOk result (out.new.items ≡ out.old.items ++ role_text role.now) }
 {
     put_u32_behind(out, b"{\"acts\":", role.acts)?;

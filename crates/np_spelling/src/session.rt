@@ -9,7 +9,7 @@ use crate::kind::Record;
 use crate::text::put;
 use crate::word::{flag, flag_word, put_role_name, role_name};
 use np_record::SessionRecord;
-use np_text::NoMemory;
+use np_text::{Ample, NoMemory};
 use std::alloc::Global;
 
 #[tactic(auto, unfolding(crate::specs::Reading::session_in))]
@@ -32,7 +32,7 @@ fn read_session(bytes: &[u8]) -> Result<SessionRecord, BadRecord>
     cursor.answer(bytes.len(), found)
 }
 
-fn put_session(out: &mut Vec<u8>, session: &SessionRecord) -> Result<(), NoMemory>
+fn put_session(out: &mut Vec<u8>, session: &SessionRecord) -> Ample
     requires { IsSession session.now }
     ensures { OnOk result (out.new.items ≡ out.old.items ++ session_text session.now) }
 {

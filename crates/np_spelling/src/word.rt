@@ -1,13 +1,13 @@
 //! Words, each determined by its first byte.
 ghost use Rattle.std.specs.Prelude.{◌≡◌, ◌++◌, ◌∷◌, [], OnOk, codes};
 ghost use Rattle.std.specs.Fmt.{decimal};
-ghost use Rattle.np_text.specs.Word.{role_kind_word};
+ghost use Rattle.np_spelling.specs.Lower.{role_kind_word};
 ghost use Rattle.np_spelling.specs.Reading.{chosen, flag_by, role_kind_by, role_name_in, role_of};
 ghost use Rattle.np_spelling.specs.Spelling.{flag_text, joined, role_name};
 
 use crate::cursor::Cursor;
 use crate::text::{put, put_number_behind};
-use np_text::{NoMemory, PoolId, RequesterId, Role, RoleKind};
+use np_text::{Ample, PoolId, RequesterId, Role, RoleKind};
 
 /// The word of a flag.
 pub(crate) fn flag_word(flag: bool) -> &'static [u8]
@@ -68,7 +68,7 @@ pub(crate) fn role_name(cursor: &mut Cursor) -> Option<Role>
 }
 
 /// Appends a role's kind, a dash and its number, and nothing for the reaper.
-pub(crate) fn put_role_name(out: &mut Vec<u8>, role: Role) -> Result<(), NoMemory>
+pub(crate) fn put_role_name(out: &mut Vec<u8>, role: Role) -> Ample
     ensures { OnOk result (out.new.items ≡ out.old.items ++ role_name role) }
 {
     match role {
@@ -79,7 +79,7 @@ pub(crate) fn put_role_name(out: &mut Vec<u8>, role: Role) -> Result<(), NoMemor
     }
 }
 
-fn put_kind_and_number(out: &mut Vec<u8>, kind: RoleKind, number: u16) -> Result<(), NoMemory>
+fn put_kind_and_number(out: &mut Vec<u8>, kind: RoleKind, number: u16) -> Ample
     ensures { OnOk result (out.new.items ≡ out.old.items ++ joined (role_kind_word kind ∷ codes "-" ∷ decimal number ∷ [])) }
 {
     put(out, kind.word().as_bytes())?;

@@ -1,5 +1,5 @@
 -- what the parts for each table need follows from what the changes of an event need, and a call takes each part
-use Rattle.np_steps.proofs.Prelude.{AllByRecursion, Any, Bool, Changes, Configuration, Deed, Growth, Handle, HandlesChange, HasSpellings, IsJob, IsNode, IsReady, IsRequest, IsRole, JobId, JobRecord, JobsChange, LauncherOf, List, Maker, NodeEntry, NodeId, NodeLock, NodesChange, NodesPremise, None, Op, Option, Place, RequestEntry, RequestLock, RequestsChange, RequestsPremise, Role, RoleRecord, Row, SemId, SessionId, SessionsChange, Some, State, TreeState, acquire_parts, ap, below, by_session, change_at, change_first, change_janitor, change_launcher, change_parts, change_requester, cond, deed_parts, delete, delete_parts, each_changed, edit-leaves, false, find, freed_from, freeing-grows, grown, grown_parts, handles_parts, has_handle, in_call, in_use, is_numbered, is_owner, is_queued, is_swept, jobs-grown, jobs_changed, jobs_parts, join_parts, leave_parts, list_all, list_all-append, make, node_entry, node_queue, nodes_changed, nodes_left, nodes_of, nodes_parts, one_more_act, one_more_start, parts_of, path_of, place_of_role, refl, release_parts, remove-alone, request_in, request_queue, requests_changed, requests_left, requests_parts, role_in, role_parts, same-requests, same-roles, semaphores_of, session_of, session_parts, settled_parts, slice_get, struck_unless, subst, tick_parts, tree_session, true, under, wait_at, where_there, with_deed, with_deeds, with_handle, without_handle, ℕ, [], ◌&&◌, ◌++◌, ◌==◌, ◌∙◌, ◌∷◌, ◌≡◌}
+use Rattle.np_steps.proofs.Prelude.{AllByRecursion, Any, Bool, Changes, Configuration, Deed, Growth, Handle, HandlesChange, HasSpellings, IsJob, IsNode, IsReady, IsRequest, IsRole, JobId, JobRecord, JobsChange, LauncherOf, List, Maker, NodeEntry, NodeId, NodeLock, NodesChange, NodesPremise, None, Op, Option, Place, RequestEntry, RequestLock, RequestsChange, RequestsPremise, Role, RoleRecord, Row, SemId, SessionId, SessionsChange, Some, State, TreeState, acquire_parts, ap, arith, below, by_session, change_at, change_first, change_janitor, change_launcher, change_parts, change_requester, cond, deed_parts, delete, delete_parts, each_changed, edit-leaves, false, find, freed_from, freeing-grows, grown, grown_parts, handles_parts, has_handle, in_call, in_use, is_numbered, is_owner, is_queued, is_swept, jobs-grown, jobs_changed, jobs_parts, join_parts, leave_parts, list_all, list_all-append, make, node_entry, node_queue, nodes_changed, nodes_left, nodes_of, nodes_parts, one_more_act, one_more_start, parts_of, path_of, place_of_role, refl, release_parts, remove-alone, request_in, request_queue, requests_changed, requests_left, requests_parts, role_in, role_parts, same-requests, same-roles, semaphores_of, session_of, session_parts, settled_parts, slice_get, struck_unless, subst, tick_parts, tree_session, true, under, wait_at, where_there, with_deed, with_deeds, with_handle, without_handle, ℕ, [], ◌&&◌, ◌++◌, ◌==◌, ◌∙◌, ◌∷◌, ◌≡◌}
 
 -- # each part for an event is one that a call takes: what is made without a name is numbered
 
@@ -10,18 +10,6 @@ AreNumbered parts = list_all is_numbered parts ≡ true
 both : (a b : List Op) → AreNumbered a → AreNumbered b → AreNumbered (a ++ b)
 both a b first rest = list_all-append is_numbered a b ∙ ap (λ (x : Bool). x && list_all is_numbered b) first ∙ rest
 
-there-numbered : {A : Type 0} (o : Option A) (f : A → List Op) → ((a : A) → AreNumbered (f a)) → AreNumbered (where_there o f)
-there-numbered None f each = refl
-there-numbered (Some a) f each = each a
-
-maker-numbered : (maker : Option Maker) (f : SessionId → List Op) → ((session : SessionId) → AreNumbered (f session)) → AreNumbered (by_session maker f)
-maker-numbered None f each = refl
-maker-numbered (Some m) f each = each m.session
-
-if-numbered : (b : Bool) (x y : List Op) → AreNumbered x → AreNumbered y → AreNumbered (cond b x y)
-if-numbered true x y first second = first
-if-numbered false x y first second = second
-
 deletes-numbered : (dir : List ℕ) (rows : List Row) → AreNumbered (delete_parts dir rows)
 deletes-numbered dir [] = refl
 deletes-numbered dir (row ∷ rows) = deletes-numbered dir rows
@@ -30,74 +18,44 @@ deletes-numbered dir (row ∷ rows) = deletes-numbered dir rows
 
 acquire-numbered : (j : JobId) (semaphores : List SemId) (rows : List (List JobId)) → AreNumbered (acquire_parts j semaphores rows)
 acquire-numbered j [] rows = refl
-acquire-numbered j (x ∷ semaphores) rows =
-    both (cond (has_handle j rows x) [] (make [] (Handle x j) ∷ [])) (acquire_parts j semaphores (change_at x.0 (with_handle j) rows)) (if-numbered (has_handle j rows x) [] (make [] (Handle x j) ∷ []) refl refl) (acquire-numbered j semaphores (change_at x.0 (with_handle j) rows))
-
-join-numbered : (lock : Place) (queue : List SessionId) (session : SessionId) → AreNumbered (join_parts lock queue session)
-join-numbered lock queue session = if-numbered (is_queued session queue) [] (wait_at lock ∷ []) refl refl
+acquire-numbered j (x ∷ semaphores) rows = grind (arith, list_all-append, acquire-numbered j semaphores (change_at x.0 (with_handle j) rows))
 
 grown-numbered : (c : Configuration) (maker : Option Maker) (growth : Growth) (s : State) → AreNumbered (grown_parts c maker growth s)
-grown-numbered c maker (Growth.Registration p) s = maker-numbered maker _ (λ session. refl)
-grown-numbered c maker (Growth.JoinRequest r) s = maker-numbered maker _ (λ session. join-numbered (RequestLock r) (request_queue r s.requests) session)
-grown-numbered c maker (Growth.JoinNode n) s = maker-numbered maker _ (λ session. join-numbered (NodeLock n) (node_queue n s.nodes) session)
-grown-numbered c maker (Growth.Allocate n r tenant) s = maker-numbered maker _ (λ session. there-numbered (node_entry n s.nodes) _ (λ e. join-numbered (NodeLock e.id) e.queue session))
-grown-numbered c maker (Growth.Handles j) s = acquire-numbered j (semaphores_of c j) s.handles
-grown-numbered c maker (Growth.Swept n x) s = if-numbered (is_swept n x s.swept) [] _ refl refl
-grown-numbered c maker other s = refl
+grown-numbered c maker growth s = grind (arith, acquire-numbered)
 
 -- ## what may not fail
 
-leave-numbered : (lock : Place) (t : TreeState) (session : SessionId) → AreNumbered (leave_parts lock t session)
-leave-numbered lock t session = there-numbered (find (λ (row : Row). is_owner (tree_session session) row.owner) (under lock t)) (λ (row : Row). Op.Delete (below (path_of lock) row.name) Any ∷ []) (λ row. refl)
-
 requests-numbered : (maker : Option Maker) (change : RequestsChange) (rows : List RequestEntry) (t : TreeState) → AreNumbered (requests_parts maker change rows t)
-requests-numbered maker RequestsChange.Same rows t = refl
-requests-numbered maker (RequestsChange.Edit r change) rows t = there-numbered (request_in r rows) _ (λ kept. refl)
-requests-numbered maker (RequestsChange.Remove r) rows t = there-numbered (request_in r rows) _ (λ kept. both (delete_parts (path_of (RequestLock r)) (under (RequestLock r) t)) _ (deletes-numbered (path_of (RequestLock r)) (under (RequestLock r) t)) refl)
-requests-numbered maker (RequestsChange.Leave r) rows t = maker-numbered maker _ (λ session. there-numbered (request_in r rows) _ (λ kept. leave-numbered (RequestLock r) t session))
+requests-numbered maker change rows t = grind (arith, list_all-append, deletes-numbered)
 
 each-numbered : (change : NodeEntry → NodeEntry) (numbers : List NodeId) (rows : List NodeEntry) → AreNumbered (each_changed change numbers rows)
 each-numbered change [] rows = refl
-each-numbered change (n ∷ numbers) rows =
-    both (where_there (node_entry n rows) (change_parts change)) (each_changed change numbers (change_first (λ e. e.id.0 == n.0) change rows)) (there-numbered (node_entry n rows) (change_parts change) (λ e. refl)) (each-numbered change numbers (change_first (λ e. e.id.0 == n.0) change rows))
+each-numbered change (n ∷ numbers) rows = grind (arith, list_all-append, each-numbered change numbers (change_first (λ e. e.id.0 == n.0) change rows))
 
 nodes-numbered : (maker : Option Maker) (tick : ℕ) (old : List RequestEntry) (change : NodesChange) (rows : List NodeEntry) (t : TreeState) → AreNumbered (nodes_parts maker tick old change rows t)
-nodes-numbered maker tick old NodesChange.Same rows t = refl
-nodes-numbered maker tick old (NodesChange.Put n kept) rows t = there-numbered (node_entry n rows) _ (λ e. refl)
-nodes-numbered maker tick old (NodesChange.Remove n) rows t = there-numbered (node_entry n rows) _ (λ e. both (delete_parts (path_of (NodeLock n)) (under (NodeLock n) t)) _ (deletes-numbered (path_of (NodeLock n)) (under (NodeLock n) t)) refl)
-nodes-numbered maker tick old (NodesChange.Leave n) rows t = maker-numbered maker _ (λ session. there-numbered (node_entry n rows) _ (λ e. leave-numbered (NodeLock n) t session))
-nodes-numbered maker tick old (NodesChange.FreeAll r) rows t = each-numbered (freed_from r) (nodes_of r old) rows
-nodes-numbered maker tick old (NodesChange.TakeOver numbers) rows t = each-numbered (in_use tick) numbers rows
+nodes-numbered maker tick old change rows t = grind (arith, list_all-append, deletes-numbered, each-numbered)
 
 jobs-numbered : (change : JobsChange) (rows : List JobRecord) → AreNumbered (jobs_parts change rows)
-jobs-numbered JobsChange.Same rows = refl
-jobs-numbered (JobsChange.Put j kept) rows = there-numbered (slice_get rows j.0) _ (λ old. refl)
-jobs-numbered (JobsChange.EndNode j n) rows = there-numbered (slice_get rows j.0) _ (λ old. refl)
+jobs-numbered change rows = grind arith
 
 release-numbered : (j : JobId) (semaphores : List SemId) (rows : List (List JobId)) → AreNumbered (release_parts j semaphores rows)
 release-numbered j [] rows = refl
-release-numbered j (x ∷ semaphores) rows =
-    both (cond (has_handle j rows x) (delete (Handle x j) ∷ []) []) (release_parts j semaphores (change_at x.0 (without_handle j) rows)) (if-numbered (has_handle j rows x) (delete (Handle x j) ∷ []) [] refl refl) (release-numbered j semaphores (change_at x.0 (without_handle j) rows))
+release-numbered j (x ∷ semaphores) rows = grind (arith, list_all-append, release-numbered j semaphores (change_at x.0 (without_handle j) rows))
 
 handles-numbered : (c : Configuration) (change : HandlesChange) (rows : List (List JobId)) → AreNumbered (handles_parts c change rows)
-handles-numbered c HandlesChange.Same rows = refl
-handles-numbered c (HandlesChange.Release j) rows = release-numbered j (semaphores_of c j) rows
+handles-numbered c change rows = grind (arith, release-numbered)
 
 role-numbered : (change : RoleRecord → RoleRecord) (role : Role) (s : State) → AreNumbered (role_parts change role s)
-role-numbered change role s = there-numbered (place_of_role role) _ (λ p. there-numbered (role_in role s) _ (λ old. refl))
+role-numbered change role s = grind arith
 
 deed-numbered : (maker : Option Maker) (what : Option Deed) (s : State) → AreNumbered (deed_parts maker what s)
-deed-numbered maker None s = refl
-deed-numbered maker (Some Deed.Acts) s = there-numbered maker _ (λ m. role-numbered one_more_act m.role s)
-deed-numbered maker (Some (Deed.StartsAndActs p)) s = role-numbered (λ role. one_more_act (one_more_start role)) (LauncherOf p) s
-deed-numbered maker (Some (Deed.Strikes role counted)) s = role-numbered (struck_unless counted) role s
+deed-numbered maker what s = grind (arith, role-numbered)
 
 session-numbered : (change : SessionsChange) (s : State) → AreNumbered (session_parts change s)
-session-numbered (SessionsChange.Mute session) s = there-numbered (session_of session s) _ (λ facts. refl)
-session-numbered other s = refl
+session-numbered change s = grind arith
 
 tick-numbered : (ticks : Bool) (tick : ℕ) → AreNumbered (tick_parts ticks tick)
-tick-numbered ticks tick = if-numbered ticks _ [] refl refl
+tick-numbered ticks tick = grind arith
 
 -- all parts are
 pub parts-numbered : (c : Configuration) (ch : Changes) (s : State) (t : TreeState) → list_all is_numbered (parts_of c ch s t) ≡ true
@@ -118,12 +76,10 @@ parts-numbered c ch s t =
 
 -- no session ends in the call, so no queue is left
 requests-stay : (change : SessionsChange) (rows : List RequestEntry) → requests_left (in_call change) rows ≡ rows
-requests-stay SessionsChange.Same rows = refl
-requests-stay other rows = refl
+requests-stay change rows = grind arith
 
 nodes-stay : (change : SessionsChange) (rows : List NodeEntry) → nodes_left (in_call change) rows ≡ rows
-nodes-stay SessionsChange.Same rows = refl
-nodes-stay other rows = refl
+nodes-stay change rows = grind arith
 
 -- ## what is written has a spelling
 

@@ -1,6 +1,6 @@
 -- the records that an event sets, edits, removes and adds, as they are in the tree
-use Rattle.np_steps.proofs.Prelude.{AllByRecursion, Any, Bool, Configuration, Deed, EachAfter, Edit, Err, Handle, HasNodeLock, HasQueue, HasSpellings, HasText, IfSome, IsCarried, IsGood, IsNode, IsRequest, IsRole, IsSessionRole, IsSound, IsStored, IsTaken, Job, JobId, KeepsNodes, List, Maker, NoMemory, Node, NodeEdit, NodeEntry, NodeId, NodeLock, NodeRecord, None, Ok, OnOk, Op, Option, PersistentSequential, PoolId, Request, RequestEdit, RequestEntry, RequestId, RequestLock, RequestRecord, Requests, Result, Role, RoleRecord, Row, SemId, SessionFacts, SessionId, Some, StandsByOwner, State, TenantId, TreeState, acquire_parts, all-at, all-find, allocate_parts, allocated, ap, append-nil, append_assoc, ap₂, arith, below, by_session, change_at, change_first, change_parts, change_role, child_name, cond, delete, delete_parts, drop, each_changed, each_released, edited, edited_entry, edited_record, equal-numbers, false, filter, find, find-change_first, find-passes, found-change_first, found-node, freed, freed-keeps, freed_from, has_handle, is_among, is_node_it, is_queued, is_request, is_request_it, is_some, is_untaken, is_waiting, join_parts, length, list_any, list_any-append, lock-any, make, map, name-at, nat_tests, node_entry, node_in, node_text, not, not-true, one_more_act, one_more_start, option_map, option_map_or, or_parts, path_of, place_of_role, put_node, refl, release_parts, released, request-equal, request-good, request_entry, request_in, request_parts, request_prefix, requests_changed, role_in, role_parts, role_text, rows_at, same_request, semaphores_of, session_of, set, set-here, slice_get, slice_get-change_at, slice_get-change_at_other, slice_set, struck_unless, subst, suc, sym, true, under, unwrap_or, where_there, with_deeds, with_handle, without_handle, zero, ℕ, [], ◌++◌, ◌-◌, ◌==◌, ◌||◌, ◌∙◌, ◌∷◌, ◌≡◌, ◌≢◌}
-use Rattle.np_config.specs.Sound.{IsJob}
+use Rattle.np_steps.proofs.Prelude.{AllByRecursion, Any, Bool, Configuration, Deed, EachAfter, Edit, Err, Handle, HasNodeLock, HasQueue, HasSpellings, HasText, IfSome, IsCarried, IsGood, IsNode, IsRequest, IsRole, IsSessionRole, IsSound, IsStored, IsTaken, Job, JobId, KeepsNodes, List, Maker, NoMemory, Node, NodeEdit, NodeEntry, NodeId, NodeLock, NodeRecord, None, Ok, OnOk, Op, Option, PersistentSequential, PoolId, Request, RequestEdit, RequestEntry, RequestId, RequestLock, RequestRecord, Requests, Result, Role, RoleRecord, Row, SemId, SessionFacts, SessionId, Some, StandsByOwner, State, TenantId, TreeState, acquire_parts, all-at, all-find, allocate_parts, allocated, ap, append-nil, append_assoc, ap₂, arith, below, by_session, change_at, change_first, change_parts, change_role, child_name, cond, delete, delete_parts, drop, each_changed, each_released, edited, edited_entry, edited_record, equal-numbers, false, filter, find, find-change_first, find-passes, found-change_first, found-node, freed, freed-keeps, freed_from, from-map_some, has_handle, is_among, is_node_it, is_queued, is_request, is_request_it, is_some, is_waiting, join_parts, length, list_any, list_any-append, lock-any, make, map, name-at, nat_tests, node_entry, node_in, node_text, not, not-true, one_more_act, one_more_start, option_map, option_map_or, or_parts, path_of, place_of_role, put_node, refl, release_parts, released, request-equal, request-good, request_entry, request_in, request_parts, request_prefix, requests_changed, role_in, role_parts, role_text, rows_at, same_request, semaphores_of, session_of, set, set-here, slice_get, slice_get-change_at, slice_get-change_at_other, slice_set, struck_unless, subst, suc, sym, true, under, unwrap_or, where_there, with_deeds, with_handle, without_handle, zero, ℕ, [], ◌++◌, ◌-◌, ◌==◌, ◌||◌, ◌∙◌, ◌∷◌, ◌≡◌, ◌≢◌}
+use Rattle.np_config.specs.Configuration.{IsJob}
 
 -- # the children of a node, as a tree's readers answer them
 
@@ -35,27 +35,21 @@ find-step p [] (suc i) = refl
 find-step p (x ∷ xs) zero = refl
 find-step p (x ∷ xs) (suc i) = find-step p xs i
 
-some-any : {X : Type 0} (f : X → List ℕ) (p : X → Bool) (x : X) (xs : List X) (b : Bool) → p x ≡ b → is_some (option_map f (find p xs)) ≡ list_any p xs → is_some (option_map f (find p (x ∷ xs))) ≡ list_any p (x ∷ xs)
-some-any f p x xs true is rest = cc
-some-any f p x xs false is rest = cc
-
 -- one is found if there is any
 pub found-any : {X : Type 0} (f : X → List ℕ) (p : X → Bool) (xs : List X) → is_some (option_map f (find p xs)) ≡ list_any p xs
 found-any f p [] = refl
-found-any f p (x ∷ xs) = some-any f p x xs (p x) refl (found-any f p xs)
+found-any f p (x ∷ xs) = grind (arith, found-any f p xs)
 
 -- a mapped option is there if the option is
 pub mapped-some : {A B : Type 0} (f : A → B) (o : Option A) → is_some o ≡ is_some (option_map f o)
-mapped-some f None = refl
-mapped-some f (Some a) = refl
+mapped-some f o = grind arith
 
 -- # the parts for a record, where it is there and where it is not
 
 -- ## parts
 
 none-by : {A B : Type 0} (f : A → B) (o : Option A) (parts : A → List Op) → None ≡ option_map f o → where_there o parts ≡ []
-none-by f None parts is = refl
-none-by f (Some a) parts is = absurd cc
+none-by f o parts is = grind arith
 
 -- what is not there has no parts
 pub parts-none : {A : Type 0} (o : Option A) (parts : A → List Op) (old : List Op) → None ≡ o → old ≡ old ++ where_there o parts
@@ -67,8 +61,7 @@ row-none f o parts old is = sym (ap (λ (more : List Op). old ++ more) (none-by 
 
 -- and what is there has its parts, if each would have the same
 pub row-some : {A B : Type 0} (f : A → B) (o : Option A) (b : B) (parts : List Op) → Some b ≡ option_map f o → parts ≡ where_there o (λ a. parts)
-row-some f None b parts is = absurd cc
-row-some f (Some a) b parts is = refl
+row-some f o b parts is = grind arith
 
 -- some parts, one more and another behind others
 pub parts-behind : (old more first later parts : List Op) (one two : Op) → first ≡ old ++ more → later ≡ first ++ one ∷ [] → more ++ one ∷ two ∷ [] ≡ parts → later ++ two ∷ [] ≡ old ++ parts
@@ -120,8 +113,7 @@ node-put rows n kept old all is = put-by rows n kept old (node_entry n rows) ref
 -- ## one node
 
 freed-by : (e : NodeEntry) (b : Bool) → (cond b (record e { kept = freed e.kept }) e).kept ≡ cond b (freed e.kept) e.kept
-freed-by e true = refl
-freed-by e false = refl
+freed-by e b = grind arith
 
 -- the edit is one of the record
 edited-kept : (what : NodeEdit) (e : NodeEntry) → (edited_entry what e).kept ≡ edited_record what e.kept
@@ -267,42 +259,37 @@ pub released-by : (j : JobId) (x : SemId) (handles : List (List JobId)) (b : Boo
 released-by j x handles b r later items is parts = subst (λ (d : Bool). OnOk r (later ≡ items ++ cond d (delete (Handle x j) ∷ []) [])) is parts
 
 -- another semaphore keeps its handles
-kept-handle : (j : JobId) (x y : SemId) (handles : List (List JobId)) → (y.0 == x.0) ≡ false → has_handle j (change_at x.0 (without_handle j) handles) y ≡ has_handle j handles y
-kept-handle j x y handles apart =
-    ap (λ (o : Option (List JobId)). is_among j (unwrap_or o [])) (slice_get-change_at_other x.0 y.0 (without_handle j) handles (λ same. absurd grind (arith, apart, same)))
+kept-handle : (f : List JobId → List JobId) (j : JobId) (x y : SemId) (handles : List (List JobId)) → (y.0 == x.0) ≡ false → has_handle j (change_at x.0 f handles) y ≡ has_handle j handles y
+kept-handle f j x y handles apart =
+    ap (λ (o : Option (List JobId)). is_among j (unwrap_or o [])) (slice_get-change_at_other x.0 y.0 f handles (λ same. absurd grind (arith, apart, same)))
 
-record IsApart (earlier : List SemId) (x y : SemId) : Type 0 where
-  untaken : is_untaken earlier y ≡ true
-  other : (y.0 == x.0) ≡ false
+any-after : (p : SemId → Bool) (earlier : List SemId) (x : SemId) → list_any p (earlier ++ x ∷ []) ≡ false → (list_any p earlier ≡ false) × (p x ≡ false)
+any-after p [] x none = (refl, (or_parts (p x) false none).0)
+any-after p (y ∷ earlier) x none =
+    let here = or_parts (p y) (list_any p (earlier ++ x ∷ [])) none in
+    let later = any-after p earlier x here.1 in
+    (ap (λ (b : Bool). b || list_any p earlier) here.0 ∙ later.0, later.1)
 
-apart-by : (a b : Bool) → not (a || (b || false)) ≡ true → (not a ≡ true) × (b ≡ false)
-apart-by false false is = (refl, refl)
-apart-by false true is = absurd cc
-apart-by true b is = absurd cc
+taken-by : (labels semaphores tenants : ℕ) (earlier jobs : List Job) (at : ℕ) (job : Job) → EachAfter (StandsByOwner (λ (j : Job). j.requester.0) (IsJob labels semaphores tenants)) earlier jobs → slice_get jobs at ≡ Some job → EachAfter (IsTaken semaphores) [] job.semaphores
+taken-by labels semaphores tenants earlier [] at job each there = absurd cc
+taken-by labels semaphores tenants earlier (x ∷ jobs) zero job each there =
+    let same : x ≡ job = cc in
+    subst (λ (j : Job). EachAfter (IsTaken semaphores) [] j.semaphores) same each.0.own.taken
+taken-by labels semaphores tenants earlier (x ∷ jobs) (suc at) job each there = taken-by labels semaphores tenants (earlier ++ x ∷ []) jobs at job each.1 there
 
-apart : (earlier : List SemId) (x y : SemId) → is_untaken (earlier ++ x ∷ []) y ≡ true → IsApart earlier x y
-apart earlier x y is =
-    let both = apart-by (list_any (λ s. y.0 == s.0) earlier) (y.0 == x.0) (ap not (sym (list_any-append (λ (s : SemId). y.0 == s.0) earlier (x ∷ []))) ∙ is) in
-    record { untaken = both.0; other = both.1 }
-
-releases-after : (n : ℕ) (j : JobId) (earlier semaphores : List SemId) (now handles : List (List JobId)) → EachAfter (IsTaken n) earlier semaphores → ((y : SemId) → is_untaken earlier y ≡ true → has_handle j now y ≡ has_handle j handles y) →
+releases-after : (n : ℕ) (j : JobId) (earlier semaphores : List SemId) (now handles : List (List JobId)) → EachAfter (IsTaken n) earlier semaphores → ((y : SemId) → list_any (λ s. y.0 == s.0) earlier ≡ false → has_handle j now y ≡ has_handle j handles y) →
     release_parts j semaphores now ≡ each_released j semaphores handles
 releases-after n j earlier [] now handles taken same = refl
 releases-after n j earlier (x ∷ semaphores) now handles taken same =
-    let here : released j x now ≡ released j x handles = ap (λ (b : Bool). cond b (delete (Handle x j) ∷ []) []) (same x taken.0.new) in
+    let here : released j x now ≡ released j x handles = ap (λ (b : Bool). cond b (delete (Handle x j) ∷ []) []) (same x (not-true (list_any (λ (s : SemId). x.0 == s.0) earlier) taken.0.new)) in
     ap₂ (λ (a b : List Op). a ++ b) here
     (releases-after n j (earlier ++ x ∷ []) semaphores (change_at x.0 (without_handle j) now) handles taken.1
-    (λ y is. let both = apart earlier x y is in kept-handle j x y now both.other ∙ same y both.untaken))
+    (λ y is. let both = any-after (λ (s : SemId). y.0 == s.0) earlier x is in kept-handle (without_handle j) j x y now both.1 ∙ same y both.0))
 
 -- a job's semaphores are apart, so the handles that go are those that it has
 pub releases-read : (c : Configuration) (j : JobId) (job : Job) (handles : List (List JobId)) → IsSound c → slice_get c.jobs j.0 ≡ Some job → release_parts j job.semaphores handles ≡ each_released j job.semaphores handles
 releases-read c j job handles sound there =
-    let taken = taken-at [] c.jobs j.0 sound.demand.each_job there in
-    releases-after (length c.semaphores) j [] job.semaphores handles handles taken (λ y is. refl) where
-      taken-at : (earlier rows : List Job) (i : ℕ) → EachAfter (StandsByOwner (λ (r : Job). r.requester.0) (IsJob (length c.labels) (length c.semaphores) (length c.tenants))) earlier rows → slice_get rows i ≡ Some job → EachAfter (IsTaken (length c.semaphores)) [] job.semaphores
-      taken-at earlier [] i each there = absurd cc
-      taken-at earlier (row ∷ rows) zero each there = let same : row ≡ job = cc in subst (λ (r : Job). EachAfter (IsTaken (length c.semaphores)) [] r.semaphores) same each.0.own.taken
-      taken-at earlier (row ∷ rows) (suc i) each there = taken-at (earlier ++ row ∷ []) rows i each.1 there
+    releases-after (length c.semaphores) j [] job.semaphores handles handles (taken-by (length c.labels) (length c.semaphores) (length c.tenants) [] c.jobs j.0 job sound.demand.each_job there) (λ y is. refl)
 
 -- the parts for a job of the configuration
 pub handles-read : (c : Configuration) (j : JobId) (job : Job) (semaphores : List SemId) (handles : List (List JobId)) → IsSound c → Some job ≡ slice_get c.jobs j.0 → semaphores ≡ job.semaphores → each_released j semaphores handles ≡ release_parts j (semaphores_of c j) handles
@@ -347,21 +334,8 @@ module _ (c : Configuration) (s : State) (t : TreeState) (stored : IsStored c s 
 abbrev pub handle_parts : JobId → List SemId → List (List JobId) → List Op
 handle_parts j semaphores handles = map (λ x. make [] (Handle x j)) (filter (λ x. not (has_handle j handles x)) semaphores)
 
-other-handles : (j : JobId) (x y : SemId) (handles : List (List JobId)) → (y.0 == x.0) ≡ false → has_handle j (change_at x.0 (with_handle j) handles) y ≡ has_handle j handles y
-other-handles j x y handles apart =
-    let other : y.0 ≢ x.0 = (λ same. absurd (let no : (y.0 == x.0) ≡ true = grind (arith, nat_tests) in cc)) in
-    ap (λ (o : Option (List JobId)). is_among j (unwrap_or o [])) (slice_get-change_at_other x.0 y.0 (with_handle j) handles other)
-
-any-after : (p : SemId → Bool) (earlier : List SemId) (x : SemId) → list_any p (earlier ++ x ∷ []) ≡ false → (list_any p earlier ≡ false) × (p x ≡ false)
-any-after p [] x none = (refl, (or_parts (p x) false none).0)
-any-after p (y ∷ earlier) x none =
-    let here = or_parts (p y) (list_any p (earlier ++ x ∷ [])) none in
-    let later = any-after p earlier x here.1 in
-    (ap (λ (b : Bool). b || list_any p earlier) here.0 ∙ later.0, later.1)
-
 one-more : (j : JobId) (x : SemId) (b : Bool) (first : List (List JobId)) (semaphores : List SemId) → has_handle j first x ≡ b → cond b [] (make [] (Handle x j) ∷ []) ++ handle_parts j semaphores first ≡ handle_parts j (x ∷ semaphores) first
-one-more j x true first semaphores has = rw has refl
-one-more j x false first semaphores has = rw has refl
+one-more j x b first semaphores has = grind arith
 
 -- the handles that a job makes one after another are those of semaphores of which it had none, if it
 -- names no semaphore twice
@@ -373,17 +347,10 @@ acquire-new j count earlier (x ∷ semaphores) handles first each same =
     let rest = acquire-new j count (earlier ++ x ∷ []) semaphores (change_at x.0 (with_handle j) handles) first each.1
     (λ y none.
     let apart = any-after (λ (s : SemId). y.0 == s.0) earlier x none in
-    other-handles j x y handles apart.1 ∙ same y apart.0) in
+    kept-handle (with_handle j) j x y handles apart.1 ∙ same y apart.0) in
     ap (λ (b : Bool). cond b [] (make [] (Handle x j) ∷ []) ++ acquire_parts j semaphores (change_at x.0 (with_handle j) handles)) (same x (not-true (list_any (λ (s : SemId). x.0 == s.0) earlier) each.0.new))
     ∙ ap (λ (parts : List Op). cond (has_handle j first x) [] (make [] (Handle x j) ∷ []) ++ parts) rest
     ∙ one-more j x (has_handle j first x) first semaphores refl
-
-taken-by : (labels semaphores tenants : ℕ) (earlier jobs : List Job) (at : ℕ) (job : Job) → EachAfter (StandsByOwner (λ (j : Job). j.requester.0) (IsJob labels semaphores tenants)) earlier jobs → slice_get jobs at ≡ Some job → EachAfter (IsTaken semaphores) [] job.semaphores
-taken-by labels semaphores tenants earlier [] at job each there = absurd cc
-taken-by labels semaphores tenants earlier (x ∷ jobs) zero job each there =
-    let same : x ≡ job = cc in
-    subst (λ (j : Job). EachAfter (IsTaken semaphores) [] j.semaphores) same each.0.own.taken
-taken-by labels semaphores tenants earlier (x ∷ jobs) (suc at) job each there = taken-by labels semaphores tenants (earlier ++ x ∷ []) jobs at job each.1 there
 
 -- the handles of the semaphores of a sound configuration's job
 pub acquire-job : (c : Configuration) (j : JobId) (job : Job) (handles : List (List JobId)) → IsSound c → slice_get c.jobs j.0 ≡ Some job → acquire_parts j job.semaphores handles ≡ handle_parts j job.semaphores handles
@@ -415,10 +382,7 @@ request-pushed before first after id path bytes text made named told locked =
 
 -- a node that has a record is there
 pub node-there : (n : NodeId) (nodes : List NodeEntry) (kept : NodeRecord) → node_in n nodes ≡ Some kept → (e : NodeEntry) × ((node_entry n nodes ≡ Some e) × (e.kept ≡ kept))
-node-there n nodes kept is = by (node_entry n nodes) refl is where
-  by : (o : Option NodeEntry) → node_entry n nodes ≡ o → option_map (λ (e : NodeEntry). e.kept) o ≡ Some kept → (e : NodeEntry) × ((node_entry n nodes ≡ Some e) × (e.kept ≡ kept))
-  by None there none = absurd cc
-  by (Some e) there some = (e, (there, cc))
+node-there n nodes kept is = let row = from-map_some (λ (e : NodeEntry). e.kept) (node_entry n nodes) kept is in (row.0, (row.1, row.2))
 
 -- a node that has none is not
 pub node-away : (n : NodeId) (nodes : List NodeEntry) → node_in n nodes ≡ None → node_entry n nodes ≡ None

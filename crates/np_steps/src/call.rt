@@ -1,9 +1,7 @@
 //! All parts for the changes of an event.
 
 ghost use Rattle.std.specs.Prelude.{◌≡◌, ◌≤◌, ◌++◌, true, length, IfOk, OnOk};
-ghost use Rattle.np_layout.specs.Prelude.{IsCarried, IsStored, is_numbered, list_all};
-ghost use Rattle.np_layout.specs.Events.{IsReady};
-ghost use Rattle.np_layout.specs.Parts.{parts_of, settled_parts};
+ghost use Rattle.np_steps.specs.Lower.{IsCarried, IsReady, IsStored, is_numbered, list_all, parts_of, settled_parts};
 
 use crate::grow::push_growth;
 use crate::nodes::push_nodes;
@@ -11,7 +9,7 @@ use crate::records::{push_deed, push_handles, push_jobs, push_session, push_tick
 use crate::requests::push_requests;
 use np_changes::Changes;
 use np_look::Rows;
-use np_text::NoMemory;
+use np_text::{Ample, NoMemory};
 use np_tree::Tree;
 use np_tree_nodes::Op;
 use std::alloc::Global;
@@ -50,7 +48,7 @@ fn push_settled<R: Rows>(
     tree: &Tree,
     rows: &R,
     changes: &Changes,
-) -> Result<(), NoMemory>
+) -> Ample
     requires carried { IsCarried (R.site rows.now) (R.state rows.now) }
     requires ready { IsReady (R.site rows.now) changes.now (R.state rows.now) }
     ensures { OnOk result (ops.new.items ≡ ops.old.items

@@ -1,14 +1,9 @@
 //! The parts for what grows. If memory runs out, nothing is promised of the parts.
 
 ghost use Rattle.std.specs.Prelude.{◌≡◌, ◌<◌, ◌^◌, ◌++◌, ◌∷◌, [], Some, false, not, if◌then◌else◌, filter, map, IfOk, IfSome, OnOk};
-ghost use Rattle.np_changes.specs.Prelude.{Configuration, HasText, NodeEntry, RequestEntry, State, has_handle, is_swept, list_any, new_record, node_entry, request_entry, semaphores_of};
-ghost use Rattle.np_layout.specs.Prelude.{IsGood, IsNode, IsRequest, IsSessionRole, IsStored, below, is_owner, make, node_text, path_of, request_record_text, session_text, tree_session, under};
+ghost use Rattle.np_steps.specs.Lower.{Configuration, GrowthReady, Handle, HasText, IsGood, IsNode, IsRequest, IsSessionRole, IsStored, Launcher, NodeEntry, NodeLock, RequestEntry, RequestLock, Requests, Session, State, Swept, acquire_parts, allocate_parts, below, by_session, grown_parts, has_handle, is_owner, is_swept, join_parts, list_any, make, new_record, node_entry, node_parts, node_text, path_of, request_entry, request_parts, request_prefix, request_record_text, semaphores_of, session_text, tree_session, under, wait_at, where_there};
 ghost use Rattle.np_tree_nodes.specs.declared.kind.Mode.TheVariants as modes;
 ghost use Rattle.np_tree_nodes.specs.declared.op.Op.TheVariants as op;
-ghost use Rattle.np_layout.specs.declared.place.Place.TheVariants.{Handle, Launcher, NodeLock, RequestLock, Requests, Session, Swept};
-ghost use Rattle.np_layout.specs.Creates.{node_parts, request_parts, request_prefix, wait_at};
-ghost use Rattle.np_layout.specs.Parts.{acquire_parts, allocate_parts, by_session, grown_parts, join_parts, where_there};
-ghost use Rattle.np_layout.specs.Ways.{GrowthReady};
 
 use crate::ops::{child, push_make, push_set, push_wait, waits};
 use np_changes::{Asked, Growth, Maker};
@@ -17,7 +12,9 @@ use np_look::Rows;
 use np_path::Path;
 use np_record::{DeclineRow, NodeRecord, RequestRecord, SessionRecord};
 use np_spelling::Record;
-use np_text::{JobId, NoMemory, NodeId, PoolId, RequestId, Role, SemId, SessionId, TenantId};
+use np_text::{
+    Ample, JobId, NoMemory, NodeId, PoolId, RequestId, Role, SemId, SessionId, TenantId,
+};
 use np_tree::Tree;
 use np_tree_nodes::{Bytes, Mode, Op};
 use std::alloc::Global;
@@ -39,7 +36,7 @@ pub(crate) fn push_growth<R: Rows>(
     rows: &R,
     maker: Option<Maker>,
     growth: &Growth,
-) -> Result<(), NoMemory>
+) -> Ample
     requires stored { IsStored (R.site rows.now) (R.state rows.now) tree.now }
     requires ready { GrowthReady (R.site rows.now) maker growth.now (R.state rows.now) }
     ensures { OnOk result (ops.new.items
@@ -79,12 +76,7 @@ pub(crate) fn push_growth<R: Rows>(
 }
 
 /// Makes the record of a session that begins.
-fn push_session(
-    alloc: Global,
-    ops: &mut Vec<Op>,
-    session: SessionId,
-    role: Role,
-) -> Result<(), NoMemory>
+fn push_session(alloc: Global, ops: &mut Vec<Op>, session: SessionId, role: Role) -> Ample
     requires { IsSessionRole role }
     ensures { OnOk result (ops.new.items ≡ ops.old.items
         ++ make (session_text (record { mute = false; role = role })) (Session session) ∷ []) }
@@ -98,12 +90,7 @@ fn push_session(
 }
 
 /// Makes the registration of the maker for a pool.
-fn push_registration(
-    alloc: Global,
-    ops: &mut Vec<Op>,
-    maker: Option<Maker>,
-    pool: PoolId,
-) -> Result<(), NoMemory>
+fn push_registration(alloc: Global, ops: &mut Vec<Op>, maker: Option<Maker>, pool: PoolId) -> Ample
     ensures { OnOk result (ops.new.items ≡ ops.old.items
         ++ by_session maker
         (λ session. op.Create (path_of (Launcher pool)) [] modes.Ephemeral ∷ [])) }
@@ -135,12 +122,7 @@ fn new_record(asked: &Asked) -> RequestRecord
 }
 
 /// Makes a request's record and its lock. The id has the number that the tree gives next.
-fn push_request(
-    alloc: Global,
-    ops: &mut Vec<Op>,
-    id: RequestId,
-    kept: &RequestRecord,
-) -> Result<(), NoMemory>
+fn push_request(alloc: Global, ops: &mut Vec<Op>, id: RequestId, kept: &RequestRecord) -> Ample
     requires text { HasText id }
     requires sound { IsRequest kept.now }
     ensures { OnOk result (ops.new.items ≡ ops.old.items
@@ -165,12 +147,7 @@ fn request_path(alloc: Global, id: RequestId) -> Result<Path, NoMemory>
 
 /// Makes a node's record, its lock, and the wait of its maker there. The id is the number that the
 /// tree gives next.
-fn push_node(
-    alloc: Global,
-    ops: &mut Vec<Op>,
-    id: NodeId,
-    kept: &NodeRecord,
-) -> Result<(), NoMemory>
+fn push_node(alloc: Global, ops: &mut Vec<Op>, id: NodeId, kept: &NodeRecord) -> Ample
     requires { IsNode kept.now }
     ensures { OnOk result (ops.new.items ≡ ops.old.items ++ node_parts id (node_text kept.now)) }
 {
@@ -193,7 +170,7 @@ fn push_join(
     tree: &Tree,
     lock: Place,
     session: SessionId,
-) -> Result<(), NoMemory>
+) -> Ample
     requires { IsGood lock }
     ensures { OnOk result (ops.new.items ≡ ops.old.items
         ++ (if list_any (λ row. is_owner (tree_session session) row.owner) (under lock tree.now)
@@ -212,7 +189,7 @@ fn push_request_wait(
     tree: &Tree,
     maker: Option<Maker>,
     request: RequestId,
-) -> Result<(), NoMemory>
+) -> Ample
     requires { HasText request }
     ensures { (c : Configuration) (s : State) (e : RequestEntry) → IsStored c s tree.now →
         request_entry request s.requests ≡ Some e →
@@ -232,7 +209,7 @@ fn push_node_wait(
     tree: &Tree,
     maker: Option<Maker>,
     node: NodeId,
-) -> Result<(), NoMemory>
+) -> Ample
     ensures { (c : Configuration) (s : State) (e : NodeEntry) → IsStored c s tree.now →
         node_entry node s.nodes ≡ Some e →
         OnOk result (ops.new.items
@@ -253,7 +230,7 @@ fn push_allocation<R: Rows>(
     rows: &R,
     maker: Option<Maker>,
     allocation: Allocation,
-) -> Result<(), NoMemory>
+) -> Ample
     requires stored { IsStored (R.site rows.now) (R.state rows.now) tree.now }
     requires text { HasText allocation.request }
     requires tenant { IfSome allocation.tenant (λ t. t.0 < 2 ^ 16) }
@@ -275,12 +252,7 @@ fn push_allocation<R: Rows>(
 }
 
 /// Makes a handle of each of the job's semaphores of which it has none.
-fn push_handles<R: Rows>(
-    alloc: Global,
-    ops: &mut Vec<Op>,
-    rows: &R,
-    job: JobId,
-) -> Result<(), NoMemory>
+fn push_handles<R: Rows>(alloc: Global, ops: &mut Vec<Op>, rows: &R, job: JobId) -> Ample
     ensures { OnOk result (ops.new.items ≡ ops.old.items
         ++ acquire_parts job (semaphores_of (R.site rows.now) job) (R.state rows.now).handles) }
 {
@@ -300,7 +272,7 @@ fn push_each_handle<R: Rows>(
     rows: &R,
     job: JobId,
     semaphores: &[SemId],
-) -> Result<(), NoMemory>
+) -> Ample
     ensures { OnOk result (ops.new.items ≡ ops.old.items ++ map (λ x. make [] (Handle x job))
         (filter (λ x. not (has_handle job (R.state rows.now).handles x)) semaphores.now)) }
 {
@@ -317,7 +289,7 @@ fn push_handle<R: Rows>(
     rows: &R,
     semaphore: SemId,
     job: JobId,
-) -> Result<(), NoMemory>
+) -> Ample
     ensures { OnOk result (ops.new.items ≡ ops.old.items
         ++ (if has_handle job (R.state rows.now).handles semaphore then []
         else make [] (Handle semaphore job) ∷ [])) }
@@ -335,7 +307,7 @@ fn push_swept<R: Rows>(
     rows: &R,
     node: NodeId,
     server: u64,
-) -> Result<(), NoMemory>
+) -> Ample
     ensures { OnOk result (ops.new.items ≡ ops.old.items
         ++ (if is_swept node server (R.state rows.now).swept then []
         else make [] (Swept node server) ∷ [])) }

@@ -1,11 +1,7 @@
 //! The parts for what happens to the nodes.
 
 ghost use Rattle.std.specs.Prelude.{◌≡◌, ◌++◌, ◌∷◌, [], OnOk};
-ghost use Rattle.np_changes.specs.Prelude.{AllByRecursion, freed_from, is_request, node_entry, nodes_changed, put_node};
-ghost use Rattle.np_layout.specs.Prelude.{IsCarried, IsNode, node_deletes, node_text, set};
-ghost use Rattle.np_layout.specs.declared.place.Place.TheVariants.{Node, NodeLock};
-ghost use Rattle.np_layout.specs.Parts.{change_parts, each_changed, leave_parts, nodes_of, nodes_parts, where_there};
-ghost use Rattle.np_layout.specs.Ways.{NodesReady};
+ghost use Rattle.np_steps.specs.Lower.{AllByRecursion, IsCarried, IsNode, Node, NodeLock, NodesReady, change_parts, each_changed, freed_from, is_request, leave_parts, node_deletes, node_entry, node_text, nodes_changed, nodes_of, nodes_parts, put_node, set, where_there};
 ghost use Rattle.np_steps.specs.NodeEdits.{KeepsNodes, edited_entry, edited_record};
 
 use crate::ops::{push_delete, push_deletes, push_leave, push_set};
@@ -13,7 +9,7 @@ use np_changes::{Maker, NodesChange};
 use np_layout::Place;
 use np_look::Rows;
 use np_record::NodeRecord;
-use np_text::{NoMemory, NodeId, NodeState, RequestId, SessionId};
+use np_text::{Ample, NodeId, NodeState, RequestId, SessionId};
 use np_tree::Tree;
 use np_tree_nodes::Op;
 use std::alloc::Global;
@@ -36,7 +32,7 @@ pub(crate) fn push_nodes<R: Rows>(
     rows: &R,
     maker: Option<Maker>,
     change: &NodesChange,
-) -> Result<(), NoMemory>
+) -> Ample
     requires carried { IsCarried (R.site rows.now) (R.state rows.now) }
     requires spelled { let s = R.state rows.now in
         AllByRecursion (λ e. IsNode e.kept) (nodes_changed maker s.tick change.now s.nodes) }
@@ -68,7 +64,7 @@ fn push_record<R: Rows>(
     rows: &R,
     id: NodeId,
     kept: &NodeRecord,
-) -> Result<(), NoMemory>
+) -> Ample
     requires { AllByRecursion (λ e. IsNode e.kept)
         (put_node id kept.now (R.state rows.now).nodes) }
     ensures { OnOk result (ops.new.items ≡ ops.old.items
@@ -88,7 +84,7 @@ fn push_removal<R: Rows>(
     tree: &Tree,
     rows: &R,
     id: NodeId,
-) -> Result<(), NoMemory>
+) -> Ample
     ensures { OnOk result (ops.new.items ≡ ops.old.items
         ++ where_there (node_entry id (R.state rows.now).nodes)
         (λ e. node_deletes id tree.now)) }
@@ -109,7 +105,7 @@ fn push_leaving<R: Rows>(
     rows: &R,
     session: SessionId,
     id: NodeId,
-) -> Result<(), NoMemory>
+) -> Ample
     ensures { OnOk result (ops.new.items ≡ ops.old.items
         ++ where_there (node_entry id (R.state rows.now).nodes)
         (λ e. leave_parts (NodeLock id) tree.now session)) }
@@ -121,12 +117,7 @@ fn push_leaving<R: Rows>(
 }
 
 /// A set of each of the request's nodes to its record, free.
-fn push_freed<R: Rows>(
-    alloc: Global,
-    ops: &mut Vec<Op>,
-    rows: &R,
-    id: RequestId,
-) -> Result<(), NoMemory>
+fn push_freed<R: Rows>(alloc: Global, ops: &mut Vec<Op>, rows: &R, id: RequestId) -> Ample
     requires { IsCarried (R.site rows.now) (R.state rows.now) }
     ensures { let s = R.state rows.now in OnOk result (ops.new.items ≡ ops.old.items
         ++ each_changed (freed_from id) (nodes_of id s.requests) s.nodes) }
@@ -145,7 +136,7 @@ fn push_edits<R: Rows>(
     rows: &R,
     edit: NodeEdit,
     nodes: &[NodeId],
-) -> Result<(), NoMemory>
+) -> Ample
     requires carried { IsCarried (R.site rows.now) (R.state rows.now) }
     requires sound { KeepsNodes edit }
     ensures { OnOk result (ops.new.items ≡ ops.old.items
@@ -164,7 +155,7 @@ fn push_edit<R: Rows>(
     rows: &R,
     edit: NodeEdit,
     id: NodeId,
-) -> Result<(), NoMemory>
+) -> Ample
     requires carried { IsCarried (R.site rows.now) (R.state rows.now) }
     requires sound { KeepsNodes edit }
     ensures { OnOk result (ops.new.items ≡ ops.old.items
@@ -202,8 +193,5 @@ fn edited(edit: NodeEdit, kept: NodeRecord) -> NodeRecord
 fn is_allocated_to(request: RequestId, found: Option<RequestId>) -> bool
     ensures { result ≡ is_request request found }
 {
-    match found {
-        None => false,
-        Some(other) => other.priority == request.priority && other.seq == request.seq,
-    }
+    matches!(found, Some(other) if other.priority == request.priority && other.seq == request.seq)
 }

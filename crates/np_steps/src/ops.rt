@@ -1,28 +1,22 @@
 //! Single parts of a call, put behind others. If memory runs out, nothing is promised of the parts.
 
 ghost use Rattle.std.specs.Prelude.{◌≡◌, ◌++◌, ◌∷◌, [], codes, find, IfOk, OnOk};
-ghost use Rattle.np_layout.specs.Prelude.{IsGood, below, delete, delete_parts, is_owner, list_any, make, option_copied, option_map, path_of, rows_at, set, tree_session, under, wait_at};
+ghost use Rattle.np_steps.specs.Lower.{IsGood, below, delete, delete_parts, is_owner, leave_parts, list_any, make, option_copied, option_map, path_of, rows_at, set, tree_session, under, wait_at};
 ghost use Rattle.np_tree_nodes.specs.declared.kind.Expect.TheVariants as expects;
 ghost use Rattle.np_tree_nodes.specs.declared.op.Op.TheVariants as op;
-ghost use Rattle.np_layout.specs.Parts.{leave_parts};
 
 use np_layout::{PathText, Place, to_path};
 use np_lock::enqueue_op;
 use np_path::Path;
 use np_spelling::Record;
-use np_text::{NoMemory, SessionId};
+use np_text::{Ample, NoMemory, SessionId};
 use np_tree::Tree;
 use np_tree_nodes::{Bytes, Expect, Mode, Op};
 use np_tree_rows::{children, waits_at};
 use std::alloc::Global;
 
 /// Sets the bytes of a place to the record's text, whatever the version there.
-pub(crate) fn push_set<R: Record>(
-    alloc: Global,
-    ops: &mut Vec<Op>,
-    place: Place,
-    kept: &R,
-) -> Result<(), NoMemory>
+pub(crate) fn push_set<R: Record>(alloc: Global, ops: &mut Vec<Op>, place: Place, kept: &R) -> Ample
     requires good { IsGood place }
     requires sound { R.is_sound kept.now }
     ensures { OnOk result (ops.new.items ≡ ops.old.items ++ set (R.written kept.now) place ∷ []) }
@@ -39,7 +33,7 @@ pub(crate) fn push_set<R: Record>(
 }
 
 /// Makes a persistent node without bytes.
-pub(crate) fn push_make(alloc: Global, ops: &mut Vec<Op>, place: Place) -> Result<(), NoMemory>
+pub(crate) fn push_make(alloc: Global, ops: &mut Vec<Op>, place: Place) -> Ample
     requires { IsGood place }
     ensures { OnOk result (ops.new.items ≡ ops.old.items ++ make [] place ∷ []) }
 {
@@ -51,7 +45,7 @@ pub(crate) fn push_make(alloc: Global, ops: &mut Vec<Op>, place: Place) -> Resul
 }
 
 /// Deletes the node of a place, whatever its version.
-pub(crate) fn push_delete(alloc: Global, ops: &mut Vec<Op>, place: Place) -> Result<(), NoMemory>
+pub(crate) fn push_delete(alloc: Global, ops: &mut Vec<Op>, place: Place) -> Ample
     requires { IsGood place }
     ensures { OnOk result (ops.new.items ≡ ops.old.items ++ delete place ∷ []) }
 {
@@ -62,7 +56,7 @@ pub(crate) fn push_delete(alloc: Global, ops: &mut Vec<Op>, place: Place) -> Res
 }
 
 /// Waits at a lock: the session that makes the call comes to the end of its queue.
-pub(crate) fn push_wait(alloc: Global, ops: &mut Vec<Op>, lock: Place) -> Result<(), NoMemory>
+pub(crate) fn push_wait(alloc: Global, ops: &mut Vec<Op>, lock: Place) -> Ample
     requires { IsGood lock }
     ensures { OnOk result (ops.new.items ≡ ops.old.items ++ wait_at lock ∷ []) }
 {
@@ -72,12 +66,7 @@ pub(crate) fn push_wait(alloc: Global, ops: &mut Vec<Op>, lock: Place) -> Result
 }
 
 /// Deletes each node below a lock, whatever their versions.
-pub(crate) fn push_deletes(
-    alloc: Global,
-    ops: &mut Vec<Op>,
-    tree: &Tree,
-    lock: Place,
-) -> Result<(), NoMemory>
+pub(crate) fn push_deletes(alloc: Global, ops: &mut Vec<Op>, tree: &Tree, lock: Place) -> Ample
     requires { IsGood lock }
     ensures { OnOk result
         (ops.new.items ≡ ops.old.items ++ delete_parts (path_of lock) (under lock tree.now)) }
@@ -94,7 +83,7 @@ pub(crate) fn push_leave(
     tree: &Tree,
     lock: Place,
     session: SessionId,
-) -> Result<(), NoMemory>
+) -> Ample
     requires { IsGood lock }
     ensures { OnOk result (ops.new.items ≡ ops.old.items ++ leave_parts lock tree.now session) }
 {
@@ -127,7 +116,7 @@ pub(crate) fn child(dir: &Path, name: &str) -> Result<Path, NoMemory>
 }
 
 /// Deletes each child of the node at a path, whatever their versions.
-fn push_child_deletes(ops: &mut Vec<Op>, tree: &Tree, dir: &Path) -> Result<(), NoMemory>
+fn push_child_deletes(ops: &mut Vec<Op>, tree: &Tree, dir: &Path) -> Ample
     ensures { OnOk result
         (ops.new.items ≡ ops.old.items ++ delete_parts dir.now (rows_at tree.now dir.now)) }
 {
@@ -141,7 +130,7 @@ fn push_child_deletes(ops: &mut Vec<Op>, tree: &Tree, dir: &Path) -> Result<(), 
 }
 
 /// Deletes the child of that name, whatever its version.
-fn push_child_delete(ops: &mut Vec<Op>, dir: &Path, name: &str) -> Result<(), NoMemory>
+fn push_child_delete(ops: &mut Vec<Op>, dir: &Path, name: &str) -> Ample
     ensures { OnOk result
         (ops.new.items ≡ ops.old.items ++ op.Delete (below dir.now name.now) expects.Any ∷ []) }
 {

@@ -2,13 +2,10 @@
 
 ghost use Rattle.std.specs.Prelude.{◌≡◌, ◌<◌, ◌≤◌, ◌+◌, ◌^◌, ◌++◌, ◌∷◌, [], true, length, map, slice_get, IfSome, OnOk};
 ghost use Rattle.std.specs.Fmt.{decimal};
-ghost use Rattle.np_changes.specs.Prelude.{AllByRecursion, change_at, has_handle, jobs_changed, marked, one_more_act, one_more_start, put_job, role_in, struck_unless, with_mark};
-ghost use Rattle.np_layout.specs.Prelude.{HasSpellings, IsGood, IsJob, IsRole, IsSessionRole, job_text, place_of_role, role_text, session_text, set};
+ghost use Rattle.np_steps.specs.Lower.{AllByRecursion, HasSpellings, IsGood, IsJob, IsRole, IsSessionRole, change_at, deed_parts, handles_parts, has_handle, job_text, jobs_changed, jobs_parts, marked, one_more_act, one_more_start, place_of_role, put_job, role_in, role_parts, role_text, session_parts, session_text, set, struck_unless, tick_parts, where_there, with_deeds, with_mark};
 ghost use Rattle.np_layout.specs.declared.place.Place.TheVariants as place;
 ghost use Rattle.np_text.specs.declared.id.Role.TheVariants as role;
-ghost use Rattle.np_layout.specs.Parts.{deed_parts, handles_parts, jobs_parts, role_parts, session_parts, tick_parts, where_there};
-ghost use Rattle.np_layout.specs.Ways.{with_deeds};
-ghost use Rattle.np_steps.specs.Releases.{each_released, released};
+ghost use Rattle.np_steps.specs.NodeEdits.{each_released, released};
 
 use crate::ops::{push_delete, push_set};
 use np_changes::{Deed, HandlesChange, JobsChange, Maker, SessionsChange};
@@ -16,7 +13,7 @@ use np_layout::{Place, to_path};
 use np_look::Rows;
 use np_record::{JobRecord, MarkRow, Marked, RoleRecord, SessionRecord};
 use np_spelling::Record;
-use np_text::{JobId, NoMemory, NodeId, Role, SemId, SessionId, put_number};
+use np_text::{Ample, JobId, NodeId, Role, SemId, SessionId, put_number};
 use np_tree_nodes::{Bytes, Expect, Op};
 use std::alloc::Global;
 
@@ -27,7 +24,7 @@ pub(crate) fn push_jobs<R: Rows>(
     ops: &mut Vec<Op>,
     rows: &R,
     change: &JobsChange,
-) -> Result<(), NoMemory>
+) -> Ample
     requires { AllByRecursion IsJob
         (jobs_changed change.now (R.state rows.now).jobs) }
     ensures { OnOk result (ops.new.items ≡ ops.old.items
@@ -47,7 +44,7 @@ fn push_job<R: Rows>(
     rows: &R,
     id: JobId,
     kept: &JobRecord,
-) -> Result<(), NoMemory>
+) -> Ample
     requires { AllByRecursion IsJob
         (put_job id kept.now (R.state rows.now).jobs) }
     ensures { OnOk result (ops.new.items ≡ ops.old.items
@@ -61,13 +58,7 @@ fn push_job<R: Rows>(
 }
 
 /// The node is marked ended in the job, if the job is there.
-fn push_mark<R: Rows>(
-    alloc: Global,
-    ops: &mut Vec<Op>,
-    rows: &R,
-    id: JobId,
-    node: NodeId,
-) -> Result<(), NoMemory>
+fn push_mark<R: Rows>(alloc: Global, ops: &mut Vec<Op>, rows: &R, id: JobId, node: NodeId) -> Ample
     requires { AllByRecursion IsJob
         (change_at id.0 (with_mark node) (R.state rows.now).jobs) }
     ensures { OnOk result (ops.new.items ≡ ops.old.items
@@ -113,7 +104,7 @@ pub(crate) fn push_handles<R: Rows>(
     ops: &mut Vec<Op>,
     rows: &R,
     change: &HandlesChange,
-) -> Result<(), NoMemory>
+) -> Ample
     ensures { OnOk result (ops.new.items ≡ ops.old.items
         ++ handles_parts (R.site rows.now) change.now (R.state rows.now).handles) }
 {
@@ -136,7 +127,7 @@ fn push_releases<R: Rows>(
     rows: &R,
     job: JobId,
     semaphores: &[SemId],
-) -> Result<(), NoMemory>
+) -> Ample
     ensures { OnOk result (ops.new.items ≡ ops.old.items
         ++ each_released job semaphores.now (R.state rows.now).handles) }
 {
@@ -154,7 +145,7 @@ fn push_release<R: Rows>(
     rows: &R,
     job: JobId,
     semaphore: SemId,
-) -> Result<(), NoMemory>
+) -> Ample
     ensures { OnOk result (ops.new.items ≡ ops.old.items
         ++ released job semaphore (R.state rows.now).handles) }
 {
@@ -173,7 +164,7 @@ pub(crate) fn push_deed<R: Rows>(
     rows: &R,
     maker: Option<Maker>,
     deed: Option<Deed>,
-) -> Result<(), NoMemory>
+) -> Ample
     requires { HasSpellings (with_deeds maker deed (R.state rows.now)) }
     ensures { OnOk result (ops.new.items ≡ ops.old.items
         ++ deed_parts maker deed (R.state rows.now)) }
@@ -192,7 +183,7 @@ pub(crate) fn push_deed<R: Rows>(
 }
 
 /// One more act of the role.
-fn push_act<R: Rows>(alloc: Global, ops: &mut Vec<Op>, rows: &R, who: Role) -> Result<(), NoMemory>
+fn push_act<R: Rows>(alloc: Global, ops: &mut Vec<Op>, rows: &R, who: Role) -> Ample
     requires { IfSome (role_in who (R.state rows.now))
         (λ old. IsRole (one_more_act old)) }
     ensures { OnOk result (ops.new.items ≡ ops.old.items
@@ -206,12 +197,7 @@ fn push_act<R: Rows>(alloc: Global, ops: &mut Vec<Op>, rows: &R, who: Role) -> R
 }
 
 /// One more start and one more act of the role.
-fn push_start<R: Rows>(
-    alloc: Global,
-    ops: &mut Vec<Op>,
-    rows: &R,
-    who: Role,
-) -> Result<(), NoMemory>
+fn push_start<R: Rows>(alloc: Global, ops: &mut Vec<Op>, rows: &R, who: Role) -> Ample
     requires { IfSome (role_in who (R.state rows.now))
         (λ old. IsRole (one_more_act (one_more_start old))) }
     ensures { OnOk result (ops.new.items ≡ ops.old.items
@@ -241,7 +227,7 @@ fn push_strike<R: Rows>(
     rows: &R,
     who: Role,
     counted: bool,
-) -> Result<(), NoMemory>
+) -> Ample
     requires { IfSome (role_in who (R.state rows.now))
         (λ old. IsRole (struck_unless counted old)) }
     ensures { OnOk result (ops.new.items ≡ ops.old.items
@@ -267,7 +253,7 @@ fn struck(role: RoleRecord, counted: bool) -> RoleRecord
 }
 
 /// The role's record, if it has one.
-fn push_role(alloc: Global, ops: &mut Vec<Op>, who: Role, kept: &RoleRecord) -> Result<(), NoMemory>
+fn push_role(alloc: Global, ops: &mut Vec<Op>, who: Role, kept: &RoleRecord) -> Ample
     requires { IsRole kept.now }
     ensures { OnOk result (ops.new.items ≡ ops.old.items
         ++ where_there (place_of_role who) (λ place. set (role_text kept.now) place ∷ [])) }
@@ -285,7 +271,7 @@ pub(crate) fn push_session<R: Rows>(
     ops: &mut Vec<Op>,
     rows: &R,
     change: &SessionsChange,
-) -> Result<(), NoMemory>
+) -> Ample
     requires { AllByRecursion (λ f. IsSessionRole f.role)
         (R.state rows.now).sessions }
     ensures { OnOk result (ops.new.items ≡ ops.old.items
@@ -301,12 +287,7 @@ pub(crate) fn push_session<R: Rows>(
 }
 
 /// The session of the role is mute.
-fn push_muted(
-    alloc: Global,
-    ops: &mut Vec<Op>,
-    session: SessionId,
-    role: Role,
-) -> Result<(), NoMemory>
+fn push_muted(alloc: Global, ops: &mut Vec<Op>, session: SessionId, role: Role) -> Ample
     requires { IsSessionRole role }
     ensures { OnOk result (ops.new.items ≡ ops.old.items
         ++ set (session_text (record { mute = true; role = role })) (place.Session session) ∷ []) }
@@ -322,12 +303,7 @@ fn push_muted(
 
 /// Puts the part for a tick behind others, if one passes. If memory runs out nothing is promised of
 /// them.
-pub(crate) fn push_tick<R: Rows>(
-    alloc: Global,
-    ops: &mut Vec<Op>,
-    rows: &R,
-    ticks: bool,
-) -> Result<(), NoMemory>
+pub(crate) fn push_tick<R: Rows>(alloc: Global, ops: &mut Vec<Op>, rows: &R, ticks: bool) -> Ample
     requires { (R.state rows.now).tick + 1 < 2 ^ 32 }
     ensures { OnOk result (ops.new.items ≡ ops.old.items
         ++ tick_parts ticks (R.state rows.now).tick) }
@@ -339,7 +315,7 @@ pub(crate) fn push_tick<R: Rows>(
 }
 
 /// Sets the bytes of a place to the decimal of a number, whatever the version there.
-fn push_number(alloc: Global, ops: &mut Vec<Op>, place: Place, n: u32) -> Result<(), NoMemory>
+fn push_number(alloc: Global, ops: &mut Vec<Op>, place: Place, n: u32) -> Ample
     requires { IsGood place }
     ensures { OnOk result (ops.new.items ≡ ops.old.items ++ set (decimal n) place ∷ []) }
 {

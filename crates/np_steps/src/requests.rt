@@ -1,18 +1,15 @@
 //! The parts for what happens to the requests.
 
 ghost use Rattle.std.specs.Prelude.{◌≡◌, ◌++◌, ◌∷◌, [], None, OnOk};
-ghost use Rattle.np_changes.specs.Prelude.{AllByRecursion, edited, request_in, requests_changed};
-ghost use Rattle.np_layout.specs.Prelude.{IsCarried, IsRequest, request_deletes, request_record_text, set};
+ghost use Rattle.np_steps.specs.Lower.{AllByRecursion, IsCarried, IsRequest, Request, RequestLock, edited, leave_parts, request_deletes, request_in, request_record_text, requests_changed, requests_parts, set, where_there};
 ghost use Rattle.np_changes.specs.declared.changes.RequestsChange.TheVariants as requests;
-ghost use Rattle.np_layout.specs.declared.place.Place.TheVariants.{Request, RequestLock};
-ghost use Rattle.np_layout.specs.Parts.{leave_parts, requests_parts, where_there};
 
 use crate::ops::{push_delete, push_deletes, push_leave, push_set};
 use np_changes::{Maker, RequestEdit, RequestsChange};
 use np_layout::Place;
 use np_look::Rows;
 use np_record::{Declined, NodeRow, RequestRecord};
-use np_text::{NoMemory, RequestId, RequestState, SessionId};
+use np_text::{Ample, RequestId, RequestState, SessionId};
 use np_tree::Tree;
 use np_tree_nodes::Op;
 use std::alloc::Global;
@@ -26,7 +23,7 @@ pub(crate) fn push_requests<R: Rows>(
     rows: &R,
     maker: Option<Maker>,
     change: &RequestsChange,
-) -> Result<(), NoMemory>
+) -> Ample
     requires carried { IsCarried (R.site rows.now) (R.state rows.now) }
     requires spelled { AllByRecursion (λ e. IsRequest e.kept)
         (requests_changed maker change.now (R.state rows.now).requests) }
@@ -51,7 +48,7 @@ fn push_edit<R: Rows>(
     rows: &R,
     id: RequestId,
     edit: RequestEdit,
-) -> Result<(), NoMemory>
+) -> Ample
     requires carried { IsCarried (R.site rows.now) (R.state rows.now) }
     requires spelled { AllByRecursion (λ e. IsRequest e.kept) (requests_changed None
         (requests.Edit id edit) (R.state rows.now).requests) }
@@ -73,7 +70,7 @@ fn push_removal<R: Rows>(
     tree: &Tree,
     rows: &R,
     id: RequestId,
-) -> Result<(), NoMemory>
+) -> Ample
     requires { IsCarried (R.site rows.now) (R.state rows.now) }
     ensures { OnOk result (ops.new.items ≡ ops.old.items
         ++ where_there (request_in id (R.state rows.now).requests)
@@ -95,7 +92,7 @@ fn push_leaving<R: Rows>(
     rows: &R,
     session: SessionId,
     id: RequestId,
-) -> Result<(), NoMemory>
+) -> Ample
     requires { IsCarried (R.site rows.now) (R.state rows.now) }
     ensures { OnOk result (ops.new.items ≡ ops.old.items
         ++ where_there (request_in id (R.state rows.now).requests)

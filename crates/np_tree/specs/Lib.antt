@@ -9,14 +9,9 @@ pub use Rattle.np_tree_nodes.specs.Multi
 pub use Rattle.np_tree_nodes.specs.Calls
 pub use Rattle.np_tree_nodes.specs.Kept
 pub use Rattle.np_tree_nodes.specs.Codes
-pub mod Read
-pub mod Sorted
 pub mod Whole
-pub mod Inners
-pub mod Worked
 pub mod Views
 pub mod Relations
-pub mod Goes
 pub mod Several
 pub mod Dates
 pub mod Prelude

@@ -1,9 +1,32 @@
--- what an accepted part of a call changes of what a tree shows; everywhere else it changes nothing
-use Rattle.std.specs.Prelude.{◌≡◌, ℕ, ◌+◌, Bool, true, false, not, List, [], filter, Option, Some, None, Ok, if◌then◌else◌}
-use Rattle.np_tree.specs.Read.{counter_at}
+-- what the readers return
+use Rattle.std.specs.Prelude.{ℕ, List, Option, slice_get, ◌≡◌, ◌+◌, Bool, true, false, not, [], filter, Some, None, Ok, if◌then◌else◌}
+use Rattle.np_tree.specs.Lower.{Node, Stat, TreeState, at_path, children_of, name_of, option_map, stat_of, Expect, Mode, Op, Rises, after_create, after_create_under, after_delete, after_end, after_part, after_raise, after_set, below, change_first, create_answer, create_under_answer, delete_answer, is_owner, is_path, is_sequential, may_raise, parent_of, set_answer}
 use Rattle.np_tree.specs.Whole.{IsWhole}
 use Rattle.np_tree.specs.Views.{Row, Seen, find_named, is_named, name_given, row_before, row_given, row_with, rows_at, seen_at, seen_in, seen_with, with_row}
-use Rattle.np_tree.specs.Lower.{Expect, Mode, Op, Rises, TreeState, after_create, after_create_under, after_delete, after_end, after_part, after_raise, after_set, below, change_first, create_answer, create_under_answer, delete_answer, is_owner, is_path, is_sequential, may_raise, name_of, option_map, parent_of, set_answer}
+
+-- the bytes of the node at a path
+abbrev pub bytes_at : TreeState → List ℕ → Option (List ℕ)
+bytes_at t path = option_map (λ n. n.bytes) (at_path t.nodes path)
+
+-- the stat of the node at a path (client API: `exists`)
+abbrev pub stat_at : TreeState → List ℕ → Option Stat
+stat_at t path = option_map (stat_of t.nodes) (at_path t.nodes path)
+
+-- the sequence counter of the node at a path
+abbrev pub counter_at : TreeState → List ℕ → Option ℕ
+counter_at t path = option_map (λ n. n.facts.counter) (at_path t.nodes path)
+
+-- the child at a place among the children in byte order (client API: `getChildren`)
+abbrev pub child_of : TreeState → List ℕ → ℕ → Option Node
+child_of t path at = slice_get (children_of t.nodes path) at
+
+abbrev pub child_name : TreeState → List ℕ → ℕ → Option (List ℕ)
+child_name t path at = option_map (λ n. name_of n.path) (child_of t path at)
+
+abbrev pub stat_of_child : TreeState → List ℕ → ℕ → Option Stat
+stat_of_child t path at = option_map (stat_of t.nodes) (child_of t path at)
+
+-- what an accepted part of a call changes of what a tree shows; everywhere else it changes nothing
 
 -- ## rows and what is seen
 

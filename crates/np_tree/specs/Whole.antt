@@ -1,6 +1,7 @@
 -- a tree with nothing out of place
-use Rattle.std.specs.Prelude.{◌≡◌, ◌≤◌, ⊤, ℕ, true, List, [], Option, Some, None, Ok}
-use Rattle.np_tree.specs.Lower.{AllByRecursion, AllPaths, HasRoom, IsSorted, Node, Op, OpDone, TreeState, after_begin, after_end, after_multi, after_part, after_raise, answers_from, at_path, children_of, is_in, is_numbered, is_path, next_change, parent_of, part_answer, path_of, root}
+use Rattle.std.specs.Prelude.{◌≡◌, ◌≤◌, ⊤, ℕ, true, List, [], Option, Some, None, Ok, Result, Err, IsOk}
+use Rattle.np_tree.specs.Lower.{AllByRecursion, AllPaths, HasRoom, IsSorted, Node, Op, OpDone, TreeState, after_begin, after_end, after_multi, after_part, after_raise, answers_from, at_path, children_of, is_in, is_numbered, is_path, next_change, parent_of, part_answer, path_of, root, IsKept, NoMemory, Refused, TreeFault, TreeRefusal}
+use Rattle.np_tree.specs.declared.inner.Inner.{Inner}
 
 -- ## the nodes
 
@@ -103,3 +104,22 @@ RaisesKeepTree = (t : TreeState) (path : List ℕ) (to : ℕ) → IsTree t → I
 -- an ephemeral node has no children
 abbrev pub EphemeralsHaveNoChildren : Type 0
 EphemeralsHaveNoChildren = (t : TreeState) (path : List ℕ) (n : Node) (session : ℕ) → IsTree t → at_path t.nodes path ≡ Some n → n.facts.owner ≡ Some session → children_of t.nodes path ≡ []
+
+-- the fields of the tree, for the code only; and how calls answer
+
+-- the tree of the fields
+abbrev pub state_of : Inner → TreeState
+state_of b = record { nodes = b.lists.nodes; live = b.sessions.live; begun = b.sessions.begun; changes = b.changes; spare = b.sessions.spare }
+
+-- what is always true of the fields between two calls: the lists are in order, they make a tree,
+-- and there is nothing to undo
+pub record Holds (b : Inner) : Type 0 where
+  pub kept : IsKept b.lists.nodes b.lists.marks
+  pub tree : IsTree (state_of b)
+  pub undo : b.lists.undo.items ≡ []
+
+-- a call answers what its tests say, unless memory runs out after all of them
+abbrev pub Answers : {A : Type 0} → Result A TreeFault → Result A TreeRefusal → Type 0
+Answers (Ok x) said = said ≡ Ok x
+Answers (Err (Refused refusal)) said = said ≡ Err refusal
+Answers (Err NoMemory) said = IsOk said

@@ -1,11 +1,8 @@
 //! The tests of each call in order, with what they found.
 
 ghost use Rattle.std.specs.Prelude.{◌≡◌, ◌+◌, Ok, Err, true, false, MatchOption, MatchResult};
-ghost use Rattle.np_tree_nodes.specs.Answer.{check_answer, child_answer, delete_answer, made_path, set_answer};
-ghost use Rattle.np_tree_nodes.specs.Prelude.{IsKept, MakesName, may_raise};
-ghost use Rattle.np_tree_nodes.specs.Finds.{IsPlace};
-ghost use Rattle.np_tree_nodes.specs.Plans.{IsSpot};
-ghost use Rattle.np_tree.specs.Inners.{state_of};
+ghost use Rattle.np_tree.specs.Lower.{IsKept, IsPlace, IsSpot, MakesName, check_answer, child_answer, delete_answer, made_path, may_raise, set_answer};
+ghost use Rattle.np_tree.specs.Whole.{state_of};
 
 use crate::inner::Inner;
 use np_tree_nodes::{Expect, Found, Mode, Spot, TreeRefusal};
@@ -38,12 +35,8 @@ impl Inner {
             return Err(TreeRefusal::NoNode);
         };
         let node = parent.node();
-        if node.owner().is_some() {
-            return Err(TreeRefusal::NoChildrenForEphemerals);
-        }
-        if bytes.len() > MOST_BYTES {
-            return Err(TreeRefusal::TooLarge);
-        }
+        ensure!(node.owner().is_none(), TreeRefusal::NoChildrenForEphemerals);
+        ensure!(bytes.len() <= MOST_BYTES, TreeRefusal::TooLarge);
         if mode.is_sequential() && node.counter() > LAST_NUMBER {
             return Err(TreeRefusal::SequenceSpent);
         }
@@ -71,22 +64,16 @@ impl Inner {
             × (set_answer (state_of self.now) session path.now bytes.now expect ≡ Ok told.1))
             (λ refusal. set_answer (state_of self.now) session path.now bytes.now expect ≡ Err refusal) }
     {
-        if !self.sessions.is_live(session) {
-            return Err(TreeRefusal::SessionExpired);
-        }
+        ensure!(self.sessions.is_live(session), TreeRefusal::SessionExpired);
         let Some(found) = self.lists.find(path) else {
             return Err(TreeRefusal::NoNode);
         };
         let version = found.node().version();
-        if bytes.len() > MOST_BYTES {
-            return Err(TreeRefusal::TooLarge);
-        }
+        ensure!(bytes.len() <= MOST_BYTES, TreeRefusal::TooLarge);
         if !expect.is_met(version) {
             return Err(TreeRefusal::BadVersion { kept: version });
         }
-        if self.changes == u64::MAX {
-            return Err(TreeRefusal::ChangesSpent);
-        }
+        ensure!(self.changes != u64::MAX, TreeRefusal::ChangesSpent);
         let Some(next) = version.checked_add(1) else {
             return Err(TreeRefusal::ChangesSpent);
         };
@@ -106,12 +93,8 @@ impl Inner {
             × (delete_answer (state_of self.now) session path.now expect ≡ Ok tt))
             (λ refusal. delete_answer (state_of self.now) session path.now expect ≡ Err refusal) }
     {
-        if !self.sessions.is_live(session) {
-            return Err(TreeRefusal::SessionExpired);
-        }
-        if path == "/" {
-            return Err(TreeRefusal::RootKept);
-        }
+        ensure!(self.sessions.is_live(session), TreeRefusal::SessionExpired);
+        ensure!(path != "/", TreeRefusal::RootKept);
         let Some(found) = self.lists.find(path) else {
             return Err(TreeRefusal::NoNode);
         };
@@ -120,12 +103,8 @@ impl Inner {
             return Err(TreeRefusal::BadVersion { kept: version });
         }
         let children = self.lists.count_children(path);
-        if children > 0 {
-            return Err(TreeRefusal::NotEmpty { children });
-        }
-        if self.changes == u64::MAX {
-            return Err(TreeRefusal::ChangesSpent);
-        }
+        ensure!(children == 0, TreeRefusal::NotEmpty { children });
+        ensure!(self.changes != u64::MAX, TreeRefusal::ChangesSpent);
         Ok(found)
     }
 
@@ -149,9 +128,7 @@ impl Inner {
         requires { IsKept self.now.lists.nodes self.now.lists.marks }
         ensures { result ≡ check_answer (state_of self.now) session path.now expect }
     {
-        if !self.sessions.is_live(session) {
-            return Err(TreeRefusal::SessionExpired);
-        }
+        ensure!(self.sessions.is_live(session), TreeRefusal::SessionExpired);
         let Some(found) = self.lists.find(path) else {
             return Err(TreeRefusal::NoNode);
         };

@@ -1,14 +1,12 @@
 //! The fields of the tree, and what each call does to them.
 
 ghost use Rattle.std.specs.Prelude.{◌≡◌, ◌<◌, ◌≤◌, ◌+◌, [], true, IfOk, OnOk, OnErr};
-ghost use Rattle.np_tree_nodes.specs.Prelude.{IsKept, MakesName, OnFalse, OnTrue, after_begin, after_create, after_create_under, after_delete, after_end, after_raise, after_set, child_answer, create_answer, create_under_answer, delete_answer, is_in, is_path, is_sequential, may_raise, new_tree, next_change, set_answer, stat_of, with_next_number, with_spare};
-ghost use Rattle.np_session.specs.Begins.{Begins};
-ghost use Rattle.np_tree_nodes.specs.Undo.{KeepsStart};
-ghost use Rattle.np_tree.specs.Inners.{Answers, Holds, state_of};
+ghost use Rattle.np_tree.specs.Lower.{Begins, IsKept, KeepsStart, MakesName, OnFalse, OnTrue, after_begin, after_create, after_create_under, after_delete, after_end, after_raise, after_set, child_answer, create_answer, create_under_answer, delete_answer, is_in, is_path, is_sequential, may_raise, new_tree, next_change, set_answer, stat_of, with_next_number, with_spare};
+ghost use Rattle.np_tree.specs.Whole.{Answers, Holds, state_of};
 
 use np_path::Path;
 use np_session::{SessionFault, Sessions};
-use np_text::NoMemory;
+use np_text::{Ample, NoMemory};
 use np_tree_nodes::{Expect, Mode, Node, NodeLists, Stat, TreeFault, TreeRefusal, child_path};
 use std::alloc::Global;
 
@@ -36,7 +34,7 @@ impl Inner {
     }
 
     /// `reserve_session`.
-    pub fn reserve_session(&mut self) -> Result<(), NoMemory>
+    pub fn reserve_session(&mut self) -> Ample
         requires { Holds self.old }
         ensures ok { OnOk result (0 < (state_of self.new).spare) }
         ensures same { state_of self.new

@@ -2,12 +2,9 @@
 //! what calls keep true of the tree, and what the order of nodes means.
 
 ghost use Rattle.std.specs.Prelude.{◌≡◌, codes, [], ◌∷◌, None, Err};
-ghost use Rattle.np_tree_nodes.specs.Prelude.{after_multi, answers_from, at_path, new_tree, set_answer};
-ghost use Rattle.np_tree_nodes.specs.declared.kind.Expect.TheVariants.{Any};
-ghost use Rattle.np_tree_nodes.specs.declared.refusal.TreeRefusal.TheVariants.{SessionExpired};
-ghost use Rattle.np_tree.specs.Sorted.{ChildrenByName, ParentsComeFirst};
+ghost use Rattle.np_tree.specs.Lower.{Any, SessionExpired, after_multi, answers_from, at_path, new_tree, set_answer};
+ghost use Rattle.np_tree.specs.Views.{ChildrenByName, ParentsComeFirst, begun_tree, calls, replies, replies_to, sequence_calls, sequence_replies, third_fails, three_parts, tree_ended, tree_raised, two_done, two_parts, with_a};
 ghost use Rattle.np_tree.specs.Whole.{BeginsKeepTree, CallsKeepTree, CallsKeepWhole, EndsKeepTree, EndsKeepWhole, EphemeralsHaveNoChildren, IsTree, IsWhole, PartsKeepTree, PartsKeepWhole, RaisesKeepTree, RaisesKeepWhole};
-ghost use Rattle.np_tree.specs.Worked.{begun_tree, calls, replies, replies_to, sequence_calls, sequence_replies, third_fails, three_parts, tree_ended, tree_raised, two_done, two_parts, with_a};
 
 /// The definitions agree with the worked rows.
 pub fn worked_rows()

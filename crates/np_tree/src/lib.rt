@@ -1,9 +1,9 @@
 //! The coordination tree: nodes with bytes, versions, owners and counters, changed by sessions.
 //!
-//! Contracts see a `Tree` as the `TreeState` of np_tree_nodes's `specs/TreeState`. Read its `specs/Nodes`,
-//! then its `specs/Answer` and `specs/After` for one call: its tests in their order, and what it leaves;
-//! then its `specs/Multi` and `specs/Calls`, and `specs/Read` here. `specs/Worked` has closed rows. How
-//! the code does it is in `docs/TREE.md`.
+//! Contracts see a `Tree` as the `TreeState` of np_tree_nodes's `specs/TreeState`. Read its
+//! `specs/Nodes`, then its `specs/Answer` and `specs/After` for one call: its tests in their order,
+//! and what it leaves; then its `specs/Multi` and `specs/Calls`, and `specs/Relations` here.
+//! `specs/Views` has closed rows. How the code does it is in `docs/TREE.md`.
 //!
 //! Between two calls the nodes are in order, each path once and in the grammar, each below a node
 //! that no session owns; owners are live sessions; no change number is above the last. This is
@@ -13,10 +13,19 @@
 //! What a tree shows, and how calls change it, for the layers above: no node record appears here.
 //!
 //! `specs/Views` defines the rows of a directory and what is seen at a path. `specs/Relations` says
-//! what each accepted part of a call changes of them, `specs/Goes` under which conditions a part is
-//! accepted, and `specs/Several` what several parts in one call leave. `specs/Dates` says which of
-//! two trees came later. Each law is a public function that does nothing: its contract is the law.
+//! what each accepted part of a call changes of them, and `specs/Several` under which conditions a
+//! part is accepted, and what several parts in one call leave. `specs/Dates` says which of two
+//! trees came later. Each law is a public function that does nothing: its contract is the law.
 #![tactic(auto)]
+
+// The call is refused, unless the test is passed.
+macro_rules! ensure {
+    ($test:expr, $refusal:expr) => {
+        if !($test) {
+            return Err($refusal);
+        }
+    };
+}
 
 mod admit;
 mod inner;

@@ -1,10 +1,8 @@
 //! Several operations in one change, or none.
 
 ghost use Rattle.std.specs.Prelude.{◌≡◌, ◌≤◌, [], true, not, length, MatchResult, OnOk, OnErr};
-ghost use Rattle.np_tree_nodes.specs.Prelude.{AllByRecursion, IsKept, Stops, after_multi, after_part, after_parts, answers_from, is_check, is_numbered, list_all, list_any, part_answer};
-ghost use Rattle.np_tree_nodes.specs.Undo.{KeepsStart};
-ghost use Rattle.np_tree.specs.Inners.{Answers, Holds, state_of};
-ghost use Rattle.np_tree.specs.Whole.{IsPart};
+ghost use Rattle.np_tree.specs.Lower.{AllByRecursion, IsKept, KeepsStart, Stops, after_multi, after_part, after_parts, answers_from, is_check, is_numbered, list_all, list_any, part_answer};
+ghost use Rattle.np_tree.specs.Whole.{Answers, Holds, state_of, IsPart};
 
 use crate::inner::Inner;
 use np_tree_nodes::{MultiFault, Op, OpDone, TreeFault};

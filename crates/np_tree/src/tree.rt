@@ -1,17 +1,14 @@
 //! The tree.
 
 ghost use Rattle.std.specs.Prelude.{◌≡◌, ◌<◌, ◌≤◌, ◌+◌, ℕ, [], true, length, IfOk, MatchResult, OnOk, OnErr};
-ghost use Rattle.np_tree_nodes.specs.Prelude.{OnFalse, OnTrue, Stops, after_begin, after_create, after_create_under, after_delete, after_end, after_multi, after_raise, after_set, answers_from, is_in, is_numbered, is_sequential, list_all, may_raise, new_tree, option_copied, option_map, with_next_number, with_spare};
-ghost use Rattle.np_session.specs.Begins.{Begins};
-ghost use Rattle.np_tree_nodes.specs.Answer.{check_answer, create_answer, create_under_answer, delete_answer, set_answer};
-ghost use Rattle.np_tree.specs.Inners.{Answers};
-ghost use Rattle.np_tree.specs.Read.{bytes_at, child_name, counter_at, stat_at, stat_of_child};
-ghost use Rattle.np_tree.specs.Whole.{IsTree};
+ghost use Rattle.np_tree.specs.Lower.{Begins, OnFalse, OnTrue, Stops, after_begin, after_create, after_create_under, after_delete, after_end, after_multi, after_raise, after_set, answers_from, check_answer, create_answer, create_under_answer, delete_answer, is_in, is_numbered, is_sequential, list_all, may_raise, new_tree, option_copied, option_map, set_answer, with_next_number, with_spare};
+ghost use Rattle.np_tree.specs.Whole.{Answers, IsTree};
+ghost use Rattle.np_tree.specs.Relations.{bytes_at, child_name, counter_at, stat_at, stat_of_child};
 
 use crate::inner::Inner;
 use np_path::Path;
 use np_session::SessionFault;
-use np_text::NoMemory;
+use np_text::{Ample, NoMemory};
 use np_tree_nodes::{Expect, Mode, MultiFault, Op, OpDone, Stat, TreeFault, TreeRefusal};
 use std::alloc::Global;
 use std::marker::Model;
@@ -24,11 +21,11 @@ pub struct Tree {
 }
 
 impl Model for Tree {
-    ghost use Rattle.np_tree_nodes.specs.TreeState.{TreeState};
+    ghost use Rattle.np_tree.specs.Lower.{TreeState};
 
     ghost Value = { TreeState };
 
-    ghost use Rattle.np_tree.specs.Inners.{Holds, state_of};
+    ghost use Rattle.np_tree.specs.Whole.{Holds, state_of};
 
     ghost view = { λ t. state_of t.inner };
 
@@ -46,7 +43,7 @@ impl Tree {
     }
 
     /// Takes the memory that the next `begin_session` needs.
-    pub fn reserve_session(&mut self) -> Result<(), NoMemory>
+    pub fn reserve_session(&mut self) -> Ample
         ensures ok { OnOk result (0 < self.new.spare) }
         ensures same { self.new ≡ with_spare self.old self.new.spare }
         ensures err { OnErr result (self.new ≡ self.old) }

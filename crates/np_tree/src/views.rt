@@ -1,9 +1,8 @@
 //! Laws of what a tree shows. Each function does nothing: its contract is the law.
 
 ghost use Rattle.np_tree.specs.Dates.{BeginsLater, CallsLater, EndsLater, FreshListed, FreshSeen, LaterJoined, LaterThanItself, RaisesLater, ReservesLater, UndatedBytesAreNotLater, UndatedLossIsNotLater};
-ghost use Rattle.np_tree.specs.Goes.{ChecksGo, CreatesGo, CreatesUnderGo, DeletesGo, SetsGo};
+ghost use Rattle.np_tree.specs.Several.{ChecksGo, CreatesGo, CreatesUnderGo, DeletesGo, SetsGo, AnsweredGoes, ChecksLeaveTheTree, ClearsEmpty, ClearsGo, Elsewhere, GoesAfter, GoesAnswered, GoesEmpty, GoesFront, GoesJoined, GoesUnderOneNumber, GoesUnrefused, GoesWhole, PathsAreTheirParts, RoomFalls, RoomGives};
 ghost use Rattle.np_tree.specs.Relations.{CreatesAnswer, CreatesShow, CreatesUnderShow, DeletesShow, EndsShow, NothingBelowNothing, PartsChangeNodesAlone, RaisesShow, RowsRise, SeenIsRow, SetsShow};
-ghost use Rattle.np_tree.specs.Several.{AnsweredGoes, ChecksLeaveTheTree, ClearsEmpty, ClearsGo, Elsewhere, GoesAfter, GoesAnswered, GoesEmpty, GoesFront, GoesJoined, GoesUnderOneNumber, GoesUnrefused, GoesWhole, PathsAreTheirParts, RoomFalls, RoomGives};
 
 /// The rows of a directory are in byte order of their names, each name once, and what is seen at a
 /// path is the row of that name.

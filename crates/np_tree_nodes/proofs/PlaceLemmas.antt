@@ -85,7 +85,7 @@ path_before-first_le p q key this that = le-trans nat_list_cmp_total (before_of 
 
 -- a path has a slash
 pub has_slash : (p : List ℕ) → is_path p ≡ true → list_any is_slash p ≡ true
-has_slash p is = let begun = begins_with_slash p is in rw begun.1 refl
+has_slash p is = ap (list_any is_slash) (begins_with_slash p is)
 
 -- of two paths that differ, one comes before the other
 pub path_before-some_way : (p q : List ℕ) → is_path p ≡ true → is_path q ≡ true → path_before p q ≡ false → (p ≡ q → ⊥) → path_before q p ≡ true

@@ -1,5 +1,5 @@
 -- planned edits: those that make, remove and change nodes, and what undoing the last one leaves
-use Rattle.np_tree_nodes.proofs.Prelude.{by_bool, AllPaths, AtKept, Bool, CanStep, CanTakeBack, CanTouch, CanUndo, Edit, EndsOne, Facts, HasParts-below, HasRoom, IsChild-of, IsKept, IsNameAt-below, IsPlace, IsSorted, IsSpot, List, MakesName, Mark, Mode, Node, None, Nothing, Option, Plans, Put, Some, Spot, Step, Swap, Take, TakesMark, Touch, after_removal, after_step, after_undo, all-at, and_false, ap, append-nil, arith, at_path, before_last-at, before_of, below, both-second, change_at, change_at-back, change_at-same, change_node, cond, eqb-true, false, false_from_ne_true, half_of, insert, insert_node, is_at, is_element, is_element-numbered, is_ephemeral, is_kept, is_owned, is_owner, is_path, is_path-below, is_sequential, is_slash-is, kept_of, length, length-append, length-change_at, length-remove, list_all, made_path, mark_before, mark_place, mark_step, marks_before, name_of, new_mark, new_node, nodes_after_end, nodes_before, option_map, parent_of, path_before, place_of, prefix_len-le-length, refl, remove, slashed, slice_get, slice_get-change_first, slice_get_within, subst, sym, take, ten_digits_of, then_some, true, with_child, with_new_child, with_swap, with_touch, without_child, without_child_above, ℕ, [], ◌++◌, ◌-◌, ◌<◌, ◌==◌, ◌∙◌, ◌∷◌, ◌≡◌}
+use Rattle.np_tree_nodes.proofs.Prelude.{AfterLast-name, AllPaths, AtKept, Bool, CanStep, CanTakeBack, CanTouch, CanUndo, Edit, EndsOne, Facts, HasParts-below, HasRoom, IsChild-of, IsKept, IsNameAt-below, IsPlace, IsSorted, IsSpot, List, MakesName, Mark, Mode, Node, None, Nothing, Option, Plans, Put, Some, Spot, Step, Swap, Take, TakesMark, Touch, after_removal, after_step, after_undo, all-at, and_false, and_parts, ap, append-nil, arith, at_path, before_last-last, before_of, below, by_bool, change_at, change_at-back, change_at-same, change_node, cond, eqb-true, false, false_from_ne_true, half_of, insert, insert_node, is_at, is_element, is_element-numbered, is_ephemeral, is_kept, is_owned, is_owner, is_path, is_path-below, is_sequential, is_slash-is, kept_of, length, length-append, length-change_at, length-remove, list_all, made_path, mark_before, mark_place, mark_step, marks_before, name_of, new_mark, new_node, nodes_after_end, nodes_before, option_map, parent_of, path_before, place_of, prefix_len-le-length, refl, remove, slashed, slice_get, slice_get-change_first, slice_get_within, subst, sym, take, ten_digits_of, then_some, true, with_child, with_new_child, with_swap, with_touch, without_child, without_child_above, ℕ, [], ◌++◌, ◌-◌, ◌<◌, ◌==◌, ◌∙◌, ◌∷◌, ◌≡◌}
 use Rattle.np_tree_nodes.proofs.KeptLemmas.{AllPaths-change_node, IsKept-insert, IsKept-remove, IsSorted-change_node, KeepsOwner, KeepsPath, MarkEphemerals-change_node, MayStand, at_path-paths-none, length-children-paths, length-paths, mark-owned, no_marks, nodes_after_end-none, nodes_after_end-step, nodes_after_end-top, not_owned, paths_of, paths_of-change_node, place_of-change_node, step_for}
 use Rattle.np_tree_nodes.proofs.PlaceLemmas.{bytes_eq-from, insert_node-at, without_node-there, change_node-there, bytes_eq-is, change_node-none}
 
@@ -97,7 +97,7 @@ before-below (b ∷ c ∷ bs) name is =
 
 pub before_of-below : (path name : List ℕ) → is_path path ≡ true → is_element name ≡ true → before_of (below path name) ≡ half_of path
 before_of-below path name is element =
-    before_last-at (slashed path ++ name) (length (slashed path)) (IsNameAt-below path name is element) ∙ before-below path name is
+    before_last-last (slashed path ++ name) (length (slashed path)) (AfterLast-name _ _ (IsNameAt-below path name is element)) ∙ before-below path name is
 
 -- a path that is made
 pub record IsMade (path parent before name : List ℕ) : Type 0 where
@@ -123,7 +123,7 @@ IsMade-made_path parent name mode is makes = made-by (is_sequential mode) parent
 pub MakesName-child : (path above : List ℕ) (mode : Mode) → is_path path ≡ true → parent_of path ≡ Some above → MakesName (name_of path) mode
 MakesName-child path above mode is top =
     let named = (IsChild-of path above is top).named in
-    by_bool (λ (b : Bool). cond b (list_all is_kept (name_of path)) (is_element (name_of path)) ≡ true) (is_sequential mode) (λ _. both-second _ _ named) (λ _. named)
+    by_bool (λ (b : Bool). cond b (list_all is_kept (name_of path)) (is_element (name_of path)) ≡ true) (is_sequential mode) (λ _. (and_parts _ _ named).1) (λ _. named)
 
 -- # the edit that makes a child
 

@@ -2,21 +2,16 @@
 pub use Rattle.np_lists.proofs.Changes.{AtKept, IsBetween, Rises-between, Rises-filter, Rises-insert, Rises-keys, Rises-remove, all-at, all-filter, all-from_at, all-get_or, all-insert, all-insert_before, all-keys, all-remove, all-weaker, change_at-back, change_at-same, filter-between, filter-map, filter-not_none, filter-remove, find-change_first, find-insert, find-remove, found-change_first, insert-remove, insert_before-point, length-change_at, length-filter-filter, length-filter-insert, length-filter-remove, list_any-insert, list_any-map, list_any-none, list_any-remove, list_any-there, map-each, map-keys, map-map, map-same, none-list_any, none-remove, prefix_len-le, remove-insert, slice_get-change_first}
 pub use Rattle.np_lists.proofs.Plain.{above-apart, and-apart, and_false, and_true, by_bool, bytes_eq-apart, length-map}
 pub use Rattle.np_lists.proofs.Searches.{IsPartitionPoint-rises, IsSplit-rises, absent, change_first-at, change_first-none, find-first, find-none, none-find}
-pub use Rattle.np_lists.specs.Change.{change_at}
-pub use Rattle.np_lists.specs.Rising.{FirstAt, IsSplit, NonePass}
-pub use Rattle.np_path.proofs.GrammarLemmas.{both-second}
-pub use Rattle.np_path.proofs.PartsLemmas.{IsNameAt-below, before_last-at, begins_with_slash, is_element-numbered, is_path-below, is_slash-is}
+pub use Rattle.np_path.proofs.PartsLemmas.{AfterLast-name, IsNameAt-below, before_last-last, begins_with_slash, is_element-numbered, is_path-below, is_slash-is}
 pub use Rattle.np_path.proofs.PathLaws.{HasParts-below, IsChild-of, halves-whole, root-of}
-pub use Rattle.np_path.specs.Grammar.{is_element, is_kept, is_path, is_slash}
-pub use Rattle.np_path.specs.Parts.{below, name_of, or_root, parent_of, root, slashed}
 pub use Rattle.np_text.proofs.OrderLemmas.{then-assoc}
-pub use Rattle.np_text.specs.Number.{ten_digits_of}
 pub use Rattle.np_tree_nodes.specs.After.{after_loss, after_removal, new_node, nodes_after_end, with_bytes, with_child, with_new_child, without_child, without_child_above}
 pub use Rattle.np_tree_nodes.specs.Answer.{made_path}
 pub use Rattle.np_tree_nodes.specs.Calls.{with_counter}
 pub use Rattle.np_tree_nodes.specs.Edits.{CanTakeBack, CanTouch, CanUndo, after_undo, kept_of, marks_before, nodes_before, with_swap, with_touch}
 pub use Rattle.np_tree_nodes.specs.Finds.{FindsGap, IsPlace, IsStretch, stands_before}
 pub use Rattle.np_tree_nodes.specs.Kept.{EndsOne, HasRoom, IsKept, Plans}
+pub use Rattle.np_tree_nodes.specs.Lower.{FirstAt, IsSplit, NonePass, below, change_at, is_element, is_kept, is_path, is_slash, name_of, or_root, parent_of, root, slashed, ten_digits_of}
 pub use Rattle.np_tree_nodes.specs.Marks.{AreRanked, MarkEphemerals, is_ephemeral_of, is_mark, mark_before, mark_place, new_mark}
 pub use Rattle.np_tree_nodes.specs.Names.{MakesName, half_of}
 pub use Rattle.np_tree_nodes.specs.Nodes.{at_path, before_of, change_node, children_of, insert_node, is_at, is_child, is_owned, is_owner, is_parent, path_before, without_node}

@@ -2,8 +2,6 @@
 -- later
 use Rattle.std.specs.Prelude.{ℕ, ◌+◌, not, ◌&&◌, List, [], map, filter, min, Option, Some, None, if◌then◌else◌}
 use Rattle.std.specs.List.{list_any}
-use Rattle.np_path.specs.Parts.{name_of, parent_of}
-use Rattle.np_session.specs.Known.{without}
 use Rattle.np_tree_nodes.specs.TreeState.{TreeState}
 use Rattle.np_tree_nodes.specs.Nodes.{at_path, change_node, insert_node, is_child, is_owned, without_node}
 use Rattle.np_tree_nodes.specs.Tests.{is_ephemeral, is_sequential}
@@ -11,6 +9,7 @@ use Rattle.np_tree_nodes.specs.Answer.{made_path}
 use Rattle.np_tree_nodes.specs.declared.node.Node.{Node}
 use Rattle.np_tree_nodes.specs.declared.kind.Mode.{Mode}
 use Rattle.np_tree_nodes.specs.declared.op.Op.{Op}
+use Rattle.np_tree_nodes.specs.Lower.{name_of, parent_of, without}
 
 -- the state does not change if nothing was found
 abbrev pub where_found : {A : Type 0} → Option A → TreeState → (A → TreeState) → TreeState

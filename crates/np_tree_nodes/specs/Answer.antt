@@ -2,9 +2,7 @@
 use Rattle.std.specs.Prelude.{ℕ, ◌+◌, ◌==◌, nat_lt, nat_le, not, ◌||◌, List, [], ◌++◌, length, Result, Ok, if◌then◌else◌}
 use Rattle.std.specs.Option.{is_none}
 use Rattle.std.specs.Str.{bytes_eq}
-use Rattle.np_lists.specs.Refusals.{◌>>=◌, ◌>>◌, found, need}
-use Rattle.np_text.specs.Number.{ten_digits_of}
-use Rattle.np_path.specs.Parts.{below, name_of, parent_of, root}
+use Rattle.np_lists.specs.Refusals.{◌>>=◌, ◌>>◌}
 use Rattle.np_tree_nodes.specs.TreeState.{TreeState}
 use Rattle.np_tree_nodes.specs.Nodes.{at_path, children_of}
 use Rattle.np_tree_nodes.specs.Tests.{alive, there, has_version, fits, unspent, is_sequential}
@@ -14,6 +12,7 @@ use Rattle.np_tree_nodes.specs.declared.kind.Expect.{Expect}
 use Rattle.np_tree_nodes.specs.declared.op.Op.{Op}
 use Rattle.np_tree_nodes.specs.declared.op.OpDone.{OpDone}
 use Rattle.np_tree_nodes.specs.declared.refusal.TreeRefusal.{TreeRefusal}
+use Rattle.np_tree_nodes.specs.Lower.{below, found, name_of, need, parent_of, root, ten_digits_of}
 
 -- the path that is made: a sequence node's name ends in its parent's counter
 abbrev pub made_path : Node → List ℕ → Mode → List ℕ

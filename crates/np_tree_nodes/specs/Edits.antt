@@ -1,13 +1,13 @@
 -- edits of the lists, and what undoes them, for the code only
 use Rattle.std.specs.Prelude.{◌<◌, List, [], ◌∷◌, length, Option, Some, None, unwrap_or}
 use Rattle.std.specs.Option.{option_map}
-use Rattle.np_lists.specs.Change.{change_at}
 use Rattle.np_tree_nodes.specs.Steps.{CanStep, after_step}
 use Rattle.np_tree_nodes.specs.declared.node.Node.{Node}
 use Rattle.np_tree_nodes.specs.declared.mark.Mark.{Mark}
 use Rattle.np_tree_nodes.specs.declared.edit.Swap.{Swap}
 use Rattle.np_tree_nodes.specs.declared.edit.Touch.{Touch}
 use Rattle.np_tree_nodes.specs.declared.edit.Edit.{Edit}
+use Rattle.np_tree_nodes.specs.Lower.{change_at}
 
 -- a node with other bytes, if there are some, and other facts
 abbrev pub with_swap : Swap → Node → Node

@@ -2,11 +2,11 @@
 use Rattle.std.specs.Prelude.{◌≡◌, ℕ, ◌-◌, ◌<◌, ◌≤◌, Bool, true, List, [], length, take, drop, Option, Some, None, is_some, slice_get}
 use Rattle.std.specs.Ordering.{nat_cmp, is_lt, is_le, ordering_then}
 use Rattle.std.specs.Cmp.Lexicographic.{slice_cmp}
-use Rattle.np_path.specs.Parts.{name_of}
 use Rattle.np_tree_nodes.specs.Nodes.{before_of, children_of, is_at, at_path}
 use Rattle.np_tree_nodes.specs.Order.{place_of}
 use Rattle.np_tree_nodes.specs.declared.node.Node.{Node}
 use Rattle.np_tree_nodes.specs.declared.find.Found.{Found}
+use Rattle.np_tree_nodes.specs.Lower.{name_of}
 
 -- whether a path comes before the one of these two halves
 abbrev pub stands_before : List ℕ → List ℕ → List ℕ → Bool

@@ -1,3 +1,4 @@
+pub mod Lower
 pub mod TreeState
 pub mod Nodes
 pub mod Order

@@ -5,10 +5,10 @@ use Rattle.std.specs.declared.cmp.Ordering.{Ordering}
 use Rattle.std.specs.Ordering.{nat_cmp, is_lt, ordering_then}
 use Rattle.std.specs.Cmp.Lexicographic.{slice_cmp}
 use Rattle.std.specs.Str.{bytes_eq}
-use Rattle.np_lists.specs.Rising.{Rises}
 use Rattle.np_tree_nodes.specs.Nodes.{at_path, is_owned}
 use Rattle.np_tree_nodes.specs.declared.node.Node.{Node}
 use Rattle.np_tree_nodes.specs.declared.mark.Mark.{Mark}
+use Rattle.np_tree_nodes.specs.Lower.{Rises}
 
 -- marks are in order by session, and then by path in byte order (own)
 abbrev pub mark_cmp : Mark → ℕ → List ℕ → Ordering

@@ -2,10 +2,9 @@
 use Rattle.std.specs.Prelude.{◌≡◌, ℕ, true, List, [], if◌then◌else◌}
 use Rattle.std.specs.Str.{bytes_eq}
 use Rattle.std.specs.List.{list_all}
-use Rattle.np_path.specs.Grammar.{is_element, is_kept}
-use Rattle.np_path.specs.Parts.{root}
 use Rattle.np_tree_nodes.specs.Tests.{is_sequential}
 use Rattle.np_tree_nodes.specs.declared.kind.Mode.{Mode}
+use Rattle.np_tree_nodes.specs.Lower.{is_element, is_kept, root}
 
 -- it is an element, or may come before the digits that make it one
 abbrev pub MakesName : List ℕ → Mode → Type 0

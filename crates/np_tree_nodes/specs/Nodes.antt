@@ -4,11 +4,9 @@ use Rattle.std.specs.List.{before_last}
 use Rattle.std.specs.Ordering.{nat_cmp, is_lt, ordering_then}
 use Rattle.std.specs.Cmp.Lexicographic.{slice_cmp}
 use Rattle.std.specs.Str.{bytes_eq}
-use Rattle.np_lists.specs.Change.{change_first, insert_before}
-use Rattle.np_path.specs.Grammar.{is_slash}
-use Rattle.np_path.specs.Parts.{name_of, parent_of}
 use Rattle.np_tree_nodes.specs.declared.node.Node.{Node}
 use Rattle.np_tree_nodes.specs.declared.kind.Stat.{Stat}
+use Rattle.np_tree_nodes.specs.Lower.{change_first, insert_before, is_slash, name_of, parent_of}
 
 -- whether a node is at a path
 abbrev pub is_at : List ℕ → Node → Bool

@@ -1,10 +1,9 @@
 -- the order of nodes
 use Rattle.std.specs.Prelude.{◌≡◌, ℕ, Bool, true, List}
 use Rattle.std.specs.List.{AllByRecursion, prefix_len}
-use Rattle.np_lists.specs.Rising.{Rises}
-use Rattle.np_path.specs.Grammar.{is_path}
 use Rattle.np_tree_nodes.specs.Nodes.{path_before}
 use Rattle.np_tree_nodes.specs.declared.node.Node.{Node}
+use Rattle.np_tree_nodes.specs.Lower.{Rises, is_path}
 
 -- whether a node comes before another
 abbrev pub node_before : Node → Node → Bool

@@ -1,7 +1,5 @@
 -- The names of nodes that are cited most, and of what they stand on, passed on from one place. Declares nothing.
-pub use Rattle.np_lists.specs.Change.{change_at, change_first, insert_before, remove_first}
-pub use Rattle.np_lists.specs.Refusals.{found, need, ◌>>=◌, ◌>>◌}
-pub use Rattle.np_lists.specs.Rising.{NonePass, Rises}
+pub use Rattle.np_lists.specs.Refusals.{◌>>=◌, ◌>>◌}
 pub use Rattle.np_tree_nodes.specs.After.{after_create, after_create_under, after_delete, after_end, after_loss, after_part, after_set, new_node, next_change, nodes_after_end, where_found, with_bytes, with_child, with_new_child, with_next_number, without_child, without_child_above}
 pub use Rattle.np_tree_nodes.specs.Answer.{child_answer, create_answer, create_under_answer, delete_answer, made_path, part_answer, set_answer}
 pub use Rattle.np_tree_nodes.specs.Calls.{after_begin, after_raise, may_raise, with_counter, with_spare}
@@ -12,16 +10,7 @@ pub use Rattle.np_tree_nodes.specs.Nodes.{at_path, change_node, children_of, ins
 pub use Rattle.np_tree_nodes.specs.Order.{AllPaths, IsSorted}
 pub use Rattle.np_tree_nodes.specs.Tests.{is_sequential, unspent}
 pub use Rattle.np_tree_nodes.specs.TreeState.{TreeState, new_tree, root_node}
-pub use Rattle.np_path.specs.Grammar.{is_element, is_path}
-pub use Rattle.np_path.specs.Parts.{below, name_of, parent_of, root}
-pub use Rattle.np_session.specs.Known.{is_in, without}
-pub use Rattle.np_text.specs.Number.{number_of, ten_digits_of}
-pub use Rattle.np_text.specs.Request.{request_of, request_text_of, sequence_of}
-pub use Rattle.np_text.specs.declared.id.JobId.{JobId}
-pub use Rattle.np_text.specs.declared.id.NodeId.{NodeId}
-pub use Rattle.np_text.specs.declared.id.RequestId.{RequestId}
-pub use Rattle.np_text.specs.declared.id.SessionId.{SessionId}
-pub use Rattle.np_text.specs.declared.memory.NoMemory.{NoMemory}
 pub use Rattle.std.specs.Bool.{OnFalse, OnTrue}
 pub use Rattle.std.specs.List.{AllByRecursion, AllZip, list_all, list_any, range_with_len}
 pub use Rattle.std.specs.Option.{is_none, is_some, option_copied, option_map, option_map_or}
+pub use Rattle.np_tree_nodes.specs.Lower.{JobId, NoMemory, NodeId, NonePass, RequestId, Rises, SessionId, below, change_at, change_first, found, insert_before, is_element, is_in, is_path, name_of, need, number_of, parent_of, remove_first, request_of, request_text_of, root, sequence_of, ten_digits_of, without}

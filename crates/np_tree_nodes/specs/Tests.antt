@@ -1,7 +1,5 @@
 -- tests that calls share, each with its refusal
 use Rattle.std.specs.Prelude.{ℕ, ◌==◌, nat_lt, nat_le, Bool, true, false, List, length, Result}
-use Rattle.np_lists.specs.Refusals.{found, need}
-use Rattle.np_session.specs.Known.{is_in}
 use Rattle.np_tree_nodes.specs.TreeState.{TreeState}
 use Rattle.np_tree_nodes.specs.Nodes.{at_path}
 use Rattle.np_tree_nodes.specs.declared.node.Node.{Node}
@@ -10,6 +8,7 @@ use Rattle.np_tree_nodes.specs.declared.kind.Mode.TheVariants.{Persistent, Ephem
 use Rattle.np_tree_nodes.specs.declared.kind.Expect.{Expect}
 use Rattle.np_tree_nodes.specs.declared.kind.Expect.TheVariants.{Any, Exactly}
 use Rattle.np_tree_nodes.specs.declared.refusal.TreeRefusal.{TreeRefusal}
+use Rattle.np_tree_nodes.specs.Lower.{found, is_in, need}
 
 -- the session is live (ZooKeeper Programmer's Guide: an expired session changes nothing)
 abbrev pub alive : TreeState → ℕ → Result (Unit {0}) TreeRefusal

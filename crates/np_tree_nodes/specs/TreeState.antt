@@ -1,7 +1,7 @@
 -- what a tree is
 use Rattle.std.specs.Prelude.{ℕ, List, [], ◌∷◌, None}
-use Rattle.np_path.specs.Parts.{root}
 use Rattle.np_tree_nodes.specs.declared.node.Node.{Node}
+use Rattle.np_tree_nodes.specs.Lower.{root}
 
 -- its nodes, each after its parent and siblings in byte order of their names, the live sessions, how many sessions
 -- were begun, the number of the last change, and how many sessions can begin without taking memory (ZooKeeper Programmer's Guide)

@@ -13,7 +13,7 @@ use crate::mark::Mark;
 use crate::node::{Facts, Node};
 use np_lists::{Piece, Shelf};
 use np_path::Path;
-use np_text::NoMemory;
+use np_text::{Ample, NoMemory};
 use std::alloc::Global;
 
 /// The lists of the tree, with what undoes the edits of the call so far.
@@ -79,7 +79,7 @@ impl NodeLists {
     }
 
     /// Makes an edit, and keeps what undoes it.
-    pub fn edit(&mut self, edit: Edit) -> Result<(), NoMemory>
+    pub fn edit(&mut self, edit: Edit) -> Ample
         requires { CanEdit edit self.old.nodes self.old.marks }
         ensures nodes { OnOk result (self.new.nodes ≡ after_edit edit self.old.nodes) }
         ensures marks { OnOk result (self.new.marks ≡ after_step edit.mark self.old.marks) }

@@ -1,7 +1,7 @@
 //! The edits of the tree's operations.
 
 ghost use Rattle.std.specs.Prelude.{◌≡◌, ◌+◌, ◌≤◌, true, Some, IfOk, slice_get, if◌then◌else◌};
-ghost use Rattle.np_path.specs.Parts.{parent_of};
+ghost use Rattle.np_tree_nodes.specs.Lower.{parent_of};
 ghost use Rattle.np_tree_nodes.specs.After.{after_removal, with_bytes, with_new_child, without_child_above};
 ghost use Rattle.np_tree_nodes.specs.Answer.{made_path};
 ghost use Rattle.np_tree_nodes.specs.Calls.{with_counter};

@@ -3,6 +3,7 @@ use Rattle.np_tree_rows.proofs.Prelude.{AllByRecursion, AllZip, AreHolders, Bool
 use Rattle.np_tree_rows.proofs.Shown.{owner-named, rows-none, IsOnly, find-ordered}
 use Rattle.np_tree_rows.proofs.Stored.{length-by_name}
 use Rattle.np_layout.proofs.Creates.{named-by}
+use Rattle.np_layout.proofs.Deletes.{named-as}
 
 -- # the members that pass a test, counted and found by a walk over all
 
@@ -70,8 +71,7 @@ there-named t p dir whole good over =
 
 -- there is none if there is no stat
 is-none : (o : Option Stat) → is_some o ≡ false → o ≡ None
-is-none None is = refl
-is-none (Some stat) is = absurd cc
+is-none o is = grind arith
 
 -- ## handles
 
@@ -136,24 +136,15 @@ pair-is : (n : NodeId) (server : ℕ) (pair : SweptPair) → is_pair n server pa
 pair-is n server pair is =
     let number : pair.node.0 ≡ n.0 = grind (arith, nat_tests) in
     let other : pair.server ≡ server = grind (arith, nat_tests) in
-    both pair.node n pair.server server (ap (λ (k : ℕ). record { 0 = k }) number) other where
-      both : (m n : NodeId) (x y : ℕ) → m ≡ n → x ≡ y → ◌≡◌ {A = SweptPair} (record { node = m; server = x }) (record { node = n; server = y })
-      both m n x y same other = cc
+    λ i. record { node = record { 0 = number i }; server = other i }
 
 pair-self : (pair : SweptPair) → is_pair pair.node pair.server pair ≡ true
 pair-self pair = grind (arith, nat_tests)
 
-abbrev pair_of : Place → SweptPair
-pair_of (Swept n server) = record { node = n; server = server }
-pair_of other = record { node = record { 0 = 0 }; server = 0 }
-
 pair-named : (n : NodeId) (server : ℕ) (pair : SweptPair) (b : Bool) → is_pair n server pair ≡ b → IsGood (Swept n server) → IsGood (Swept pair.node pair.server) → bytes_eq (place_name (Swept pair.node pair.server)) (place_name (Swept n server)) ≡ b
-pair-named n server pair true is good pair_good =
-    bytes_eq-from (place_name (Swept pair.node pair.server)) (place_name (Swept n server)) (ap (λ (p : SweptPair). place_name (Swept p.node p.server)) (pair-is n server pair is))
-pair-named n server pair false is good pair_good =
-    named-other (Swept n server) (Swept pair.node pair.server) good pair_good refl (λ equal.
-    let itself = subst (λ (p : SweptPair). is_pair p.node p.server pair ≡ true) (ap pair_of equal) (pair-self pair) in
-    absurd cc)
+pair-named n server pair =
+    named-as (λ (p : SweptPair). Swept p.node p.server) (λ a b. is_pair b.node b.server a) (λ a b one. let nodes : a.node ≡ b.node = cc in let servers : a.server ≡ b.server = cc in λ i. record { node = nodes i; server = servers i }) (λ a b. refl)
+    (λ a b is. pair-is b.node b.server a is) pair-self pair (record { node = n; server = server })
 
 -- there is a node of a pair if it was swept
 pub swept-there : (c : Configuration) (s : State) (t : TreeState) (n : NodeId) (server : ℕ) → IsStored c s t → IsGood (Swept n server) → is_some (stat_at t (path_of (Swept n server))) ≡ is_swept n server s.swept
@@ -253,9 +244,7 @@ registration-found p session list is = by (find (λ g. g.pool.0 == p.0) list) re
 -- and there is none of a pool for which nobody is registered
 pub registration-none : (p : PoolId) (list : List Registration) → None ≡ registered p list → list_any (λ g. g.pool.0 == p.0) list ≡ false
 registration-none p [] is = refl
-registration-none p (g ∷ list) is =
-    by_bool (λ (b : Bool). None ≡ option_map (λ (x : Registration). x.session) (cond b (Some g) (find (λ (x : Registration). x.pool.0 == p.0) list)) → (b || list_any (λ (x : Registration). x.pool.0 == p.0) list) ≡ false) (g.pool.0 == p.0)
-    (λ here told. absurd cc) (λ other told. registration-none p list told) is
+registration-none p (g ∷ list) is = grind (arith, registration-none p list)
 
 -- the handles of each semaphore of a stored state rise, and their jobs exist
 pub are-holders : (c : Configuration) (s : State) (t : TreeState) (x : SemId) → IsStored c s t → AreHolders (length c.jobs) (handles_of x s.handles)
@@ -279,17 +268,13 @@ is_waiting session row = is_owner (tree_session session) row.owner
 same-number : (m n : ℕ) → (m + 1 == n + 1) ≡ (m == n)
 same-number m n = grind (arith, nat_tests)
 
-wait-owner : (next : ℕ) (session : SessionId) (row : Row) (other : SessionId) → IsWait next row other → is_waiting session row ≡ is_session other session
-wait-owner next session row other wait = ap (is_waiting session) wait.is ∙ same-number other.0 session.0
-
 -- a session waits at a lock if it is in its queue
 pub lock-any : (next : ℕ) (session : SessionId) (rows : List Row) (queue : List SessionId) → AllZip (IsWait next) rows queue → list_any (is_waiting session) rows ≡ is_queued session queue
 lock-any next session [] [] zip = refl
-lock-any next session [] (other ∷ queue) zip = absurd zip
-lock-any next session (row ∷ rows) [] zip = absurd zip
 lock-any next session (row ∷ rows) (other ∷ queue) zip =
-    ap (λ (b : Bool). b || list_any (is_waiting session) rows) (wait-owner next session row other zip.0)
+    ap (λ (b : Bool). b || list_any (is_waiting session) rows) (ap (is_waiting session) zip.0.is ∙ same-number other.0 session.0)
     ∙ ap (λ (b : Bool). is_session other session || b) (lock-any next session rows queue zip.1)
+lock-any next session _ _ zip = absurd zip
 
 -- one more member
 pub any-step : {X : Type 0} (p : X → Bool) (xs : List X) (i : ℕ) → list_any p (drop i xs) ≡ (option_map_or p (slice_get xs i) false || list_any p (drop (suc i) xs))
@@ -343,15 +328,10 @@ module _ (c : Configuration) (s : State) (t : TreeState) (stored : IsStored c s 
 
 -- ## the row of a registration
 
-abbrev pool_in : Place → ℕ
-pool_in (Launcher p) = p.0
-pool_in other = 0
-
 -- the name of a registration is its pool's alone
 named-pool : (p q : PoolId) (b : Bool) → (q.0 == p.0) ≡ b → IsGood (Launcher p) → IsGood (Launcher q) → bytes_eq (place_name (Launcher q)) (place_name (Launcher p)) ≡ b
-named-pool p q true is p_good q_good = let same : q.0 ≡ p.0 = grind (arith, nat_tests) in bytes_eq-from (place_name (Launcher q)) (place_name (Launcher p)) (ap (λ (n : ℕ). place_name (Launcher (record { 0 = n }))) same)
-named-pool p q false is p_good q_good =
-    named-other (Launcher p) (Launcher q) p_good q_good refl (λ equal. let same : q.0 ≡ p.0 = ap pool_in equal in let apart : (q.0 ≡ p.0) → ⊥ = λ e. absurd (grind (arith, nat_tests)) in apart same)
+named-pool p q =
+    named-as Launcher (λ a b. a.0 == b.0) (λ a b one. cc) (λ a b. refl) (λ a b same. let number : a.0 ≡ b.0 = grind (arith, nat_tests) in ap (λ (n : ℕ). record { 0 = n }) number) (λ a. let itself : (a.0 == a.0) ≡ true = grind (arith, nat_tests) in itself) q p
 
 -- by pool
 abbrev pub pool_before : Registration → Registration → Bool
@@ -382,22 +362,14 @@ module _ (p : PoolId) (p_good : IsGood (Launcher p)) where
   registered-only [] good rises = tt
   registered-only (g ∷ list) good rises = only-by g list (is_of g) refl good.0 rises.0 good.1 (registered-only list good.1 rises.1)
 
-  any-by : (g : Registration) (list : List Registration) (b : Bool) → is_of g ≡ b → IsGood (Launcher g.pool) → list_any (is_named name) (map launcher_row list) ≡ is_some (option_map launcher_row (find is_of list)) →
-      list_any (is_named name) (map launcher_row (g ∷ list)) ≡ is_some (option_map launcher_row (cond b (Some g) (find is_of list)))
-  any-by g list true is good rest = ap (λ (b : Bool). b || list_any (is_named name) (map launcher_row list)) (named-pool p g.pool true is p_good good)
-  any-by g list false is good rest = ap (λ (b : Bool). b || list_any (is_named name) (map launcher_row list)) (named-pool p g.pool false is p_good good) ∙ rest
-
   registered-any : (list : List Registration) → AllByRecursion (λ g. IsGood (Launcher g.pool)) list → list_any (is_named name) (map launcher_row list) ≡ is_some (option_map launcher_row (find is_of list))
   registered-any [] good = refl
-  registered-any (g ∷ list) good = any-by g list (is_of g) refl good.0 (registered-any list good.1)
+  registered-any (g ∷ list) good = grind (arith, named-pool p g.pool (is_of g) refl p_good good.0, registered-any list good.1)
 
 -- ## the owner of its node
 
 owner-is : (o : Option Stat) (f : Option Registration) → option_map (λ (stat : Stat). stat.owner) o ≡ option_map (λ (row : Row). row.owner) (option_map launcher_row f) → option_and_then (λ (stat : Stat). stat.owner) o ≡ option_map (λ (g : Registration). g.session.0 + 1) f
-owner-is None None is = refl
-owner-is None (Some g) is = absurd cc
-owner-is (Some stat) None is = absurd cc
-owner-is (Some stat) (Some g) is = let same : stat.owner ≡ Some (g.session.0 + 1) = cc in same
+owner-is o f is = grind arith
 
 -- the tree's session that owns the registration's node is the one that is registered
 pub registered-owner : (c : Configuration) (s : State) (t : TreeState) → IsStored c s t → (p : PoolId) → IsGood (Launcher p) → option_and_then (λ (stat : Stat). stat.owner) (stat_at t (path_of (Launcher p))) ≡ option_map (λ (g : Registration). g.session.0 + 1) (find (λ (g : Registration). g.pool.0 == p.0) s.registrations)
@@ -411,13 +383,11 @@ registered-owner c s t stored p good =
 
 -- nobody is registered if no session owns the node
 pub nobody-owns : (f : Option Registration) → None ≡ option_map (λ (g : Registration). g.session.0 + 1) f → None ≡ option_map (λ (g : Registration). g.session) f
-nobody-owns None is = refl
-nobody-owns (Some g) is = absurd cc
+nobody-owns f is = grind arith
 
 -- no session of the tree has the number 0
 pub owner-nothing : (owner : ℕ) (f : Option Registration) → owner ≡ 0 → Some owner ≡ option_map (λ (g : Registration). g.session.0 + 1) f → None ≡ option_map (λ (g : Registration). g.session) f
-owner-nothing owner None zero_is is = refl
-owner-nothing owner (Some g) zero_is is = absurd (let same : owner ≡ g.session.0 + 1 = cc in omega arith)
+owner-nothing owner f zero_is is = grind arith
 
 -- the session that is registered is the one before the owner
 pub owner-session : (owner : ℕ) (f : Option Registration) → Some owner ≡ option_map (λ (g : Registration). g.session.0 + 1) f → Some (record { 0 = owner - 1 }) ≡ option_map (λ (g : Registration). g.session) f

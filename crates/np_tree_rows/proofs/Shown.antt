@@ -1,5 +1,7 @@
 -- what a tree's readers answer at the path of a place, and what is read of the requests of a stored state
 use Rattle.np_tree_rows.proofs.Prelude.{AllByRecursion, AllZip, BadRecord, Bool, Configuration, HasText, IsGood, IsRequest, IsStored, IsWait, IsWhole, List, None, Ok, Option, Place, Request, RequestEntry, RequestId, RequestLock, RequestLocks, RequestRecord, RequestView, Requests, Result, Rises, Row, Seen, SessionId, Some, SpellsRequest, Stat, State, Tells, TreeState, above, all-at, all-find, all-put, all-weaker, any-by_name, ap, arith, at_path, by_name, bytes_at, bytes_eq-is, child_name, children_of, cond, false, find, find-passes, find_named, get-map, is_at, is_named, is_path-of, is_request_it, is_some, length, length-map, list_any, list_any-none, lock-names, map, name_of, none-find, nothing-below_nothing, option_map, option_map_or, other-name, parts-of, path_of, place_name, refl, request-good, request-itself, request-named-by, request-queue, request_entry, request_in, request_lock_row, request_of, request_of-text, request_queue, request_row, request_view, row_before, row_of, rows-nothing, rows-rise, rows_at, rows_from, seen-is-row, seen_at, seen_in, seen_of, slice_get, stat_at, stat_of, stat_of_child, subst, suc, sym, tells-mapped, true, under, zero, ℕ, [], ◌+◌, ◌-◌, ◌<◌, ◌||◌, ◌∙◌, ◌∷◌, ◌≡◌, ◌≤◌}
+use Rattle.np_layout.proofs.Rows.{zip-mapped}
+use Rattle.np_layout.proofs.Steps.{seen-named}
 use Rattle.np_layout.specs.Prelude.{Node}
 
 -- # two lists member by member: what is found in one stands beside what is found in the other
@@ -11,26 +13,19 @@ Beside R None (Some b) = ⊥
 Beside R (Some a) None = ⊥
 Beside R (Some a) (Some b) = R a b
 
--- members stand beside what they are made of
-pub zip-map : {A B : Type 0} (f : B → A) (list : List B) → AllZip (λ a b. a ≡ f b) (map f list) list
-zip-map f [] = tt
-zip-map f (b ∷ list) = (refl, zip-map f list)
-
 module _ {A B : Type 0} (R : A → B → Type 0) where
   -- at a place
   pub beside-at : (these : List A) (those : List B) (at : ℕ) → AllZip R these those → Beside R (slice_get these at) (slice_get those at)
   beside-at [] [] at zip = tt
-  beside-at [] (b ∷ those) at zip = absurd zip
-  beside-at (a ∷ these) [] at zip = absurd zip
   beside-at (a ∷ these) (b ∷ those) zero zip = zip.0
   beside-at (a ∷ these) (b ∷ those) (suc at) zip = beside-at these those at zip.1
+  beside-at _ _ at zip = absurd zip
 
   -- the lists are as long
   pub length-beside : (these : List A) (those : List B) → AllZip R these those → length these ≡ length those
   length-beside [] [] zip = refl
-  length-beside [] (b ∷ those) zip = absurd zip
-  length-beside (a ∷ these) [] zip = absurd zip
   length-beside (a ∷ these) (b ∷ those) zip = ap suc (length-beside these those zip.1)
+  length-beside _ _ zip = absurd zip
 
   found-by : (a : A) (b : B) (f : Option A) (g : Option B) (found : Bool) → R a b → Beside R f g → Beside R (cond found (Some a) f) (cond found (Some b) g)
   found-by a b f g true here later = here
@@ -40,11 +35,10 @@ module _ {A B : Type 0} (R : A → B → Type 0) where
     -- by tests that agree
     pub beside-found : (these : List A) (those : List B) → AllZip (λ a b. p a ≡ q b) these those → AllZip R these those → Beside R (find p these) (find q those)
     beside-found [] [] agree zip = tt
-    beside-found [] (b ∷ those) agree zip = absurd zip
-    beside-found (a ∷ these) [] agree zip = absurd zip
     beside-found (a ∷ these) (b ∷ those) agree zip =
         subst (λ (found : Bool). Beside R (cond found (Some a) (find p these)) (cond (q b) (Some b) (find q those))) (sym agree.0)
         (found-by a b (find p these) (find q those) (q b) zip.0 (beside-found these those agree.1 zip.1))
+    beside-found _ _ agree zip = absurd zip
 
 -- two that stand beside one another, of which the first tells something
 pub record IsBeside {A B X : Type 0} (R : A → B → Type 0) (f : A → X) (x : X) (p : Option B) : Type 0 where
@@ -79,8 +73,7 @@ module _ {E I K V : Type 0} (id_of : E → I) (kept_of : E → K) (queue_of : E 
 
   -- there is no view where there is no member
   pub unviewed : (o : Option E) → None ≡ option_map id_of o → None ≡ option_map view_of o
-  unviewed None is = refl
-  unviewed (Some e) is = absurd cc
+  unviewed o is = grind arith
 
   -- the view of a member that is found by its id
   pub viewed : (o : Option E) → ((e : E) → o ≡ Some e → by_id (id_of e) ≡ Some e) → (id : I) (kept : K) (holder : Option SessionId) → Some id ≡ option_map id_of o → Some kept ≡ option_map kept_of (by_id id) →
@@ -129,47 +122,36 @@ module _ {A B : Type 0} (f : B → A) (before : A → A → Bool) where
 
 -- ## one place
 
--- what is seen at a good place is the row of its name
-pub seen-named : (t : TreeState) (p dir : Place) → IsWhole t.nodes → IsGood p → above p ≡ Some dir → seen_at t (path_of p) ≡ option_map seen_in (find_named (place_name p) (under dir t))
-seen-named t p dir whole good over =
-    seen-is-row t (path_of p) (path_of dir) whole (is_path-of p good) ((parts-of p good).0 ∙ ap (option_map path_of) over)
-    ∙ ap (λ (name : List ℕ). option_map seen_in (find_named name (under dir t))) (parts-of p good).1
-
 pub bytes-seen : (o : Option Node) → option_map (λ (n : Node). n.bytes) o ≡ option_map (λ (seen : Seen). seen.bytes) (option_map seen_of o)
-bytes-seen None = refl
-bytes-seen (Some n) = refl
+bytes-seen o = grind arith
 
 bytes-row : (o : Option Row) → option_map (λ (seen : Seen). seen.bytes) (option_map seen_in o) ≡ option_map (λ (row : Row). row.bytes) o
-bytes-row None = refl
-bytes-row (Some row) = refl
+bytes-row o = grind arith
 
 -- its bytes are those of the row of its name
 pub bytes-named : (t : TreeState) (p dir : Place) → IsWhole t.nodes → IsGood p → above p ≡ Some dir → bytes_at t (path_of p) ≡ option_map (λ (row : Row). row.bytes) (find_named (place_name p) (under dir t))
 bytes-named t p dir whole good over =
     bytes-seen (at_path t.nodes (path_of p))
-    ∙ ap (option_map (λ (seen : Seen). seen.bytes)) (seen-named t p dir whole good over)
+    ∙ ap (option_map (λ (seen : Seen). seen.bytes)) (seen-named t dir p whole good over)
     ∙ bytes-row (find_named (place_name p) (under dir t))
 
 owner-seen : (nodes : List Node) (o : Option Node) → option_map (λ (stat : Stat). stat.owner) (option_map (stat_of nodes) o) ≡ option_map (λ (seen : Seen). seen.owner) (option_map seen_of o)
-owner-seen nodes None = refl
-owner-seen nodes (Some n) = refl
+owner-seen nodes o = grind arith
 
 owner-row : (o : Option Row) → option_map (λ (seen : Seen). seen.owner) (option_map seen_in o) ≡ option_map (λ (row : Row). row.owner) o
-owner-row None = refl
-owner-row (Some row) = refl
+owner-row o = grind arith
 
 -- its stat's owner is that of the row of its name
 pub owner-named : (t : TreeState) (p dir : Place) → IsWhole t.nodes → IsGood p → above p ≡ Some dir → option_map (λ (stat : Stat). stat.owner) (stat_at t (path_of p)) ≡ option_map (λ (row : Row). row.owner) (find_named (place_name p) (under dir t))
 owner-named t p dir whole good over =
     owner-seen t.nodes (at_path t.nodes (path_of p))
-    ∙ ap (option_map (λ (seen : Seen). seen.owner)) (seen-named t p dir whole good over)
+    ∙ ap (option_map (λ (seen : Seen). seen.owner)) (seen-named t dir p whole good over)
     ∙ owner-row (find_named (place_name p) (under dir t))
 
 -- ## the rows of a directory
 
 none-there : (nodes : List Node) (o : Option Node) → option_map (stat_of nodes) o ≡ None → o ≡ None
-none-there nodes None is = refl
-none-there nodes (Some n) is = absurd cc
+none-there nodes o is = grind arith
 
 count-by : (nodes : List Node) (dir : List ℕ) (o : Option Node) (stat : Stat) → at_path nodes dir ≡ o → option_map (stat_of nodes) o ≡ Some stat → stat.children ≡ length (children_of nodes dir)
 count-by nodes dir None stat there is = absurd cc
@@ -186,16 +168,14 @@ pub rows-none : (t : TreeState) (dir : List ℕ) → IsWhole t.nodes → stat_at
 rows-none t dir whole is = rows-nothing t.nodes dir whole.stand (none-there t.nodes (at_path t.nodes dir) is)
 
 name-row : (o : Option Node) → option_map (λ (n : Node). name_of n.path) o ≡ option_map (λ (row : Row). row.name) (option_map row_of o)
-name-row None = refl
-name-row (Some n) = refl
+name-row o = grind arith
 
 -- the child at a place is the row there
 pub name-at : (t : TreeState) (dir : List ℕ) (at : ℕ) → child_name t dir at ≡ option_map (λ (row : Row). row.name) (slice_get (rows_at t dir) at)
 name-at t dir at = name-row (slice_get (children_of t.nodes dir) at) ∙ sym (ap (option_map (λ (row : Row). row.name)) (get-map row_of (children_of t.nodes dir) at))
 
 owner-of_row : (nodes : List Node) (o : Option Node) → option_map (λ (stat : Stat). stat.owner) (option_map (stat_of nodes) o) ≡ option_map (λ (row : Row). row.owner) (option_map row_of o)
-owner-of_row nodes None = refl
-owner-of_row nodes (Some n) = refl
+owner-of_row nodes o = grind arith
 
 -- and so is its owner
 pub owner-at : (t : TreeState) (dir : List ℕ) (at : ℕ) → option_map (λ (stat : Stat). stat.owner) (stat_of_child t dir at) ≡ option_map (λ (row : Row). row.owner) (slice_get (rows_at t dir) at)
@@ -208,8 +188,7 @@ abbrev pub IsOnly : List ℕ → Option Row → List Row → Type 0
 IsOnly name o rows = AllByRecursion (λ row. is_named name row ≡ true → Some row ≡ o) rows
 
 is-none : (o : Option Row) → is_some o ≡ false → None ≡ o
-is-none None is = refl
-is-none (Some row) is = absurd cc
+is-none o is = grind arith
 
 find-by : (name : List ℕ) (rows : List Row) (o f : Option Row) → find_named name rows ≡ f → IsOnly name o rows → list_any (is_named name) rows ≡ is_some o → f ≡ o
 find-by name rows o None there only any = is-none o (sym any ∙ list_any-none (is_named name) rows (none-find (is_named name) rows there))
@@ -263,7 +242,7 @@ module _ {A : Type 0} (row : ℕ → A → Row) (name : List ℕ) (k limit : ℕ
 
 -- a place whose row is not there has nothing below it
 pub nothing-under : (t : TreeState) (p dir : Place) → IsWhole t.nodes → IsGood p → above p ≡ Some dir → find_named (place_name p) (under dir t) ≡ None → under p t ≡ []
-nothing-under t p dir whole good over none = nothing-below_nothing t (path_of p) whole (seen-named t p dir whole good over ∙ ap (option_map seen_in) none)
+nothing-under t p dir whole good over none = nothing-below_nothing t (path_of p) whole (seen-named t dir p whole good over ∙ ap (option_map seen_in) none)
 
 -- a session waits at a place, and owns the child there
 pub record IsWaiting (owner : Option ℕ) (o : Option SessionId) : Type 0 where
@@ -274,17 +253,15 @@ pub record IsWaiting (owner : Option ℕ) (o : Option SessionId) : Type 0 where
 module _ (t : TreeState) (lock : Place) (at next : ℕ) (queue : List SessionId) (waits : AllZip (IsWait next) (under lock t) queue) where
   owner-by : (o : Option Row) (w : Option SessionId) → Beside (IsWait next) o w → option_map (λ (row : Row). row.owner) o ≡ option_map (λ (session : SessionId). Some (session.0 + 1)) w
   owner-by None None beside = refl
-  owner-by None (Some session) beside = absurd beside
-  owner-by (Some row) None beside = absurd beside
   owner-by (Some row) (Some session) beside = ap (λ (r : Row). Some r.owner) beside.is
+  owner-by _ _ beside = absurd beside
 
   -- the owner of the child at a place is the session there
   owner-waits : option_map (λ (stat : Stat). stat.owner) (stat_of_child t (path_of lock) at) ≡ option_map (λ (session : SessionId). Some (session.0 + 1)) (slice_get queue at)
   owner-waits = owner-at t (path_of lock) at ∙ owner-by (slice_get (under lock t) at) (slice_get queue at) (beside-at (IsWait next) (under lock t) queue at waits)
 
   none-by : (o : Option SessionId) → option_map (λ (stat : Stat). stat.owner) None ≡ option_map (λ (session : SessionId). Some (session.0 + 1)) o → None ≡ o
-  none-by None is = refl
-  none-by (Some session) is = absurd cc
+  none-by o is = grind arith
 
   -- where there is no child, no session waits
   pub waits-none : None ≡ stat_of_child t (path_of lock) at → None ≡ slice_get queue at
@@ -355,10 +332,10 @@ module _ (c : Configuration) (s : State) (t : TreeState) (stored : IsStored c s 
   has-ids = stored.carried.good.requests
 
   request-rows : AllZip IsRequestRow (under Requests t) s.requests
-  request-rows = subst (λ (rows : List Row). AllZip IsRequestRow rows s.requests) (sym stored.lays.requests.rows) (zip-map request_row s.requests)
+  request-rows = subst (λ (rows : List Row). AllZip IsRequestRow rows s.requests) (sym stored.lays.requests.rows) (zip-mapped request_row s.requests)
 
   lock-rows : AllZip IsLockRow (under RequestLocks t) s.requests
-  lock-rows = subst (λ (rows : List Row). AllZip IsLockRow rows s.requests) (sym stored.lays.request_locks.rows) (zip-map request_lock_row s.requests)
+  lock-rows = subst (λ (rows : List Row). AllZip IsLockRow rows s.requests) (sym stored.lays.request_locks.rows) (zip-mapped request_lock_row s.requests)
 
   -- as many rows as requests
   pub requests-counted : length (rows_at t (path_of Requests)) ≡ length s.requests
@@ -403,7 +380,7 @@ module _ (c : Configuration) (s : State) (t : TreeState) (stored : IsStored c s 
     row-tells : Tells (place_name (Request r)) (is_request_it r) (under Requests t) s.requests
     row-tells = subst (λ (rows : List Row). Tells (place_name (Request r)) (is_request_it r) rows s.requests) (sym stored.lays.requests.rows)
         (tells-mapped (place_name (Request r)) (is_request_it r) request_row s.requests
-        (all-weaker (λ (e : RequestEntry). is_named (place_name (RequestLock r)) (request_lock_row e) ≡ is_request_it r e) (λ (e : RequestEntry). is_named (place_name (Request r)) (request_row e) ≡ is_request_it r e) (λ e same. same) s.requests (lock-names r s.requests good has-ids)))
+        (lock-names r s.requests good has-ids))
 
     row-found : Beside IsRequestRow (find_named (place_name (Request r)) (under Requests t)) (request_entry r s.requests)
     row-found = beside-found IsRequestRow (is_named (place_name (Request r))) (is_request_it r) (under Requests t) s.requests row-tells request-rows

@@ -1,5 +1,5 @@
 -- the bytes of the records of a stored state, and how many there are of each kind
-use Rattle.np_tree_rows.proofs.Prelude.{AllByRecursion, AllDigits, BadRecord, Bool, Configuration, Err, IfSome, IsGood, IsJob, IsNumeral, IsRole, IsSession, IsSessionRole, IsStored, JanitorRole, Job, JobId, JobRecord, Jobs, LauncherRole, Launchers, List, None, NonePass, Ok, Option, ParsesUnsigned, Place, PoolId, Poolsim, RequesterId, RequesterRole, Result, Role, RoleRecord, Roles, Row, Session, SessionFacts, SessionId, SessionRecord, Sessions, Some, State, Tick, TreeState, above, all-joined, all-weaker, ap, arith, by_name, bytes_at, cond, decimal, decimal_is_IsNumeral, digits_value, digits_value-zeros, drop, eqb-false, eqb-true, false, find_named, is_in, is_named, is_some, janitor_role_row, job_row, job_text, launcher_role_row, launcher_row, length, length-insert_before, length-map, list_any, list_any-append, list_any-none, map, named-here, named-other, number_of, number_of-decimal, option_map, path_of, persistent, place_name, place_of_role, range_with_len, refl, replicate, requester_role_row, role_in, role_text, row_before, rows_at, rows_from, rows_put, session_of, session_row, session_text, slice_get, subst, suc, sym, ten-le-length, ten_digits_of, true, under, with_row, without_leading_plus, zero, ℕ, [], ◌++◌, ◌+◌, ◌-◌, ◌<◌, ◌==◌, ◌^◌, ◌||◌, ◌∙◌, ◌∷◌, ◌≡◌, ◌≤◌}
+use Rattle.np_tree_rows.proofs.Prelude.{AllByRecursion, AllDigits, BadRecord, Bool, Configuration, Err, IfSome, IsGood, IsJob, IsNumeral, IsRole, IsSession, IsSessionRole, IsStored, JanitorRole, Job, JobId, JobRecord, Jobs, LauncherRole, Launchers, List, None, NonePass, Ok, Option, ParsesUnsigned, Place, PoolId, Poolsim, RequesterId, RequesterRole, Result, Role, RoleRecord, Roles, Row, Session, SessionFacts, SessionId, SessionRecord, Sessions, Some, State, Tick, TreeState, above, all-joined, all-weaker, ap, arith, by_name, bytes_at, cond, decimal, decimal_is_IsNumeral, digits_value, digits_value-zeros, drop, eqb-false, eqb-true, false, find_named, is_in, is_named, is_some, janitor_role_row, job_row, job_text, launcher_role_row, launcher_row, length, length-insert_before, length-map, list_any, list_any-append, list_any-none, map, named-here, named-other, nat_tests, number_of, number_of-decimal, option_map, path_of, persistent, place_name, place_of_role, range_with_len, refl, replicate, requester_role_row, role_in, role_text, row_before, rows_at, rows_from, rows_put, session_of, session_row, session_text, slice_get, subst, suc, sym, ten-le-length, ten_digits_of, true, under, with_row, without_leading_plus, zero, ℕ, [], ◌++◌, ◌+◌, ◌-◌, ◌<◌, ◌==◌, ◌^◌, ◌||◌, ◌∙◌, ◌∷◌, ◌≡◌, ◌≤◌}
 use Rattle.np_tree_rows.proofs.Shown.{IsOnly, IsRead, bytes-named, find-only, find-ordered, past-any, past-only, table-any, table-only}
 
 -- # ten digits are read as the number that they spell
@@ -17,16 +17,9 @@ unfolding ten_digits_of
 value-ten n small = digits_value-zeros (10 - length (decimal n)) (decimal n) ∙ (decimal_is_IsNumeral n small).1
 
 -- no digit is a plus
-plus-by : (c : ℕ) (digits : List ℕ) (b : Bool) → (c == 43) ≡ b → AllDigits 10 (c ∷ digits) → drop (cond b 1 0) (c ∷ digits) ≡ c ∷ digits
-plus-by c digits true plus all =
-    let is : c ≡ 43 = eqb-true c 43 plus in
-    let none : AllDigits 10 (43 ∷ digits) = subst (λ (x : ℕ). AllDigits 10 (x ∷ digits)) is all in
-    absurd (let big = none.0 in omega arith)
-plus-by c digits false plus all = refl
-
 plus-none : (digits : List ℕ) → AllDigits 10 digits → without_leading_plus digits ≡ digits
 plus-none [] all = refl
-plus-none (c ∷ digits) all = plus-by c digits (c == 43) refl all
+plus-none (c ∷ digits) all = let digit = all.0 in grind (arith, nat_tests)
 
 -- what is parsed is the number
 pub ten-parsed : {E : Type 0} (n : ℕ) (r : Result ℕ E) → n < 2 ^ 32 → ParsesUnsigned 32 10 (ten_digits_of n) r → r ≡ Ok n
@@ -82,11 +75,8 @@ module _ (c : Configuration) (s : State) (t : TreeState) (stored : IsStored c s 
 
   -- ## the tick
 
-  find-tick : find_named (place_name Tick) (under Poolsim t) ≡ Some (record { name = place_name Tick; bytes = decimal s.tick; owner = None })
-  find-tick = ap (find_named (place_name Tick)) stored.lays.frame.poolsim
-
   tick-bytes : bytes_at t (path_of Tick) ≡ Some (decimal s.tick)
-  tick-bytes = bytes-named t Tick Poolsim stored.whole tt refl ∙ ap (option_map (λ (row : Row). row.bytes)) find-tick
+  tick-bytes = bytes-named t Tick Poolsim stored.whole tt refl ∙ ap (option_map (λ (row : Row). row.bytes)) (ap (find_named (place_name Tick)) stored.lays.frame.poolsim)
 
   -- the bytes of the tick spell it
   pub tick-reads : (bytes : List ℕ) → Some bytes ≡ bytes_at t (path_of Tick) → number_of 4_294_967_295 bytes ≡ Some s.tick
@@ -114,8 +104,7 @@ get-if P (a ∷ list) (suc at) all = get-if P list at all.1
 module _ {A : Type 0} (Is : A → Type 0) (text : A → List ℕ) where
   -- there are no bytes only if there is no record
   pub text-none : (o : Option A) → None ≡ option_map text o → None ≡ o
-  text-none None is = refl
-  text-none (Some a) is = absurd cc
+  text-none o is = grind arith
 
   -- and the bytes that are there are read as the record
   pub text-some : (o : Option A) (bytes : List ℕ) (r : Result A BadRecord) → IfSome o Is → Some bytes ≡ option_map text o → ((v : A) → Is v × (bytes ≡ text v) → r ≡ Ok v) → IsRead o r
@@ -163,33 +152,20 @@ abbrev pub kept_of : SessionFacts → SessionRecord
 kept_of facts = record { mute = facts.mute; role = facts.role }
 
 session-row : (k : ℕ) (o : Option SessionFacts) → option_map (λ (r : Row). r.bytes) (option_map (session_row k) o) ≡ option_map session_text (option_map kept_of o)
-session-row k None = refl
-session-row k (Some facts) = refl
+session-row k o = grind arith
 
 -- a flag for each session is that of its number
 flag-at : (f : ℕ → Bool) (sessions : List SessionFacts) (from at : ℕ) (facts : SessionFacts) → map f (range_with_len from (length sessions)) ≡ map (λ (x : SessionFacts). x.live) sessions → slice_get sessions at ≡ Some facts → f (from + at) ≡ facts.live
 flag-at f [] from at facts each there = absurd cc
-flag-at f (x ∷ sessions) from zero facts each there =
-    let head : f from ≡ x.live = cc in
-    let same : x ≡ facts = cc in
-    let here : from + 0 ≡ from = omega arith in
-    ap f here ∙ head ∙ ap (λ (y : SessionFacts). y.live) same
-flag-at f (x ∷ sessions) from (suc at) facts each there =
-    let tail : map f (range_with_len (from + 1) (length sessions)) ≡ map (λ (y : SessionFacts). y.live) sessions = cc in
-    let next : from + suc at ≡ from + 1 + at = omega arith in
-    ap f next ∙ flag-at f sessions (from + 1) at facts tail there
+flag-at f (x ∷ sessions) from zero facts each there = grind arith
+flag-at f (x ∷ sessions) from (suc at) facts each there = grind (arith, flag-at f sessions (from + 1) at facts)
 
 known-by : (k : SessionId) (kept : SessionRecord) (live : Bool) (o : Option SessionFacts) → Some kept ≡ option_map kept_of o → IfSome o (λ facts. live ≡ facts.live) → Some (record { role = kept.role; live = live; mute = kept.mute }) ≡ o
-known-by k kept live None is flag = absurd cc
-known-by k kept live (Some facts) is flag =
-    let same : kept ≡ kept_of facts = cc in
-    ap (λ (x : SessionRecord). Some (record { role = x.role; live = live; mute = x.mute })) same
-    ∙ ap (λ (b : Bool). Some (record { role = facts.role; live = b; mute = facts.mute })) flag
+known-by k kept live o is flag = grind arith
 
 -- no record is no session
 pub session-none : (o : Option SessionFacts) → None ≡ option_map kept_of o → None ≡ o
-session-none None is = refl
-session-none (Some facts) is = absurd cc
+session-none o is = grind arith
 
 sound-by : (o : Option SessionFacts) → IfSome o (λ facts. IsSessionRole facts.role) → IfSome (option_map kept_of o) IsSession
 sound-by None sound = tt
@@ -213,8 +189,7 @@ find-three name o x y z first second third a b c any =
     (rw (list_any-append (is_named name) (first ++ second) third, list_any-append (is_named name) first second, a.any, b.any, c.any) any)
 
 or-nothing : (x : Bool) → (x || false) ≡ x
-or-nothing true = refl
-or-nothing false = refl
+or-nothing x = grind arith
 
 module _ (p : Place) (good : IsGood p) (over : above p ≡ Some Roles) (place : ℕ → Place) (list : List RoleRecord) (goods : (n : ℕ) → n < length list → IsGood (place n)) (overs : (n : ℕ) → above (place n) ≡ Some Roles) where
   abbrev role_row : ℕ → RoleRecord → Row
@@ -314,42 +289,39 @@ module _ (c : Configuration) (s : State) (t : TreeState) (stored : IsStored c s 
       ∙ ap (option_map (λ (r : Row). r.bytes)) (ap (find_named (place_name p)) stored.lays.roles.rows ∙ found)
       ∙ map-bytes row role_text same o
 
-  launcher-bytes : (p : PoolId) → IsGood (LauncherRole p) → bytes_at t (path_of (LauncherRole p)) ≡ option_map role_text (slice_get s.launchers p.0)
-  launcher-bytes p good =
-      role-found (LauncherRole p) (slice_get s.launchers p.0) (launcher_role_row p.0) (λ kept. refl) good refl
-      (find-three (place_name (LauncherRole p)) _ _ _ _ _ _ _
-      (has-own (LauncherRole p) good refl launcher_at s.launchers launchers-good (λ n. refl) p.0 (λ n equal. ap number_in equal) refl)
-      (has-none (LauncherRole p) good refl janitor_at s.janitors janitors-good (λ n. refl) _ (λ n same. cc))
-      (has-none (LauncherRole p) good refl requester_at s.requesters requesters-good (λ n. refl) _ (λ n same. cc))
-      (or-nothing _ ∙ or-nothing _))
-
-  janitor-bytes : (p : PoolId) → IsGood (JanitorRole p) → bytes_at t (path_of (JanitorRole p)) ≡ option_map role_text (slice_get s.janitors p.0)
-  janitor-bytes p good =
-      role-found (JanitorRole p) (slice_get s.janitors p.0) (janitor_role_row p.0) (λ kept. refl) good refl
-      (find-three (place_name (JanitorRole p)) _ _ _ _ _ _ _
-      (has-none (JanitorRole p) good refl launcher_at s.launchers launchers-good (λ n. refl) _ (λ n same. cc))
-      (has-own (JanitorRole p) good refl janitor_at s.janitors janitors-good (λ n. refl) p.0 (λ n equal. ap number_in equal) refl)
-      (has-none (JanitorRole p) good refl requester_at s.requesters requesters-good (λ n. refl) _ (λ n same. cc))
-      (or-nothing _))
-
-  requester-bytes : (q : RequesterId) → IsGood (RequesterRole q) → bytes_at t (path_of (RequesterRole q)) ≡ option_map role_text (slice_get s.requesters q.0)
-  requester-bytes q good =
-      role-found (RequesterRole q) (slice_get s.requesters q.0) (requester_role_row q.0) (λ kept. refl) good refl
-      (find-three (place_name (RequesterRole q)) _ _ _ _ _ _ _
-      (has-none (RequesterRole q) good refl launcher_at s.launchers launchers-good (λ n. refl) _ (λ n same. cc))
-      (has-none (RequesterRole q) good refl janitor_at s.janitors janitors-good (λ n. refl) _ (λ n same. cc))
-      (has-own (RequesterRole q) good refl requester_at s.requesters requesters-good (λ n. refl) q.0 (λ n equal. ap number_in equal) refl)
-      refl)
-
   -- what is at the place of a role
   abbrev IsShown : Role → Place → Type 0
   IsShown r p = bytes_at t (path_of p) ≡ option_map role_text (role_in r s)
 
   -- a role's bytes are the text of its record
   pub role-bytes : (r : Role) (p : Place) → Some p ≡ place_of_role r → IsGood p → bytes_at t (path_of p) ≡ option_map role_text (role_in r s)
-  role-bytes (Role.Launcher pool) p is good = let same : p ≡ LauncherRole pool = cc in subst (IsShown (Role.Launcher pool)) (sym same) (launcher-bytes pool (subst IsGood same good))
-  role-bytes (Role.Janitor pool) p is good = let same : p ≡ JanitorRole pool = cc in subst (IsShown (Role.Janitor pool)) (sym same) (janitor-bytes pool (subst IsGood same good))
-  role-bytes (Role.Requester q) p is good = let same : p ≡ RequesterRole q = cc in subst (IsShown (Role.Requester q)) (sym same) (requester-bytes q (subst IsGood same good))
+  role-bytes (Role.Launcher k) p is good =
+      let same : p ≡ LauncherRole k = cc in
+      let here : IsGood (LauncherRole k) = subst IsGood same good in
+      subst (IsShown (Role.Launcher k)) (sym same) (role-found (LauncherRole k) (slice_get s.launchers k.0) (launcher_role_row k.0) (λ kept. refl) here refl
+      (find-three (place_name (LauncherRole k)) _ _ _ _ _ _ _
+      (has-own (LauncherRole k) here refl launcher_at s.launchers launchers-good (λ n. refl) k.0 (λ n equal. ap number_in equal) refl)
+      (has-none (LauncherRole k) here refl janitor_at s.janitors janitors-good (λ n. refl) _ (λ n same. cc))
+      (has-none (LauncherRole k) here refl requester_at s.requesters requesters-good (λ n. refl) _ (λ n same. cc))
+      (or-nothing _ ∙ or-nothing _)))
+  role-bytes (Role.Janitor k) p is good =
+      let same : p ≡ JanitorRole k = cc in
+      let here : IsGood (JanitorRole k) = subst IsGood same good in
+      subst (IsShown (Role.Janitor k)) (sym same) (role-found (JanitorRole k) (slice_get s.janitors k.0) (janitor_role_row k.0) (λ kept. refl) here refl
+      (find-three (place_name (JanitorRole k)) _ _ _ _ _ _ _
+      (has-none (JanitorRole k) here refl launcher_at s.launchers launchers-good (λ n. refl) _ (λ n same. cc))
+      (has-own (JanitorRole k) here refl janitor_at s.janitors janitors-good (λ n. refl) k.0 (λ n equal. ap number_in equal) refl)
+      (has-none (JanitorRole k) here refl requester_at s.requesters requesters-good (λ n. refl) _ (λ n same. cc))
+      (or-nothing _)))
+  role-bytes (Role.Requester k) p is good =
+      let same : p ≡ RequesterRole k = cc in
+      let here : IsGood (RequesterRole k) = subst IsGood same good in
+      subst (IsShown (Role.Requester k)) (sym same) (role-found (RequesterRole k) (slice_get s.requesters k.0) (requester_role_row k.0) (λ kept. refl) here refl
+      (find-three (place_name (RequesterRole k)) _ _ _ _ _ _ _
+      (has-none (RequesterRole k) here refl launcher_at s.launchers launchers-good (λ n. refl) _ (λ n same. cc))
+      (has-none (RequesterRole k) here refl janitor_at s.janitors janitors-good (λ n. refl) _ (λ n same. cc))
+      (has-own (RequesterRole k) here refl requester_at s.requesters requesters-good (λ n. refl) k.0 (λ n equal. ap number_in equal) refl)
+      refl))
   role-bytes Role.Reaper p is good = absurd cc
 
   -- and the record has a spelling

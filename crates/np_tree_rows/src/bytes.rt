@@ -1,7 +1,7 @@
 //! The bytes and the stat at a place.
 
 ghost use Rattle.std.specs.Prelude.{◌≡◌, length, option_and_then};
-ghost use Rattle.np_layout.specs.Prelude.{IsGood, bytes_at, counter_at, option_copied, path_of, rows_at, stat_at};
+ghost use Rattle.np_tree_rows.specs.Lower.{IsGood, bytes_at, counter_at, option_copied, path_of, rows_at, stat_at};
 
 use crate::directory::children;
 use np_layout::{PathText, Place};

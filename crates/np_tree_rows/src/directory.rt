@@ -1,7 +1,7 @@
 //! The children of a directory, and whose they are.
 
 ghost use Rattle.std.specs.Prelude.{◌≡◌, false, length, slice_get};
-ghost use Rattle.np_layout.specs.Prelude.{is_owner, option_map_or, rows_at, tree_session};
+ghost use Rattle.np_tree_rows.specs.Lower.{is_owner, option_map_or, rows_at, tree_session};
 
 use np_text::SessionId;
 use np_tree::Tree;

@@ -1,8 +1,7 @@
 //! Jobs, what each role has done, and the next numbers.
 
 ghost use Rattle.std.specs.Prelude.{◌≡◌, length, slice_get};
-ghost use Rattle.np_changes.specs.Prelude.{Configuration, State, role_in};
-ghost use Rattle.np_layout.specs.Carried.{IsStored};
+ghost use Rattle.np_tree_rows.specs.Lower.{Configuration, IsStored, State, role_in};
 
 use crate::bytes::{bytes_at, count_at, counter_at};
 use np_layout::Place;

@@ -1,9 +1,7 @@
 //! The nodes of a state, and the sessions that wait for each.
 
 ghost use Rattle.std.specs.Prelude.{◌≡◌, length, slice_get};
-ghost use Rattle.np_changes.specs.Prelude.{Configuration, State, node_in, node_queue, option_map};
-ghost use Rattle.np_look.specs.Views.{node_view};
-ghost use Rattle.np_layout.specs.Carried.{IsStored};
+ghost use Rattle.np_tree_rows.specs.Lower.{Configuration, IsStored, State, node_in, node_queue, node_view, option_map};
 
 use crate::bytes::{bytes_at, count_at};
 use crate::rows::{name_at, read_ten, waiting_at};

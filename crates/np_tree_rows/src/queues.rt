@@ -1,10 +1,8 @@
 //! The queues that a session is in, as a tree has them.
 
 ghost use Rattle.std.specs.Prelude.{◌≡◌, length, slice_get, option_and_then};
-ghost use Rattle.np_changes.specs.Prelude.{Configuration, State, list_any};
-ghost use Rattle.np_layout.specs.Prelude.{IsStored, is_owner, rows_at, tree_session};
-ghost use Rattle.np_look.specs.Readers.{queued_nodes, queued_requests};
-ghost use Rattle.np_tree_rows.specs.Queues.{node_if_queued, request_if_queued};
+ghost use Rattle.np_tree_rows.specs.Lower.{Configuration, IsStored, State, is_owner, list_any, queued_nodes, queued_requests, rows_at, tree_session};
+ghost use Rattle.np_tree_rows.specs.Rows.{node_if_queued, request_if_queued};
 
 use crate::directory::{children, waits_at};
 use crate::node_table::node_at;

@@ -1,9 +1,7 @@
 //! The requests of a state, and the sessions that wait for each.
 
 ghost use Rattle.std.specs.Prelude.{◌≡◌, IfSome, length, slice_get};
-ghost use Rattle.np_layout.specs.Prelude.{IsStored, OnFalse, OnTrue};
-ghost use Rattle.np_changes.specs.Prelude.{Configuration, HasText, State, option_map, request_in, request_queue};
-ghost use Rattle.np_look.specs.Views.{request_view};
+ghost use Rattle.np_tree_rows.specs.Lower.{Configuration, HasText, IsStored, OnFalse, OnTrue, State, option_map, request_in, request_queue, request_view};
 
 use crate::bytes::{bytes_at, count_at};
 use crate::rows::{name_at, waiting_at};

@@ -1,7 +1,7 @@
 //! The children of a place: their names, and the sessions that wait for a lock.
 
 ghost use Rattle.std.specs.Prelude.{◌≡◌, ℕ, ◌^◌, ◌<◌, List, slice_get, Some};
-ghost use Rattle.np_layout.specs.Prelude.{AllZip, IsGood, IsWait, SessionId, option_copied, option_map, path_of, stat_of_child, ten_digits_of, under};
+ghost use Rattle.np_tree_rows.specs.Lower.{AllZip, IsGood, IsWait, SessionId, option_copied, option_map, path_of, stat_of_child, ten_digits_of, under};
 
 use np_layout::{PathText, Place};
 use np_text::SessionId;

@@ -1,8 +1,7 @@
 //! Semaphores and swept pairs, as a tree has them.
 
 ghost use Rattle.std.specs.Prelude.{◌≡◌, length, slice_get};
-ghost use Rattle.np_layout.specs.Carried.{IsStored};
-ghost use Rattle.np_changes.specs.Prelude.{Configuration, State, handles_of, has_handle, is_swept};
+ghost use Rattle.np_tree_rows.specs.Lower.{Configuration, IsStored, State, handles_of, has_handle, is_swept};
 
 use crate::bytes::count_at;
 use np_config::Config;

@@ -1,8 +1,7 @@
 //! The tick, sessions and registrations.
 
 ghost use Rattle.std.specs.Prelude.{◌≡◌, ◌<◌, ◌^◌, length, slice_get};
-ghost use Rattle.np_changes.specs.Prelude.{Configuration, State, registered, session_of};
-ghost use Rattle.np_layout.specs.Carried.{IsStored};
+ghost use Rattle.np_tree_rows.specs.Lower.{Configuration, IsStored, State, registered, session_of};
 
 use crate::bytes::{bytes_at, count_at, owner_at};
 use np_config::Config;

@@ -1,7 +1,7 @@
 //! The rows of the state that a tree stores.
 
 ghost use Rattle.std.specs.Prelude.{◌≡◌, ◌<◌, ◌^◌};
-ghost use Rattle.np_layout.specs.Prelude.{IsStored, decoded};
+ghost use Rattle.np_tree_rows.specs.Lower.{IsStored, decoded};
 
 use crate::{job_table, node_table, queues, request_table, semaphores, session_table};
 use np_changes::Asked;
@@ -21,7 +21,7 @@ pub struct TreeRows<'a> {
 }
 
 impl<'a> Model for TreeRows<'a> {
-    ghost use Rattle.np_layout.specs.Decoded.{decoded};
+    ghost use Rattle.np_tree_rows.specs.Lower.{decoded};
     ghost use Rattle.np_tree_rows.specs.Rows.{IsReadable, SiteState};
 
     ghost Value = { SiteState };

@@ -1,17 +1,11 @@
 -- what the test of stats says
-use Rattle.np_watch.proofs.Prelude.{Bool, IsFreshPath, List, Node, None, Option, Some, StaleIsLater, TestSaysFresh, TreeState, and_from, and_parts, ap, arith, at_path, false, is_fresh, is_listed_by, is_written_by, max, nat_le, nat_tests, option_and_then, option_map, parent_of, refl, stat_above, stat_at, stat_of, true, ℕ, ◌&&◌, ◌<◌, ◌∙◌, ◌≡◌, ◌≤◌}
+use Rattle.np_watch.proofs.Prelude.{IsFreshPath, List, Node, None, Option, Some, StaleIsLater, TestSaysFresh, TreeState, and_from, and_parts, ap, arith, at_path, is_fresh, is_listed_by, is_written_by, nat_le, nat_tests, option_and_then, option_map, parent_of, refl, stat_above, stat_at, stat_of, subst, true, ℕ, ◌∙◌, ◌≡◌, ◌≤◌}
 
 module _ (t : TreeState) (z : ℕ) where
   -- the node of a path that was listed at z or before
   listed-node : (dir : List ℕ) (o : Option Node) → at_path t.nodes dir ≡ o → is_listed_by z (option_map (stat_of t.nodes) o) ≡ true → (n : Node) × (at_path t.nodes dir ≡ Some n) × (n.facts.pzxid ≤ z)
   listed-node dir None there is = absurd cc
   listed-node dir (Some n) there is = (n, there, grind (arith, nat_tests))
-
-  written-node : (o : Option Node) (n : Node) → o ≡ Some n → is_written_by z (option_map (stat_of t.nodes) o) ≡ true → n.facts.mzxid ≤ z
-  written-node None n there is = absurd cc
-  written-node (Some m) n there is =
-      let same : m.facts.mzxid ≡ n.facts.mzxid = ap (λ (k : Node). k.facts.mzxid) (let one : m ≡ n = cc in one) in
-      grind (arith, nat_tests)
 
   fresh-from-by : (path : List ℕ) (above : Option (List ℕ)) → parent_of path ≡ above → is_listed_by z (option_and_then (stat_at t) above) ≡ true → is_written_by z (stat_at t path) ≡ true → IsFreshPath z t path
   fresh-from-by path None is listed written = absurd cc
@@ -20,7 +14,7 @@ module _ (t : TreeState) (z : ℕ) where
     above = is;
     fresh = record {
       parent = listed-node dir (at_path t.nodes dir) refl listed;
-      node = λ n there. written-node (at_path t.nodes path) n there written;
+      node = λ n there. let before = subst (λ (o : Option Node). is_written_by z (option_map (stat_of t.nodes) o) ≡ true) there written in grind (arith, nat_tests);
     };
   }
 
@@ -49,19 +43,6 @@ test-says-fresh t z path = (fresh-from t z path, fresh-to t z path)
 
 -- ## the last change
 
-past : (a z : ℕ) → nat_le a z ≡ false → z < a
-past a z is = grind (arith, nat_tests)
-
--- the later of two numbers is after z if one of them is
-later-both : (a b z : ℕ) (x y : Bool) → nat_le a z ≡ x → nat_le b z ≡ y → (x && y) ≡ false → z < max a b
-later-both a b z true true first second is = absurd cc
-later-both a b z true false first second is = let less : z < b = past b z second in omega arith
-later-both a b z false y first second is = let less : z < a = past a z first in omega arith
-
-later-one : (a z : ℕ) (x : Bool) → nat_le a z ≡ x → (x && true) ≡ false → z < max a 0
-later-one a z true first is = absurd cc
-later-one a z false first is = let less : z < a = past a z first in omega arith
-
 pub stale-is-later : StaleIsLater
-stale-is-later z parent None is = later-one parent.pzxid z (nat_le parent.pzxid z) refl is
-stale-is-later z parent (Some node) is = later-both parent.pzxid node.mzxid z (nat_le parent.pzxid z) (nat_le node.mzxid z) refl refl is
+stale-is-later z parent None is = grind (arith, nat_tests)
+stale-is-later z parent (Some node) is = grind (arith, nat_tests)

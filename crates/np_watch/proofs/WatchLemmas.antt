@@ -1,5 +1,5 @@
 -- watches in their order, and the first that passes a test
-use Rattle.np_watch.proofs.Prelude.{AreWatches, Bool, List, None, NonePass, Option, Rises, Some, Watch, all-find, all-insert_before, all-remove_first, all-weaker, ap, arith, cond, false, filter, find, has_key, key_before, key_transitive, length, length-insert_before, length-remove_first, nat_tests, not, option_map, refl, remove_first, suc, true, with_watch, ℕ, [], ◌<◌, ◌∷◌, ◌≡◌}
+use Rattle.np_watch.proofs.Prelude.{AreWatches, Bool, List, None, NonePass, Option, Rises, Some, Watch, all-find, all-insert_before, all-remove_first, all-weaker, ap, arith, by_bool, cond, false, filter, find, has_key, key_before, key_transitive, length, length-insert_before, length-remove_first, nat_tests, not, option_map, refl, remove_first, suc, true, with_watch, ℕ, [], ◌<◌, ◌∷◌, ◌≡◌}
 
 -- ## one more
 
@@ -23,13 +23,10 @@ watches-with new xs none room are =
 
 -- ## one fewer
 
-rises-without-by : (p : Watch → Bool) (x : Watch) (xs : List Watch) (b : Bool) → Rises key_before (x ∷ xs) → Rises key_before (remove_first p xs) → Rises key_before (cond b xs (x ∷ remove_first p xs))
-rises-without-by p x xs true rises later = rises.1
-rises-without-by p x xs false rises later = (all-remove_first (λ y. key_before x y ≡ true) p xs rises.0, later)
-
 rises-without : (p : Watch → Bool) (xs : List Watch) → Rises key_before xs → Rises key_before (remove_first p xs)
 rises-without p [] rises = tt
-rises-without p (x ∷ xs) rises = rises-without-by p x xs (p x) rises (rises-without p xs rises.1)
+rises-without p (x ∷ xs) rises = by_bool (λ b. Rises key_before (cond b xs (x ∷ remove_first p xs))) (p x) (λ _. rises.1)
+    (λ _. (all-remove_first (λ y. key_before x y ≡ true) p xs rises.0, rises-without p xs rises.1))
 
 pub watches-without : (p : Watch → Bool) (xs : List Watch) → AreWatches xs → AreWatches (remove_first p xs)
 watches-without p xs are =
@@ -71,22 +68,15 @@ module _ (p : Watch → Bool) where
       let found = found-key (find p xs) key is in
       rw (← found.keyed) (taken-found xs found.watch rises found.there)
 
-  rest-by : (x : Watch) (xs : List Watch) (b : Bool) → p x ≡ b → filter (λ y. not (p y)) (remove_first p xs) ≡ filter (λ y. not (p y)) xs → filter (λ y. not (p y)) (cond b xs (x ∷ remove_first p xs)) ≡ cond (not b) (x ∷ filter (λ y. not (p y)) xs) (filter (λ y. not (p y)) xs)
-  rest-by x xs true is later = refl
-  rest-by x xs false is later = rw is (ap (λ ys. x ∷ ys) later)
-
   -- those that don't pass stay
   pub rest-same : (xs : List Watch) → filter (λ y. not (p y)) (remove_first p xs) ≡ filter (λ y. not (p y)) xs
   rest-same [] = refl
-  rest-same (x ∷ xs) = rest-by x xs (p x) refl (rest-same xs)
-
-  shorter-by : (x watch : Watch) (xs : List Watch) (b : Bool) → cond b (Some x) (find p xs) ≡ Some watch → (find p xs ≡ Some watch → suc (length (remove_first p xs)) ≡ length xs) → suc (length (cond b xs (x ∷ remove_first p xs))) ≡ suc (length xs)
-  shorter-by x watch xs true found later = refl
-  shorter-by x watch xs false found later = ap suc (later found)
+  rest-same (x ∷ xs) = by_bool (λ b. filter (λ y. not (p y)) (cond b xs (x ∷ remove_first p xs)) ≡ cond (not b) (x ∷ filter (λ y. not (p y)) xs) (filter (λ y. not (p y)) xs)) (p x)
+      (λ _. refl) (λ fails. rw fails (ap (λ ys. x ∷ ys) (rest-same xs)))
 
   shorter-found : (xs : List Watch) (watch : Watch) → find p xs ≡ Some watch → suc (length (remove_first p xs)) ≡ length xs
   shorter-found [] watch found = absurd cc
-  shorter-found (x ∷ xs) watch found = shorter-by x watch xs (p x) found (shorter-found xs watch)
+  shorter-found (x ∷ xs) watch found = grind (arith, shorter-found xs watch)
 
   pub shorter : (xs : List Watch) (key : ℕ) → option_map (λ (w : Watch). w.key) (find p xs) ≡ Some key → suc (length (remove_first p xs)) ≡ length xs
   shorter xs key is =

@@ -1,7 +1,7 @@
 //! Whether a path is as it was at a change, by the stats of two nodes.
 
 ghost use Rattle.std.specs.Prelude.{◌≡◌};
-ghost use Rattle.np_watch.specs.Fresh.{change_by, is_fresh_by, stat_above};
+ghost use Rattle.np_watch.specs.Watching.{change_by, is_fresh_by, stat_above};
 
 use np_path::Path;
 use np_tree::{Stat, Tree};
@@ -10,10 +10,7 @@ use np_tree::{Stat, Tree};
 pub fn stat_above(tree: &Tree, path: &Path) -> Option<Stat>
     ensures { result ≡ stat_above tree.now path.now }
 {
-    match path.parent() {
-        Some(above) => tree.exists(above),
-        None => None,
-    }
+    path.parent().and_then(|above| tree.exists(above))
 }
 
 /// Whether a path is as it was at a change, by the stat of the node above it and the stat of the
@@ -35,13 +32,7 @@ pub fn is_fresh(at: u64, above: Option<Stat>, here: Option<Stat>) -> bool
 pub fn change_of(above: Option<Stat>, here: Option<Stat>) -> u64
     ensures { result ≡ change_by above here }
 {
-    let listed = match above {
-        Some(parent) => parent.pzxid,
-        None => 0,
-    };
-    let written = match here {
-        Some(node) => node.mzxid,
-        None => 0,
-    };
+    let listed = above.map_or(0, |parent| parent.pzxid);
+    let written = here.map_or(0, |node| node.mzxid);
     listed.max(written)
 }

@@ -1,6 +1,6 @@
 //! Laws of fresh paths. Each function does nothing: its contract is the law.
 
-ghost use Rattle.np_watch.specs.Fresh.{StaleIsLater, TestSaysFresh};
+ghost use Rattle.np_watch.specs.Watching.{StaleIsLater, TestSaysFresh};
 
 /// The test by stats says whether a path is fresh.
 pub fn tests_say_fresh()

@@ -1,8 +1,8 @@
 //! Watches on paths of the coordination tree, and which paths are as they were at a change.
 //!
-//! `specs/Fresh` says when a path is fresh, by the stats that `Tree::exists` returns, and that this
-//! is what np_tree says of it. `specs/Watching` says what a set of watches is: contracts see
-//! `Watches` as the list of its watches, in the order of their keys.
+//! `specs/Watching` says when a path is fresh, by the stats that `Tree::exists` returns, and that
+//! this is what np_tree says of it. It says what a set of watches is, too: contracts see `Watches`
+//! as the list of its watches, in the order of their keys.
 //!
 //! A watch fires once: `take_fired` takes out the watch whose key it returns.
 #![tactic(auto)]

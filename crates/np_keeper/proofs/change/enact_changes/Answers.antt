@@ -1,4 +1,4 @@
-use Rattle.np_keeper.proofs.Prelude.{IsHeld, IsReady, IsStored, SiteState, State, TreeState, ap, arith, decoded, on_err_weaker, on_ok_weaker, parts_of, subst, sym, trees-have-one_state, ◌<◌, ◌∙◌, ◌≡◌}
+use Rattle.np_keeper.proofs.Prelude.{IsHeld, IsReady, IsStored, SiteState, State, TreeState, ap, arith, decoded, on_err_weaker, on_ok_weaker, parts_of, refl, subst, sym, trees-have-one_state, ◌<◌, ◌∙◌, ◌≡◌}
 use Rattle.np_keeper.proofs.Enacted.{can-make, either-way, enact, err-always, held-reserved, holds-made}
 use Rattle.np_keeper.proofs.change.enact_changes.Goals as goal
 
@@ -32,10 +32,8 @@ make-requires-clause-can c =
     let s = decoded config c.args.tree.now in
     let t = c.reserve.new.tree in
     let holds = held-reserved config c.args.tree.now t c.reserve.ensures.same c.requires.held in
-    let number : t.changes ≡ c.args.tree.now.changes = ap (λ (u : TreeState). u.changes) c.reserve.ensures.same in
-    let low : t.changes < 16_777_214 = omega (arith, c.requires.low) in
     let ops = c.as_slice.ensures.value ∙ c.in_ok-ops.ensures.parts ∙ ap (λ (k : SiteState). parts_of k.configuration ch k.state t) c.new.ensures ∙ ap (λ (x : State). parts_of config ch x t) holds.state in
-    can-make enact trees-have-one_state config ch s t holds low c.requires.ready c.as_slice.result.now ops c.in_ok-reserve.ensures.ok
+    can-make enact trees-have-one_state config ch s c.args.tree.now t c.reserve.ensures.same (record { held = c.requires.held; state = refl }) c.requires.low c.requires.ready c.as_slice.result.now ops c.in_ok-reserve.ensures.ok
 
 pub returns-clause-held : goal.returns-clause-held
 returns-clause-held c =
@@ -44,10 +42,8 @@ returns-clause-held c =
     let s = decoded config c.args.tree.now in
     let t = c.reserve.new.tree in
     let holds = held-reserved config c.args.tree.now t c.reserve.ensures.same c.requires.held in
-    let number : t.changes ≡ c.args.tree.now.changes = ap (λ (u : TreeState). u.changes) c.reserve.ensures.same in
-    let low : t.changes < 16_777_214 = omega (arith, c.requires.low) in
     let ops = c.as_slice.ensures.value ∙ c.in_ok-ops.ensures.parts ∙ ap (λ (k : SiteState). parts_of k.configuration ch k.state t) c.new.ensures ∙ ap (λ (x : State). parts_of config ch x t) holds.state in
-    either-way c.make.result c.make.ensures.ok c.make.ensures.err (λ is. (holds-made enact trees-have-one_state config ch s t holds low c.requires.ready c.as_slice.result.now c.make.new.tree ops is).held) (λ is. subst (IsHeld config) (sym is) holds.held)
+    either-way c.make.result c.make.ensures.ok c.make.ensures.err (λ is. (holds-made enact trees-have-one_state config ch s c.args.tree.now t c.reserve.ensures.same (record { held = c.requires.held; state = refl }) c.requires.low c.requires.ready c.as_slice.result.now c.make.new.tree ops is).held) (λ is. subst (IsHeld config) (sym is) holds.held)
 
 pub returns-clause-ok : goal.returns-clause-ok
 returns-clause-ok c =
@@ -56,10 +52,8 @@ returns-clause-ok c =
     let s = decoded config c.args.tree.now in
     let t = c.reserve.new.tree in
     let holds = held-reserved config c.args.tree.now t c.reserve.ensures.same c.requires.held in
-    let number : t.changes ≡ c.args.tree.now.changes = ap (λ (u : TreeState). u.changes) c.reserve.ensures.same in
-    let low : t.changes < 16_777_214 = omega (arith, c.requires.low) in
     let ops = c.as_slice.ensures.value ∙ c.in_ok-ops.ensures.parts ∙ ap (λ (k : SiteState). parts_of k.configuration ch k.state t) c.new.ensures ∙ ap (λ (x : State). parts_of config ch x t) holds.state in
-    on_ok_weaker c.make.result (λ is. (holds-made enact trees-have-one_state config ch s t holds low c.requires.ready c.as_slice.result.now c.make.new.tree ops is).state) c.make.ensures.ok
+    on_ok_weaker c.make.result (λ is. (holds-made enact trees-have-one_state config ch s c.args.tree.now t c.reserve.ensures.same (record { held = c.requires.held; state = refl }) c.requires.low c.requires.ready c.as_slice.result.now c.make.new.tree ops is).state) c.make.ensures.ok
 
 pub returns-clause-err : goal.returns-clause-err
 returns-clause-err c =

@@ -1,4 +1,4 @@
-use Rattle.np_keeper.proofs.Prelude.{CanEnd, TreeState, after_multi, ap, made, subst, sym, with_begin, with_end, with_spare, writer, ℕ, ◌∙◌, ◌≡◌}
+use Rattle.np_keeper.proofs.Prelude.{TreeState, after_multi, ap, made, with_begin, with_end, with_spare, writer, ℕ, ◌∙◌, ◌≡◌}
 use Rattle.np_keeper.proofs.Enacted.{end-spared, later-same, made-later, own-spare}
 use Rattle.np_keeper.proofs.change.make.Goals as goal
 
@@ -12,10 +12,7 @@ pub begin-requires : goal.begin-requires
 begin-requires c = rw (c.in_ok-call.ensures.ok, c.writer_of.ensures) c.requires.can.begins
 
 pub end-requires : goal.end-requires
-end-requires c =
-    let multi : c.call.new.tree ≡ after_multi c.args.tree.now (writer c.args.changes.now.maker) c.args.ops.now = c.in_ok-call.ensures.ok ∙ ap (λ (w : ℕ). after_multi c.args.tree.now w c.args.ops.now) c.writer_of.ensures in
-    let is = c.begin.ensures ∙ ap (λ (u : TreeState). with_spare (with_begin c.args.changes.now.grows u) c.begin.new.tree.spare) multi in
-    subst (CanEnd c.args.changes.now.sessions) (sym is) (c.requires.can.ends c.begin.new.tree.spare)
+end-requires c = rw (c.begin.ensures, c.in_ok-call.ensures.ok, c.writer_of.ensures) (c.requires.can.ends c.begin.new.tree.spare)
 
 pub returns-clause-ok : goal.returns-clause-ok
 returns-clause-ok c =

@@ -1,5 +1,5 @@
-use Rattle.np_keeper.proofs.Prelude.{Goes, List, Op, TreeState, after_begin, after_multi, after_parts, ap, arith, first_parts, is_numbered, length, list_all, new_tree, subst, sym, with_spare, ◌∙◌, ◌≡◌}
-use Rattle.np_keeper.proofs.Enacted.{decoded-first, first-few, first-goes-spared, first-numbered, held-first}
+use Rattle.np_keeper.proofs.Prelude.{Goes, List, Op, TreeState, after_parts, ap, arith, first_parts, is_numbered, length, list_all, subst, sym, ◌∙◌, ◌≡◌}
+use Rattle.np_keeper.proofs.Enacted.{first-few, first-goes-spared, first-numbered, holds-first}
 use Rattle.np_keeper.proofs.start.first_tree.Goals as goal
 
 pub call-requires-clause-few : goal.call-requires-clause-few
@@ -16,19 +16,7 @@ call-requires-clause-goes c =
     (first-goes-spared c.args.config.now c.requires c.in_ok-tree.tree.spare))
 
 pub returns-clause-held : goal.returns-clause-held
-returns-clause-held c =
-    let ops : c.as_slice.result.now ≡ first_parts c.args.config.now = c.as_slice.ensures.value ∙ c.in_ok-ops.ensures in
-    let is : c.call.new.tree ≡ after_multi (with_spare (after_begin new_tree) c.in_ok-tree.tree.spare) 1 (first_parts c.args.config.now) =
-    c.in_ok-call.ensures.ok
-    ∙ ap (λ (list : List Op). after_multi c.in_ok-tree.tree 1 list) ops
-    ∙ ap (λ (t : TreeState). after_multi t 1 (first_parts c.args.config.now)) c.in_ok-tree.ensures in
-    held-first c.args.config.now c.requires c.call.new.tree c.in_ok-tree.tree.spare c.changes.ensures.tree.whole is
+returns-clause-held c = (holds-first c.args.config.now c.requires c.in_ok-tree.tree c.call.new.tree c.as_slice.result.now c.changes.ensures.tree.whole (c.as_slice.ensures.value ∙ c.in_ok-ops.ensures) c.in_ok-tree.ensures c.in_ok-call.ensures.ok).held
 
 pub returns-clause-state : goal.returns-clause-state
-returns-clause-state c =
-    let ops : c.as_slice.result.now ≡ first_parts c.args.config.now = c.as_slice.ensures.value ∙ c.in_ok-ops.ensures in
-    let is : c.call.new.tree ≡ after_multi (with_spare (after_begin new_tree) c.in_ok-tree.tree.spare) 1 (first_parts c.args.config.now) =
-    c.in_ok-call.ensures.ok
-    ∙ ap (λ (list : List Op). after_multi c.in_ok-tree.tree 1 list) ops
-    ∙ ap (λ (t : TreeState). after_multi t 1 (first_parts c.args.config.now)) c.in_ok-tree.ensures in
-    decoded-first c.args.config.now c.requires c.call.new.tree c.in_ok-tree.tree.spare c.changes.ensures.tree.whole is
+returns-clause-state c = (holds-first c.args.config.now c.requires c.in_ok-tree.tree c.call.new.tree c.as_slice.result.now c.changes.ensures.tree.whole (c.as_slice.ensures.value ∙ c.in_ok-ops.ensures) c.in_ok-tree.ensures c.in_ok-call.ensures.ok).state
