@@ -1,22 +1,15 @@
 -- the members of groups after the changes of an event: what is touched, what stays, and what is made anew
-use Rattle.np_active.proofs.Prelude.{ActiveOf, AllByRecursion, AreActive, AreGivenGroups, AreGrouped, AreGroups, AreJobGroups, AreSessionGroups, Bool, Changes, Configuration, Group, Growth, Invariant, IsListed, IsNumbered, IsOrder, IsPast, IsPrepared, IsReached, IsTouched, Job, JobId, JobKind, JobRecord, JobsChange, List, Maker, Member, NodeEntry, NodeId, NodeRecord, NodesChange, None, Option, PastOf, Phase, Placed, PreparedOf, RequestEdit, RequestEntry, RequestId, RequestRecord, RequestState, RequesterId, RequestsChange, Rises, SemId, SessionFacts, SessionId, SessionKind, SessionsChange, Some, State, TenantId, TouchedOf, all-weaker, allocated, any-same, ap, arith, asked-untouched, asker, below, by_maker, calm-request, change_first, changed, changes_state, cond, contrapositive, each-moved, edited, false, found-grown, given_to, grouped-moved, groups_by, groups_of_job, groups_of_node, groups_of_session, groups_within, grown, grown-numbered, handed_to, handle-untouched, has_handle, invariant-Runs, is_among, is_asked, is_fulfilled, is_job_before, is_job_in, is_kind_in, is_node_before, is_prompt, is_request, is_session_before, is_supplied, job-untouched, job_before, job_group, jobs-grown, jobs-in_order, jobs_changed, joined, kept-change_at, kind_by, kind_of_rows, kinds_of_facts, left, left-request, length, length-append, length-left, list_any, list_any-append, made, made-all, map, map-map, nat_lt, nat_tests, no_kinds, node-untouched, node_in, node_in-allocated, node_in-later, node_in-queue, node_queue, node_queue-allocated, node_queue-freed, node_queue-in_use, node_queue-left, node_queue-new, node_queue-nowhere, node_queue-other, node_queue-put, node_queue-queue, node_queue-remove, node_queue-removed, nodes-in_order, nodes_by_job, nodes_by_state, nodes_changed, nodes_left, nodes_of_request, none-found, not-below, numbered, option_and_then, option_map, option_map_or, past_job, past_session, placed_all, placed_node, put_node_queue, refl, remove_node, request-equal, request-itself, request_in, request_in-edit, request_in-remove, request_state_of, requests_changed, rises-all_moved, same_job, same_node, same_node-is, same_request, same_session, session-untouched, session_before, session_group, sessions-in_order, set-other, slice_get, slice_get_past, subst, suc, sym, take_all, touches_given, touches_job, touches_node, true, unclaims_node, with_all_moved, with_mark, with_moved, ℕ, [], ◌++◌, ◌-◌, ◌<◌, ◌==◌, ◌||◌, ◌∙◌, ◌∷◌, ◌≡◌, ◌≢◌, ◌≤◌}
+use Rattle.np_active.proofs.Prelude.{ActiveOf, AllByRecursion, AreActive, AreGivenGroups, AreGrouped, AreGroups, AreJobGroups, AreSessionGroups, Bool, Changes, Configuration, Group, Growth, Invariant, IsListed, IsNumbered, IsOrder, IsPast, IsPrepared, IsReached, IsTouched, Job, JobId, JobKind, JobRecord, JobsChange, List, Maker, Member, NodeEntry, NodeId, NodeRecord, NodesChange, None, Option, PastOf, Placed, PreparedOf, RequestEntry, RequestId, RequestRecord, RequestState, RequesterId, RequestsChange, Rises, SemId, SessionFacts, SessionId, SessionsChange, Some, State, TenantId, TouchedOf, all-weaker, allocated, any-same, ap, arith, asked-untouched, asker, below, calm-request, change_first, changed, cond, contrapositive, each-moved, edited, false, found-grown, given_to, grouped-moved, groups_by, groups_of_job, groups_of_node, groups_of_session, groups_within, grown, grown-numbered, handed_to, handle-untouched, has_handle, invariant-Runs, is_among, is_asked, is_fulfilled, is_job_before, is_job_in, is_kind_in, is_node_before, is_session_before, job-untouched, job_before, job_group, jobs-grown, jobs-in_order, jobs_changed, joined, kept-change_at, kind_of_rows, kinds_of_facts, left, left-request, length, length-append, length-left, list_any, list_any-append, made, made-all, map, map-map, nat_lt, nat_tests, no_kinds, node-untouched, node_in, node_in-allocated, node_in-later, node_in-queue, node_queue, node_queue-allocated, node_queue-freed, node_queue-in_use, node_queue-left, node_queue-new, node_queue-nowhere, node_queue-other, node_queue-put, node_queue-queue, node_queue-remove, node_queue-removed, nodes-in_order, nodes_by_job, nodes_by_state, nodes_changed, nodes_left, nodes_of_request, none-found, not-below, numbered, option_and_then, option_map, option_map_or, past_job, past_session, placed_all, placed_node, put_node_queue, refl, request-equal, request-itself, request_in, request_in-edit, request_in-remove, requests_changed, rises-all_moved, same_job, same_node, same_node-is, same_request, same_session, session-untouched, session_before, session_group, sessions-in_order, set-other, slice_get, slice_get_past, subst, suc, sym, take_all, touches_given, touches_job, touches_node, true, unclaims_node, with_all_moved, with_mark, with_moved, ℕ, [], ◌++◌, ◌-◌, ◌<◌, ◌==◌, ◌∙◌, ◌∷◌, ◌≡◌, ◌≤◌}
 use Rattle.np_active.proofs.KindLemmas.{job-among, session-among}
 
 -- # all that the changes of an event touch is listed before it
 
-abbrev listed : NodeId → List NodeId → Bool
-listed n ns = list_any (λ m. same_node m n) ns
+-- the node is in the list
+abbrev lists : NodeId → List NodeId → Bool
+lists n nodes = list_any (λ m. same_node m n) nodes
 
 abbrev pub listed_nodes : Changes → State → List NodeId → List NodeId
 listed_nodes ch s touched = (touched ++ nodes_by_state ch.requests s) ++ nodes_by_job ch.jobs s
-
--- what is touched in one of the three ways is in the list
-all-listed : (touched : List NodeId) (ch : Changes) (s : State) (n : NodeId) → (touches_node ch s n ≡ true → listed n touched ≡ true)
-    → touches_given ch s n ≡ true → listed n (listed_nodes ch s touched) ≡ true
-all-listed touched ch s n first is =
-    let all = list_any-append (λ m. same_node m n) (touched ++ nodes_by_state ch.requests s) (nodes_by_job ch.jobs s) in
-    let two = list_any-append (λ m. same_node m n) touched (nodes_by_state ch.requests s) in
-    grind arith
 
 -- what is listed, with the groups that it is in and a bound of queues, is prepared
 pub is-prepared : (c : Configuration) (s : State) (ch : Changes) (touched : List NodeId) (prepared : PreparedOf)
@@ -26,16 +19,15 @@ pub is-prepared : (c : Configuration) (s : State) (ch : Changes) (touched : List
     → IsPrepared c s ch prepared
 is-prepared c s ch touched prepared first past most = record {
   listed = listed_nodes ch s touched;
-  nodes = λ n is. all-listed touched ch s n (first n) is;
+  nodes = λ n is.
+      let all = list_any-append (λ m. same_node m n) (touched ++ nodes_by_state ch.requests s) (nodes_by_job ch.jobs s) in
+      let two = list_any-append (λ m. same_node m n) touched (nodes_by_state ch.requests s) in
+      grind (arith, first n);
   past = past;
   most = most;
 }
 
 -- # a node that the changes of an event do not touch stays in the groups that it was in
-
--- the node is in the list
-abbrev lists : NodeId → List NodeId → Bool
-lists n nodes = list_any (λ m. same_node m n) nodes
 
 -- ## the request that the node is allocated to
 
@@ -43,24 +35,8 @@ lists n nodes = list_any (λ m. same_node m n) nodes
 abbrev read : (RequestState → Option JobId → Option RequesterId) → Option RequestRecord → Option RequesterId
 read hand o = option_and_then (λ q. hand q.state q.job) o
 
--- an edit that leaves the state leaves the job too
-edit-read : (hand : RequestState → Option JobId → Option RequesterId) (change : RequestEdit) (q : RequestRecord) → changes_state change ≡ false → read hand (Some (edited change q)) ≡ read hand (Some q)
-edit-read hand change q calm = grind arith
-
 module _ (s : State) (n : NodeId) (r : RequestId) (place : IsListed s n r) where
-  -- the node is among those of the request
-  among-nodes : (q : RequestRecord) → request_in r s.requests ≡ Some q → lists n (nodes_of_request s r) ≡ true
-  among-nodes q is = ap (λ (o : Option RequestRecord). lists n (option_map_or (λ k. k.nodes) o [])) is ∙ place.listed q is
-
-  -- so an edit of the state would list it
-  edit-calm : (r0 : RequestId) (change : RequestEdit) (q : RequestRecord) → request_in r s.requests ≡ Some q → same_request r0 r ≡ true
-      → lists n (nodes_by_state (RequestsChange.Edit r0 change) s) ≡ false → changes_state change ≡ false
-  edit-calm r0 change q is same out =
-      let among = among-nodes q is in
-      let one = request-equal r0 r same in
-      grind arith
-
-  -- a change that neither lists the node nor removes the request leaves both
+  -- a change that neither lists the node nor removes the request leaves both: an edit that leaves the state leaves the job too
   request-read : (hand : RequestState → Option JobId → Option RequesterId) (maker : Option Maker) (change : RequestsChange) (rows : List RequestEntry) → request_in r rows ≡ request_in r s.requests
       → lists n (nodes_by_state change s) ≡ false → ((r0 : RequestId) → change ≡ RequestsChange.Remove r0 → same_request r0 r ≡ false)
       → read hand (request_in r (requests_changed maker change rows)) ≡ read hand (request_in r rows)
@@ -69,9 +45,7 @@ module _ (s : State) (n : NodeId) (r : RequestId) (place : IsListed s n r) where
     where
       by : (o : Option RequestRecord) → request_in r s.requests ≡ o → read hand (option_map (λ q. cond (same_request r0 r) (edited change q) q) o) ≡ read hand o
       by None is = refl
-      by (Some q) is =
-          let calm = λ (same : same_request r0 r ≡ true). edit-read hand change q (edit-calm r0 change q is same out) in
-          grind arith
+      by (Some q) is = grind (arith, place.listed q is, request-equal r0 r)
   request-read hand maker (RequestsChange.Remove r0) rows there out stays = ap (read hand) (request_in-remove r0 r rows (stays r0 refl))
   request-read hand maker change rows there out stays = ap (read hand) (calm-request maker change r rows tt)
 
@@ -81,19 +55,13 @@ module _ (s : State) (n : NodeId) (r : RequestId) (place : IsListed s n r) where
 abbrev asker_by : Configuration → JobId → Option JobRecord → Option RequesterId
 asker_by c j row = option_and_then (λ kept. cond (is_asked kept.phase) (option_map (λ row. row.requester) (slice_get c.jobs j.0)) None) row
 
-module _ (c : Configuration) (s : State) (n : NodeId) (r : RequestId) (j : JobId) (job : JobRecord) (there : slice_get s.jobs j.0 ≡ Some job) (asks : job.request ≡ Some r)
-    (among : lists n (nodes_of_request s r) ≡ true) where
-  -- a change that puts the job's record would list the node
-  puts-other : (j0 : JobId) (kept : JobRecord) → lists n (nodes_by_job (JobsChange.Put j0 kept) s) ≡ false → j0.0 ≢ j.0
-  puts-other j0 kept out same =
-      let row = ap (λ (i : ℕ). slice_get s.jobs i) same ∙ there in
-      grind arith
-
-  -- the requester that has asked stays
-  job-asker : (change : JobsChange) → lists n (nodes_by_job change s) ≡ false → asker_by c j (slice_get (jobs_changed change s.jobs) j.0) ≡ asker_by c j (slice_get s.jobs j.0)
-  job-asker JobsChange.Same out = refl
-  job-asker (JobsChange.Put j0 kept) out = ap (asker_by c j) (set-other s.jobs j0.0 j.0 kept (puts-other j0 kept out))
-  job-asker (JobsChange.EndNode j0 m) out = kept-change_at (asker_by c j) j0.0 j.0 (with_mark m) s.jobs (λ kept. refl)
+-- stays where the change does not list a node of its request: it would, where it puts the job's record
+job-asker : (c : Configuration) (s : State) (n : NodeId) (r : RequestId) (j : JobId) (job : JobRecord) → slice_get s.jobs j.0 ≡ Some job → job.request ≡ Some r → lists n (nodes_of_request s r) ≡ true
+    → (change : JobsChange) → lists n (nodes_by_job change s) ≡ false → asker_by c j (slice_get (jobs_changed change s.jobs) j.0) ≡ asker_by c j (slice_get s.jobs j.0)
+job-asker c s n r j job there asks among JobsChange.Same out = refl
+job-asker c s n r j job there asks among (JobsChange.Put j0 kept) out =
+    ap (asker_by c j) (set-other s.jobs j0.0 j.0 kept (λ same. let row = ap (λ (i : ℕ). slice_get s.jobs i) same ∙ there in grind arith))
+job-asker c s n r j job there asks among (JobsChange.EndNode j0 m) out = kept-change_at (asker_by c j) j0.0 j.0 (with_mark m) s.jobs (λ kept. refl)
 
 -- ## the node
 
@@ -126,11 +94,8 @@ module _ (c : Configuration) (ch : Changes) (s : State) (n : NodeId) (reached : 
     -- the request of the node is not removed
     stays : (r0 : RequestId) → ch.requests ≡ RequestsChange.Remove r0 → same_request r0 r ≡ false
     stays r0 removes =
-        let claims : is_request r0 (Some r) ≡ false =
-        ap (λ (o : Option RequestId). is_request r0 o) (sym to)
-        ∙ ap (λ (o : Option NodeRecord). option_map_or (λ k. is_request r0 k.allocated_to) o false) (sym at)
-        ∙ ap (λ (change : RequestsChange). unclaims_node change s n) (sym removes)
-        ∙ claim_stays in
+        let claim = claim_stays in
+        let claims = rw (removes, at, to) at claim in
         grind (arith, request-equal r0 r, request-itself r)
 
     -- it keeps its state and its job
@@ -150,7 +115,7 @@ module _ (c : Configuration) (ch : Changes) (s : State) (n : NodeId) (reached : 
       by (Some j) names =
           let job = invariant.jobs.of_request r q j is names in
           ap (λ (rows : List JobRecord). asker_by c j (slice_get (jobs_changed ch.jobs rows) j.0)) (jobs-grown c ch.maker ch.grows s)
-          ∙ job-asker c s n r j job.0 job.1.0 job.1.1 (among-nodes s n r place q is) ch.jobs lists_out.1
+          ∙ job-asker c s n r j job.0 job.1.0 job.1.1 (ap (λ (o : Option RequestRecord). lists n (option_map_or (λ k. k.nodes) o [])) is ∙ place.listed q is) ch.jobs lists_out.1
 
   -- the node was given to the same requester
   given-same : (k : NodeRecord) → node_in n s.nodes ≡ Some k → given_to c later k ≡ given_to c s k
@@ -185,20 +150,6 @@ put-within n0 n queue rows most new old = by (node_in n rows) refl where
   by None none = grind (arith, node_queue-nowhere n (put_node_queue n0 queue rows) (node_in-queue n0 n queue rows ∙ none))
   by (Some k) is = grind (arith, node_queue-queue n0 n queue k rows is, same_node-is n0 n)
 
--- after a session joined it
-join-longer : (session : SessionId) (n0 n : NodeId) (rows : List NodeEntry) → IsWithin (suc (length (node_queue n rows))) (node_queue n (put_node_queue n0 (joined session (node_queue n0 rows)) rows))
-join-longer session n0 n rows =
-    put-within n0 n (joined session (node_queue n0 rows)) rows (suc (length (node_queue n rows)))
-    (λ same. subst (λ (x : NodeId). IsWithin (suc (length (node_queue x rows))) (joined session (node_queue n0 rows))) same (joined-length session (node_queue n0 rows)))
-    (omega arith)
-
--- after one left it
-leave-shorter : (session : SessionId) (n0 n : NodeId) (rows : List NodeEntry) → IsWithin (length (node_queue n rows)) (node_queue n (put_node_queue n0 (left session (node_queue n0 rows)) rows))
-leave-shorter session n0 n rows =
-    put-within n0 n (left session (node_queue n0 rows)) rows (length (node_queue n rows))
-    (λ same. subst (λ (x : NodeId). IsWithin (length (node_queue x rows)) (left session (node_queue n0 rows))) same (length-left session (node_queue n0 rows)))
-    (omega arith)
-
 -- after a node was allocated
 allocated-longer : (n0 n : NodeId) (r : RequestId) (tenant : Option TenantId) (session : SessionId) (rows : List NodeEntry)
     → IsWithin (suc (length (node_queue n rows))) (node_queue n (change_first (λ e. e.id.0 == n0.0) (allocated r tenant session) rows))
@@ -209,15 +160,7 @@ allocated-longer n0 n r tenant session rows = by (node_in n rows) refl where
       grind (arith, node_queue-nowhere n (change_first (λ e. e.id.0 == n0.0) (allocated r tenant session) rows) gone)
   by (Some k) is = grind (arith, node_queue-allocated n0 n r tenant session k rows is, joined-length session (node_queue n rows))
 
--- after a node was removed
-remove-shorter : (n0 n : NodeId) (rows : List NodeEntry) → Rises (λ a b. nat_lt a.id.0 b.id.0) rows → IsWithin (length (node_queue n rows)) (node_queue n (remove_node n0 rows))
-remove-shorter n0 n rows rises = grind (arith, node_queue-removed n0 n rows rises, node_queue-remove n0 n rows)
-
 -- ## what grows
-
--- the queue of a new node
-new-within : (maker : Option Maker) → IsWithin 1 (by_maker maker (λ session queue. queue ++ session ∷ []) [])
-new-within maker = grind arith
 
 -- no node had the number of a new one
 pushed-longer : (new : NodeEntry) (n : NodeId) (s : State) → IsNumbered s → new.id.0 ≡ s.next_node → IsWithin 1 new.queue → IsWithin (suc (length (node_queue n s.nodes))) (node_queue n (s.nodes ++ new ∷ []))
@@ -228,19 +171,21 @@ pushed-longer new n s numbered next within =
     grind (arith, nat_tests)
 
 grown-longer : (c : Configuration) (maker : Option Maker) (g : Growth) (s : State) (n : NodeId) → IsNumbered s → IsWithin (suc (length (node_queue n s.nodes))) (node_queue n (grown c maker g s).nodes)
-grown-longer c maker (Growth.Node kept) s n numbered = pushed-longer _ n s numbered refl (new-within maker)
-grown-longer c (Some by) (Growth.JoinNode n0) s n numbered = join-longer by.session n0 n s.nodes
+grown-longer c maker (Growth.Node kept) s n numbered = pushed-longer _ n s numbered refl (grind arith)
+grown-longer c (Some by) (Growth.JoinNode n0) s n numbered =
+    put-within n0 n (joined by.session (node_queue n0 s.nodes)) s.nodes (suc (length (node_queue n s.nodes))) (λ same. rw same (joined-length by.session (node_queue n s.nodes))) (omega arith)
 grown-longer c (Some by) (Growth.Allocate n0 r tenant) s n numbered = allocated-longer n0 n r tenant by.session s.nodes
 grown-longer c None _ s n numbered = omega arith
-grown-longer c (Some by) _ s n numbered = omega arith
+grown-longer c _ _ s n numbered = omega arith
 
 -- ## what changes
 
 changed-shorter : (maker : Option Maker) (tick : ℕ) (change : NodesChange) (n : NodeId) (rows : List NodeEntry) → Rises (λ a b. nat_lt a.id.0 b.id.0) rows
     → IsWithin (length (node_queue n rows)) (node_queue n (nodes_changed maker tick change rows))
 changed-shorter maker tick (NodesChange.Put n0 kept) n rows rises = omega (arith, ap (λ (queue : List SessionId). length queue) (node_queue-put n0 n kept rows))
-changed-shorter maker tick (NodesChange.Remove n0) n rows rises = remove-shorter n0 n rows rises
-changed-shorter (Some by) tick (NodesChange.Leave n0) n rows rises = leave-shorter by.session n0 n rows
+changed-shorter maker tick (NodesChange.Remove n0) n rows rises = grind (arith, node_queue-removed n0 n rows rises, node_queue-remove n0 n rows)
+changed-shorter (Some by) tick (NodesChange.Leave n0) n rows rises =
+    put-within n0 n (left by.session (node_queue n0 rows)) rows (length (node_queue n rows)) (λ same. rw same (length-left by.session (node_queue n rows))) (omega arith)
 changed-shorter maker tick (NodesChange.FreeAll r) n rows rises = omega (arith, ap (λ (queue : List SessionId). length queue) (node_queue-freed r n rows))
 changed-shorter maker tick (NodesChange.TakeOver numbers) n rows rises = omega (arith, ap (λ (queue : List SessionId). length queue) (node_queue-in_use tick numbers n rows))
 changed-shorter _ tick _ n rows rises = omega arith
@@ -269,15 +214,16 @@ queue-longer c ch s n reached =
 
 module _ {K Q : Type 0} (before same : K → K → Bool) (order : IsOrder before same) (group : Q → Group) (was now : K → List (Option Group)) (passed passes : Q → K → Bool)
     (was_is : (q : Q) (i : K) → is_among (group q) (was i) ≡ passed q i) (now_is : (q : Q) (i : K) → is_among (group q) (now i) ≡ passes q i) where
-  kinds-moved : (ids : List K) (ms : List (Member K)) → AreGroups before same group passed ms → ((i : K) → list_any (λ j. same j i) ids ≡ false → now i ≡ was i)
-      → AreGroups before same group passes (with_all_moved before same now (placed_all was ids) ms)
-  kinds-moved ids ms are stays = record {
-    rises = rises-all_moved before same order.transitive order.one_way order.some_way order.equal now (placed_all was ids) ms are.rises;
-    each = λ q i.
-        each-moved before same order.transitive order.one_way order.some_way order.equal (group q) i was now ids ms are.rises
-        (are.each q i ∙ sym (was_is q i)) (λ out. ap (is_among (group q)) (stays i out))
-        ∙ now_is q i;
-  }
+  kinds-moved : (ids : List K) (old new : List (Member K)) (placed : List (Placed K)) → AreGroups before same group passed old → ((i : K) → list_any (λ j. same j i) ids ≡ false → now i ≡ was i)
+      → placed ≡ placed_all was ids → new ≡ with_all_moved before same now placed old → AreGroups before same group passes new
+  kinds-moved ids old new placed are stays listed moved =
+      subst (AreGroups before same group passes) (sym (moved ∙ ap (λ (places : List (Placed K)). with_all_moved before same now places old) listed)) (record {
+        rises = rises-all_moved before same order.transitive order.one_way order.some_way order.equal now (placed_all was ids) old are.rises;
+        each = λ q i.
+            each-moved before same order.transitive order.one_way order.some_way order.equal (group q) i was now ids old are.rises
+            (are.each q i ∙ sym (was_is q i)) (λ out. ap (is_among (group q)) (stays i out))
+            ∙ now_is q i;
+      })
 
 -- ## what is not touched
 
@@ -288,25 +234,13 @@ module _ (c : Configuration) (s : State) (ch : Changes) (reached : IsReached c s
   handles-same : (semaphores : List SemId) → list_any (has_handle j t.handles) semaphores ≡ list_any (has_handle j s.handles) semaphores
   handles-same semaphores = any-same (has_handle j t.handles) (has_handle j s.handles) (λ x. handle-untouched c j x ch s out) semaphores
 
-  supplied-same : (row : Job) → is_supplied t j row ≡ is_supplied s j row
-  supplied-same row = ap (λ (b : Bool). (length row.semaphores == 0) || b) (handles-same row.semaphores)
-
-  prompt-same : (row : Job) → is_prompt t j row ≡ is_prompt s j row
-  prompt-same row = ap (λ (b : Bool). row.resources_first || b) (supplied-same row)
-
-  by-same : (row : Job) (kept : JobRecord) → slice_get s.jobs j.0 ≡ Some kept → (p : Phase) → kept.phase ≡ p
-      → kind_by c t lines j row (request_state_of kept.request t) p ≡ kind_by c s lines j row (request_state_of kept.request s) p
-  by-same row kept there p at =
-      let handles = handles-same row.semaphores in
-      let supplied = supplied-same row in
-      let prompt = prompt-same row in
-      let state = λ (asked : is_asked kept.phase ≡ true). ap (λ (o : Option RequestRecord). option_map (λ request. request.state) o) (asked-untouched c ch s j kept reached out there asked) in
-      grind arith
-
   rows-same : (row : Option Job) (kept : Option JobRecord) → slice_get s.jobs j.0 ≡ kept → kind_of_rows c t lines j row kept ≡ kind_of_rows c s lines j row kept
   rows-same None kept there = refl
   rows-same (Some row) None there = refl
-  rows-same (Some row) (Some kept) there = by-same row kept there kept.phase refl
+  rows-same (Some row) (Some kept) there =
+      let handles = handles-same row.semaphores in
+      let state = λ (asked : is_asked kept.phase ≡ true). ap (λ (o : Option RequestRecord). option_map (λ request. request.state) o) (asked-untouched c ch s j kept reached out there asked) in
+      grind arith
 
   job-groups-same : groups_of_job c t lines j ≡ groups_of_job c s lines j
   job-groups-same =
@@ -316,40 +250,22 @@ module _ (c : Configuration) (s : State) (ch : Changes) (reached : IsReached c s
 
 -- ## all groups
 
-module _ (c : Configuration) (s : State) (ch : Changes) (touched : TouchedOf) (reached : IsReached c s) (all : IsTouched s ch touched) where
-  jobs-noted : (lines : List JobId) (ms : List (Member JobId)) → AreJobGroups c s lines ms
-      → AreJobGroups c (changed c ch s) lines (with_all_moved is_job_before same_job (groups_of_job c (changed c ch s) lines) (placed_all (groups_of_job c s lines) touched.jobs) ms)
-  jobs-noted lines ms are =
-      kinds-moved is_job_before same_job jobs-in_order job_group (groups_of_job c s lines) (groups_of_job c (changed c ch s) lines) (is_job_in c s lines) (is_job_in c (changed c ch s) lines)
-      (λ kind j. job-among c s lines j kind) (λ kind j. job-among c (changed c ch s) lines j kind) touched.jobs ms are
-      (λ j out. job-groups-same c s ch reached lines j (ap (λ (js : List JobId). list_any (λ i. same_job i j) js) (sym all.jobs) ∙ out))
-
-  sessions-noted : (ms : List (Member SessionId)) → AreSessionGroups s ms
-      → AreSessionGroups (changed c ch s) (with_all_moved is_session_before same_session (groups_of_session (changed c ch s)) (placed_all (groups_of_session s) touched.sessions) ms)
-  sessions-noted ms are =
-      kinds-moved is_session_before same_session sessions-in_order session_group (groups_of_session s) (groups_of_session (changed c ch s)) (is_kind_in s) (is_kind_in (changed c ch s))
-      (session-among s) (session-among (changed c ch s)) touched.sessions ms are
-      (λ x out. ap (λ (o : Option SessionFacts). map (option_map session_group) (option_map_or kinds_of_facts o no_kinds))
-      (session-untouched c ch s x (ap (λ (xs : List SessionId). list_any (λ y. same_session y x) xs) (sym all.sessions) ∙ out)))
-
 pub active-noted : (c site : Configuration) (s t : State) (ch : Changes) (touched : TouchedOf) (past : PastOf) (old new : ActiveOf) → new.lines ≡ old.lines
     → new.jobs ≡ with_all_moved is_job_before same_job (groups_of_job site t old.lines) (map job_before past.jobs) old.jobs
     → new.sessions ≡ with_all_moved is_session_before same_session (groups_of_session t) (map session_before past.sessions) old.sessions
     → IsReached c s → IsTouched s ch touched → IsPast c s old.lines touched past → site ≡ c → t ≡ changed c ch s → AreActive c s old → AreActive c (changed c ch s) new
 active-noted c site s t ch touched past old new lines_are jobs_are sessions_are reached all listed site_is after was = record {
   jobs =
-      subst (λ (lines : List JobId). AreJobGroups c (changed c ch s) lines new.jobs) (sym lines_are)
-      (subst (AreJobGroups c (changed c ch s) old.lines)
-      (sym (jobs_are ∙ rw (site_is, after) refl
-      ∙ ap (λ (placed : List (Placed JobId)). with_all_moved is_job_before same_job (groups_of_job c (changed c ch s) old.lines) placed old.jobs)
-      (ap (map job_before) listed.jobs ∙ map-map job_before (past_job c s old.lines) touched.jobs)))
-      (jobs-noted c s ch touched reached all old.lines old.jobs was.jobs));
+      rw lines_are (kinds-moved is_job_before same_job jobs-in_order job_group (groups_of_job c s old.lines) (groups_of_job c (changed c ch s) old.lines) (is_job_in c s old.lines) (is_job_in c (changed c ch s) old.lines)
+      (λ kind j. job-among c s old.lines j kind) (λ kind j. job-among c (changed c ch s) old.lines j kind) touched.jobs old.jobs new.jobs (map job_before past.jobs) was.jobs
+      (λ j out. job-groups-same c s ch reached old.lines j (ap (λ (js : List JobId). list_any (λ i. same_job i j) js) (sym all.jobs) ∙ out))
+      (ap (map job_before) listed.jobs ∙ map-map job_before (past_job c s old.lines) touched.jobs) (jobs_are ∙ rw (site_is, after) refl));
   sessions =
-      subst (AreSessionGroups (changed c ch s))
-      (sym (sessions_are ∙ rw after refl
-      ∙ ap (λ (placed : List (Placed SessionId)). with_all_moved is_session_before same_session (groups_of_session (changed c ch s)) placed old.sessions)
-      (ap (map session_before) listed.sessions ∙ map-map session_before (past_session s) touched.sessions)))
-      (sessions-noted c s ch touched reached all old.sessions was.sessions);
+      kinds-moved is_session_before same_session sessions-in_order session_group (groups_of_session s) (groups_of_session (changed c ch s)) (is_kind_in s) (is_kind_in (changed c ch s))
+      (session-among s) (session-among (changed c ch s)) touched.sessions old.sessions new.sessions (map session_before past.sessions) was.sessions
+      (λ x out. ap (λ (o : Option SessionFacts). map (option_map session_group) (option_map_or kinds_of_facts o no_kinds))
+      (session-untouched c ch s x (ap (λ (xs : List SessionId). list_any (λ y. same_session y x) xs) (sym all.sessions) ∙ out)))
+      (ap (map session_before) listed.sessions ∙ map-map session_before (past_session s) touched.sessions) (sessions_are ∙ rw after refl);
 }
 
 -- # the members of groups, made number by number
@@ -364,11 +280,12 @@ abbrev pub AreJobsBelow : Configuration → State → List JobId → ℕ → Lis
 AreJobsBelow c s lines n ms = AreGrouped is_job_before same_job (jobs_below c s lines n) ms
 
 pub jobs-all : (c : Configuration) (s : State) (lines : List JobId) (n : ℕ) (ms : List (Member JobId)) → length s.jobs ≤ n → AreJobsBelow c s lines n ms → AreJobGroups c s lines ms
-jobs-all c s lines n ms all are = record { rises = are.rises; each = λ kind j. are.each (job_group kind) j ∙ by kind j (nat_lt j.0 n) refl } where
-  by : (kind : JobKind) (j : JobId) (b : Bool) → nat_lt j.0 n ≡ b → is_among (job_group kind) (cond b (groups_of_job c s lines j) []) ≡ is_job_in c s lines kind j
-  by kind j b is =
+jobs-all c s lines n ms all are = record {
+  rises = are.rises;
+  each = λ kind j.
       let past = λ (out : nat_lt j.0 n ≡ false). slice_get_past s.jobs j.0 (omega (arith, all, not-below j.0 n out)) in
-      grind (arith, job-among c s lines j kind)
+      grind (arith, are.each (job_group kind) j, job-among c s lines j kind);
+}
 
 -- ## sessions
 
@@ -381,63 +298,49 @@ AreSessionsBelow s n ms = AreGrouped is_session_before same_session (sessions_be
 
 -- there is no session with the number 0
 pub sessions-none : (s : State) → AreSessionsBelow s 1 []
-sessions-none s = record { rises = tt; each = λ g x. by g x (nat_lt x.0 1) refl } where
-  by : (g : Group) (x : SessionId) (b : Bool) → nat_lt x.0 1 ≡ b → false ≡ is_among g (cond b (groups_of_session s x) [])
-  by g x b is = grind (arith, nat_tests)
+sessions-none s = record { rises = tt; each = λ g x. grind (arith, nat_tests) }
 
 pub sessions-all : (s : State) (n : ℕ) (ms : List (Member SessionId)) → length s.sessions < n → AreSessionsBelow s n ms → AreSessionGroups s ms
-sessions-all s n ms all are = record { rises = are.rises; each = λ kind x. are.each (session_group kind) x ∙ by kind x (nat_lt x.0 n) refl } where
-  by : (kind : SessionKind) (x : SessionId) (b : Bool) → nat_lt x.0 n ≡ b → is_among (session_group kind) (cond b (groups_of_session s x) []) ≡ is_kind_in s kind x
-  by kind x b is =
+sessions-all s n ms all are = record {
+  rises = are.rises;
+  each = λ kind x.
       let past = λ (out : nat_lt x.0 n ≡ false). slice_get_past s.sessions (x.0 - 1) (omega (arith, all, not-below x.0 n out)) in
-      grind (arith, session-among s kind x)
+      grind (arith, are.each (session_group kind) x, session-among s kind x);
+}
 
 -- # the members of groups after a change, from those before it
-
--- the whole queue is read if there are so many sessions at most
-pub whole : (c : Configuration) (s : State) (most : ℕ) (n : NodeId) → length (node_queue n s.nodes) ≤ most → groups_within c s most n ≡ groups_of_node c s n
-whole c s most n few = ap (λ (queue : List SessionId). option_map_or (λ k. groups_by c s k queue) (node_in n s.nodes) []) (take_all most (node_queue n s.nodes) few)
 
 -- nodes move alike to groups that are alike
 alike : (c : Configuration) (s : State) (now later : NodeId → List (Option Group)) (ns : List NodeId) (ms : List (Member NodeId)) → AllByRecursion (λ n. now n ≡ later n) ns
     → with_all_moved is_node_before same_node now (map (placed_node c s) ns) ms ≡ with_all_moved is_node_before same_node later (map (placed_node c s) ns) ms
 alike c s now later [] ms same = refl
-alike c s now later (n ∷ ns) ms same =
-    alike c s now later ns (with_moved is_node_before same_node n (groups_of_node c s n) (now n) ms) same.1
-    ∙ ap (λ (groups : List (Option Group)). with_all_moved is_node_before same_node later (map (placed_node c s) ns) (with_moved is_node_before same_node n (groups_of_node c s n) groups ms)) same.0
+alike c s now later (n ∷ ns) ms same = rw (with_all_moved, same.0) (alike c s now later ns (with_moved is_node_before same_node n (groups_of_node c s n) (later n) ms) same.1)
 
-module _ (c : Configuration) (s : State) (ch : Changes) (prepared : PreparedOf) (reached : IsReached c s) (ready : IsPrepared c s ch prepared) where
-  later-whole : (n : NodeId) → suc (length (node_queue n s.nodes)) ≤ prepared.most → groups_within c (changed c ch s) prepared.most n ≡ groups_of_node c (changed c ch s) n
-  later-whole n few = whole c (changed c ch s) prepared.most n (omega (arith, queue-longer c ch s n reached))
-
-  node-stays : (n : NodeId) → list_any (λ m. same_node m n) ready.listed ≡ false → groups_of_node c (changed c ch s) n ≡ groups_of_node c s n
-  node-stays n out = given-untouched c ch s n reached (contrapositive (touches_given ch s n) (list_any (λ m. same_node m n) ready.listed) (ready.nodes n) out)
-
-  -- the listed nodes move to where they are
-  members-moved : (ms : List (Member NodeId)) → AreGivenGroups c s ms
-      → AreGivenGroups c (changed c ch s) (with_all_moved is_node_before same_node (groups_of_node c (changed c ch s)) (map (placed_node c s) ready.listed) ms)
-  members-moved ms old =
-      let are : AreGrouped is_node_before same_node (groups_of_node c (changed c ch s)) (with_all_moved is_node_before same_node (groups_of_node c (changed c ch s)) (placed_all (groups_of_node c s) ready.listed) ms) =
-      grouped-moved is_node_before same_node nodes-in_order (groups_of_node c s) (groups_of_node c (changed c ch s)) ready.listed ms (record { rises = old.rises; each = old.each }) node-stays in
-      record { rises = are.rises; each = are.each; once = (numbered c s ch (invariant-Runs c reached.journal s reached.runs).numbered).nodes_rise }
-
-  members-noted : (ms new : List (Member NodeId)) → AreGivenGroups c s ms
-      → new ≡ with_all_moved is_node_before same_node (groups_within c (changed c ch s) prepared.most) prepared.past ms
-      → AreGivenGroups c (changed c ch s) new
-  members-noted ms new old is =
-      subst (AreGivenGroups c (changed c ch s))
-      (sym (is
-      ∙ ap (λ (placed : List (Placed NodeId)). with_all_moved is_node_before same_node (groups_within c (changed c ch s) prepared.most) placed ms) ready.past
-      ∙ alike c s (groups_within c (changed c ch s) prepared.most) (groups_of_node c (changed c ch s)) ready.listed ms
-      (all-weaker (λ n. suc (length (node_queue n s.nodes)) ≤ prepared.most) (λ n. groups_within c (changed c ch s) prepared.most n ≡ groups_of_node c (changed c ch s) n) later-whole ready.listed ready.most)))
-      (members-moved ms old)
-
--- the same of what a call is known to be passed
+-- what is listed moves to where it is, and all else stays
 pub given-noted : (c site : Configuration) (s t : State) (ch : Changes) (prepared : PreparedOf) (old was new : List (Member NodeId)) (past : List (Placed NodeId)) (most : ℕ)
     → was ≡ old → past ≡ prepared.past → most ≡ prepared.most → new ≡ with_all_moved is_node_before same_node (groups_within site t most) past was
     → IsReached c s → IsPrepared c s ch prepared → site ≡ c → t ≡ changed c ch s → AreGivenGroups c s old → AreGivenGroups c (changed c ch s) new
 given-noted c site s t ch prepared old was new past most was_is past_is most_is members reached ready same_site later are =
-    members-noted c s ch prepared reached ready old new are (rw (← later, ← same_site, ← was_is, ← past_is, ← most_is) members)
+    record { rises = moved.rises; each = moved.each; once = (numbered c s ch (invariant-Runs c reached.journal s reached.runs).numbered).nodes_rise }
+  where
+    now : NodeId → List (Option Group)
+    now = groups_of_node c (changed c ch s)
+
+    within : new ≡ with_all_moved is_node_before same_node (groups_within c (changed c ch s) prepared.most) (map (placed_node c s) ready.listed) old
+    within = rw (← ready.past, ← later, ← same_site, ← was_is, ← past_is, ← most_is) members
+
+    -- the whole queue is read, since it is longer by one session at most
+    whole : AllByRecursion (λ n. groups_within c (changed c ch s) prepared.most n ≡ now n) ready.listed
+    whole =
+        all-weaker (λ n. suc (length (node_queue n s.nodes)) ≤ prepared.most) (λ n. groups_within c (changed c ch s) prepared.most n ≡ now n)
+        (λ n few. ap (λ (queue : List SessionId). option_map_or (λ k. groups_by c (changed c ch s) k queue) (node_in n (changed c ch s).nodes) [])
+        (take_all prepared.most (node_queue n (changed c ch s).nodes) (omega (arith, queue-longer c ch s n reached)))) ready.listed ready.most
+
+    moved : AreGrouped is_node_before same_node now new
+    moved =
+        subst (AreGrouped is_node_before same_node now) (sym (within ∙ alike c s (groups_within c (changed c ch s) prepared.most) now ready.listed old whole))
+        (grouped-moved is_node_before same_node nodes-in_order (groups_of_node c s) now ready.listed old (record { rises = are.rises; each = are.each })
+        (λ n out. given-untouched c ch s n reached (contrapositive (touches_given ch s n) (list_any (λ m. same_node m n) ready.listed) (ready.nodes n) out)))
 
 -- # the members of groups, made node by node
 

@@ -1,20 +1,9 @@
 -- the groups by kind of job, session and node: what they say, and how their members are read in order
-use Rattle.np_active.proofs.Prelude.{ActiveOf, AllByRecursion, AreActive, AreGivenGroups, Bool, Configuration, Group, Job, JobId, JobKind, JobRecord, List, Member, NodeEntry, NodeId, NodeRecord, None, Option, Phase, RequestState, RequesterId, Rises, Rises-filter, Role, SessionFacts, SessionId, SessionKind, Some, State, add-one, all-weaker, and_false, and_true, ap, append_assoc, arith, cond, current_of, drop, drop-there, ending_ones, false, filter, find, first_mute, given_group, groups_by, groups_of_job, groups_of_session, has_handle, has_live_session, has_member, ids-has, ids-in_order, ids-rise, ids_in, is_among, is_asked, is_failed, is_given_to, is_job_before, is_job_in, is_job_of, is_kind_in, is_new, is_node_before, is_of_kind, is_over, is_prompt, is_queued, is_session_before, is_some, is_supplied, is_to_leave, is_to_lock, is_using, job_equal, job_group, job_one_way, job_some_way, jobs_from, kind_by, kind_of_job, kind_of_rows, kinds_of_facts, kinds_of_session, lacking_ones, length, line_of, list_any, live_group, live_ones, locked_group, locked_groups, map, map-append, mute_from, mute_group, mute_ones, nat_lt, nat_tests, node_entry, node_equal, node_one_way, node_queue, node_to_leave, node_to_lock, not, option_map, option_map_or, option_or, or_false, outside, prompt_ones, queued_nodes, refl, releasing_ones, request_state_of, role_group, row-passes, rows-found, same-itself, same-list, same_group, same_job, same_node, same_node-self, same_role, same_session, session_equal, session_group, session_one_way, session_some_way, slice_get, slice_get-map, slice_get_past, speaker_from, speakers, speaks_for, subst, suc, supplied_ones, sym, take, take_there, true, waiting_ones, was_given, zero, ℕ, [], ◌&&◌, ◌++◌, ◌+◌, ◌-◌, ◌<◌, ◌==◌, ◌||◌, ◌∙◌, ◌∷◌, ◌≡◌, later-node-apart}
+use Rattle.np_active.proofs.Prelude.{ActiveOf, AllByRecursion, AreActive, AreGivenGroups, Bool, Configuration, Group, Job, JobId, JobKind, JobRecord, List, Member, NodeEntry, NodeId, None, Option, RequesterId, Rises, Rises-filter, Role, SessionFacts, SessionId, SessionKind, Some, State, add-one, all-weaker, and_false, ap, append_assoc, arith, cond, current_of, drop, drop-there, ending_ones, false, filter, find, first_mute, given_group, groups_of_job, groups_of_session, has_live_session, has_member, ids-has, ids-in_order, ids-rise, ids_in, is_among, is_given_to, is_job_before, is_job_in, is_job_of, is_kind_in, is_node_before, is_of_kind, is_queued, is_session_before, is_some, is_to_leave, is_to_lock, job_equal, job_group, job_one_way, job_some_way, jobs_from, kind_by, kind_of_job, kinds_of_facts, lacking_ones, later-node-apart, length, list_any, live_group, live_ones, locked_group, locked_groups, map, map-append, mute_from, mute_group, mute_ones, nat_lt, nat_tests, node_entry, node_equal, node_one_way, node_queue, node_to_leave, node_to_lock, not, option_map, option_map_or, option_or, outside, prompt_ones, queued_nodes, refl, releasing_ones, request_state_of, role_group, row-passes, rows-found, same-itself, same-list, same_group, same_job, same_node, same_node-self, same_role, same_session, session_equal, session_group, session_one_way, session_some_way, slice_get, slice_get-map, slice_get_past, speaker_from, speakers, speaks_for, subst, suc, supplied_ones, sym, take, take_there, true, waiting_ones, zero, ℕ, [], ◌&&◌, ◌++◌, ◌+◌, ◌-◌, ◌<◌, ◌==◌, ◌∙◌, ◌∷◌, ◌≡◌}
 
 -- # the groups that a job or a session is in say of which kinds it is
 
--- ## by kinds
-
-module _ {Q : Type 0} (group : Q → Group) (is_one : Q → Q → Bool) (groups : (r q : Q) → same_group (group r) (group q) ≡ is_one r q) where
-  -- the kind is this one, if there is one
-  abbrev pub is_it : Q → Option Q → Bool
-  is_it q o = option_map_or (λ r. is_one r q) o false
-
-  pub kinds-among : (q : Q) (kinds : List (Option Q)) → is_among (group q) (map (option_map group) kinds) ≡ list_any (is_it q) kinds
-  kinds-among q [] = refl
-  kinds-among q (o ∷ kinds) = grind (arith, groups, kinds-among q kinds)
-
--- ## groups of jobs
+-- ## jobs
 
 abbrev same_requester : RequesterId → RequesterId → Bool
 same_requester r q = r.0 == q.0
@@ -31,102 +20,20 @@ same_job_kind _ _ = false
 job-groups : (r q : JobKind) → same_group (job_group r) (job_group q) ≡ same_job_kind r q
 job-groups r q = grind arith
 
--- ## the kind of a job
-
-abbrev is_kind : JobKind → Option JobKind → Bool
-is_kind kind o = option_map_or (λ r. same_job_kind r kind) o false
-
-off : (a : Bool) → false ≡ (a && false)
-off a = sym (and_false a)
-
-module _ (r : RequesterId) (m : ℕ) where
-  -- of the kind, by whether it is prompt, is supplied and has handles, and by whether it is new, was given its
-  -- nodes, is to finish and is over
-  abbrev is_by : JobKind → Bool → Bool → Bool → Bool → Bool → Bool → Bool → Bool
-  is_by (supplied_ones q) prompt supplied has new given ending over = (same_requester r q && supplied) && given
-  is_by (prompt_ones q) prompt supplied has new given ending over = new && (same_requester r q && prompt)
-  is_by (waiting_ones q l) prompt supplied has new given ending over = new && (same_requester r q && (not prompt && (m == l)))
-  is_by (ending_ones q) prompt supplied has new given ending over = same_requester r q && ending
-  is_by (releasing_ones q) prompt supplied has new given ending over = (same_requester r q && has) && over
-  is_by (lacking_ones q l) prompt supplied has new given ending over = (same_requester r q && (not supplied && (m == l))) && given
-
-  if-none : (kind : JobKind) (p s h : Bool) → false ≡ is_by kind p s h false false false false
-  if-none (prompt_ones q) p s h = refl
-  if-none (waiting_ones q l) p s h = refl
-  if-none _ p s h = simp and_false
-
-  if-new : (kind : JobKind) (p s h : Bool) → is_kind kind (Some (cond p (prompt_ones r) (waiting_ones r m))) ≡ is_by kind p s h true false false false
-  if-new (prompt_ones q) true s h = sym (and_true (same_requester r q))
-  if-new (prompt_ones q) false s h = off (same_requester r q)
-  if-new (waiting_ones q l) true s h = off (same_requester r q)
-  if-new (waiting_ones q l) false s h = refl
-  if-new _ true s h = simp and_false
-  if-new _ false s h = simp and_false
-
-  if-given : (kind : JobKind) (p s h : Bool) → is_kind kind (Some (cond s (supplied_ones r) (lacking_ones r m))) ≡ is_by kind p s h false true false false
-  if-given (supplied_ones q) p true h = sym (and_true (same_requester r q && true) ∙ and_true (same_requester r q))
-  if-given (supplied_ones q) p false h = off (same_requester r q) ∙ sym (and_true (same_requester r q && false))
-  if-given (lacking_ones q l) p true h = off (same_requester r q) ∙ sym (and_true (same_requester r q && false))
-  if-given (lacking_ones q l) p false h = sym (and_true (same_requester r q && (m == l)))
-  if-given (ending_ones q) p true h = off (same_requester r q)
-  if-given (ending_ones q) p false h = off (same_requester r q)
-  if-given (releasing_ones q) p true h = off (same_requester r q && h)
-  if-given (releasing_ones q) p false h = off (same_requester r q && h)
-  if-given _ p true h = refl
-  if-given _ p false h = refl
-
-  if-ending : (kind : JobKind) (p s h : Bool) → is_kind kind (Some (ending_ones r)) ≡ is_by kind p s h false false true false
-  if-ending (ending_ones q) p s h = sym (and_true (same_requester r q))
-  if-ending (prompt_ones q) p s h = refl
-  if-ending (waiting_ones q l) p s h = refl
-  if-ending _ p s h = simp and_false
-
-  if-over : (kind : JobKind) (p s h : Bool) → is_kind kind (cond h (Some (releasing_ones r)) None) ≡ is_by kind p s h false false false true
-  if-over (releasing_ones q) p s true = sym (and_true (same_requester r q && true) ∙ and_true (same_requester r q))
-  if-over (releasing_ones q) p s false = off (same_requester r q) ∙ sym (and_true (same_requester r q && false))
-  if-over (prompt_ones q) p s true = refl
-  if-over (prompt_ones q) p s false = refl
-  if-over (waiting_ones q l) p s true = refl
-  if-over (waiting_ones q l) p s false = refl
-  if-over _ p s true = simp and_false
-  if-over _ p s false = simp and_false
-
 module _ (c : Configuration) (s : State) (lines : List JobId) (j : JobId) where
-  -- the same of a job with this row, in this phase and with its request in this state
-  abbrev is_by_row : JobKind → Job → Option RequestState → Phase → Bool
-  is_by_row kind row state p =
-      is_by row.requester (line_of c lines j row) kind (is_prompt s j row) (is_supplied s j row) (list_any (has_handle j s.handles) row.semaphores)
-      (is_new p) (was_given p state) (is_using p || (is_asked p && option_map_or is_failed state false)) (is_over p)
+  -- a job with a row and a record is of the kind that they give
+  of-rows : (kind : JobKind) (row : Job) (kept : JobRecord) → slice_get c.jobs j.0 ≡ Some row
+      → option_map_or (λ r. same_job_kind r kind) (kind_by c s lines j row (request_state_of kept.request s) kept.phase) false ≡ is_job_of c s lines kind j kept
+  of-rows (supplied_ones q) row kept at = grind arith
+  of-rows _ row kept at = grind arith
 
-  by-phase : (kind : JobKind) (row : Job) (state : Option RequestState) (p : Phase) → is_kind kind (kind_by c s lines j row state p) ≡ is_by_row kind row state p
-  by-phase kind row state Phase.New = if-new row.requester (line_of c lines j row) kind (is_prompt s j row) (is_supplied s j row) (list_any (has_handle j s.handles) row.semaphores)
-  by-phase kind row (Some RequestState.Fulfilled) Phase.Asked = if-given row.requester (line_of c lines j row) kind (is_prompt s j row) (is_supplied s j row) (list_any (has_handle j s.handles) row.semaphores)
-  by-phase kind row (Some RequestState.Failed) Phase.Asked = if-ending row.requester (line_of c lines j row) kind (is_prompt s j row) (is_supplied s j row) (list_any (has_handle j s.handles) row.semaphores)
-  by-phase kind row _ Phase.Asked = if-none row.requester (line_of c lines j row) kind (is_prompt s j row) (is_supplied s j row) (list_any (has_handle j s.handles) row.semaphores)
-  by-phase kind row state Phase.Using = if-ending row.requester (line_of c lines j row) kind (is_prompt s j row) (is_supplied s j row) (list_any (has_handle j s.handles) row.semaphores)
-  by-phase kind row state Phase.Over = if-over row.requester (line_of c lines j row) kind (is_prompt s j row) (is_supplied s j row) (list_any (has_handle j s.handles) row.semaphores)
-
-  of-row : (kind : JobKind) (row : Job) (kept : JobRecord) → slice_get c.jobs j.0 ≡ Some row → is_by_row kind row (request_state_of kept.request s) kept.phase ≡ is_job_of c s lines kind j kept
-  of-row (supplied_ones q) row kept at = rw at refl
-  of-row _ row kept at = rw at refl
-
-  no-row : (kind : JobKind) (kept : JobRecord) → slice_get c.jobs j.0 ≡ None → false ≡ is_job_of c s lines kind j kept
-  no-row (prompt_ones q) kept none = rw none (off (is_new kept.phase))
-  no-row (waiting_ones q l) kept none = rw none (off (is_new kept.phase))
-  no-row _ kept none = rw none refl
-
-  kind-is : (kind : JobKind) → is_kind kind (kind_of_job c s lines j) ≡ is_job_in c s lines kind j
-  kind-is kind = by (slice_get c.jobs j.0) refl (slice_get s.jobs j.0) where
-    by : (row : Option Job) → slice_get c.jobs j.0 ≡ row → (kept : Option JobRecord) → is_kind kind (kind_of_rows c s lines j row kept) ≡ option_map_or (λ k. is_job_of c s lines kind j k) kept false
-    by None none None = refl
-    by None none (Some kept) = no-row kind kept none
-    by (Some row) at None = refl
-    by (Some row) at (Some kept) = by-phase kind row (request_state_of kept.request s) kept.phase ∙ of-row kind row kept at
+  kind-is : (kind : JobKind) → option_map_or (λ r. same_job_kind r kind) (kind_of_job c s lines j) false ≡ is_job_in c s lines kind j
+  kind-is kind = grind (arith, of-rows)
 
   pub job-among : (kind : JobKind) → is_among (job_group kind) (groups_of_job c s lines j) ≡ is_job_in c s lines kind j
-  job-among kind = kinds-among job_group same_job_kind job-groups kind (kind_of_job c s lines j ∷ []) ∙ or_false (is_kind kind (kind_of_job c s lines j)) ∙ kind-is kind
+  job-among kind = grind (arith, job-groups, kind-is kind)
 
--- ## groups of sessions
+-- ## sessions
 
 abbrev pub same_kind : SessionKind → SessionKind → Bool
 same_kind (speakers r) (speakers q) = same_role r q
@@ -137,19 +44,11 @@ same_kind _ _ = false
 session-groups : (r q : SessionKind) → same_group (session_group r) (session_group q) ≡ same_kind r q
 session-groups r q = grind arith
 
--- ## the kinds of a session
-
-abbrev is_session_kind : SessionKind → Option SessionKind → Bool
-is_session_kind kind o = option_map_or (λ r. same_kind r kind) o false
-
-facts-are : (kind : SessionKind) (facts : SessionFacts) → list_any (is_session_kind kind) (kinds_of_facts facts) ≡ is_of_kind kind facts
+facts-are : (kind : SessionKind) (facts : SessionFacts) → list_any (λ o. option_map_or (λ r. same_kind r kind) o false) (kinds_of_facts facts) ≡ is_of_kind kind facts
 facts-are kind facts = grind arith
 
 pub session-among : (s : State) (kind : SessionKind) (x : SessionId) → is_among (session_group kind) (groups_of_session s x) ≡ is_kind_in s kind x
-session-among s kind x =
-    let among = kinds-among session_group same_kind session-groups kind (kinds_of_session s x) in
-    let facts = facts-are kind in
-    grind arith
+session-among s kind x = grind (arith, session-groups, facts-are kind)
 
 -- # the numbers of the rows that pass, in order
 
@@ -232,18 +131,16 @@ jobs-have passes rows j =
     ∙ has-at (λ (i : JobId). i.0) (λ n. record { 0 = n }) (λ n. refl) (λ i. refl) passes j j.0 0 rows (omega arith)
 
 module _ (c : Configuration) (s : State) (active : ActiveOf) (are : AreActive c s active) where
-  pub jobs-grouped : (kind : JobKind) → ids_in (job_group kind) active.jobs ≡ jobs_from (is_job_of c s active.lines kind) 0 s.jobs
+  jobs-grouped : (kind : JobKind) → ids_in (job_group kind) active.jobs ≡ jobs_from (is_job_of c s active.lines kind) 0 s.jobs
   jobs-grouped kind =
       same-list is_job_before same_job job_one_way job_equal (same-itself is_job_before same_job job_one_way job_some_way)
       (ids_in (job_group kind) active.jobs) (jobs_from (is_job_of c s active.lines kind) 0 s.jobs)
       (ids-rise (job_group kind) is_job_before active.jobs are.jobs.rises) (jobs-rise (is_job_of c s active.lines kind) s.jobs)
       (λ i. ids-has same_job (job_group kind) i active.jobs ∙ are.jobs.each kind i ∙ sym (jobs-have (is_job_of c s active.lines kind) s.jobs i))
 
-  -- by a group and members that are the same
+  -- the job at a place, of a group and members that are the same
   pub job-at : (kind : JobKind) (g : Group) → g ≡ job_group kind → (ms : List (Member JobId)) → ms ≡ active.jobs → (at : ℕ) → slice_get (ids_in g ms) at ≡ slice_get (jobs_from (is_job_of c s active.lines kind) 0 s.jobs) at
-  job-at kind g is_group ms is at =
-      ap (λ (h : Group). slice_get (ids_in h ms) at) is_group ∙ ap (λ (xs : List (Member JobId)). slice_get (ids_in (job_group kind) xs) at) is
-      ∙ ap (λ (ids : List JobId). slice_get ids at) (jobs-grouped kind)
+  job-at kind g is_group ms is at = rw (is_group, is) (ap (λ (ids : List JobId). slice_get ids at) (jobs-grouped kind))
 
 -- ## sessions
 
@@ -251,18 +148,12 @@ abbrev session_ids : (SessionFacts → Bool) → ℕ → List SessionFacts → L
 session_ids passes n rows = ids_from (λ (x : SessionId). x.0) (λ n. record { 0 = n }) (λ n. refl) (λ x. refl) (λ x facts. passes facts) n rows
 
 session-has : (kind : SessionKind) (x : SessionId) (s : State) → list_any (λ i. same_session i x) (session_ids (is_of_kind kind) 1 s.sessions) ≡ is_kind_in s kind x
-session-has kind x s = by (x.0 == 0) refl where
-  by : (z : Bool) → (x.0 == 0) ≡ z → list_any (λ i. same_session i x) (session_ids (is_of_kind kind) 1 s.sessions) ≡ option_map_or (is_of_kind kind) (cond z None (slice_get s.sessions (x.0 - 1))) false
-  by true is =
-      let less : x.0 < 1 = grind (arith, nat_tests) in
-      none-before (λ (x : SessionId). x.0) (λ n. record { 0 = n }) (λ n. refl) (λ x. refl) (λ x facts. is_of_kind kind facts) x 1 s.sessions less
-  by false is =
-      let at : x.0 ≡ (x.0 - 1) + 1 = grind (arith, nat_tests) in
-      has-at (λ (x : SessionId). x.0) (λ n. record { 0 = n }) (λ n. refl) (λ x. refl) (λ x facts. is_of_kind kind facts) x (x.0 - 1) 1 s.sessions at
+session-has kind x s =
+    let before = none-before (λ (x : SessionId). x.0) (λ n. record { 0 = n }) (λ n. refl) (λ x. refl) (λ x facts. is_of_kind kind facts) x 1 s.sessions in
+    let at = has-at (λ (x : SessionId). x.0) (λ n. record { 0 = n }) (λ n. refl) (λ x. refl) (λ x facts. is_of_kind kind facts) x (x.0 - 1) 1 s.sessions in
+    grind (arith, nat_tests)
 
--- ## the last that speaks
-
--- it is the last of all that speak
+-- the last that speaks is the last of all that speak
 speaker-last : (role : Role) (n : ℕ) (rows : List SessionFacts) → speaker_from role n rows ≡ last_of (session_ids (speaks_for role) n rows)
 speaker-last role n [] = refl
 speaker-last role n (facts ∷ rows) = grind (arith, speaker-last role (suc n) rows)
@@ -283,57 +174,39 @@ any-first passes n (facts ∷ rows) = grind (arith, any-first passes (suc n) row
 
 -- ## as they are read
 
-module _ (c : Configuration) (s : State) (active : ActiveOf) (are : AreActive c s active) (kind : SessionKind) where
-  sessions-grouped : ids_in (session_group kind) active.sessions ≡ session_ids (is_of_kind kind) 1 s.sessions
-  sessions-grouped =
-      same-list is_session_before same_session session_one_way session_equal (same-itself is_session_before same_session session_one_way session_some_way)
+module _ (c : Configuration) (s : State) (active : ActiveOf) (are : AreActive c s active) (g : Group) (ms : List (Member SessionId)) (is : ms ≡ active.sessions) where
+  -- of a group and members that are the same
+  ids-are : (kind : SessionKind) → g ≡ session_group kind → ids_in g ms ≡ session_ids (is_of_kind kind) 1 s.sessions
+  ids-are kind is_group =
+      rw (is_group, is) (same-list is_session_before same_session session_one_way session_equal (same-itself is_session_before same_session session_one_way session_some_way)
       (ids_in (session_group kind) active.sessions) (session_ids (is_of_kind kind) 1 s.sessions)
       (ids-rise (session_group kind) is_session_before active.sessions are.sessions.rises)
       (numbers-rise (λ (x : SessionId). x.0) (λ n. record { 0 = n }) (λ n. refl) (λ x. refl) (λ x facts. is_of_kind kind facts) 1 s.sessions)
-      (λ i. ids-has same_session (session_group kind) i active.sessions ∙ are.sessions.each kind i ∙ sym (session-has kind i s))
+      (λ i. ids-has same_session (session_group kind) i active.sessions ∙ are.sessions.each kind i ∙ sym (session-has kind i s)))
 
-  -- by a group and members that are the same
-  ids-are : (g : Group) → g ≡ session_group kind → (ms : List (Member SessionId)) → ms ≡ active.sessions → ids_in g ms ≡ session_ids (is_of_kind kind) 1 s.sessions
-  ids-are g is_group ms is =
-      ap (λ (h : Group). ids_in h ms) is_group ∙ ap (λ (xs : List (Member SessionId)). ids_in (session_group kind) xs) is ∙ sessions-grouped
+  -- the current session is the last member
+  pub current-at : (role : Role) (count : ℕ) → g ≡ role_group role → count ≡ length (ids_in g ms) → slice_get (ids_in g ms) (count - 1) ≡ current_of role s
+  current-at role count is_group counted =
+      rw counted (sym (last-at (ids_in g ms)) ∙ ap (λ (ids : List SessionId). last_of ids) (ids-are (speakers role) is_group) ∙ sym (speaker-last role 1 s.sessions))
 
-module _ (c : Configuration) (s : State) (active : ActiveOf) (are : AreActive c s active) (role : Role) where
-  module _ (g : Group) (is_group : g ≡ role_group role) (ms : List (Member SessionId)) (is : ms ≡ active.sessions) where
-    -- the current session is the last member
-    pub current-at : (count : ℕ) → count ≡ length (ids_in g ms) → (result : Option SessionId) → result ≡ slice_get (ids_in g ms) (count - 1) → result ≡ current_of role s
-    current-at count counted result read =
-        read ∙ ap (λ (n : ℕ). slice_get (ids_in g ms) (n - 1)) counted
-        ∙ sym (last-at (ids_in g ms))
-        ∙ ap (λ (ids : List SessionId). last_of ids) (ids-are c s active are (speakers role) g is_group ms is)
-        ∙ sym (speaker-last role 1 s.sessions)
+  -- there is none if the group has no member
+  pub current-none : (role : Role) → g ≡ role_group role → length (ids_in g ms) ≡ 0 → current_of role s ≡ None
+  current-none role is_group none = sym (current-at role 0 is_group (sym none)) ∙ slice_get_past (ids_in g ms) (0 - 1) (omega (arith, none))
 
-    -- there is none if the group has no member
-    pub current-none : length (ids_in g ms) ≡ 0 → None ≡ current_of role s
-    current-none none =
-        current-at 0 (sym none) None (sym (slice_get_past (ids_in g ms) (0 - 1) (omega (arith, none))))
-
-module _ (c : Configuration) (s : State) (active : ActiveOf) (are : AreActive c s active) (g : Group) (ms : List (Member SessionId)) (is : ms ≡ active.sessions) where
   pub mute-at : g ≡ mute_group → slice_get (ids_in g ms) 0 ≡ first_mute s
-  mute-at is_group =
-      ap (λ (ids : List SessionId). slice_get ids 0) (ids-are c s active are mute_ones g is_group ms is)
-      ∙ mute-first 1 s.sessions
+  mute-at is_group = ap (λ (ids : List SessionId). slice_get ids 0) (ids-are mute_ones is_group) ∙ mute-first 1 s.sessions
 
   pub live-at : (q : RequesterId) → g ≡ live_group q → is_some (slice_get (ids_in g ms) 0) ≡ has_live_session q s
-  live-at q is_group =
-      ap (λ (ids : List SessionId). is_some (slice_get ids 0)) (ids-are c s active are (live_ones q) g is_group ms is)
-      ∙ any-first (is_of_kind (live_ones q)) 1 s.sessions
+  live-at q is_group = ap (λ (ids : List SessionId). is_some (slice_get ids 0)) (ids-are (live_ones q) is_group) ∙ any-first (is_of_kind (live_ones q)) 1 s.sessions
 
 -- # a queue that is read by place, up to its end or to a bound
 
-module _ (q : RequesterId) (queue : List SessionId) (at : ℕ) where
-  -- one session more is listed
-  pub list-next : (session : SessionId) (group : Group) (old list later : List (Option Group)) → slice_get queue at ≡ Some session → group ≡ locked_group q session
-      → list ≡ old ++ locked_groups q (take at queue) → later ≡ list ++ Some group ∷ [] → later ≡ old ++ locked_groups q (take (at + 1) queue)
-  list-next session group old list later there is so_far pushed =
-      pushed ∙ ap (λ (g : Group). list ++ Some g ∷ []) is
-      ∙ ap (λ (groups : List (Option Group)). groups ++ Some (locked_group q session) ∷ []) so_far
-      ∙ append_assoc old (locked_groups q (take at queue)) (Some (locked_group q session) ∷ [])
-      ∙ ap (λ (groups : List (Option Group)). old ++ groups) (sym (ap (locked_groups q) (take_there queue at session there) ∙ map-append (λ session. Some (locked_group q session)) (take at queue) (session ∷ [])))
+-- one session more is listed
+pub list-next : (q : RequesterId) (queue : List SessionId) (at : ℕ) (session : SessionId) (group : Group) (old list later : List (Option Group)) → slice_get queue at ≡ Some session → group ≡ locked_group q session
+    → list ≡ old ++ locked_groups q (take at queue) → later ≡ list ++ Some group ∷ [] → later ≡ old ++ locked_groups q (take (at + 1) queue)
+list-next q queue at session group old list later there is so_far pushed =
+    rw (pushed, is, so_far, take_there queue at session there, map-append (λ session. Some (locked_group q session)) (take at queue) (session ∷ []))
+    (append_assoc old (locked_groups q (take at queue)) (Some (locked_group q session) ∷ []))
 
 -- # the nodes that a session has yet to lock and those that it is to leave are ids outside a group
 
@@ -349,19 +222,6 @@ some-locked : (q p : RequesterId) (x : SessionId) (queue : List SessionId)
     → list_any (λ o. option_map_or (λ h. same_group h (locked_group q x)) o false) (map (λ session. Some (locked_group p session)) queue) ≡ ((p.0 == q.0) && is_queued x queue)
 some-locked q p x [] = sym (and_false (p.0 == q.0))
 some-locked q p x (y ∷ queue) = grind (arith, some-locked q p x queue)
-
-module _ (c : Configuration) (s : State) (q : RequesterId) where
-  -- the node is in the group of the requester if it was given to it
-  pub among-given : (k : NodeRecord) (queue : List SessionId) → is_among (given_group q) (groups_by c s k queue) ≡ is_given_to c s q k
-  among-given k queue =
-      let none = λ (p : RequesterId). none-locked q p queue in
-      grind arith
-
-  -- and in the group of a session if the session is in its queue, too
-  pub among-locked : (x : SessionId) (k : NodeRecord) (queue : List SessionId) → is_among (locked_group q x) (groups_by c s k queue) ≡ (is_given_to c s q k && is_queued x queue)
-  among-locked x k queue =
-      let some = λ (p : RequesterId). some-locked q p x queue in
-      grind arith
 
 -- ## the ids outside
 
@@ -387,46 +247,37 @@ module _ (c : Configuration) (s : State) (ms : List (Member NodeId)) (are : AreG
   nodes-found : AllByRecursion (λ (e : NodeEntry). node_entry e.id s.nodes ≡ Some e) s.nodes
   nodes-found = rows-found is_node_before same_node id node_equal later-node-apart same_node-self s.nodes are.once
 
-  group-at : (g : Group) (i : NodeId) (o : Option NodeEntry) → node_entry i s.nodes ≡ o
-      → has_member same_node g i ms ≡ option_map_or (λ (e : NodeEntry). is_among g (groups_by c s e.kept (node_queue i s.nodes))) o false
-  group-at g i o is = grind (arith, are.each g i)
+  -- a node is in the requester's group if it was given to it ..
+  given-has : (n : NodeId) → has_member same_node (given_group q) n ms ≡ option_map_or (λ (e : NodeEntry). is_given_to c s q e.kept) (node_entry n s.nodes) false
+  given-has n =
+      let none = λ (p : RequesterId). none-locked q p (node_queue n s.nodes) in
+      grind (arith, are.each (given_group q) n)
 
-  given-at : (n : NodeId) (o : Option NodeEntry) → option_map_or (λ (e : NodeEntry). is_among (given_group q) (groups_by c s e.kept (node_queue n s.nodes))) o false ≡ option_map_or (λ (e : NodeEntry). is_given_to c s q e.kept) o false
-  given-at n o =
-      let among = λ (e : NodeEntry). among-given c s q e.kept (node_queue n s.nodes) in
-      grind arith
+  -- .. and in the session's if the session is in its queue, too
+  locked-has : (n : NodeId) → inside n ≡ option_map_or (λ (e : NodeEntry). is_given_to c s q e.kept && is_queued x e.queue) (node_entry n s.nodes) false
+  locked-has n =
+      let some = λ (p : RequesterId). some-locked q p x (node_queue n s.nodes) in
+      grind (arith, are.each (locked_group q x) n)
+
+  -- the ids of rows that pass are those that are there, in order
+  passed : (g : NodeEntry → Bool) (n : NodeId) → list_any (λ y. same_node y n) (map id (filter g s.nodes)) ≡ option_map_or g (node_entry n s.nodes) false
+  passed g n = row-passes is_node_before same_node id node_equal later-node-apart g n s.nodes are.once
+
+  passed-rise : (g : NodeEntry → Bool) → Rises is_node_before (map id (filter g s.nodes))
+  passed-rise g = ids-in_order is_node_before same_node id node_equal later-node-apart (filter g s.nodes) (Rises-filter (λ (a b : NodeEntry). is_node_before a.id b.id) g s.nodes are.once)
+
+  -- those of them that are outside the session's group
+  outside-passed : (g want : NodeEntry → Bool) → ((e : NodeEntry) → node_entry e.id s.nodes ≡ Some e → want e ≡ (g e && not (inside e.id)))
+      → outside same_node (locked_group q x) ms (map id (filter g s.nodes)) ≡ map id (filter want s.nodes)
+  outside-passed g want wants =
+      filter-ids id g want (λ i. not (inside i)) s.nodes (all-weaker (λ (e : NodeEntry). node_entry e.id s.nodes ≡ Some e) (λ (e : NodeEntry). want e ≡ (g e && not (inside e.id))) wants s.nodes nodes-found)
 
   -- the ids of the requester's group are those of its nodes, by number
   given-ids : ids_in (given_group q) ms ≡ map id (filter (λ e. is_given_to c s q e.kept) s.nodes)
   given-ids =
       same-list is_node_before same_node node_one_way node_equal same_node-self (ids_in (given_group q) ms) (map id (filter (λ e. is_given_to c s q e.kept) s.nodes))
-      (ids-rise (given_group q) is_node_before ms are.rises)
-      (ids-in_order is_node_before same_node id node_equal later-node-apart (filter (λ (e : NodeEntry). is_given_to c s q e.kept) s.nodes) (Rises-filter (λ (a b : NodeEntry). is_node_before a.id b.id) (λ (e : NodeEntry). is_given_to c s q e.kept) s.nodes are.once))
-      (λ n. ids-has same_node (given_group q) n ms ∙ group-at (given_group q) n (node_entry n s.nodes) refl ∙ given-at n (node_entry n s.nodes) ∙ sym (row-passes is_node_before same_node id node_equal later-node-apart (λ (e : NodeEntry). is_given_to c s q e.kept) n s.nodes are.once))
-
-  -- a node that is there is in the session's group if it was given and the session is in its queue
-  inside-at : (e : NodeEntry) → node_entry e.id s.nodes ≡ Some e → inside e.id ≡ (is_given_to c s q e.kept && is_queued x (node_queue e.id s.nodes))
-  inside-at e found = group-at (locked_group q x) e.id (Some e) found ∙ among-locked c s q x e.kept (node_queue e.id s.nodes)
-
-  -- ### to lock
-
-  pub locks-outside : slice_get (outside same_node (locked_group q x) ms (ids_in (given_group q) ms)) 0 ≡ node_to_lock c q x s
-  locks-outside =
-      ap (λ (ids : List NodeId). slice_get (filter (λ i. not (inside i)) ids) 0) given-ids
-      ∙ ap (λ (ids : List NodeId). slice_get ids 0) (filter-ids id (λ e. is_given_to c s q e.kept) (is_to_lock c s q x) (λ i. not (inside i)) s.nodes
-      (all-weaker (λ (e : NodeEntry). node_entry e.id s.nodes ≡ Some e) (λ (e : NodeEntry). is_to_lock c s q x e ≡ (is_given_to c s q e.kept && not (inside e.id)))
-      (λ e found. let inner = inside-at e found in grind arith) s.nodes nodes-found))
-      ∙ slice_get-map id (filter (is_to_lock c s q x) s.nodes) 0
-      ∙ ap (option_map id) (first-of-all (is_to_lock c s q x) s.nodes)
-
-  pub locked-given : (i : NodeId) → inside i ≡ true → has_member same_node (given_group q) i ms ≡ true
-  locked-given i is = by (node_entry i s.nodes) refl where
-    by : (o : Option NodeEntry) → node_entry i s.nodes ≡ o → has_member same_node (given_group q) i ms ≡ true
-    by None none = let out : inside i ≡ false = group-at (locked_group q x) i None none in absurd cc
-    by (Some e) found =
-        let given = group-at (given_group q) i (Some e) found in
-        let locked = group-at (locked_group q x) i (Some e) found in
-        grind (arith, among-given c s q e.kept (node_queue i s.nodes), among-locked c s q x e.kept (node_queue i s.nodes))
+      (ids-rise (given_group q) is_node_before ms are.rises) (passed-rise (λ (e : NodeEntry). is_given_to c s q e.kept))
+      (λ n. ids-has same_node (given_group q) n ms ∙ given-has n ∙ sym (passed (λ (e : NodeEntry). is_given_to c s q e.kept) n))
 
   -- a call that finds such an id finds the first node to lock
   pub locks-by : (g l : Group) (result : Option NodeId) → g ≡ given_group q → l ≡ locked_group q x
@@ -434,30 +285,11 @@ module _ (c : Configuration) (s : State) (ms : List (Member NodeId)) (are : AreG
       → result ≡ node_to_lock c q x s
   locks-by g l result given locked called =
       let call = rw (given, locked) at called in
-      call locked-given ∙ locks-outside
-
-  -- ### to leave
-
-  queue-at : (e : NodeEntry) → node_entry e.id s.nodes ≡ Some e → node_queue e.id s.nodes ≡ e.queue
-  queue-at e found = ap (λ (o : Option NodeEntry). option_map_or (λ e. e.queue) o []) found
-
-  pub leaves-outside : (at : ℕ) → slice_get (outside same_node (locked_group q x) ms (queued_nodes x s)) at ≡ node_to_leave c q x at s
-  leaves-outside at =
-      ap (λ (ids : List NodeId). slice_get ids at) (filter-ids id (λ e. is_queued x e.queue) (is_to_leave c s q x) (λ i. not (inside i)) s.nodes
-      (all-weaker (λ (e : NodeEntry). node_entry e.id s.nodes ≡ Some e) (λ (e : NodeEntry). is_to_leave c s q x e ≡ (is_queued x e.queue && not (inside e.id)))
-      (λ e found. let inner = inside-at e found in let queue = queue-at e found in grind arith) s.nodes nodes-found))
-
-  pub queued-rise : Rises is_node_before (queued_nodes x s)
-  queued-rise = ids-in_order is_node_before same_node id node_equal later-node-apart (filter (λ (e : NodeEntry). is_queued x e.queue) s.nodes) (Rises-filter (λ (a b : NodeEntry). is_node_before a.id b.id) (λ (e : NodeEntry). is_queued x e.queue) s.nodes are.once)
-
-  pub locked-queued : (i : NodeId) → inside i ≡ true → list_any (λ y. same_node y i) (queued_nodes x s) ≡ true
-  locked-queued i is = row-passes is_node_before same_node id node_equal later-node-apart (λ (e : NodeEntry). is_queued x e.queue) i s.nodes are.once ∙ by (node_entry i s.nodes) refl where
-    by : (o : Option NodeEntry) → node_entry i s.nodes ≡ o → option_map_or (λ (e : NodeEntry). is_queued x e.queue) o false ≡ true
-    by None none = let out : inside i ≡ false = group-at (locked_group q x) i None none in absurd cc
-    by (Some e) found =
-        let queue : node_queue i s.nodes ≡ e.queue = ap (λ (o : Option NodeEntry). option_map_or (λ e. e.queue) o []) found in
-        let locked = group-at (locked_group q x) i (Some e) found in
-        grind (arith, among-locked c s q x e.kept (node_queue i s.nodes))
+      call (λ i is. let given = given-has i in let locked = locked-has i in grind arith)
+      ∙ ap (λ (ids : List NodeId). slice_get (outside same_node (locked_group q x) ms ids) 0) given-ids
+      ∙ ap (λ (ids : List NodeId). slice_get ids 0) (outside-passed (λ (e : NodeEntry). is_given_to c s q e.kept) (is_to_lock c s q x) (λ e found. let inner = locked-has e.id in grind arith))
+      ∙ slice_get-map id (filter (is_to_lock c s q x) s.nodes) 0
+      ∙ ap (option_map id) (first-of-all (is_to_lock c s q x) s.nodes)
 
   -- a call that finds such an id finds the node to leave at the place
   pub leaves-by : (l : Group) (queued : List NodeId) (at : ℕ) (result : Option NodeId) → l ≡ locked_group q x → queued ≡ queued_nodes x s
@@ -465,19 +297,13 @@ module _ (c : Configuration) (s : State) (ms : List (Member NodeId)) (are : AreG
       → result ≡ node_to_leave c q x at s
   leaves-by l queued at result locked are_queued called =
       let call = rw (locked, are_queued) at called in
-      call queued-rise locked-queued ∙ leaves-outside at
+      call (passed-rise (λ e. is_queued x e.queue)) (λ i is. passed (λ e. is_queued x e.queue) i ∙ (let locked = locked-has i in grind arith))
+      ∙ ap (λ (ids : List NodeId). slice_get ids at) (outside-passed (λ e. is_queued x e.queue) (is_to_leave c s q x) (λ e found. let inner = locked-has e.id in grind arith))
 
 -- # a walk to the first of a list that passes
 
--- none before the place passes
-pub record IsAfter {X : Type 0} (p : X → Bool) (xs : List X) (at : ℕ) : Type 0 where
-  pub rest : find p (drop at xs) ≡ find p xs
-
-module _ {X : Type 0} (p : X → Bool) (xs : List X) (at : ℕ) (after : IsAfter p xs at) (x : X) (is : slice_get xs at ≡ Some x) where
-  pub here-passes : p x ≡ true → Some x ≡ find p xs
-  here-passes passes = let found : find p (drop at xs) ≡ Some x = rw (drop-there xs at x is, passes) refl in sym found ∙ after.rest
-
-  pub next-after : p x ≡ false → IsAfter p xs (at + 1)
-  next-after fails =
-      let passed : find p (drop at xs) ≡ find p (drop (suc at) xs) = rw (drop-there xs at x is, fails) refl in
-      record { rest = ap (λ (n : ℕ). find p (drop n xs)) (add-one at) ∙ sym passed ∙ after.rest }
+-- where none before the place passes, the one there is the first if it passes, and else none before the next passes
+pub walk-on : {X : Type 0} (p : X → Bool) (xs : List X) (at : ℕ) (x : X) → find p (drop at xs) ≡ find p xs → slice_get xs at ≡ Some x → cond (p x) (Some x) (find p (drop (at + 1) xs)) ≡ find p xs
+walk-on p xs at x rest is =
+    let here : find p (drop at xs) ≡ cond (p x) (Some x) (find p (drop (suc at) xs)) = rw (drop-there xs at x is) refl in
+    rw (add-one at) (sym here ∙ rest)

@@ -2,4 +2,3 @@ pub mod Prelude
 pub mod KindLemmas
 pub mod Changes
 pub mod Searches
-pub mod AcquireLemmas

@@ -1,49 +1,28 @@
 -- The names from elsewhere that the proofs cite, passed on from one place. Declares nothing.
-pub use Rattle.np_active.specs.Active.{ActiveOf, AreActive, AreGroups, AreJobGroups, AreSessionGroups, JobKind, SessionKind, ending_ones, is_job_in, is_job_of, is_kind_in, is_of_kind, is_prompt, job_group, lacking_group, lacking_ones, live_group, live_ones, mute_group, mute_ones, prompt_group, prompt_ones, releasing_ones, role_group, session_group, speakers, supplied_ones, waiting_group, waiting_ones}
-pub use Rattle.np_active.specs.Begin.{IsBest, at_line, comes_first, earlier_job, first_line, first_of_line, is_free, line_after, line_if, may_begin_of}
-pub use Rattle.np_active.specs.Given.{AreGivenGroups, given_group, given_groups, groups_by, groups_of_node, locked_group}
-pub use Rattle.np_active.specs.GivenPrepared.{IsPrepared, PreparedOf, placed_node}
-pub use Rattle.np_active.specs.Lines.{is_like, line_of, same_semaphores}
-pub use Rattle.np_active.specs.Listed.{changes_state, nodes_by_job, nodes_by_state, nodes_of_job, nodes_of_request, touches_given}
-pub use Rattle.np_active.specs.Placed.{groups_of_job, groups_of_session, kind_by, kind_of_job, kind_of_rows, kinds_of_facts, kinds_of_session, live_kind, no_kinds}
-pub use Rattle.np_active.specs.Prepared.{IsPast, PastOf, job_before, past_job, past_session, session_before}
-pub use Rattle.np_active.specs.Within.{groups_within, locked_groups}
+pub use Rattle.np_active.specs.Active.{ActiveOf, AreActive, AreGroups, AreJobGroups, AreSessionGroups, JobKind, SessionKind, ending_ones, is_job_in, is_job_of, is_kind_in, is_of_kind, job_group, lacking_group, lacking_ones, live_group, live_ones, mute_group, mute_ones, prompt_group, prompt_ones, releasing_ones, role_group, session_group, speakers, supplied_ones, waiting_group, waiting_ones, line_of, same_semaphores}
+pub use Rattle.np_active.specs.Given.{IsBest, at_line, comes_first, earlier_job, first_line, first_of_line, is_free, line_after, line_if, may_begin_of, AreGivenGroups, given_group, groups_by, groups_of_node, locked_group, IsPrepared, PreparedOf, placed_node, nodes_by_job, nodes_by_state, nodes_of_request, touches_given, groups_within, locked_groups}
+pub use Rattle.np_active.specs.Lower.{AllByRecursion, Changes, Configuration, Group, IsReached, IsTouched, Job, JobId, JobRecord, JobsChange, Member, NodeEntry, NodeId, NodeRecord, Placed, RequestEntry, RequestId, RequestRecord, RequestState, RequesterId, RequestsChange, Rises, Role, SemId, SessionFacts, SessionId, State, TenantId, TouchedOf, allocated, asker, change_first, changed, current_of, edited, first_full, first_mute, given_to, grown, handed_to, has_handle, has_live_session, has_member, ids_in, is_among, is_asked, is_fulfilled, is_full, is_given_to, is_group_before, is_job_before, is_job_to_acquire, is_job_to_begin, is_member_before, is_node_before, is_queued, is_session_before, is_supplied, is_to_leave, is_to_lock, job_equal, job_one_way, job_some_way, job_to_acquire, job_to_begin, jobs_changed, jobs_from, joined, left, list_any, mute_from, node_entry, node_equal, node_in, node_one_way, node_queue, node_to_leave, node_to_lock, nodes_changed, nodes_left, option_map, option_map_or, option_or, put_node_queue, queued_nodes, request_in, request_state_of, requests_changed, same_group, same_job, same_node, same_request, same_role, same_session, session_equal, session_one_way, session_some_way, speaker_from, speaks_for, touches_job, touches_node, unclaims_node, with_all_moved, with_mark, with_moved}
+pub use Rattle.np_active.specs.Placed.{groups_of_job, groups_of_session, kind_by, kind_of_job, kind_of_rows, kinds_of_facts, no_kinds, IsPast, PastOf, job_before, past_job, past_session, session_before}
 pub use Rattle.np_changes.proofs.Jobs.{jobs-grown}
 pub use Rattle.np_changes.proofs.Lookups.{calm-request, found-grown, grown-numbered, later-node-apart, left-request, node_in-allocated, node_in-later, node_in-queue, node_queue-allocated, node_queue-freed, node_queue-in_use, node_queue-left, node_queue-new, node_queue-nowhere, node_queue-other, node_queue-put, node_queue-queue, node_queue-remove, node_queue-removed, numbered, request_in-edit, request_in-remove, same_node-is, same_semaphore}
 pub use Rattle.np_changes.proofs.Runs.{invariant-Runs}
 pub use Rattle.np_changes.proofs.Shapes.{length-left}
 pub use Rattle.np_changes.specs.Parts.{Invariant, IsListed, IsNumbered}
-pub use Rattle.np_changes.specs.Prelude.{AllByRecursion, Configuration, IsReached, Janitor, Job, JobId, JobRecord, Launcher, NodeEntry, NodeId, NodeRecord, NonePass, Phase, Reaper, RequestEntry, RequestId, RequestRecord, RequestState, Requester, RequesterId, Rises, Role, SemId, SessionFacts, SessionId, State, TenantId, allocated, by_maker, change_first, changed, edited, first_full, grown, has_handle, has_live_session, is_asked, is_failed, is_fulfilled, is_full, is_new, is_over, is_queued, is_request, is_requesters, is_using, jobs_changed, joined, left, list_any, node_entry, node_in, node_queue, nodes_changed, nodes_left, option_map, option_map_or, option_or, put_node_queue, remove_node, request_in, requests_changed, same_request, same_role, session_of, speaks_for, with_mark}
-pub use Rattle.np_changes.specs.declared.changes.Changes.{Changes}
 pub use Rattle.np_changes.specs.declared.changes.Growth.{Growth}
-pub use Rattle.np_changes.specs.declared.changes.JobsChange.{JobsChange}
 pub use Rattle.np_changes.specs.declared.changes.Maker.{Maker}
 pub use Rattle.np_changes.specs.declared.changes.NodesChange.{NodesChange}
-pub use Rattle.np_changes.specs.declared.changes.RequestEdit.{RequestEdit}
-pub use Rattle.np_changes.specs.declared.changes.RequestsChange.{RequestsChange}
 pub use Rattle.np_changes.specs.declared.changes.SessionsChange.{SessionsChange}
 pub use Rattle.np_classes.proofs.MemberLemmas.{below, below-next, below-none, grouped-moved, ids-in_order, jobs-in_order, made, made-all, made-next, moved-by, nodes-in_order, none-found, row-passes, rows-found, same_node-self, sessions-in_order}
 pub use Rattle.np_classes.proofs.Untouched.{asked-untouched, handle-untouched, job-untouched, node-untouched, session-untouched}
-pub use Rattle.np_classes.specs.Grouped.{AreGrouped, IsOrder, placed_all}
-pub use Rattle.np_classes.specs.Listed.{IsTouched, TouchedOf}
-pub use Rattle.np_classes.specs.Touched.{changes_node, ends_at_node, grows_node, touches_job, touches_node, unclaims_node}
+pub use Rattle.np_classes.specs.Placed.{AreGrouped, IsOrder, placed_all}
 pub use Rattle.np_lists.proofs.Changes.{Rises-filter, all-weaker, filter-nothing, find-passes, kept-change_at}
-pub use Rattle.np_lists.proofs.Members.{IsLeast, each-moved, group-equal, ids-has, ids-rise, least-found, rises-all_moved, same-itself, same-list}
-pub use Rattle.np_lists.proofs.Plain.{above-apart, and-first, and-second, and_false, and_true, any-same, contrapositive, drop-there, equal-itself, equal-numbers, find-alike, is-below, not-below, or_false, past-end, same_number, set-other}
-pub use Rattle.np_lists.proofs.Searches.{none-find}
-pub use Rattle.np_lists.specs.Groups.{group_after, has_member, ids_in, is_group_before, is_member_before, same_group}
-pub use Rattle.np_lists.specs.Moves.{Placed, is_among, with_all_moved, with_moved}
+pub use Rattle.np_lists.proofs.Members.{each-moved, group-apart, group-equal, group-one_way, group-turned, ids-has, ids-rise, rises-all_moved, same-itself, same-list}
+pub use Rattle.np_lists.proofs.Plain.{and_false, any-same, by_bool, contrapositive, drop-there, equal-numbers, not-below, past-end, same_number, set-other}
 pub use Rattle.np_lists.specs.Ranks.{outside}
-pub use Rattle.np_lists.specs.declared.groups.Group.{Group}
-pub use Rattle.np_lists.specs.declared.groups.Member.{Member}
 pub use Rattle.np_look.proofs.Looks.{none_there, queue-fits, take_there}
-pub use Rattle.np_look.specs.Given.{asker, given_to, handed_to, is_given_to, is_to_leave, is_to_lock, node_to_leave, node_to_lock}
-pub use Rattle.np_look.specs.Jobs.{is_job_to_acquire, is_job_to_begin, is_own, is_supplied, job_to_acquire, job_to_begin, may_acquire, may_begin, was_given}
-pub use Rattle.np_look.specs.Keys.{is_job_before, is_node_before, is_session_before, job_equal, job_one_way, job_some_way, node_equal, node_one_way, same_job, same_node, same_session, session_equal, session_one_way, session_some_way}
-pub use Rattle.np_look.specs.Readers.{current_of, first_mute, jobs_from, mute_from, queued_nodes, request_state_of, speaker_from}
 pub use Rattle.np_machine.proofs.Ids.{request-equal, request-itself}
-pub use Rattle.std.proofs.Common.{Bool, List, None, Option, Some, add-one, ap, append_assoc, arith, cond, drop, false, inl, inr, length, length-append, map, not, refl, subst, suc, sym, take, true, zero, ℕ, [], ◌*◌, ◌++◌, ◌+◌, ◌-◌, ◌<◌, ◌^◌, ◌∙◌, ◌∷◌, ◌≡◌, ◌≢◌, ◌≤◌, ◌⊎◌}
-pub use Rattle.std.proofs.lemmas.Bool.{and_parts, cases_order, false_from_ne_true, not-true, or_parts, or_right}
+pub use Rattle.std.proofs.Common.{Bool, List, None, Option, Some, add-one, ap, append_assoc, arith, cond, drop, false, inl, inr, length, length-append, map, not, refl, subst, suc, sym, take, true, zero, ℕ, [], ◌*◌, ◌++◌, ◌+◌, ◌-◌, ◌<◌, ◌^◌, ◌∙◌, ◌∷◌, ◌≡◌, ◌≤◌, ◌⊎◌}
+pub use Rattle.std.proofs.lemmas.Bool.{and_parts, cases_order, not-true, or_parts}
 pub use Rattle.std.proofs.lemmas.Bool.Decides.{nat_tests}
 pub use Rattle.std.proofs.lemmas.List.{map-append, take_all}
 pub use Rattle.std.proofs.lemmas.List.Folds.{list_any-append}
@@ -51,4 +30,4 @@ pub use Rattle.std.proofs.lemmas.Option.{slice_get-map, slice_get_past, slice_ge
 pub use Rattle.std.proofs.lemmas.Simd.{map-map}
 pub use Rattle.std.proofs.lemmas.Slice.Eq.{slice_eq-Decides}
 pub use Rattle.std.specs.Bool.{Decides}
-pub use Rattle.std.specs.Prelude.{filter, find, is_none, is_some, nat_lt, option_and_then, slice_get, vec_capacity, vec_len, ◌&&◌, ◌==◌, ◌||◌}
+pub use Rattle.std.specs.Prelude.{filter, find, is_none, is_some, nat_lt, option_and_then, slice_get, vec_capacity, vec_len, ◌&&◌, ◌==◌}

@@ -1,13 +1,23 @@
+-- in which line a job waits for its semaphores: the jobs of a line have the same semaphores and no handles,
+-- so a semaphore that is full blocks all of them
+use Rattle.std.specs.Prelude.{ℕ, List, Bool, false, ◌==◌, if◌then◌else◌, slice_get, ◌≡◌, ◌&&◌, ◌||◌, not, Some}
+use Rattle.std.specs.Cmp.Lexicographic.{pointwise}
+use Rattle.np_active.specs.Lower.{Configuration, Job, JobId, SemId, option_map_or, Group, Janitor, JobRecord, Launcher, Member, Reaper, Requester, RequesterId, Rises, Role, SessionFacts, SessionId, State, has_member, is_job_before, is_job_to_finish, is_job_to_release, is_job_to_take, is_member_before, is_new, is_own, is_requesters, is_session_before, is_supplied, request_state_of, same_job, same_session, session_of, speaks_for, was_given}
+
+-- the same semaphores, in the same order
+abbrev pub same_semaphores : List SemId → List SemId → Bool
+same_semaphores = pointwise (λ a b. a.0 == b.0)
+
+-- there is such a job, and it has the semaphores of this row
+abbrev pub is_like : Configuration → Job → JobId → Bool
+is_like c row i = option_map_or (λ other. same_semaphores other.semaphores row.semaphores) (slice_get c.jobs i.0) false
+
+-- the line of the job with this row, where `lines` has for each job one that may be like it: the number of
+-- that job if it is like it, and the job's own number if not
+abbrev pub line_of : Configuration → List JobId → JobId → Job → ℕ
+line_of c lines j row = option_map_or (λ first. if is_like c row first then first.0 else j.0) (slice_get lines j.0) j.0
+
 -- the groups of jobs and of sessions, and what a state says of them
-use Rattle.std.specs.Prelude.{◌≡◌, ◌≤◌, ◌==◌, ◌&&◌, ◌||◌, ℕ, List, Bool, false, not, if◌then◌else◌, Some, slice_get}
-use Rattle.np_changes.specs.Prelude.{Configuration, Janitor, Job, JobId, JobRecord, Launcher, Reaper, Requester, RequesterId, Rises, Role, SessionFacts, SessionId, State, is_new, is_requesters, option_map_or, session_of, speaks_for}
-use Rattle.np_look.specs.Readers.{request_state_of}
-use Rattle.np_lists.specs.declared.groups.Group.{Group}
-use Rattle.np_lists.specs.declared.groups.Member.{Member}
-use Rattle.np_lists.specs.Groups.{has_member, is_member_before}
-use Rattle.np_look.specs.Keys.{is_job_before, is_session_before, same_job, same_session}
-use Rattle.np_look.specs.Jobs.{is_job_to_finish, is_job_to_release, is_job_to_take, is_own, is_supplied, was_given}
-use Rattle.np_active.specs.Lines.{line_of}
 
 -- ## groups (own)
 

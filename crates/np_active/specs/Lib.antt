@@ -1,9 +1,4 @@
-pub mod Lines
+pub mod Lower
 pub mod Active
-pub mod Begin
 pub mod Placed
-pub mod Prepared
 pub mod Given
-pub mod Listed
-pub mod GivenPrepared
-pub mod Within

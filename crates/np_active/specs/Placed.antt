@@ -1,11 +1,9 @@
 -- the groups that a job and a session are in (own)
-use Rattle.std.specs.Prelude.{Bool, false, List, [], ◌∷◌, if◌then◌else◌, Option, Some, None, map, slice_get}
-use Rattle.np_changes.specs.Prelude.{Configuration, Job, JobId, JobRecord, Phase, RequestState, Requester, Role, SessionFacts, SessionId, State, has_handle, is_failed, is_fulfilled, list_any, option_map, option_map_or, session_of}
-use Rattle.np_look.specs.Jobs.{is_supplied}
-use Rattle.np_look.specs.Readers.{request_state_of}
-use Rattle.np_lists.specs.declared.groups.Group.{Group}
-use Rattle.np_active.specs.Active.{JobKind, SessionKind, ending_ones, is_prompt, job_group, lacking_ones, live_ones, mute_ones, prompt_ones, releasing_ones, session_group, speakers, supplied_ones, waiting_ones}
-use Rattle.np_active.specs.Lines.{line_of}
+use Rattle.std.specs.Prelude.{Bool, false, List, [], ◌∷◌, if◌then◌else◌, Option, Some, None, map, slice_get, ◌≡◌, ◌≤◌, ◌*◌, length}
+use Rattle.np_active.specs.Active.{JobKind, SessionKind, ending_ones, is_prompt, job_group, lacking_ones, live_ones, mute_ones, prompt_ones, releasing_ones, session_group, speakers, supplied_ones, waiting_ones, ActiveOf, line_of}
+use Rattle.np_active.specs.Lower.{Configuration, Group, Job, JobId, JobRecord, Phase, RequestState, Requester, Role, SessionFacts, SessionId, State, has_handle, is_failed, is_fulfilled, is_supplied, list_any, option_map, option_map_or, request_state_of, session_of, Placed, TouchedOf}
+use Rattle.np_active.specs.declared.past.PastJob.{PastJob}
+use Rattle.np_active.specs.declared.past.PastSession.{PastSession}
 
 -- ## jobs
 
@@ -57,3 +55,32 @@ kinds_of_session s x = option_map_or kinds_of_facts (session_of x s) no_kinds
 
 abbrev pub groups_of_session : State → SessionId → List (Option Group)
 groups_of_session s x = map (option_map session_group) (kinds_of_session s x)
+
+-- what is prepared for a change: the jobs and the sessions that it touches, with the groups that they are in before it
+
+abbrev pub past_job : Configuration → State → List JobId → JobId → PastJob
+past_job c s lines j = record { job = j; groups = groups_of_job c s lines j }
+
+abbrev pub past_session : State → SessionId → PastSession
+past_session s x = record { session = x; groups = groups_of_session s x }
+
+abbrev pub job_before : PastJob → Placed JobId
+job_before past = record { id = past.job; groups = past.groups }
+
+abbrev pub session_before : PastSession → Placed SessionId
+session_before past = record { id = past.session; groups = past.groups }
+
+-- the jobs and the sessions, with their groups (own)
+pub record PastOf : Type 0 where
+  pub jobs : List PastJob
+  pub sessions : List PastSession
+
+-- all that is touched, with the groups that it is in in the state
+pub record IsPast (c : Configuration) (s : State) (lines : List JobId) (touched : TouchedOf) (past : PastOf) : Type 0 where
+  pub jobs : past.jobs ≡ map (past_job c s lines) touched.jobs
+  pub sessions : past.sessions ≡ map (past_session s) touched.sessions
+
+-- there is room for each job in the one group that it may be in, and for each session in its two
+pub record HasRoom (past : PastOf) (active : ActiveOf) : Type 0 where
+  pub jobs : length past.jobs ≤ active.job_room
+  pub sessions : 2 * length past.sessions ≤ active.session_room

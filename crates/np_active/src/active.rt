@@ -1,13 +1,9 @@
 //! The groups of a state's jobs and of its sessions, kept as events change it.
 
 ghost use Rattle.std.specs.Prelude.{◌≡◌, IfOk};
-ghost use Rattle.np_changes.specs.Prelude.{Configuration, IsReached, State, changed, has_live_session};
-ghost use Rattle.np_changes.specs.declared.changes.Changes.{Changes};
-ghost use Rattle.np_look.specs.Jobs.{job_to_finish, job_to_release, job_to_take};
-ghost use Rattle.np_look.specs.Readers.{current_of, first_mute};
+ghost use Rattle.np_active.specs.Lower.{Changes, Configuration, IsReached, IsTouched, State, TouchedOf, changed, current_of, first_mute, has_live_session, job_to_finish, job_to_release, job_to_take};
 ghost use Rattle.np_active.specs.Active.{AreActive};
-ghost use Rattle.np_active.specs.Prepared.{HasRoom, IsPast};
-ghost use Rattle.np_classes.specs.Listed.{IsTouched, TouchedOf};
+ghost use Rattle.np_active.specs.Placed.{HasRoom, IsPast};
 
 use crate::jobs::{all_jobs, ending_group, move_jobs, releasing_group, supplied_group};
 use crate::lines::lines_of;

@@ -2,14 +2,12 @@
 //! found by the groups and the handles of the state.
 
 ghost use Rattle.std.specs.Prelude.{◌≡◌, None, find};
-ghost use Rattle.np_lists.specs.Rising.{Rises};
-ghost use Rattle.np_lists.specs.Groups.{ids_in, is_member_before};
-ghost use Rattle.np_look.specs.Keys.{is_job_before};
-ghost use Rattle.np_look.specs.Jobs.{job_to_acquire, job_to_begin};
+ghost use Rattle.np_active.specs.Lower.{Rises, ids_in, is_job_before, is_member_before, job_to_acquire, job_to_begin};
 ghost use Rattle.np_active.specs.Active.{AreActive, prompt_group};
-ghost use Rattle.np_active.specs.Begin.{IsBest, at_line, earlier_job, first_line, first_of_line, is_free, line_after, line_if, may_begin_of};
+ghost use Rattle.np_active.specs.Given.{IsBest, at_line, earlier_job, first_line, first_of_line, is_free, line_after, line_if, may_begin_of};
 
 use crate::active::Active;
+use crate::group::group_of;
 use crate::jobs::{lacking_group, prompt_group, waiting_group};
 use np_lists::{Group, Groups};
 use np_look::{ByJob, Rows, first_full};
@@ -22,10 +20,7 @@ use np_text::{JobId, RequesterId};
 fn is_free<R: Rows>(rows: &R, job: JobId) -> bool
     ensures { result ≡ is_free (R.site rows.now) (R.state rows.now) job }
 {
-    match rows.config().job(job) {
-        None => false,
-        Some(row) => first_full(rows, job, row).is_none(),
-    }
+    matches!(rows.config().job(job), Some(row) if first_full(rows, job, row).is_none())
 }
 
 /// Whether there is such a job, and it asks for its nodes first or none of its semaphores blocks
@@ -33,10 +28,8 @@ fn is_free<R: Rows>(rows: &R, job: JobId) -> bool
 fn may_begin<R: Rows>(rows: &R, job: JobId) -> bool
     ensures { result ≡ may_begin_of (R.site rows.now) (R.state rows.now) job }
 {
-    match rows.config().job(job) {
-        None => false,
-        Some(row) => row.resources_first || first_full(rows, job, row).is_none(),
-    }
+    matches!(rows.config().job(job), Some(row)
+        if row.resources_first || first_full(rows, job, row).is_none())
 }
 
 /// The first that may begin of the requester's new jobs that wait for no semaphore. Three binary
@@ -63,12 +56,7 @@ fn first_prompt<R: Rows>(rows: &R, jobs: &Groups<ByJob>, requester: RequesterId)
 fn at_line(lines: Group, line: u64) -> Group
     ensures { result ≡ at_line lines line }
 {
-    Group {
-        class: lines.class,
-        first: lines.first,
-        second: lines.second,
-        third: line,
-    }
+    group_of(lines.class, lines.first, lines.second, line)
 }
 
 /// The line of the group, if it is one of these.

@@ -1,12 +1,8 @@
 //! The nodes that were given to requesters, kept as events change the state.
 
 ghost use Rattle.std.specs.Prelude.{◌≡◌, true, IfOk};
-ghost use Rattle.np_changes.specs.Prelude.{Configuration, Fits, IsPlanned, IsReached, State, changed, list_any};
-ghost use Rattle.np_changes.specs.declared.changes.Changes.{Changes};
-ghost use Rattle.np_look.specs.Keys.{same_node};
-ghost use Rattle.np_classes.specs.Touched.{touches_node};
-ghost use Rattle.np_active.specs.Given.{AreGiven};
-ghost use Rattle.np_active.specs.GivenPrepared.{HasRoom, IsPrepared};
+ghost use Rattle.np_active.specs.Lower.{Changes, Configuration, Fits, IsPlanned, IsReached, State, changed, list_any, same_node, touches_node};
+ghost use Rattle.np_active.specs.Given.{AreGiven, HasRoom, IsPrepared};
 
 use crate::members::{all_nodes, move_nodes};
 use crate::prepare::{Prepared, prepared_by};

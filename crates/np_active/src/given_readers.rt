@@ -1,9 +1,7 @@
 //! What the groups answer.
 
 ghost use Rattle.std.specs.Prelude.{◌≡◌};
-ghost use Rattle.np_changes.specs.Prelude.{Configuration, State};
-ghost use Rattle.np_look.specs.Readers.{queued_nodes};
-ghost use Rattle.np_look.specs.Given.{node_to_leave, node_to_lock};
+ghost use Rattle.np_active.specs.Lower.{Configuration, State, node_to_leave, node_to_lock, queued_nodes};
 ghost use Rattle.np_active.specs.Given.{AreGiven};
 
 use crate::given::Given;

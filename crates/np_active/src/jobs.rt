@@ -1,15 +1,14 @@
 //! The group that a job is in, and jobs moved between groups. Only making groups anew takes memory.
 
 ghost use Rattle.std.specs.Prelude.{◌≡◌, ◌≤◌, [], Some, None, IfOk, OnOk, length, map};
-ghost use Rattle.np_look.specs.Keys.{is_job_before, same_job};
-ghost use Rattle.np_lists.specs.Moves.{with_all_moved, with_groups};
+ghost use Rattle.np_active.specs.Lower.{is_job_before, same_job, with_all_moved, with_groups};
 ghost use Rattle.np_active.specs.Active.{AreJobGroups, ending_group, is_prompt, job_group, lacking_group, prompt_group, releasing_group, supplied_group, waiting_group};
-ghost use Rattle.np_active.specs.Placed.{groups_of_job, kind_by, kind_of_job};
-ghost use Rattle.np_active.specs.Prepared.{job_before};
+ghost use Rattle.np_active.specs.Placed.{groups_of_job, kind_by, kind_of_job, job_before};
 ghost use Rattle.std.specs.Option.{option_map};
 ghost use Rattle.np_text.specs.declared.word.Phase.TheVariants as phase;
 ghost use Rattle.np_text.specs.declared.word.RequestState.TheVariants as request_state;
 
+use crate::group::group_of;
 use crate::lines::line_of;
 use crate::past::PastJob;
 use np_config::Job;
@@ -24,72 +23,42 @@ use std::alloc::{AllocError, Global};
 pub(crate) fn supplied_group(requester: RequesterId) -> Group
     ensures { result ≡ supplied_group requester }
 {
-    Group {
-        class: 0,
-        first: requester.0,
-        second: 0,
-        third: 0,
-    }
+    group_of(0, requester.0, 0, 0)
 }
 
 /// The new jobs of the requester that wait for no semaphore.
 pub(crate) fn prompt_group(requester: RequesterId) -> Group
     ensures { result ≡ prompt_group requester }
 {
-    Group {
-        class: 1,
-        first: requester.0,
-        second: 0,
-        third: 0,
-    }
+    group_of(1, requester.0, 0, 0)
 }
 
 /// The new jobs of the requester that wait for semaphores in this line.
 pub(crate) fn waiting_group(requester: RequesterId, line: u64) -> Group
     ensures { result ≡ waiting_group requester line }
 {
-    Group {
-        class: 2,
-        first: requester.0,
-        second: 0,
-        third: line,
-    }
+    group_of(2, requester.0, 0, line)
 }
 
 /// The jobs of the requester to finish.
 pub(crate) fn ending_group(requester: RequesterId) -> Group
     ensures { result ≡ ending_group requester }
 {
-    Group {
-        class: 3,
-        first: requester.0,
-        second: 0,
-        third: 0,
-    }
+    group_of(3, requester.0, 0, 0)
 }
 
 /// The jobs of the requester that are over and have handles.
 pub(crate) fn releasing_group(requester: RequesterId) -> Group
     ensures { result ≡ releasing_group requester }
 {
-    Group {
-        class: 4,
-        first: requester.0,
-        second: 0,
-        third: 0,
-    }
+    group_of(4, requester.0, 0, 0)
 }
 
 /// The jobs of the requester that were given their nodes and wait for handles in this line.
 pub(crate) fn lacking_group(requester: RequesterId, line: u64) -> Group
     ensures { result ≡ lacking_group requester line }
 {
-    Group {
-        class: 5,
-        first: requester.0,
-        second: 0,
-        third: line,
-    }
+    group_of(5, requester.0, 0, line)
 }
 
 // ## one job

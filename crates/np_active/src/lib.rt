@@ -15,7 +15,7 @@
 //! which is found once, from the configuration.
 //!
 //! `specs/Active` says which groups a job and a session are in, and when the members of all groups
-//! are those of a state; `specs/Lines` says which line a job is in. A job is in one group at most, by
+//! are those of a state, and which line a job is in. A job is in one group at most, by
 //! its phase, and a session in two. `Active` keeps them as each event changes the state: `prepare`
 //! lists the jobs and the sessions that the event's changes touch (np_classes), with the groups that
 //! they are in, and takes the memory; once the state has changed, `note` moves what is elsewhere now,

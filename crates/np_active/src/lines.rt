@@ -1,7 +1,7 @@
 //! In which line a job waits for its semaphores.
 
 ghost use Rattle.std.specs.Prelude.{◌≡◌};
-ghost use Rattle.np_active.specs.Lines.{is_like, line_of};
+ghost use Rattle.np_active.specs.Active.{is_like, line_of};
 
 use np_config::{Config, Job};
 use np_text::JobId;
@@ -12,10 +12,7 @@ use std::alloc::{AllocError, Global};
 fn is_like(config: &Config, row: &Job, job: JobId) -> bool
     ensures { result ≡ is_like config.now row.now job }
 {
-    match config.job(job) {
-        None => false,
-        Some(other) => other.semaphores.items() == row.semaphores.items(),
-    }
+    matches!(config.job(job), Some(other) if other.semaphores.items() == row.semaphores.items())
 }
 
 /// The line of the job with this row. Constant time, and two lists of semaphores are compared.

@@ -1,11 +1,8 @@
 //! Nodes moved between their groups. Only making the groups anew takes memory.
 
 ghost use Rattle.std.specs.Prelude.{◌≡◌, ◌≤◌, ◌+◌, ◌*◌, [], suc, IfOk, OnOk, length, vec_capacity};
-ghost use Rattle.np_look.specs.Keys.{is_node_before, same_node};
-ghost use Rattle.np_changes.specs.Prelude.{Fits, IsReached};
-ghost use Rattle.np_lists.specs.Moves.{with_all_moved, with_groups, with_moved};
-ghost use Rattle.np_active.specs.Given.{AreGivenGroups, groups_of_node};
-ghost use Rattle.np_active.specs.Within.{groups_within};
+ghost use Rattle.np_active.specs.Lower.{Fits, IsReached, is_node_before, same_node, with_all_moved, with_groups, with_moved};
+ghost use Rattle.np_active.specs.Given.{AreGivenGroups, groups_of_node, groups_within};
 
 use crate::past_given::{PastNode, past_node, write_groups};
 use np_lists::{Group, Groups, move_id};

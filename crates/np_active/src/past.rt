@@ -2,7 +2,7 @@
 //! before it.
 
 ghost use Rattle.std.specs.Prelude.{◌≡◌, IfOk, map};
-ghost use Rattle.np_active.specs.Prepared.{IsPast, past_job, past_session};
+ghost use Rattle.np_active.specs.Placed.{IsPast, past_job, past_session};
 
 use crate::jobs::group_of_job;
 use crate::sessions::groups_of_session;
@@ -36,7 +36,7 @@ pub struct Past {
 }
 
 impl Model for Past {
-    ghost use Rattle.np_active.specs.Prepared.{PastOf};
+    ghost use Rattle.np_active.specs.Placed.{PastOf};
 
     ghost Value = { PastOf };
 

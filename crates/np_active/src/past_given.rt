@@ -1,9 +1,8 @@
 //! The groups that a node is in.
 
 ghost use Rattle.std.specs.Prelude.{◌≡◌, ◌≤◌, ◌<◌, ◌+◌, ◌++◌, suc, IfOk, OnErr, OnOk, length, take, vec_capacity, vec_len};
-ghost use Rattle.np_changes.specs.Prelude.{Fits, most, node_queue};
-ghost use Rattle.np_active.specs.GivenPrepared.{placed_node};
-ghost use Rattle.np_active.specs.Within.{groups_within, locked_groups};
+ghost use Rattle.np_active.specs.Lower.{Fits, most, node_queue};
+ghost use Rattle.np_active.specs.Given.{placed_node, groups_within, locked_groups};
 
 use crate::group::{given_group, locked_group};
 use np_lists::Group;
@@ -20,8 +19,7 @@ pub(crate) struct PastNode {
 }
 
 impl Model for PastNode {
-    ghost use Rattle.np_changes.specs.Prelude.{NodeId};
-    ghost use Rattle.np_lists.specs.Moves.{Placed};
+    ghost use Rattle.np_active.specs.Lower.{NodeId, Placed};
 
     ghost Value = { Placed NodeId };
 

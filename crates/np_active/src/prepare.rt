@@ -1,11 +1,8 @@
 //! The nodes that the changes of an event touch, listed before it with the groups that they are in.
 
 ghost use Rattle.std.specs.Prelude.{◌≡◌, ◌≤◌, ◌++◌, suc, true, IfOk, OnOk, length, map};
-ghost use Rattle.np_changes.specs.Prelude.{AllByRecursion, Fits, list_any, most, node_queue};
-ghost use Rattle.np_look.specs.Keys.{same_node};
-ghost use Rattle.np_classes.specs.Touched.{touches_node};
-ghost use Rattle.np_active.specs.Listed.{changes_state, nodes_by_job, nodes_by_state, nodes_of_request};
-ghost use Rattle.np_active.specs.GivenPrepared.{IsPrepared, placed_node};
+ghost use Rattle.np_active.specs.Lower.{AllByRecursion, Fits, list_any, most, node_queue, same_node, touches_node};
+ghost use Rattle.np_active.specs.Given.{changes_state, nodes_by_job, nodes_by_state, nodes_of_request, IsPrepared, placed_node};
 
 use crate::past_given::{PastNode, past_node, queue_length};
 use np_changes::{Changes, JobsChange, RequestEdit, RequestsChange};
@@ -23,7 +20,7 @@ pub struct Prepared {
 }
 
 impl Model for Prepared {
-    ghost use Rattle.np_active.specs.GivenPrepared.{PreparedOf};
+    ghost use Rattle.np_active.specs.Given.{PreparedOf};
 
     ghost Value = { PreparedOf };
 

@@ -2,13 +2,12 @@
 //! memory.
 
 ghost use Rattle.std.specs.Prelude.{◌≡◌, ◌≤◌, ◌*◌, [], IfOk, OnOk, length, map};
-ghost use Rattle.np_look.specs.Keys.{is_session_before, same_session};
-ghost use Rattle.np_lists.specs.Moves.{with_all_moved, with_groups};
+ghost use Rattle.np_active.specs.Lower.{is_session_before, same_session, with_all_moved, with_groups};
 ghost use Rattle.np_active.specs.Active.{AreSessionGroups, live_group, mute_group, role_group, session_group};
-ghost use Rattle.np_active.specs.Placed.{groups_of_session, kind_of_role, live_kind};
-ghost use Rattle.np_active.specs.Prepared.{session_before};
+ghost use Rattle.np_active.specs.Placed.{groups_of_session, kind_of_role, live_kind, session_before};
 ghost use Rattle.std.specs.Option.{option_map};
 
+use crate::group::group_of;
 use crate::past::PastSession;
 use np_lists::{Group, Groups, move_id};
 use np_look::{BySession, Rows};
@@ -27,36 +26,21 @@ pub(crate) fn role_group(role: Role) -> Group
         Role::Requester(requester) => (2, requester.0),
         Role::Reaper => (3, 0),
     };
-    Group {
-        class,
-        first,
-        second: 0,
-        third: 0,
-    }
+    group_of(class, first, 0, 0)
 }
 
 /// The live sessions that are mute.
 pub(crate) fn mute_group() -> Group
     ensures { result ≡ mute_group }
 {
-    Group {
-        class: 4,
-        first: 0,
-        second: 0,
-        third: 0,
-    }
+    group_of(4, 0, 0, 0)
 }
 
 /// The live sessions of the requester, mute or not.
 pub(crate) fn live_group(requester: RequesterId) -> Group
     ensures { result ≡ live_group requester }
 {
-    Group {
-        class: 5,
-        first: requester.0,
-        second: 0,
-        third: 0,
-    }
+    group_of(5, requester.0, 0, 0)
 }
 
 // ## one session

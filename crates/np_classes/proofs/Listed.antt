@@ -1,5 +1,5 @@
 -- all that the changes of an event touch is listed before it
-use Rattle.np_classes.proofs.Prelude.{AllocationsListed, Asked, Bool, Changes, Configuration, EditPremise, EmptiesRequest, GoesWithdrawn, Growth, Invariant, IsAsking, IsMade, IsPlanned, IsReached, IsTaken, IsTouched, JobIn, JobsStand, List, NodeEntry, NodeId, NodeRecord, NodesChange, NodesPremise, None, Option, Phase, Premises, RequestEdit, RequestEntry, RequestId, RequestRecord, RequestsChange, RequestsPremise, SessionId, SessionsChange, Some, State, TouchedOf, ap, arith, changed_nodes, changed_requests, changes_node, changes_request, cond, ended, ends_at_node, ends_at_request, false, filter, find, grown_nodes, grown_queues, grown_requests, grows_node, grows_request, grows_request_queue, inl, inr, invariant-Runs, is_asked, is_new, is_queued, is_request, leaves_request_queue, left_queues, length, list_any, list_any-append, map, new_node, node_in, option_map_or, or_false, or_true, premises, queued_nodes, queued_requests, refl, remove-alone, request_equal, request_in, same_node, same_request, subst, sym, tenant_of_request, touched_jobs, touched_nodes, touched_queues, touched_requests, touched_sessions, touches_node, touches_request, touches_request_queue, true, unclaimed_nodes, unclaims_node, ℕ, [], ◌++◌, ◌==◌, ◌||◌, ◌∙◌, ◌∷◌, ◌≡◌, ◌≤◌, ◌⊎◌}
+use Rattle.np_classes.proofs.Prelude.{AllocationsListed, Asked, Bool, Changes, Configuration, EditPremise, EmptiesRequest, GoesWithdrawn, Growth, Invariant, IsAsking, IsMade, IsPlanned, IsReached, IsTaken, IsTouched, JobIn, JobsStand, List, NodeEntry, NodeId, NodeRecord, NodesChange, NodesPremise, None, Option, Phase, Premises, RequestEdit, RequestEntry, RequestId, RequestRecord, RequestsChange, RequestsPremise, SessionId, SessionsChange, Some, State, TouchedOf, ap, arith, changed_nodes, changed_requests, changes_node, ended, ends_at_node, ends_at_request, false, filter, find, grown_nodes, grown_queues, grown_requests, grows_node, grows_request_queue, inl, inr, invariant-Runs, is_asked, is_new, is_queued, is_request, leaves_request_queue, left_queues, length, list_any, list_any-append, map, new_node, node_in, option_map_or, or_false, or_true, premises, queued_nodes, queued_requests, refl, remove-alone, request_equal, request_in, same_node, same_request, subst, sym, tenant_of_request, touched_jobs, touched_nodes, touched_queues, touched_requests, touched_sessions, touches_node, touches_request, touches_request_queue, true, unclaimed_nodes, unclaims_node, ℕ, [], ◌++◌, ◌==◌, ◌||◌, ◌∙◌, ◌∷◌, ◌≡◌, ◌≤◌, ◌⊎◌}
 
 -- what is touched in one of two ways is in the list of that way
 either-listed : {K : Type 0} (p : K → Bool) (a b : Bool) (xs ys : List K) → (a ≡ true → list_any p xs ≡ true) → (b ≡ true → list_any p ys ≡ true) → (a || b) ≡ true → list_any p (xs ++ ys) ≡ true
@@ -12,10 +12,7 @@ abbrev listed : NodeId → List NodeId → Bool
 listed n ns = list_any (λ m. same_node m n) ns
 
 grown-listed : (g : Growth) (s : State) (n : NodeId) → grows_node g s n ≡ true → listed n (grown_nodes g s) ≡ true
-grown-listed (Growth.Node kept) s n is = or_false (s.next_node == n.0) ∙ is
-grown-listed (Growth.JoinNode m) s n is = or_false (m.0 == n.0) ∙ is
-grown-listed (Growth.Allocate m r tenant) s n is = or_false (m.0 == n.0) ∙ is
-grown-listed _ s n is = is
+grown-listed g s n is = grind (arith, is)
 
 -- a node that is allocated to a request that is there is in its list
 freed-listed : (s : State) (r : RequestId) (n : NodeId) (request : RequestRecord) → AllocationsListed s → request_in r s.requests ≡ Some request
@@ -86,14 +83,7 @@ module _ {K E : Type 0} (id : E → K) (queue : E → List SessionId) (session :
 
   waiting-listed : (rows : List E) → is_queued session (option_map_or (λ e. queue e) (find (λ e. is_it (id e)) rows) []) ≡ true → list_any is_it (map (λ e. id e) (waiting rows)) ≡ true
   waiting-listed [] is = is
-  waiting-listed (e ∷ rows) is = by (is_it (id e)) (is_queued session (queue e)) refl refl is (waiting-listed rows) where
-    by : (b q : Bool) → is_it (id e) ≡ b → is_queued session (queue e) ≡ q → is_queued session (option_map_or (λ e. queue e) (cond b (Some e) (find (λ e. is_it (id e)) rows)) []) ≡ true
-        → (is_queued session (option_map_or (λ e. queue e) (find (λ e. is_it (id e)) rows) []) ≡ true → list_any is_it (map (λ e. id e) (waiting rows)) ≡ true)
-        → list_any is_it (map (λ e. id e) (cond q (e ∷ waiting rows) (waiting rows))) ≡ true
-    by true true here queued is others = rw here refl
-    by true false here queued is others = absurd cc
-    by false true here queued is others = rw (others is) (or_true (is_it (id e)))
-    by false false here queued is others = others is
+  waiting-listed (e ∷ rows) is = grind (arith, is, waiting-listed rows)
 
 -- a node in whose queue the session is
 ended-listed : (s : State) (queued : List NodeId) (n : NodeId) (change : SessionsChange) → ((session : SessionId) → change ≡ SessionsChange.End session → queued ≡ queued_nodes session s)
@@ -106,29 +96,10 @@ ended-listed s queued n _ all is = is
 abbrev listed_request : RequestId → List RequestId → Bool
 listed_request r rs = list_any (λ x. same_request x r) rs
 
-grown_request-listed : (g : Growth) (s : State) (r : RequestId) → grows_request g s r ≡ listed_request r (grown_requests g s)
-grown_request-listed (Growth.Request priority asked) s r = sym (or_false _)
-grown_request-listed _ s r = refl
-
-changed_request-listed : (change : RequestsChange) (r : RequestId) → changes_request change r ≡ listed_request r (changed_requests change)
-changed_request-listed (RequestsChange.Edit x change) r = sym (or_false (same_request x r))
-changed_request-listed (RequestsChange.Remove x) r = sym (or_false (same_request x r))
-changed_request-listed _ r = refl
-
 pub request-listed : (s : State) (ch : Changes) (r : RequestId) → touches_request ch s r ≡ true → listed_request r (touched_requests ch s) ≡ true
-request-listed s ch r is =
-    list_any-append (λ x. same_request x r) (grown_requests ch.grows s) (changed_requests ch.requests)
-    ∙ rw (← grown_request-listed ch.grows s r, ← changed_request-listed ch.requests r) is
+request-listed s ch r is = grind (arith, is)
 
 -- ## queues of requests
-
-grown_queue-listed : (g : Growth) (r : RequestId) → grows_request_queue g r ≡ true → listed_request r (grown_queues g) ≡ true
-grown_queue-listed (Growth.JoinRequest x) r is = or_false (same_request x r) ∙ is
-grown_queue-listed _ r is = is
-
-left_queue-listed : (change : RequestsChange) (r : RequestId) → leaves_request_queue change r ≡ true → listed_request r (left_queues change) ≡ true
-left_queue-listed (RequestsChange.Leave x) r is = or_false (same_request x r) ∙ is
-left_queue-listed _ r is = is
 
 ended_queue-listed : (s : State) (queued : List RequestId) (r : RequestId) (change : SessionsChange) → ((session : SessionId) → change ≡ SessionsChange.End session → queued ≡ queued_requests session s)
     → ends_at_request change s r ≡ true → listed_request r (ended change queued) ≡ true
@@ -140,7 +111,7 @@ queue-listed : (s : State) (ch : Changes) (queued : List RequestId) → ((sessio
     → (r : RequestId) → touches_request_queue ch s r ≡ true → listed_request r (touched_queues ch queued) ≡ true
 queue-listed s ch queued all r is =
     either-listed (λ x. same_request x r) _ _ _ (ended ch.sessions queued)
-    (either-listed (λ x. same_request x r) _ _ (grown_queues ch.grows) (left_queues ch.requests) (grown_queue-listed ch.grows r) (left_queue-listed ch.requests r))
+    (either-listed (λ x. same_request x r) (grows_request_queue ch.grows r) (leaves_request_queue ch.requests r) (grown_queues ch.grows) (left_queues ch.requests) (λ grows. grind (arith, grows)) (λ leaves. grind (arith, leaves)))
     (ended_queue-listed s queued r ch.sessions all)
     is
 
@@ -160,8 +131,7 @@ edit-alone c s ch r RequestEdit.Fail may priority asked is = let none : ch.grows
 edit-alone c s ch r (RequestEdit.Revise relative) may priority asked is = let none : ch.grows ≡ Growth.Nothing = may.same_size in cc
 
 grown-one : (g : Growth) (s : State) → length (grown_requests g s ++ []) ≤ 1
-grown-one (Growth.Request priority asked) s = omega arith
-grown-one _ s = omega arith
+grown-one g s = grind arith
 
 grown-none : (g : Growth) (s : State) → ((priority : ℕ) (asked : Asked) → g ≡ Growth.Request priority asked → ⊥) → grown_requests g s ≡ []
 grown-none (Growth.Request priority asked) s out = absurd (out priority asked refl)

@@ -1,5 +1,5 @@
 -- the members of groups: their ids and numbers, after a change from those before it, and made row by row
-use Rattle.np_classes.proofs.Prelude.{AllByRecursion, AreClasses, AreGrouped, AreNodeGroups, AreRequestGroups, Bool, Changes, ClassesOf, Configuration, Declined, Group, IsNumbered, IsOrder, IsPast, IsReached, IsTouched, List, Member, NodeEntry, NodeId, NodeRecord, None, NonePass, Option, PastOf, Placed, PoolId, RequestEntry, RequestId, RequestRecord, Rises, SessionId, Some, State, TouchedOf, all-filter, all-mapped, all-moved, ap, arith, cases_lt, changed, coming_group, coming_group_of, cond, contrapositive, decline_digits, decline_set, declined_group, declined_group_of, each-moved, false, filter, find, group-equal, groups_of_node, groups_of_request, has_member, holder, if◌then◌else◌, inl, inr, invariant-Runs, is_among, is_declined_by, is_failed, is_id_before, is_job_before, is_member_before, is_node_before, is_none, is_pending, is_requested, is_session_before, is_some, is_still_requested, is_unclaimed, job_equal, job_one_way, job_some_way, job_transitive, length, list_any, list_any-none, map, map-map, map-push, nat_lt, nat_tests, next_label, next_label_group, next_label_group_of, no_node_groups, no_request_groups, node_before, node_equal, node_groups, node_holder, node_in, node_is_in, node_one_way, node_some_way, node_transitive, numbered, option_and_then, option_map, option_map_or, or_false, or_parts, past_node, past_queue, past_request, pending_group, pending_group_of, pinned_label_group, pinned_label_group_of, placed_all, pow-le-pow_right, queue_before, refl, request_before, request_equal, request_groups, request_holder, request_in, request_is_in, request_one_way, request_some_way, request_transitive, rises-all_moved, same_group, same_job, same_node, same_request, same_session, session_equal, session_one_way, session_some_way, session_transitive, shift, slice_get, spent_group, spent_group_of, subst, suc, sym, take, take-all, take_there, touches_node, touches_request, touches_request_queue, true, unheld_groups, unheld_pending_group, unheld_pending_group_of, with_all_moved, with_groups, with_moved, zero, ℕ, [], ◌&&◌, ◌*◌, ◌++◌, ◌+◌, ◌<◌, ◌==◌, ◌^◌, ◌||◌, ◌∙◌, ◌∷◌, ◌≡◌, ◌≤◌, ◌⊎◌}
+use Rattle.np_classes.proofs.Prelude.{AllByRecursion, AreClasses, AreGrouped, AreNodeGroups, AreRequestGroups, Bool, Changes, ClassesOf, Configuration, Declined, Group, IsNumbered, IsOrder, IsPast, IsReached, IsTouched, List, Member, NodeEntry, NodeId, NodeRecord, None, NonePass, Option, PastOf, Placed, PoolId, RequestEntry, RequestId, RequestRecord, Rises, SessionId, Some, State, TouchedOf, all-filter, all-mapped, all-moved, ap, arith, cases_lt, changed, cond, contrapositive, decline_digits, decline_set, each-moved, false, filter, find, group-equal, groups_of_node, groups_of_request, has_member, holder, if◌then◌else◌, inl, inr, invariant-Runs, is_among, is_declined_by, is_id_before, is_job_before, is_member_before, is_node_before, is_none, is_pending, is_session_before, is_unclaimed, job_equal, job_one_way, job_some_way, job_transitive, length, list_any, list_any-none, map, map-map, map-push, nat_lt, nat_tests, no_node_groups, no_request_groups, node_before, node_equal, node_groups, node_holder, node_in, node_is_in, node_one_way, node_some_way, node_transitive, numbered, option_and_then, option_map, option_map_or, or_false, or_parts, past_node, past_queue, past_request, placed_all, pow-le-pow_right, queue_before, refl, request_before, request_equal, request_groups, request_holder, request_in, request_is_in, request_one_way, request_some_way, request_transitive, rises-all_moved, same_group, same_job, same_node, same_request, same_session, session_equal, session_one_way, session_some_way, session_transitive, shift, slice_get, subst, suc, sym, take, take-all, take_there, touches_node, touches_request, touches_request_queue, true, unheld_groups, unheld_pending_group, unheld_pending_group_of, with_all_moved, with_groups, with_moved, zero, ℕ, [], ◌&&◌, ◌*◌, ◌++◌, ◌+◌, ◌<◌, ◌==◌, ◌^◌, ◌||◌, ◌∙◌, ◌∷◌, ◌≡◌, ◌≤◌, ◌⊎◌}
 use Rattle.np_classes.proofs.Untouched.{node-untouched, queue-untouched, record-stays, unclaimed-untouched}
 
 -- # an id is the same as itself, and not the same as one that comes before it
@@ -32,36 +32,19 @@ module _ {X K : Type 0} (before same : K → K → Bool) (id : X → K)
       all-mapped (λ y. before (id x) (id y) ≡ true) (λ i. same i k ≡ false) id xs (λ y order. apart k (id y) (rw one at order)) all
 
   module _ (test : X → Bool) (k : K) where
-    -- one row more
-    row-by : (x : X) (xs : List X) (b c : Bool) → same (id x) k ≡ b → test x ≡ c → Rises (λ a d. before (id a) (id d)) (x ∷ xs) →
-        list_any (λ i. same i k) (map id (filter test xs)) ≡ option_map_or test (find (λ e. same (id e) k) xs) false →
-        list_any (λ i. same i k) (map id (filter test (x ∷ xs))) ≡ option_map_or test (find (λ e. same (id e) k) (x ∷ xs)) false
-    row-by x xs true true here passes rises later = rw (passes, here) (sym passes)
-    row-by x xs true false here fails rises later =
-        rw (fails, here) (list_any-none (λ i. same i k) (map id (filter test xs)) (later-none x k (filter test xs) here (all-filter (λ y. before (id x) (id y) ≡ true) test xs rises.0)) ∙ sym fails)
-    row-by x xs false true other passes rises later = rw (passes, other) later
-    row-by x xs false false other fails rises later = rw (fails, other) later
-
     -- the id is among those that pass if its row passes
     pub row-passes : (xs : List X) → Rises (λ a d. before (id a) (id d)) xs → list_any (λ i. same i k) (map id (filter test xs)) ≡ option_map_or test (find (λ e. same (id e) k) xs) false
     row-passes [] rises = refl
-    row-passes (x ∷ xs) rises = row-by x xs (same (id x) k) (test x) refl refl rises (row-passes xs rises.1)
+    row-passes (x ∷ xs) rises =
+        let others : same (id x) k ≡ true → list_any (λ i. same i k) (map id (filter test xs)) ≡ false =
+        λ here. list_any-none (λ i. same i k) (map id (filter test xs)) (later-none x k (filter test xs) here (all-filter (λ y. before (id x) (id y) ≡ true) test xs rises.0)) in
+        grind (arith, others, row-passes xs rises.1)
 
   module _ (self : (a : K) → same a a ≡ true) where
-    -- a row before the others is still found
-    front-found : (x : X) (y : X) (xs : List X) → before (id x) (id y) ≡ true → find (λ e. same (id e) (id y)) xs ≡ Some y → find (λ e. same (id e) (id y)) (x ∷ xs) ≡ Some y
-    front-found x y xs order found = by (same (id x) (id y)) refl where
-      by : (b : Bool) → same (id x) (id y) ≡ b → cond b (Some x) (find (λ e. same (id e) (id y)) xs) ≡ Some y
-      by true here =
-          let one : id x ≡ id y = is (id x) (id y) here in
-          let other : same (id y) (id x) ≡ false = apart (id x) (id y) order in
-          absurd (let clash : true ≡ false = sym (self (id x)) ∙ ap (λ (k : K). same k (id x)) one ∙ other in cc)
-      by false other = found
-
-    -- and so are all others
+    -- the rows that are found still are with a row before them
     fronts-found : (x : X) (xs ys : List X) → AllByRecursion (λ y. before (id x) (id y) ≡ true) ys → AllByRecursion (λ y. find (λ e. same (id e) (id y)) xs ≡ Some y) ys → AllByRecursion (λ y. find (λ e. same (id e) (id y)) (x ∷ xs) ≡ Some y) ys
     fronts-found x xs [] later all = tt
-    fronts-found x xs (y ∷ ys) later all = (front-found x y xs later.0 all.0, fronts-found x xs ys later.1 all.1)
+    fronts-found x xs (y ∷ ys) later all = (grind (arith, later.0, all.0, self (id x), is (id x) (id y), apart (id x) (id y)), fronts-found x xs ys later.1 all.1)
 
     -- each row is found by its id
     pub rows-found : (xs : List X) → Rises (λ a d. before (id a) (id d)) xs → AllByRecursion (λ x. find (λ e. same (id e) (id x)) xs ≡ Some x) xs
@@ -72,9 +55,6 @@ module _ {X K : Type 0} (before same : K → K → Bool) (id : X → K)
 
 abbrev pub digit : Bool → ℕ
 digit b = if b then 1 else 0
-
-digit-few : (b : Bool) → digit b ≤ 1
-digit-few b = grind (arith, nat_tests)
 
 -- two digits with what stands before them
 digits-apart : (a b : Bool) (x y : ℕ) → digit a + 2 * x ≡ digit b + 2 * y → (a ≡ b) × (x ≡ y)
@@ -94,7 +74,7 @@ digits-none declined p = refl
 pub digits-below : (declined : List Declined) (p n : ℕ) → decline_digits declined p n < 2 ^ n
 digits-below declined p zero = omega (arith, digits-none declined p)
 digits-below declined p (suc n) =
-    let few : digit (is_declined_by (record { 0 = p }) declined) ≤ 1 = digit-few (is_declined_by (record { 0 = p }) declined) in
+    let few : digit (is_declined_by (record { 0 = p }) declined) ≤ 1 = grind (arith, nat_tests) in
     omega (arith, few, digits-more declined p n, digits-below declined (suc p) n)
 
 -- a number of at most 63 digits has room for one more in 64 bits
@@ -218,9 +198,7 @@ module _ {K : Type 0} (before same : K → K → Bool) (order : IsOrder before s
     below n i = cond (nat_lt (number i) n) (now i) []
 
     pub below-none : AreGrouped before same (below 0) []
-    below-none = record { rises = tt; each = λ g i. rw (none i) refl } where
-      none : (i : K) → nat_lt (number i) 0 ≡ false
-      none i = grind (arith, nat_tests)
+    below-none = record { rises = tt; each = λ g i. grind (arith, nat_tests) }
 
     pub below-next : (n : ℕ) (i : K) (ms later : List (Member K)) → number i ≡ n → AreGrouped before same (below n) ms
         → later ≡ with_groups before same i [] (now i) ms → AreGrouped before same (below (n + 1)) later
@@ -229,10 +207,7 @@ module _ {K : Type 0} (before same : K → K → Bool) (order : IsOrder before s
         let there : below (n + 1) i ≡ now i = grind (arith, nat_tests, is) in
         subst (AreGrouped before same (below (n + 1)))
         (ap (λ (was : List (Option Group)). with_moved before same i was (below (n + 1) i) ms) here ∙ ap (λ (groups : List (Option Group)). with_groups before same i [] groups ms) there ∙ sym put)
-        (grouped-moved (below n) (below (n + 1)) (i ∷ []) ms are (λ j out. stays j (by_number i j (sym (or_false (same i j)) ∙ out))))
-      where
-        stays : (j : K) → (number i == number j) ≡ false → below (n + 1) j ≡ below n j
-        stays j other = grind (arith, nat_tests, is, other)
+        (grouped-moved (below n) (below (n + 1)) (i ∷ []) ms are (λ j out. grind (arith, nat_tests, is, by_number i j (sym (or_false (same i j)) ∙ out))))
 
 -- ## calls
 
@@ -248,9 +223,6 @@ moved-by before same now place old was new listed moved given was_is moved_is pa
 
 -- ## tests
 
-second-of : (a b x : Bool) → (b || false) ≡ true → (a || (b || x)) ≡ true
-second-of a b x is = grind (arith, nat_tests)
-
 -- what is moved where a queue is noted, after what is moved where a record is
 pub noted-both : (q l before after old new : Bool) → (before ≡ true → old ≡ true) → (after ≡ true → new ≡ true) → (before ≡ true → new ≡ after)
     → (l ≡ false → q ≡ false → new ≡ old) → (l ≡ false → before ≡ false → after ≡ false → new ≡ old)
@@ -262,34 +234,9 @@ noted-both q l before after old new was among alone stays others = grind (arith,
 abbrev is_group : Group → Option Group → Bool
 is_group g o = option_map_or (λ h. same_group h g) o false
 
-mapped-other : {X : Type 0} (g : Group) (f : X → Group) → ((x : X) → same_group (f x) g ≡ false) → (b : Bool) (o : Option X) → is_group g (if b then option_map f o else None) ≡ false
-mapped-other g f other true (Some x) = other x
-mapped-other g f other _ _ = refl
-
-chained-other : {X Y : Type 0} (g : Group) (f : X → Y → Group) → ((x : X) (y : Y) → same_group (f x y) g ≡ false) → (b : Bool) (o : Option X) (p : Option Y)
-    → is_group g (if b then option_and_then (λ x. option_map (f x) p) o else None) ≡ false
-chained-other g f other true (Some x) (Some y) = other x y
-chained-other g f other _ _ _ = refl
-
-one-other : (g h : Group) → same_group h g ≡ false → (b : Bool) → is_group g (if b then Some h else None) ≡ false
-one-other g h other true = other
-one-other g h other false = refl
-
 -- of a group of these pending requests the others are none
-only : (a u b c d e f : Bool) → a ≡ false → b ≡ false → c ≡ false → d ≡ false → e ≡ false → f ≡ false → (a || (u || (b || (c || (d || (e || (f || false))))))) ≡ (u || false)
-only a u b c d e f no_a no_b no_c no_d no_e no_f = rw (no_a, no_b, no_c, no_d, no_e, no_f) refl
-
 only-unheld : (p : PoolId) (k : RequestRecord) (unlocked : Bool) → is_among (unheld_pending_group p) (request_groups k unlocked) ≡ is_among (unheld_pending_group p) (unheld_pending_group_of k unlocked ∷ [])
-only-unheld p k unlocked =
-    only (is_group (unheld_pending_group p) (pending_group_of k)) (is_group (unheld_pending_group p) (unheld_pending_group_of k unlocked))
-    (is_group (unheld_pending_group p) (coming_group_of k)) (is_group (unheld_pending_group p) (spent_group_of k)) (is_group (unheld_pending_group p) (declined_group_of k))
-    (is_group (unheld_pending_group p) (next_label_group_of k)) (is_group (unheld_pending_group p) (pinned_label_group_of k))
-    (mapped-other (unheld_pending_group p) pending_group (λ x. refl) (is_pending k.state) k.pool)
-    (mapped-other (unheld_pending_group p) coming_group (λ x. refl) ((is_requested k.state || is_pending k.state) && is_some k.pinned) (slice_get k.labels 0))
-    (chained-other (unheld_pending_group p) spent_group (λ x y. refl) (is_failed k.state) k.pinned (slice_get k.labels 0))
-    (one-other (unheld_pending_group p) (declined_group (decline_set k.declined)) refl (is_still_requested k))
-    (chained-other (unheld_pending_group p) next_label_group (λ x y. refl) (is_pending k.state && is_none k.pinned) k.pool (next_label k))
-    (chained-other (unheld_pending_group p) pinned_label_group (λ x y. refl) (is_pending k.state && is_some k.pinned) k.pool (next_label k))
+only-unheld p k unlocked = grind arith
 
 -- ## by the record, if the request is there
 
@@ -301,8 +248,7 @@ unheld_by o unlocked = option_and_then (λ k. unheld_pending_group_of k unlocked
 
 -- the group is one of the request's
 pub unheld-among : (g : Group) (o : Option RequestRecord) (unlocked : Bool) → is_among g (unheld_by o unlocked ∷ []) ≡ true → is_among g (groups_by o unlocked) ≡ true
-unheld-among g None unlocked is = absurd cc
-unheld-among g (Some k) unlocked is = second-of (is_group g (pending_group_of k)) (is_group g (unheld_pending_group_of k unlocked)) _ is
+unheld-among g o unlocked is = grind (arith, is)
 
 of-pool : (g : Group) (o : Option RequestRecord) (unlocked : Bool) → is_among g (unheld_by o unlocked ∷ []) ≡ true → (p : PoolId) × (g ≡ unheld_pending_group p)
 of-pool g None unlocked is = absurd cc
@@ -323,9 +269,6 @@ unheld-alone g o later unlocked after is =
     by p None = refl
     by p (Some k) = only-unheld p k after
 
-neither-second : (a x y rest : Bool) → (x || false) ≡ false → (y || false) ≡ false → (a || (y || rest)) ≡ (a || (x || rest))
-neither-second a x y rest no_x no_y = rw (sym (or_false x) ∙ no_x, sym (or_false y) ∙ no_y) refl
-
 -- the other groups of a request whose record stays
 pub others-stay : (g : Group) (o later : Option RequestRecord) (unlocked after : Bool) → later ≡ o
     → is_among g (unheld_by o unlocked ∷ []) ≡ false → is_among g (unheld_by later after ∷ []) ≡ false → is_among g (groups_by later after) ≡ is_among g (groups_by o unlocked)
@@ -335,8 +278,7 @@ others-stay g o later unlocked after same out later_out =
   where
     by : (x : Option RequestRecord) → is_among g (unheld_by x unlocked ∷ []) ≡ false → is_among g (unheld_by x after ∷ []) ≡ false → is_among g (groups_by x after) ≡ is_among g (groups_by x unlocked)
     by None no_before no_after = refl
-    by (Some k) no_before no_after =
-        neither-second (is_group g (pending_group_of k)) (is_group g (unheld_pending_group_of k unlocked)) (is_group g (unheld_pending_group_of k after)) _ no_before no_after
+    by (Some k) no_before no_after = rw (sym (or_false _) ∙ no_before, sym (or_false _) ∙ no_after) refl
 
 -- # the members of groups after a change, from those before it
 
@@ -381,17 +323,13 @@ module _ (c : Configuration) (s : State) (ch : Changes) (touched : TouchedOf) (r
       (grouped-nodes c (changed c ch s) _ later
       (grouped-moved is_node_before same_node nodes-in_order (groups_of_node c s) (groups_of_node c (changed c ch s)) touched.nodes ms (nodes-grouped c s ms old) node-stays))
 
-  -- where its record is not touched
-  stays : (r : RequestId) → list_any (λ x. same_request x r) touched.requests ≡ false → request_in r (changed c ch s).requests ≡ request_in r s.requests
-  stays r out = record-stays c s ch touched all r out
-
-  -- where its queue is not touched either
+  -- where neither its record nor its queue is touched
   stays-all : (r : RequestId) → list_any (λ x. same_request x r) touched.requests ≡ false → list_any (λ x. same_request x r) touched.queues ≡ false
       → groups_of_request (changed c ch s) r ≡ groups_of_request s r
   stays-all r out calm =
       let none : touches_request ch s r ≡ false = contrapositive (touches_request ch s r) (list_any (λ x. same_request x r) touched.requests) (all.requests r) out in
       let none_queued : touches_request_queue ch s r ≡ false = contrapositive (touches_request_queue ch s r) (list_any (λ x. same_request x r) touched.queues) (all.queues r) calm in
-      ap (λ (o : Option RequestRecord). option_map_or (λ k. request_groups k (is_none (request_holder r (changed c ch s).requests))) o no_request_groups) (stays r out)
+      ap (λ (o : Option RequestRecord). option_map_or (λ k. request_groups k (is_none (request_holder r (changed c ch s).requests))) o no_request_groups) (record-stays c s ch touched all r out)
       ∙ ap (λ (queue : List SessionId). option_map_or (λ k. request_groups k (is_none (holder queue))) (request_in r s.requests) no_request_groups) (queue-untouched c ch s r none none_queued)
 
   -- the members after the requests' records are noted, and after their queues are
@@ -405,11 +343,6 @@ module _ (c : Configuration) (s : State) (ch : Changes) (touched : TouchedOf) (r
   rises-records ms rises =
       rises-all_moved is_id_before same_request request_transitive request_one_way request_some_way request_equal
       (groups_of_request (changed c ch s)) (map (λ r. record { id = r; groups = groups_of_request s r }) touched.requests) ms rises
-
-  rises-queues : (ms : List (Member RequestId)) → Rises (is_member_before is_id_before) ms → Rises (is_member_before is_id_before) (noted_queues ms)
-  rises-queues ms rises =
-      rises-all_moved is_id_before same_request request_transitive request_one_way request_some_way request_equal
-      (unheld_groups (changed c ch s)) (map (λ r. record { id = r; groups = unheld_groups s r }) touched.queues) ms rises
 
   -- the groups that a request is in after both
   each-noted : (ms : List (Member RequestId)) → AreRequestGroups s ms → (g : Group) (r : RequestId) → has_member same_request g r (noted_queues (noted_records ms)) ≡ request_is_in (changed c ch s) g r
@@ -427,7 +360,7 @@ module _ (c : Configuration) (s : State) (ch : Changes) (touched : TouchedOf) (r
       (unheld-alone g (request_in r s.requests) (request_in r (changed c ch s).requests) (is_none (request_holder r s.requests)) (is_none (request_holder r (changed c ch s).requests)))
       (λ out calm. ap (is_among g) (stays-all r out calm))
       (λ out before_not after_not.
-      others-stay g (request_in r s.requests) (request_in r (changed c ch s).requests) (is_none (request_holder r s.requests)) (is_none (request_holder r (changed c ch s).requests)) (stays r out) before_not after_not)
+      others-stay g (request_in r s.requests) (request_in r (changed c ch s).requests) (is_none (request_holder r s.requests)) (is_none (request_holder r (changed c ch s).requests)) (record-stays c s ch touched all r out) before_not after_not)
       ∙ request-among (changed c ch s) g r
     where
       is_queue : Bool
@@ -442,7 +375,12 @@ module _ (c : Configuration) (s : State) (ch : Changes) (touched : TouchedOf) (r
       → AreRequestGroups (changed c ch s) new
   requests-noted past ms new listed old is =
       rw (is, listed.queues, listed.requests, map-map request_before (past_request s) touched.requests, map-map queue_before (past_queue s) touched.queues)
-      (record { rises = rises-queues (noted_records ms) (rises-records ms old.rises); each = each-noted ms old; once = later.requests_rise })
+      (record {
+        rises = rises-all_moved is_id_before same_request request_transitive request_one_way request_some_way request_equal
+            (unheld_groups (changed c ch s)) (map (λ r. record { id = r; groups = unheld_groups s r }) touched.queues) (noted_records ms) (rises-records ms old.rises);
+        each = each-noted ms old;
+        once = later.requests_rise;
+      })
 
 -- ## all of it
 

@@ -5,35 +5,20 @@ pub use Rattle.np_changes.proofs.Premises.{premises}
 pub use Rattle.np_changes.proofs.Queues.{facts_in}
 pub use Rattle.np_changes.proofs.Runs.{invariant-Runs}
 pub use Rattle.np_changes.specs.Parts.{AllocationsListed, Invariant, IsAsking, IsNumbered, JobIn, JobsStand}
-pub use Rattle.np_changes.specs.Prelude.{AllByRecursion, Configuration, Declined, IsPlanned, IsReached, JobId, JobRecord, NodeEntry, NodeId, NodeRecord, NonePass, Phase, PoolId, RequestEntry, RequestId, RequestRecord, Rises, SemId, SessionFacts, SessionId, State, TenantId, allocated, change_at, change_first, changed, edited, freed, grown, handles_changed, has_handle, holder, insert_before, is_asked, is_declined_by, is_failed, is_id_before, is_new, is_pending, is_queued, is_request, is_requested, is_session, jobs_changed, joined, left, list_any, muted, new_node, next_label, node_holder, node_in, node_queue, nodes_changed, nodes_left, option_map_or, put_node_queue, put_request_queue, registers, request_holder, request_in, request_queue, requests_changed, requests_left, same_request, semaphores_of, session_of, sessions_changed, standing, tenant_of_request, with_handle, with_mark, without_handle}
 pub use Rattle.np_changes.specs.Premises.{EditPremise, EmptiesRequest, GoesWithdrawn, IsMade, IsTaken, NodesPremise, Premises, RequestsPremise}
 pub use Rattle.np_changes.specs.declared.asked.Asked.{Asked}
-pub use Rattle.np_changes.specs.declared.changes.Changes.{Changes}
-pub use Rattle.np_changes.specs.declared.changes.Growth.{Growth}
-pub use Rattle.np_changes.specs.declared.changes.HandlesChange.{HandlesChange}
-pub use Rattle.np_changes.specs.declared.changes.JobsChange.{JobsChange}
 pub use Rattle.np_changes.specs.declared.changes.Maker.{Maker}
-pub use Rattle.np_changes.specs.declared.changes.NodesChange.{NodesChange}
 pub use Rattle.np_changes.specs.declared.changes.RequestEdit.{RequestEdit}
-pub use Rattle.np_changes.specs.declared.changes.RequestsChange.{RequestsChange}
-pub use Rattle.np_changes.specs.declared.changes.SessionsChange.{SessionsChange}
-pub use Rattle.np_classes.specs.Classes.{AreClasses, AreNodeGroups, AreRequestGroups, ClassesOf, coming_group, coming_group_of, decline_set, declined_group, declined_group_of, is_still_requested, next_label_group, next_label_group_of, node_groups, node_is_in, pending_group, pending_group_of, pinned_label_group, pinned_label_group_of, request_groups, request_is_in, spent_group, spent_group_of, unheld_pending_group, unheld_pending_group_of}
+pub use Rattle.np_classes.specs.Classes.{AreClasses, AreNodeGroups, AreRequestGroups, ClassesOf, decline_set, node_groups, node_is_in, request_groups, request_is_in, unheld_pending_group, unheld_pending_group_of}
 unfoldable pub use Rattle.np_classes.specs.Classes.{decline_digits}
-pub use Rattle.np_classes.specs.Grouped.{AreGrouped, IsOrder, placed_all}
-pub use Rattle.np_classes.specs.Listed.{IsTouched, TouchedOf, changed_nodes, changed_requests, ended, grown_nodes, grown_queues, grown_requests, left_queues, touched_nodes, touched_queues, touched_requests, unclaimed_nodes}
-pub use Rattle.np_classes.specs.Placed.{groups_of_node, groups_of_request, no_node_groups, no_request_groups, node_before, past_node, past_queue, past_request, queue_before, request_before, unheld_groups}
-pub use Rattle.np_classes.specs.Prepared.{IsPast, PastOf}
+pub use Rattle.np_classes.specs.Placed.{AreGrouped, IsOrder, placed_all, groups_of_node, groups_of_request, no_node_groups, no_request_groups, node_before, past_node, past_queue, past_request, queue_before, request_before, unheld_groups}
+pub use Rattle.np_classes.specs.Listed.{IsTouched, TouchedOf, changed_nodes, changed_requests, ended, grown_nodes, grown_queues, grown_requests, left_queues, touched_nodes, touched_queues, touched_requests, unclaimed_nodes, IsPast, PastOf}
+pub use Rattle.np_classes.specs.Lower.{AllByRecursion, Changes, Configuration, Declined, Group, Growth, HandlesChange, IsPlanned, IsReached, JobId, JobRecord, JobsChange, Member, NodeEntry, NodeId, NodeRecord, NodesChange, NonePass, Phase, Placed, PoolId, RequestEntry, RequestId, RequestRecord, RequestsChange, Rises, SemId, SessionFacts, SessionId, SessionsChange, State, TenantId, allocated, change_at, change_first, changed, edited, freed, grown, handles_changed, has_handle, has_member, holder, is_among, is_asked, is_declined_by, is_id_before, is_job_before, is_member_before, is_new, is_node_before, is_pending, is_queued, is_request, is_session, is_session_before, is_unclaimed, job_equal, job_one_way, job_some_way, job_transitive, jobs_changed, joined, left, list_any, muted, new_node, node_equal, node_holder, node_in, node_one_way, node_queue, node_some_way, node_transitive, nodes_changed, nodes_left, option_map_or, put_node_queue, put_request_queue, queued_nodes, queued_requests, registers, request_equal, request_holder, request_in, request_one_way, request_queue, request_some_way, request_transitive, requests_changed, requests_left, same_group, same_job, same_node, same_request, same_session, semaphores_of, session_equal, session_of, session_one_way, session_some_way, session_transitive, sessions_changed, shift, standing, tenant_of_request, with_all_moved, with_groups, with_handle, with_mark, with_moved, without_handle}
 pub use Rattle.np_classes.specs.Touched.{asker_of, beginning, changed_job, changes_node, changes_request, ends_at_node, ends_at_request, grows_node, grows_request, grows_request_queue, job_of_request, leaves_request_queue, releasing, stopping, taking, touched_jobs, touched_sessions, touches_job, touches_node, touches_request, touches_request_queue, touches_session, unclaims_node}
 pub use Rattle.np_lists.proofs.Changes.{all-filter, all-mapped, filter-not_none, kept-change_at, list_any-insert_before, list_any-none, none-list_any, slice_get-change_at_other}
 pub use Rattle.np_lists.proofs.Members.{all-moved, each-moved, group-equal, rises-all_moved}
 pub use Rattle.np_lists.proofs.Plain.{contrapositive, map-push, or_false, or_true, set-other, take-all}
-pub use Rattle.np_lists.specs.Groups.{has_member, is_member_before, same_group}
-pub use Rattle.np_lists.specs.Moves.{Placed, is_among, shift, with_all_moved, with_groups, with_moved}
-pub use Rattle.np_lists.specs.declared.groups.Group.{Group}
-pub use Rattle.np_lists.specs.declared.groups.Member.{Member}
 pub use Rattle.np_look.proofs.Looks.{none_there, take_there}
-pub use Rattle.np_look.specs.Keys.{is_job_before, is_node_before, is_session_before, job_equal, job_one_way, job_some_way, job_transitive, node_equal, node_one_way, node_some_way, node_transitive, request_equal, request_one_way, request_some_way, request_transitive, same_job, same_node, same_session, session_equal, session_one_way, session_some_way, session_transitive}
-pub use Rattle.np_look.specs.Readers.{is_unclaimed, queued_nodes, queued_requests}
 pub use Rattle.std.proofs.Common.{Bool, List, None, Option, Some, ap, arith, cond, drop, false, inl, inr, length, map, refl, subst, suc, sym, take, true, zero, ℕ, [], ◌*◌, ◌++◌, ◌+◌, ◌-◌, ◌<◌, ◌^◌, ◌∙◌, ◌∷◌, ◌≡◌, ◌≢◌, ◌≤◌, ◌⊎◌}
 pub use Rattle.std.proofs.Math.Nat.{pow-le-pow_right}
 pub use Rattle.std.proofs.lemmas.Bool.{cases_lt, or_parts}
@@ -41,4 +26,4 @@ pub use Rattle.std.proofs.lemmas.Bool.Decides.{nat_tests}
 pub use Rattle.std.proofs.lemmas.List.Folds.{list_any-append}
 pub use Rattle.std.proofs.lemmas.Simd.{map-map}
 pub use Rattle.std.specs.Option.{option_map}
-pub use Rattle.std.specs.Prelude.{filter, find, fold, if◌then◌else◌, is_none, is_some, nat_lt, not, option_and_then, option_to_list, slice_get, unwrap_or, ◌&&◌, ◌==◌, ◌||◌}
+pub use Rattle.std.specs.Prelude.{filter, find, fold, if◌then◌else◌, is_none, nat_lt, option_and_then, option_to_list, slice_get, unwrap_or, ◌&&◌, ◌==◌, ◌||◌}

@@ -1,13 +1,12 @@
 -- what the changes of an event do not touch, nodes, requests, jobs and sessions, is after them as before
-use Rattle.np_classes.proofs.Prelude.{AllocationsListed, Bool, Changes, Configuration, Growth, HandlesChange, Invariant, IsAsking, IsReached, IsTouched, JobId, JobIn, JobRecord, JobsChange, List, Maker, NodeEntry, NodeId, NodeRecord, NodesChange, None, Option, Phase, RequestEntry, RequestId, RequestRecord, RequestsChange, SemId, SessionFacts, SessionId, SessionsChange, Some, State, TenantId, TouchedOf, allocated, ap, arith, asker_of, beginning, calm-request, change_at, change_first, changed, changed_job, changes_node, changes_request, cond, contrapositive, edited, ends_at_node, ends_at_request, facts_in, false, filter-not_none, fold, found-grown, freed, grown, grown-request, grows_node, grows_request, grows_request_queue, handles_changed, has_handle, invariant-Runs, is_asked, is_none, is_queued, is_request, is_session, is_unclaimed, job_of_request, jobs-grown, jobs_changed, joined, kept-change_at, leaves_request_queue, left, left-request, length, list_any, list_any-append, list_any-insert_before, made-look, muted, nat_lt, nat_tests, node_in, node_in-allocated, node_in-freed, node_in-in_use, node_in-left, node_in-other, node_in-put, node_in-queue, node_in-remove, node_queue, node_queue-allocated, node_queue-freed, node_queue-in_use, node_queue-left, node_queue-nowhere, node_queue-other, node_queue-put, node_queue-queue, node_queue-remove, nodes_changed, nodes_left, none-list_any, option_and_then, option_map, option_map_or, option_to_list, or_false, or_parts, put_node_queue, put_request_queue, refl, registers, releasing, request_equal, request_in, request_in-below, request_in-edit, request_in-insert, request_in-queue, request_in-remove, request_queue, request_queue-edit, request_queue-insert, request_queue-left, request_queue-nowhere, request_queue-queue, request_queue-remove, requests_changed, requests_left, same_job, same_request, same_session, semaphores_of, session_of, sessions_changed, set-other, slice_get, slice_get-change_at_other, standing, stopping, suc, sym, taking, touches_job, touches_node, touches_request, touches_request_queue, touches_session, true, unclaims_node, unwrap_or, used_from, with_handle, with_mark, without_handle, zero, ℕ, [], ◌++◌, ◌-◌, ◌<◌, ◌==◌, ◌||◌, ◌∙◌, ◌∷◌, ◌≡◌, ◌≢◌}
+use Rattle.np_classes.proofs.Prelude.{AllocationsListed, Bool, Changes, Configuration, Growth, HandlesChange, Invariant, IsAsking, IsReached, IsTouched, JobId, JobIn, JobRecord, JobsChange, List, Maker, NodeEntry, NodeId, NodeRecord, NodesChange, None, Option, Phase, RequestEntry, RequestId, RequestRecord, RequestsChange, SemId, SessionFacts, SessionId, SessionsChange, Some, State, TenantId, TouchedOf, allocated, ap, arith, asker_of, beginning, calm-request, change_at, change_first, changed, changed_job, changes_node, changes_request, cond, contrapositive, edited, ends_at_node, ends_at_request, facts_in, false, filter-not_none, fold, found-grown, freed, grown, grown-request, grows_node, grows_request, grows_request_queue, handles_changed, has_handle, invariant-Runs, is_asked, is_none, is_queued, is_request, is_session, is_unclaimed, job_of_request, jobs-grown, jobs_changed, joined, kept-change_at, leaves_request_queue, left, left-request, length, list_any, list_any-append, list_any-insert_before, made-look, muted, nat_lt, nat_tests, node_in, node_in-allocated, node_in-freed, node_in-in_use, node_in-left, node_in-other, node_in-put, node_in-queue, node_in-remove, node_queue, node_queue-allocated, node_queue-freed, node_queue-in_use, node_queue-left, node_queue-nowhere, node_queue-other, node_queue-put, node_queue-queue, node_queue-remove, nodes_changed, nodes_left, none-list_any, option_and_then, option_map, option_map_or, option_to_list, or_parts, put_node_queue, put_request_queue, refl, registers, releasing, request_equal, request_in, request_in-below, request_in-edit, request_in-insert, request_in-queue, request_in-remove, request_queue, request_queue-edit, request_queue-insert, request_queue-left, request_queue-nowhere, request_queue-queue, request_queue-remove, requests_changed, requests_left, same_job, same_request, same_session, semaphores_of, session_of, sessions_changed, set-other, slice_get, slice_get-change_at_other, standing, stopping, suc, sym, taking, touches_job, touches_node, touches_request, touches_request_queue, touches_session, true, unclaims_node, unwrap_or, used_from, with_handle, with_mark, without_handle, zero, ℕ, [], ◌++◌, ◌-◌, ◌<◌, ◌==◌, ◌||◌, ◌∙◌, ◌∷◌, ◌≡◌, ◌≢◌}
 use Rattle.np_changes.specs.Prelude.{is_among, ended}
 
 -- # what the changes of an event do not touch is found after them as before
 
 -- what a test that fails would change stays
 unchanged : {K : Type 0} (b : Bool) (f : K → K) (o : Option K) → b ≡ false → option_map (λ k. cond b (f k) k) o ≡ o
-unchanged b f None out = refl
-unchanged b f (Some k) out = rw out refl
+unchanged b f o out = grind (arith, out)
 
 -- ## nodes
 
@@ -39,31 +38,26 @@ allocated-untouched n0 n r tenant session rows other = (same, by (node_in n rows
 -- a growth of something else
 grown-untouched : (c : Configuration) (maker : Option Maker) (g : Growth) (s : State) (n : NodeId) → grows_node g s n ≡ false → Alike n (grown c maker g s).nodes s.nodes
 grown-untouched c maker (Growth.Node kept) s n other = (node_in-other _ n s.nodes other, node_queue-other _ n s.nodes other)
-grown-untouched c None (Growth.JoinNode n0) s n other = (refl, refl)
+grown-untouched c None _ s n other = (refl, refl)
 grown-untouched c (Some by) (Growth.JoinNode n0) s n other = put-untouched n0 n (joined by.session (node_queue n0 s.nodes)) s.nodes other
-grown-untouched c None (Growth.Allocate n0 r tenant) s n other = (refl, refl)
 grown-untouched c (Some by) (Growth.Allocate n0 r tenant) s n other = allocated-untouched n0 n r tenant by.session s.nodes other
-grown-untouched c None (Growth.Registration p) s n other = (refl, refl)
-grown-untouched c (Some by) (Growth.Registration p) s n other = (refl, refl)
-grown-untouched c maker _ s n other = (refl, refl)
+grown-untouched c _ _ s n other = (refl, refl)
 
 -- a node that is not allocated to the request is not freed
 not-freed : (r : RequestId) (o : Option NodeRecord) → option_map_or (λ k. is_request r k.allocated_to) o false ≡ false → option_map (λ k. cond (is_request r k.allocated_to) (freed k) k) o ≡ o
-not-freed r None out = refl
-not-freed r (Some k) out = rw out refl
+not-freed r o out = grind (arith, out)
 
 -- a change of other nodes; the nodes may have grown, with this one as in the state
 changed-untouched : (maker : Option Maker) (tick : ℕ) (change : NodesChange) (s : State) (n : NodeId) (rows : List NodeEntry) → node_in n rows ≡ node_in n s.nodes → changes_node change s n ≡ false → Alike n (nodes_changed maker tick change rows) rows
-changed-untouched maker tick NodesChange.Same s n rows same other = (refl, refl)
 changed-untouched maker tick (NodesChange.Put n0 kept) s n rows same other =
     (node_in-put n0 n kept rows ∙ unchanged (n0.0 == n.0) (λ _. kept) (node_in n rows) other, node_queue-put n0 n kept rows)
 changed-untouched maker tick (NodesChange.Remove n0) s n rows same other = (node_in-remove n0 n rows other, node_queue-remove n0 n rows other)
-changed-untouched None tick (NodesChange.Leave n0) s n rows same other = (refl, refl)
 changed-untouched (Some by) tick (NodesChange.Leave n0) s n rows same other = put-untouched n0 n (left by.session (node_queue n0 rows)) rows other
 changed-untouched maker tick (NodesChange.FreeAll r) s n rows same other =
     (node_in-freed r n rows ∙ not-freed r (node_in n rows) (ap (λ (o : Option NodeRecord). option_map_or (λ k. is_request r k.allocated_to) o false) same ∙ other), node_queue-freed r n rows)
 changed-untouched maker tick (NodesChange.TakeOver numbers) s n rows same other =
     (node_in-in_use tick numbers n rows ∙ unchanged (list_any (λ m. m.0 == n.0) numbers) (used_from tick) (node_in n rows) other, node_queue-in_use tick numbers n rows)
+changed-untouched _ tick _ s n rows same other = (refl, refl)
 
 -- a queue that the session is not in stays when it leaves
 left-same : (session : SessionId) (queue : List SessionId) → is_queued session queue ≡ false → left session queue ≡ queue
@@ -78,13 +72,10 @@ left-untouched _ s n rows same out = (refl, refl)
 -- a node that the changes do not touch has the same record and the same queue after them
 pub node-untouched : (c : Configuration) (ch : Changes) (s : State) (n : NodeId) → touches_node ch s n ≡ false → (node_in n (changed c ch s).nodes ≡ node_in n s.nodes) × (node_queue n (changed c ch s).nodes ≡ node_queue n s.nodes)
 node-untouched c ch s n out =
-    let all = or_parts (grows_node ch.grows s n || changes_node ch.nodes s n || ends_at_node ch.sessions s n) (unclaims_node ch.requests s n) out in
-    let both = or_parts (grows_node ch.grows s n || changes_node ch.nodes s n) (ends_at_node ch.sessions s n) all.0 in
-    let first = or_parts (grows_node ch.grows s n) (changes_node ch.nodes s n) both.0 in
     let more : State = grown c ch.maker ch.grows s in
-    let grew = grown-untouched c ch.maker ch.grows s n first.0 in
-    let change = changed-untouched ch.maker more.tick ch.nodes s n more.nodes grew.0 first.1 in
-    let leave = left-untouched ch.sessions s n (nodes_changed ch.maker more.tick ch.nodes more.nodes) (change.1 ∙ grew.1) both.1 in
+    let grew = grown-untouched c ch.maker ch.grows s n (grind (arith, out)) in
+    let change = changed-untouched ch.maker more.tick ch.nodes s n more.nodes grew.0 (grind (arith, out)) in
+    let leave = left-untouched ch.sessions s n (nodes_changed ch.maker more.tick ch.nodes more.nodes) (change.1 ∙ grew.1) (grind (arith, out)) in
     (leave.0 ∙ change.0 ∙ grew.0, leave.1 ∙ change.1 ∙ grew.1)
 
 -- ## requests
@@ -103,11 +94,10 @@ request-changed maker change r rows other = calm-request maker change r rows tt
 -- a request that the changes do not touch has the same record after them
 pub request-untouched : (c : Configuration) (ch : Changes) (s : State) (r : RequestId) → touches_request ch s r ≡ false → request_in r (changed c ch s).requests ≡ request_in r s.requests
 request-untouched c ch s r out =
-    let both = or_parts (grows_request ch.grows s r) (changes_request ch.requests r) out in
     let more : State = grown c ch.maker ch.grows s in
     left-request ch.sessions r (requests_changed ch.maker ch.requests more.requests)
-    ∙ request-changed ch.maker ch.requests r more.requests both.1
-    ∙ request-grown c ch.maker ch.grows s r both.0
+    ∙ request-changed ch.maker ch.requests r more.requests (grind (arith, out))
+    ∙ request-grown c ch.maker ch.grows s r (grind (arith, out))
 
 -- the record of a request that is not listed stays
 pub record-stays : (c : Configuration) (s : State) (ch : Changes) (touched : TouchedOf) → IsTouched s ch touched
@@ -127,20 +117,17 @@ request_queue-put r0 r queue rows other = by (request_in r rows) refl where
 queue-grown : (c : Configuration) (maker : Option Maker) (g : Growth) (s : State) (r : RequestId) → grows_request g s r ≡ false → grows_request_queue g r ≡ false
     → request_queue r (grown c maker g s).requests ≡ request_queue r s.requests
 queue-grown c maker (Growth.Request priority asked) s r other calm = request_queue-insert _ r s.requests other
-queue-grown c None (Growth.JoinRequest r0) s r other calm = refl
+queue-grown c None _ s r other calm = refl
 queue-grown c (Some by) (Growth.JoinRequest r0) s r other calm = request_queue-put r0 r (joined by.session (request_queue r0 s.requests)) s.requests calm
-queue-grown c None (Growth.Registration p) s r other calm = refl
-queue-grown c (Some by) (Growth.Registration p) s r other calm = refl
-queue-grown c maker _ s r other calm = refl
+queue-grown c _ _ s r other calm = refl
 
 -- a change of another request or of its queue
 queue-changed : (maker : Option Maker) (change : RequestsChange) (r : RequestId) (rows : List RequestEntry) → changes_request change r ≡ false → leaves_request_queue change r ≡ false
     → request_queue r (requests_changed maker change rows) ≡ request_queue r rows
-queue-changed maker RequestsChange.Same r rows other calm = refl
 queue-changed maker (RequestsChange.Edit r0 edit) r rows other calm = request_queue-edit r0 r (edited edit) rows
 queue-changed maker (RequestsChange.Remove r0) r rows other calm = request_queue-remove r0 r rows other
-queue-changed None (RequestsChange.Leave r0) r rows other calm = refl
 queue-changed (Some by) (RequestsChange.Leave r0) r rows other calm = request_queue-put r0 r (left by.session (request_queue r0 rows)) rows calm
+queue-changed _ _ r rows other calm = refl
 
 -- the end of a session that is not in the request's queue
 queue-left : (ended : SessionsChange) (s : State) (r : RequestId) (rows : List RequestEntry) → request_queue r rows ≡ request_queue r s.requests → ends_at_request ended s r ≡ false
@@ -153,50 +140,35 @@ queue-left _ s r rows same out = refl
 pub queue-untouched : (c : Configuration) (ch : Changes) (s : State) (r : RequestId) → touches_request ch s r ≡ false → touches_request_queue ch s r ≡ false
     → request_queue r (changed c ch s).requests ≡ request_queue r s.requests
 queue-untouched c ch s r out calm =
-    let both = or_parts (grows_request ch.grows s r) (changes_request ch.requests r) out in
-    let all = or_parts (grows_request_queue ch.grows r || leaves_request_queue ch.requests r) (ends_at_request ch.sessions s r) calm in
-    let first = or_parts (grows_request_queue ch.grows r) (leaves_request_queue ch.requests r) all.0 in
     let more : State = grown c ch.maker ch.grows s in
-    let grew = queue-grown c ch.maker ch.grows s r both.0 first.0 in
-    let change = queue-changed ch.maker ch.requests r more.requests both.1 first.1 in
-    queue-left ch.sessions s r (requests_changed ch.maker ch.requests more.requests) (change ∙ grew) all.1 ∙ change ∙ grew
+    let grew = queue-grown c ch.maker ch.grows s r (grind (arith, out)) (grind (arith, calm)) in
+    let change = queue-changed ch.maker ch.requests r more.requests (grind (arith, out)) (grind (arith, calm)) in
+    queue-left ch.sessions s r (requests_changed ch.maker ch.requests more.requests) (change ∙ grew) (grind (arith, calm)) ∙ change ∙ grew
 
 -- ## whether a node is unclaimed
-
--- an edit leaves the request in its place
-edited-there : (b : Bool) (f : RequestRecord → RequestRecord) (r : RequestId) (o : Option RequestRecord) → is_none (option_map (λ _. r) (option_map (λ q. cond b (f q) q) o)) ≡ is_none (option_map (λ _. r) o)
-edited-there b f r None = refl
-edited-there b f r (Some q) = refl
-
--- two requests that are not the same, in either order
-apart : (a b : RequestId) → same_request a b ≡ false → same_request b a ≡ false
-apart a b other = contrapositive (same_request b a) (same_request a b) (λ is. let e : b ≡ a = request_equal b a is in rw e (rw e at is)) other
 
 -- the request that a node is allocated to is there after a change as before it, if the node is not touched
 stays-there : (maker : Option Maker) (change : RequestsChange) (s : State) (n : NodeId) (k : NodeRecord) (r : RequestId) (rows : List RequestEntry)
     → node_in n s.nodes ≡ Some k → k.allocated_to ≡ Some r → unclaims_node change s n ≡ false
     → is_none (option_map (λ _. r) (request_in r (requests_changed maker change rows))) ≡ is_none (option_map (λ _. r) (request_in r rows))
 stays-there maker (RequestsChange.Edit r0 edit) s n k r rows at to out =
-    ap (λ (o : Option RequestRecord). is_none (option_map (λ _. r) o)) (request_in-edit r0 r (edited edit) rows) ∙ edited-there (same_request r0 r) (edited edit) r (request_in r rows)
+    ap (λ (o : Option RequestRecord). is_none (option_map (λ _. r) o)) (request_in-edit r0 r (edited edit) rows) ∙ grind arith
 stays-there maker (RequestsChange.Remove r0) s n k r rows at to out =
     let claims : is_request r0 k.allocated_to ≡ false = ap (λ (o : Option NodeRecord). option_map_or (λ k. is_request r0 k.allocated_to) o false) (sym at) ∙ out in
     let other : same_request r r0 ≡ false = ap (is_request r0) (sym to) ∙ claims in
-    ap (λ (o : Option RequestRecord). is_none (option_map (λ _. r) o)) (request_in-remove r0 r rows (apart r r0 other))
+    ap (λ (o : Option RequestRecord). is_none (option_map (λ _. r) o)) (request_in-remove r0 r rows (grind (arith, nat_tests, other)))
 stays-there maker change s n k r rows at to out = ap (λ (o : Option RequestRecord). is_none (option_map (λ _. r) o)) (calm-request maker change r rows tt)
 
 -- a node that the changes do not touch is unclaimed after them as before
 pub unclaimed-untouched : (c : Configuration) (ch : Changes) (s : State) (n : NodeId) (k : NodeRecord) → AllocationsListed s → node_in n s.nodes ≡ Some k → touches_node ch s n ≡ false
     → is_unclaimed (changed c ch s) k ≡ is_unclaimed s k
 unclaimed-untouched c ch s n k allocations at out = by k.allocated_to refl where
-  stays : unclaims_node ch.requests s n ≡ false
-  stays = (or_parts (grows_node ch.grows s n || changes_node ch.nodes s n || ends_at_node ch.sessions s n) (unclaims_node ch.requests s n) out).1
-
   by : (o : Option RequestId) → k.allocated_to ≡ o → is_none (standing (changed c ch s) o) ≡ is_none (standing s o)
   by None to = refl
   by (Some r) to =
       let more : State = grown c ch.maker ch.grows s in
       ap (λ (o : Option RequestRecord). is_none (option_map (λ _. r) o)) (left-request ch.sessions r (requests_changed ch.maker ch.requests more.requests))
-      ∙ stays-there ch.maker ch.requests s n k r more.requests at to stays
+      ∙ stays-there ch.maker ch.requests s n k r more.requests at to (grind (arith, out))
       ∙ ap (λ (o : Option RequestRecord). is_none (option_map (λ _. r) o)) (found-grown c s ch.maker ch.grows r (allocations n k r at to).below)
 
 -- # a job that the changes of an event do not touch has the same record, the same handles and, if it has asked for its nodes, the same request after them
@@ -208,32 +180,13 @@ abbrev is_named : Option JobId → JobId → Bool
 is_named None j = false
 is_named (Some i) j = same_job i j
 
--- the job is in the list
-abbrev lists_job : JobId → List JobId → Bool
-lists_job j js = list_any (λ i. same_job i j) js
-
-named : (j : JobId) (o : Option JobId) → lists_job j (option_to_list o) ≡ is_named o j
-named j None = refl
-named j (Some i) = or_false (same_job i j)
-
-split : (j : JobId) (js : List JobId) (o : Option JobId) → lists_job j (js ++ option_to_list o) ≡ false → (lists_job j js ≡ false) × (is_named o j ≡ false)
-split j js o out =
-    let parts = or_parts (lists_job j js) (lists_job j (option_to_list o)) (sym (list_any-append (λ i. same_job i j) js (option_to_list o)) ∙ out) in
-    (parts.0, sym (named j o) ∙ parts.1)
-
--- a job that none of these names
-record IsUnnamed (ch : Changes) (s : State) (j : JobId) : Type 0 where
-  pub takes : is_named (taking ch.grows) j ≡ false
-  pub changes : is_named (changed_job ch.jobs) j ≡ false
-  pub releases : is_named (releasing ch.handles) j ≡ false
-  pub asks : is_named (asker_of ch.requests s) j ≡ false
-
-unnamed : (ch : Changes) (s : State) (j : JobId) → touches_job ch s j ≡ false → IsUnnamed ch s j
-unnamed ch s j out =
-    let asks = split j ((option_to_list (taking ch.grows) ++ option_to_list (changed_job ch.jobs)) ++ option_to_list (releasing ch.handles)) (asker_of ch.requests s) out in
-    let releases = split j (option_to_list (taking ch.grows) ++ option_to_list (changed_job ch.jobs)) (releasing ch.handles) asks.0 in
-    let changes = split j (option_to_list (taking ch.grows)) (changed_job ch.jobs) releases.0 in
-    record { takes = sym (named j (taking ch.grows)) ∙ changes.0; changes = changes.1; releases = releases.1; asks = asks.1 }
+-- a job that is not touched is named by none of these
+unnamed : (ch : Changes) (s : State) (j : JobId) → touches_job ch s j ≡ false
+    → (is_named (taking ch.grows) j ≡ false) × (is_named (changed_job ch.jobs) j ≡ false) × (is_named (releasing ch.handles) j ≡ false) × (is_named (asker_of ch.requests s) j ≡ false)
+unnamed ch s j out = by (taking ch.grows) (changed_job ch.jobs) (releasing ch.handles) (asker_of ch.requests s) out where
+  by : (x y z w : Option JobId) → list_any (λ i. same_job i j) (((option_to_list x ++ option_to_list y) ++ option_to_list z) ++ option_to_list w) ≡ false
+      → (is_named x j ≡ false) × (is_named y j ≡ false) × (is_named z j ≡ false) × (is_named w j ≡ false)
+  by x y z w none = (grind (arith, none), grind (arith, none), grind (arith, none), grind (arith, none))
 
 -- ## the record
 
@@ -244,7 +197,7 @@ rows-untouched (JobsChange.EndNode i n) j rows out = slice_get-change_at_other i
 
 pub job-untouched : (c : Configuration) (ch : Changes) (s : State) (j : JobId) → touches_job ch s j ≡ false → slice_get (changed c ch s).jobs j.0 ≡ slice_get s.jobs j.0
 job-untouched c ch s j out =
-    rows-untouched ch.jobs j (grown c ch.maker ch.grows s).jobs (unnamed ch s j out).changes
+    rows-untouched ch.jobs j (grown c ch.maker ch.grows s).jobs (unnamed ch s j out).1
     ∙ ap (λ (rows : List JobRecord). slice_get rows j.0) (jobs-grown c ch.maker ch.grows s)
 
 -- ## the handles
@@ -280,7 +233,7 @@ module _ (c : Configuration) (j : JobId) (x : SemId) where
   pub handle-untouched : (ch : Changes) (s : State) → touches_job ch s j ≡ false → has_handle j (changed c ch s).handles x ≡ has_handle j s.handles x
   handle-untouched ch s out =
       let none = unnamed ch s j out in
-      handle-left ch.handles (grown c ch.maker ch.grows s).handles none.releases ∙ handle-grown ch.maker ch.grows s none.takes
+      handle-left ch.handles (grown c ch.maker ch.grows s).handles none.2 ∙ handle-grown ch.maker ch.grows s none.0
 
 -- ## the request
 
@@ -313,7 +266,7 @@ asked-untouched c ch s j kept reached out stands asked = by kept.phase asked (in
   by Phase.Asked is job =
       let low : job.0.id.seq < s.next_request = request_in-below job.0.id s.next_request job.0.request s.requests invariant.numbered.requests_below job.0.stands in
       let calm : touches_request ch s job.0.id ≡ false =
-      ap (λ (b : Bool). b || changes_request ch.requests job.0.id) (not-grown ch.grows s job.0.id low) ∙ not-changed s j kept job.0 ch.requests (unnamed ch s j out).asks in
+      ap (λ (b : Bool). b || changes_request ch.requests job.0.id) (not-grown ch.grows s job.0.id low) ∙ not-changed s j kept job.0 ch.requests (unnamed ch s j out).3 in
       ap (λ (o : Option RequestId). option_and_then (λ r. request_in r (changed c ch s).requests) o) job.0.asks
       ∙ request-untouched c ch s job.0.id calm
       ∙ sym (ap (λ (o : Option RequestId). option_and_then (λ r. request_in r s.requests) o) job.0.asks)

@@ -1,13 +1,7 @@
 -- the groups that nodes and requests are in, and what a state says of them
 use Rattle.std.specs.Prelude.{◌≡◌, ℕ, zero, suc, ◌+◌, ◌*◌, List, [], ◌∷◌, Bool, false, ◌==◌, ◌&&◌, ◌||◌, not, if◌then◌else◌, Option, Some, None, is_none, is_some, length, slice_get, option_and_then, nat_lt}
-use Rattle.np_changes.specs.Prelude.{Configuration, Declined, LabelId, NodeId, NodeRecord, PoolId, RequestId, RequestRecord, Rises, State, TenantId, is_declined_by, is_failed, is_id_before, is_pending, is_ready, is_requested, next_label, node_holder, node_in, option_map, option_map_or, request_holder, request_in, same_request}
-use Rattle.np_lists.specs.declared.groups.Group.{Group}
-use Rattle.np_lists.specs.declared.groups.Member.{Member}
-use Rattle.np_lists.specs.Groups.{has_member, is_member_before}
-pub use Rattle.np_lists.specs.Moves.{is_among}
-use Rattle.np_look.specs.Keys.{same_node, is_node_before}
-use Rattle.np_look.specs.declared.asked.UnheldKind.{UnheldKind}
-use Rattle.np_look.specs.Readers.{due_of, is_unclaimed, unheld_kind}
+use Rattle.np_classes.specs.Lower.{Configuration, Declined, Group, LabelId, Member, NodeId, NodeRecord, PoolId, RequestId, RequestRecord, Rises, State, TenantId, UnheldKind, due_of, has_member, is_declined_by, is_failed, is_id_before, is_member_before, is_node_before, is_pending, is_ready, is_requested, is_unclaimed, next_label, node_holder, node_in, option_map, option_map_or, request_holder, request_in, same_node, same_request, unheld_kind}
+pub use Rattle.np_classes.specs.Lower.{is_among}
 
 -- ## groups of nodes (own)
 

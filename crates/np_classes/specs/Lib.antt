@@ -1,6 +1,5 @@
+pub mod Lower
 pub mod Classes
 pub mod Placed
-pub mod Prepared
 pub mod Touched
 pub mod Listed
-pub mod Grouped

@@ -1,13 +1,12 @@
 -- what the changes of an event touch, listed before it
-use Rattle.std.specs.Prelude.{◌≡◌, ◌≤◌, List, [], ◌∷◌, ◌++◌, true, length}
-use Rattle.np_changes.specs.Prelude.{JobId, NodeId, RequestId, SessionId, State, list_any, next_id, option_map_or, request_in, same_request}
-use Rattle.np_changes.specs.declared.changes.Changes.{Changes}
-use Rattle.np_changes.specs.declared.changes.Growth.{Growth}
-use Rattle.np_changes.specs.declared.changes.NodesChange.{NodesChange}
-use Rattle.np_changes.specs.declared.changes.RequestsChange.{RequestsChange}
-use Rattle.np_changes.specs.declared.changes.SessionsChange.{SessionsChange}
-use Rattle.np_look.specs.Keys.{same_node}
+use Rattle.std.specs.Prelude.{◌≡◌, ◌≤◌, List, [], ◌∷◌, ◌++◌, true, length, ◌+◌, ◌*◌, map}
 use Rattle.np_classes.specs.Touched.{touched_jobs, touched_sessions, touches_node, touches_request, touches_request_queue}
+use Rattle.np_classes.specs.Lower.{Changes, Growth, JobId, NodeId, NodesChange, RequestId, RequestsChange, SessionId, SessionsChange, State, list_any, next_id, option_map_or, request_in, same_node, same_request, Configuration}
+use Rattle.np_classes.specs.Classes.{ClassesOf}
+use Rattle.np_classes.specs.declared.past.PastNode.{PastNode}
+use Rattle.np_classes.specs.declared.past.PastQueue.{PastQueue}
+use Rattle.np_classes.specs.declared.past.PastRequest.{PastRequest}
+use Rattle.np_classes.specs.Placed.{past_node, past_queue, past_request}
 
 -- those in whose queues the session is that ends, if one does
 abbrev pub ended : {K : Type 0} → SessionsChange → List K → List K
@@ -92,3 +91,23 @@ pub record IsTouched (s : State) (ch : Changes) (touched : TouchedOf) : Type 0 w
   pub jobs : touched.jobs ≡ touched_jobs ch s
   pub sessions : touched.sessions ≡ touched_sessions ch s
   pub once : length touched.requests ≤ 1
+
+-- what is prepared for a change: what it touches, with the groups that this is in before it
+
+-- the nodes, the requests, and those of which the queue alone is touched, with their groups (own)
+pub record PastOf : Type 0 where
+  pub nodes : List PastNode
+  pub requests : List PastRequest
+  pub queues : List PastQueue
+
+-- all that is touched, with the groups that it is in in the state
+pub record IsPast (c : Configuration) (s : State) (touched : TouchedOf) (past : PastOf) : Type 0 where
+  pub nodes : past.nodes ≡ map (past_node c s) touched.nodes
+  pub requests : past.requests ≡ map (past_request s) touched.requests
+  pub queues : past.queues ≡ map (past_queue s) touched.queues
+
+-- there is room for each node in the five groups that it may be in, for each request in its seven, and
+-- for each queue in its one
+pub record HasRoom (past : PastOf) (classes : ClassesOf) : Type 0 where
+  pub nodes : 5 * length past.nodes ≤ classes.node_room
+  pub requests : 7 * length past.requests + length past.queues ≤ classes.request_room

@@ -1,13 +1,28 @@
--- ids with the groups that they are in
-use Rattle.std.specs.Prelude.{List, [], ◌∷◌, Option, None, is_none, option_and_then}
-use Rattle.np_changes.specs.Prelude.{Configuration, NodeId, RequestId, State, node_holder, node_in, option_map_or, request_holder, request_in}
-use Rattle.np_look.specs.Readers.{is_unclaimed}
-use Rattle.np_lists.specs.declared.groups.Group.{Group}
-use Rattle.np_lists.specs.Moves.{Placed}
+-- ids in groups, by the groups of each id
+use Rattle.std.specs.Prelude.{◌≡◌, Bool, true, false, List, map, Option, [], ◌∷◌, None, is_none, option_and_then}
+use Rattle.np_classes.specs.Lower.{Group, Member, Placed, Rises, has_member, is_among, is_member_before, Configuration, NodeId, RequestId, State, is_unclaimed, node_holder, node_in, option_map_or, request_holder, request_in}
 use Rattle.np_classes.specs.declared.past.PastNode.{PastNode}
 use Rattle.np_classes.specs.declared.past.PastQueue.{PastQueue}
 use Rattle.np_classes.specs.declared.past.PastRequest.{PastRequest}
 use Rattle.np_classes.specs.Classes.{node_groups, request_groups, unheld_pending_group_of}
+
+-- ids are in an order, and equal if they are the same
+pub record IsOrder {K : Type 0} (before same : K → K → Bool) : Type 0 where
+  pub transitive : (a b k : K) → before a b ≡ true → before b k ≡ true → before a k ≡ true
+  pub one_way : (a b : K) → before a b ≡ true → before b a ≡ false
+  pub some_way : (a b : K) → before a b ≡ false → same a b ≡ false → before b a ≡ true
+  pub equal : (a b : K) → same a b ≡ true → a ≡ b
+
+-- the members of each group are the ids that have it among their groups
+pub record AreGrouped {K : Type 0} (before same : K → K → Bool) (groups : K → List (Option Group)) (members : List (Member K)) : Type 0 where
+  pub rises : Rises (is_member_before before) members
+  pub each : (g : Group) (i : K) → has_member same g i members ≡ is_among g (groups i)
+
+-- the ids with their groups
+abbrev pub placed_all : {K : Type 0} → (K → List (Option Group)) → List K → List (Placed K)
+placed_all groups ids = map (λ i. record { id = i; groups = groups i }) ids
+
+-- ids with the groups that they are in
 
 -- ## nodes and requests
 

@@ -1,14 +1,6 @@
 -- what the changes of an event may change: nodes, requests, of which only the queue, jobs, and sessions
 use Rattle.std.specs.Prelude.{Bool, false, ◌+◌, ◌-◌, ◌==◌, ◌||◌, ◌++◌, List, length, Option, Some, None, option_and_then, option_to_list}
-use Rattle.np_changes.specs.Prelude.{JobId, NodeId, RequestId, SessionId, State, is_queued, is_request, list_any, next_id, node_in, node_queue, option_map_or, request_in, request_queue, same_request}
-use Rattle.np_changes.specs.declared.changes.Changes.{Changes}
-use Rattle.np_changes.specs.declared.changes.Growth.{Growth}
-use Rattle.np_changes.specs.declared.changes.HandlesChange.{HandlesChange}
-use Rattle.np_changes.specs.declared.changes.JobsChange.{JobsChange}
-use Rattle.np_changes.specs.declared.changes.NodesChange.{NodesChange}
-use Rattle.np_changes.specs.declared.changes.RequestsChange.{RequestsChange}
-use Rattle.np_changes.specs.declared.changes.SessionsChange.{SessionsChange}
-use Rattle.np_look.specs.Keys.{same_job, same_session}
+use Rattle.np_classes.specs.Lower.{Changes, Growth, HandlesChange, JobId, JobsChange, NodeId, NodesChange, RequestId, RequestsChange, SessionId, SessionsChange, State, is_queued, is_request, list_any, next_id, node_in, node_queue, option_map_or, request_in, request_queue, same_job, same_request, same_session}
 
 -- ## nodes
 

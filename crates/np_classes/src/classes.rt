@@ -1,12 +1,9 @@
 //! The groups of a state's nodes and requests, kept as events change the state.
 
 ghost use Rattle.std.specs.Prelude.{◌≡◌, IfOk, length, slice_get};
-ghost use Rattle.np_changes.specs.declared.changes.Changes.{Changes};
-ghost use Rattle.np_changes.specs.Prelude.{Configuration, IsReached, State, changed};
-ghost use Rattle.np_lists.specs.Groups.{group_after, group_from, ids_in};
+ghost use Rattle.np_classes.specs.Lower.{Changes, Configuration, IsReached, State, changed, group_after, group_from, ids_in};
 ghost use Rattle.np_classes.specs.Classes.{AreClasses};
-ghost use Rattle.np_classes.specs.Prepared.{HasRoom, IsPast};
-ghost use Rattle.np_classes.specs.Listed.{IsTouched, TouchedOf};
+ghost use Rattle.np_classes.specs.Listed.{HasRoom, IsPast, IsTouched, TouchedOf};
 
 use crate::Touched;
 use crate::members::{all_nodes, all_requests, move_nodes, move_queues, move_requests};

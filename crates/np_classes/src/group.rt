@@ -1,7 +1,7 @@
 //! Which groups nodes and requests are in, by their records.
 
 ghost use Rattle.std.specs.Prelude.{◌≡◌, ◌≤◌, ◌&&◌, None, if◌then◌else◌};
-ghost use Rattle.np_changes.specs.Prelude.{is_declined_by, is_pending, option_map};
+ghost use Rattle.np_classes.specs.Lower.{is_declined_by, is_pending, option_map};
 ghost use Rattle.np_classes.specs.Classes.{coming_group, coming_group_of, decline_set, declined_group, declined_group_of, free_group, group_if, kind_group, next_label_group, next_label_group_of, node_groups, pending_group, pending_group_of, pinned_label_group, pinned_label_group_of, request_groups, spare_group, spent_group, spent_group_of, tenant_group, unheld_class, unheld_group, unheld_group_of, unheld_pending_group};
 
 use np_config::Config;
@@ -10,52 +10,44 @@ use np_look::{UnheldKind, due_of, is_declined_by, unheld_kind};
 use np_record::{Declined, NodeRecord, RequestRecord};
 use np_text::{LabelId, NodeState, POOLS, PoolId, RequestState, TenantId};
 
+/// The group of this class with these numbers.
+fn group_of(class: u8, first: u16, second: u16, third: u64) -> Group
+    ensures { result ≡ record { class = class; first = first; second = second; third = third } }
+{
+    Group {
+        class,
+        first,
+        second,
+        third,
+    }
+}
+
 /// All nodes of the pool with the label.
 pub fn kind_group(pool: PoolId, label: LabelId) -> Group
     ensures { result ≡ kind_group pool label }
 {
-    Group {
-        class: 0,
-        first: pool.0,
-        second: label.0,
-        third: 0,
-    }
+    group_of(0, pool.0, label.0, 0)
 }
 
 /// Those of them that are ready, allocated to no request and unlocked.
 pub fn spare_group(pool: PoolId, label: LabelId) -> Group
     ensures { result ≡ spare_group pool label }
 {
-    Group {
-        class: 1,
-        first: pool.0,
-        second: label.0,
-        third: 0,
-    }
+    group_of(1, pool.0, label.0, 0)
 }
 
 /// The ready nodes of the label in all pools that are allocated to no request.
 pub fn free_group(label: LabelId) -> Group
     ensures { result ≡ free_group label }
 {
-    Group {
-        class: 2,
-        first: 0,
-        second: label.0,
-        third: 0,
-    }
+    group_of(2, 0, label.0, 0)
 }
 
 /// The tenant's nodes of the pool with the label.
 pub fn tenant_group(tenant: TenantId, pool: PoolId, label: LabelId) -> Group
     ensures { result ≡ tenant_group tenant pool label }
 {
-    Group {
-        class: 3,
-        first: tenant.0,
-        second: pool.0,
-        third: label.0 as u64,
-    }
+    group_of(3, tenant.0, pool.0, label.0 as u64)
 }
 
 fn unheld_class(kind: UnheldKind) -> u8
@@ -73,60 +65,35 @@ fn unheld_class(kind: UnheldKind) -> u8
 pub fn unheld_group(pool: PoolId, kind: UnheldKind, due: u64) -> Group
     ensures { result ≡ unheld_group pool kind due }
 {
-    Group {
-        class: unheld_class(kind),
-        first: pool.0,
-        second: 0,
-        third: due,
-    }
+    group_of(unheld_class(kind), pool.0, 0, due)
 }
 
 /// The requests that are pending by the pool.
 pub fn pending_group(pool: PoolId) -> Group
     ensures { result ≡ pending_group pool }
 {
-    Group {
-        class: 0,
-        first: pool.0,
-        second: 0,
-        third: 0,
-    }
+    group_of(0, pool.0, 0, 0)
 }
 
 /// Those of them that nobody holds.
 pub fn unheld_pending_group(pool: PoolId) -> Group
     ensures { result ≡ unheld_pending_group pool }
 {
-    Group {
-        class: 1,
-        first: pool.0,
-        second: 0,
-        third: 0,
-    }
+    group_of(1, pool.0, 0, 0)
 }
 
 /// The min-ready requests for the label that are requested or pending.
 pub fn coming_group(label: LabelId) -> Group
     ensures { result ≡ coming_group label }
 {
-    Group {
-        class: 2,
-        first: 0,
-        second: label.0,
-        third: 0,
-    }
+    group_of(2, 0, label.0, 0)
 }
 
 /// The failed min-ready requests of the pool for the label.
 pub fn spent_group(pool: PoolId, label: LabelId) -> Group
     ensures { result ≡ spent_group pool label }
 {
-    Group {
-        class: 3,
-        first: pool.0,
-        second: label.0,
-        third: 0,
-    }
+    group_of(3, pool.0, label.0, 0)
 }
 
 /// The requests that are requested, and that the pools of this set declined and no others. The set
@@ -134,36 +101,21 @@ pub fn spent_group(pool: PoolId, label: LabelId) -> Group
 pub fn declined_group(set: u64) -> Group
     ensures { result ≡ declined_group set }
 {
-    Group {
-        class: 4,
-        first: 0,
-        second: 0,
-        third: set,
-    }
+    group_of(4, 0, 0, set)
 }
 
 /// The requests that are pending by the pool and not pinned, and whose next label is this one.
 pub fn next_label_group(pool: PoolId, label: LabelId) -> Group
     ensures { result ≡ next_label_group pool label }
 {
-    Group {
-        class: 5,
-        first: pool.0,
-        second: label.0,
-        third: 0,
-    }
+    group_of(5, pool.0, label.0, 0)
 }
 
 /// The same of those that are pinned.
 pub fn pinned_label_group(pool: PoolId, label: LabelId) -> Group
     ensures { result ≡ pinned_label_group pool label }
 {
-    Group {
-        class: 6,
-        first: pool.0,
-        second: label.0,
-        third: 0,
-    }
+    group_of(6, pool.0, label.0, 0)
 }
 
 /// The group, if the test is passed.

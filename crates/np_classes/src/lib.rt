@@ -1,12 +1,12 @@
 //! Groups of the nodes and of the requests of a state, for what is asked of all of one kind; and what
 //! the changes of an event touch, for whatever is kept beside a state.
 //!
-//! `specs/Touched` says which nodes, requests, queues of requests, jobs and sessions an event's changes
-//! may change, and `touched_by` lists them before it. `proofs/Untouched` has the law: what isn't
-//! touched has the same record and the same queue after the changes, a job also the same handles and,
-//! while it asks for its nodes, the same request.
-//! `specs/Grouped` says when ids are in groups by the groups of each id (`AreGrouped`), and
-//! `proofs/MemberLemmas` that they still are once those that are touched have moved.
+//! `specs/Touched` says which nodes, requests, queues of requests, jobs and sessions an event's
+//! changes may change, and `touched_by` lists them before it. `proofs/Untouched` has the law: what
+//! isn't touched has the same record and the same queue after the changes, a job also the same
+//! handles and, while it asks for its nodes, the same request. `specs/Placed` says when ids are in
+//! groups by the groups of each id (`AreGrouped`), and `proofs/MemberLemmas` that they still are
+//! once those that are touched have moved.
 //!
 //! `specs/Classes` says which groups a record is in, and when the members of all groups are those
 //! of a state. `Classes` keeps them as each event changes the state: `prepare` lists the nodes and

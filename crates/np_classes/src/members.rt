@@ -1,10 +1,8 @@
 //! Ids moved between their groups. Only making groups anew takes memory.
 
 ghost use Rattle.std.specs.Prelude.{◌≡◌, ◌≤◌, ◌+◌, ◌*◌, [], IfOk, OnOk, length, map};
-ghost use Rattle.np_look.specs.Keys.{is_node_before, same_node};
-ghost use Rattle.np_changes.specs.Prelude.{IsReached, is_id_before, same_request};
+ghost use Rattle.np_classes.specs.Lower.{IsReached, is_id_before, is_node_before, same_node, same_request, with_all_moved, with_groups};
 ghost use Rattle.np_classes.specs.Classes.{AreNodeGroups, AreRequestGroups};
-ghost use Rattle.np_lists.specs.Moves.{with_all_moved, with_groups};
 ghost use Rattle.np_classes.specs.Placed.{groups_of_node, groups_of_request, node_before, queue_before, request_before, unheld_groups};
 
 use crate::past::{

@@ -3,7 +3,7 @@
 
 ghost use Rattle.std.specs.Prelude.{◌≡◌, IfOk, map};
 ghost use Rattle.np_classes.specs.Placed.{groups_of_node, groups_of_request, past_node, past_queue, past_request, unheld_group_of_request};
-ghost use Rattle.np_classes.specs.Prepared.{IsPast};
+ghost use Rattle.np_classes.specs.Listed.{IsPast};
 
 use crate::Touched;
 use crate::group::{node_groups, request_groups, unheld_pending_group_of};
@@ -45,7 +45,7 @@ pub struct Past {
 }
 
 impl Model for Past {
-    ghost use Rattle.np_classes.specs.Prepared.{PastOf};
+    ghost use Rattle.np_classes.specs.Listed.{PastOf};
 
     ghost Value = { PastOf };
 

@@ -2,8 +2,7 @@
 //! event touch, listed before it.
 
 ghost use Rattle.std.specs.Prelude.{◌≡◌, ◌++◌, ◌-◌, IfOk, OnOk, option_to_list};
-ghost use Rattle.np_changes.specs.Prelude.{Fits, IsPlanned, IsReached, SessionId};
-ghost use Rattle.np_look.specs.Readers.{queued_nodes, queued_requests};
+ghost use Rattle.np_classes.specs.Lower.{Fits, IsPlanned, IsReached, SessionId, queued_nodes, queued_requests};
 ghost use Rattle.np_changes.specs.declared.changes.SessionsChange.TheVariants as sessions;
 ghost use Rattle.np_classes.specs.Listed.{IsTouched, changed_nodes, changed_requests, ended, grown_nodes, grown_queues, grown_requests, left_queues, touched_nodes, touched_queues, touched_requests, unclaimed_nodes};
 ghost use Rattle.np_classes.specs.Touched.{asker_of, at_place, beginning, changed_job, job_of_request, releasing, stopping, taking, touched_jobs, touched_sessions};

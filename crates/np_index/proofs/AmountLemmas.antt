@@ -1,7 +1,5 @@
 -- the amounts that tenants' pending requests wait for: made, after a change, and that they are small
-use Rattle.np_index.proofs.Prelude.{AllByRecursion, Amount, AmountFits, AreAwaited, AreSmall, Bool, Changes, Configuration, EachAfter-at, Fits, IsFew, IsFitSite, IsJob, IsPlanned, IsReached, IsSmall, IsSound, Job, JobId, LabelId, List, None, Option, OthersStay, PoolId, RequestEntry, RequestFits, RequestId, RequestRecord, RequestShape, RequestView, Rest, Rises, Shaped, Some, StandsByOwner, State, TenantId, all-weaker, amount_at, amount_of, amount_of_all, ap, arith, awaited_by, change_at, change_at-set, changed, cond, drop, exchange, false, filter, find, first_rest, get_or, get_or_from_slice_get, if◌then◌else◌, invariant-Runs, is_id_before, is_pending, is_pending_of, is_tenant, length, length-change_at, length-drop, length-replicate, length-take, map, minus, minus-plus, nat_tests, next, nothing, nothing-plus, numbered, option_and_then, option_map, option_map_or, or-false, plan-next, plus, plus-comm, refl, remove_first, replicate, request-itself, request_equal, request_in, request_one_way, request_view, rest_at, rest_by, rest_of, rest_of_request, rises-remove_first, rows-few, same_amount, same_request, shape-Runs, shape-next, slice_get, slice_get-change_at, slice_get-get_or, slice_get_within, slice_set, sound_fits, subst, suc, suc-not_zero, swapped, sym, take, take_all, tenant_of_request, total, total_seen, true, with_rest, without_rest, zero, ℕ, [], ◌&&◌, ◌*◌, ◌+◌, ◌<◌, ◌==◌, ◌∙◌, ◌∷◌, ◌≡◌, ◌≤◌}
-
--- # the amounts that tenants' pending requests wait for: made, after a change, and that they are small
+use Rattle.np_index.proofs.Prelude.{AllByRecursion, Amount, AmountFits, AreAwaited, AreSmall, Bool, Changes, Configuration, EachAfter-at, Fits, IsFew, IsFitSite, IsJob, IsPlanned, IsReached, IsSmall, IsSound, Job, JobId, LabelId, List, None, Option, OthersStay, PoolId, RequestEntry, RequestFits, RequestId, RequestRecord, RequestShape, RequestView, Rest, Rises, Shaped, Some, StandsByOwner, State, TenantId, all-weaker, amount_at, amount_of, amount_of_all, ap, arith, awaited_by, below-apart, by_bool, change_at, change_at-set, changed, cond, drop, exchange, false, filter, find, first_rest, get_or, get_or_from_slice_get, if◌then◌else◌, invariant-Runs, is_id_before, is_pending, is_pending_of, is_tenant, length, length-change_at, length-drop, length-replicate, length-take, map, minus, minus-plus, nat_tests, next, nothing, nothing-plus, numbered, option_and_then, option_map, option_map_or, or-false, plan-next, plus, plus-comm, refl, remove_first, replicate, request-itself, request_equal, request_in, request_one_way, request_view, rest_at, rest_by, rest_of, rest_of_request, rises-remove_first, rows-few, same_amount, same_request, shape-Runs, shape-next, slice_get, slice_get-change_at, slice_get-get_or, slice_get_within, slice_set, sound_fits, subst, suc, suc-not_zero, swapped, sym, take, take_all, tenant_of_request, total, total_seen, true, with_rest, without_rest, zero, ℕ, [], ◌&&◌, ◌*◌, ◌+◌, ◌<◌, ◌==◌, ◌∙◌, ◌∷◌, ◌≡◌, ◌≤◌}
 
 -- # the amounts after the one of a tenant was changed
 
@@ -31,9 +29,6 @@ nothing-minus a = same_amount _ _ (omega arith) (omega arith) (omega arith)
 plus-nothing : (a : Amount) → a ≡ plus a nothing
 plus-nothing a = sym (plus-comm a nothing ∙ nothing-plus a)
 
-later-first : (n : ℕ) → (0 == suc n) ≡ false
-later-first n = grind (arith, nat_tests)
-
 both-later : (m n : ℕ) → (suc m == suc n) ≡ (m == n)
 both-later m n = grind (arith, nat_tests)
 
@@ -41,30 +36,25 @@ both-later m n = grind (arith, nat_tests)
 abbrev number_at : ℕ → List Amount → Amount
 number_at n amounts = option_map_or (λ a. a) (slice_get amounts n) nothing
 
-less-at : (n at : ℕ) (b : Amount) (amounts : List Amount) → number_at n (change_at at (λ a. minus a b) amounts) ≡ minus (number_at n amounts) (if at == n then b else nothing)
-less-at n at b [] = nothing-minus (if at == n then b else nothing)
-less-at zero zero b (x ∷ xs) = refl
-less-at zero (suc at) b (x ∷ xs) = rw (suc-not_zero at) (minus-nothing x)
-less-at (suc n) zero b (x ∷ xs) = rw (later-first n) (minus-nothing (number_at n xs))
-less-at (suc n) (suc at) b (x ∷ xs) = rw (both-later at n) (less-at n at b xs)
-
-more-at : (n at : ℕ) (b : Amount) (amounts : List Amount) → at < length amounts → number_at n (change_at at (λ a. plus a b) amounts) ≡ plus (number_at n amounts) (if at == n then b else nothing)
-more-at n at b [] within = absurd (omega arith)
-more-at zero zero b (x ∷ xs) within = refl
-more-at zero (suc at) b (x ∷ xs) within = rw (suc-not_zero at) (plus-nothing x)
-more-at (suc n) zero b (x ∷ xs) within = rw (later-first n) (plus-nothing (number_at n xs))
-more-at (suc n) (suc at) b (x ∷ xs) within = rw (both-later at n) (more-at n at b xs (omega arith))
+-- after one of them was changed by an amount; past the list there is nothing to change
+changed-at : (op : Amount → Amount → Amount) → ((a : Amount) → a ≡ op a nothing) → (n at : ℕ) (b : Amount) (amounts : List Amount) → (length amounts ≤ at → nothing ≡ op nothing b)
+    → number_at n (change_at at (λ a. op a b) amounts) ≡ op (number_at n amounts) (if at == n then b else nothing)
+changed-at op keeps n at b [] past = by_bool (λ is. nothing ≡ op nothing (cond is b nothing)) (at == n) (λ _. past (omega arith)) (λ _. keeps nothing)
+changed-at op keeps zero zero b (x ∷ xs) past = refl
+changed-at op keeps zero (suc at) b (x ∷ xs) past = rw (suc-not_zero at) (keeps x)
+changed-at op keeps (suc n) zero b (x ∷ xs) past = rw (below-apart 0 (suc n) (omega arith)) (keeps (number_at n xs))
+changed-at op keeps (suc n) (suc at) b (x ∷ xs) past = rw (both-later at n) (changed-at op keeps n at b xs (λ low. past (omega (arith, low))))
 
 -- without what a request waited for
 pub amount-without : (t : TenantId) (o : Option Rest) (amounts : List Amount) → amount_at t (without_rest o amounts) ≡ minus (amount_at t amounts) (share t o)
 amount-without t None amounts = minus-nothing (amount_at t amounts)
-amount-without t (Some rest) amounts = less-at t.0 rest.tenant.0 rest.amount amounts
+amount-without t (Some rest) amounts = changed-at minus minus-nothing t.0 rest.tenant.0 rest.amount amounts (λ _. nothing-minus rest.amount)
 
 -- with what a request waits for
 pub amount-with : (t : TenantId) (o : Option Rest) (amounts : List Amount) → ((rest : Rest) → o ≡ Some rest → rest.tenant.0 < length amounts)
     → amount_at t (with_rest o amounts) ≡ plus (amount_at t amounts) (share t o)
 amount-with t None amounts within = plus-nothing (amount_at t amounts)
-amount-with t (Some rest) amounts within = more-at t.0 rest.tenant.0 rest.amount amounts (within rest refl)
+amount-with t (Some rest) amounts within = changed-at plus plus-nothing t.0 rest.tenant.0 rest.amount amounts (λ past. absurd (omega (arith, past, within rest refl)))
 
 -- there are as many as before
 pub length-without : (o : Option Rest) (amounts : List Amount) → length (without_rest o amounts) ≡ length amounts
@@ -168,91 +158,65 @@ module _ {X K V : Type 0} (key : X → K) (kept : X → V) (before same : K → 
   -- ## one row and the later ones
 
   later-other : (a b : K) → before a b ≡ true → same b a ≡ false
-  later-other a b first =
-      let same = equal b a in
-      let back = one_way a b first in
-      grind arith
+  later-other a b first = grind (arith, equal b a, one_way a b)
 
-  none-after : (k : K) (xs : List X) → AllAfter k xs → at k xs ≡ None
-  none-after k [] all = refl
-  none-after k (x ∷ xs) all = rw (later-other k (key x) all.0) (none-after k xs all.1)
+  none-after : (a k : K) (xs : List X) → AllAfter a xs → same a k ≡ true → at k xs ≡ None
+  none-after a k [] all is = refl
+  none-after a k (x ∷ xs) all is = grind (arith, equal a k, later-other a (key x) all.0, none-after a k xs all.1)
 
   found-after : (a k : K) (v : V) (xs : List X) → AllAfter a xs → at k xs ≡ Some v → before a k ≡ true
   found-after a k v [] all is = absurd cc
-  found-after a k v (x ∷ xs) all is =
-      let first = all.0 in
-      let here = equal (key x) k in
-      let later = found-after a k v xs all.1 in
-      grind arith
-
-  at-first : (x : X) (xs : List X) → at (key x) (x ∷ xs) ≡ Some (kept x)
-  at-first x xs = rw (itself (key x)) refl
-
-  at-past : (x : X) (xs : List X) (k : K) → same (key x) k ≡ false → at k (x ∷ xs) ≡ at k xs
-  at-past x xs k other = rw other refl
+  found-after a k v (x ∷ xs) all is = grind (arith, all.0, equal (key x) k, found-after a k v xs all.1)
 
   -- ## two lists with the same under each key
 
   module _ (x : X) (xs : List X) (y : X) (ys : List X) (rise_x : InOrder (x ∷ xs)) (rise_y : InOrder (y ∷ ys)) (alike : (k : K) → at k (x ∷ xs) ≡ at k (y ∷ ys)) where
     -- they begin with the same key
     same-head : key x ≡ key y
-    same-head = by (same (key x) (key y)) (same (key y) (key x)) refl refl where
-      by : (b c : Bool) → same (key x) (key y) ≡ b → same (key y) (key x) ≡ c → key x ≡ key y
-      by true c is other = equal (key x) (key y) is
-      by false true is other = sym (equal (key y) (key x) other)
-      by false false is other =
-          let in_xs : at (key y) xs ≡ Some (kept y) = sym (at-past x xs (key y) is) ∙ alike (key y) ∙ at-first y ys in
-          let in_ys : at (key x) ys ≡ Some (kept x) = sym (at-past y ys (key x) other) ∙ sym (alike (key x)) ∙ at-first x xs in
-          let first : before (key x) (key y) ≡ true = found-after (key x) (key y) (kept y) xs rise_x.0 in_xs in
-          let second : before (key y) (key x) ≡ true = found-after (key y) (key x) (kept x) ys rise_y.0 in_ys in
-          let back : before (key y) (key x) ≡ false = one_way (key x) (key y) first in
-          absurd cc
+    same-head =
+        grind (
+          arith,
+          alike (key x),
+          alike (key y),
+          itself (key x),
+          itself (key y),
+          equal (key x) (key y),
+          equal (key y) (key x),
+          one_way (key x) (key y),
+          found-after (key x) (key y) (kept y) xs rise_x.0,
+          found-after (key y) (key x) (kept x) ys rise_y.0,
+        )
 
     same-first : kept x ≡ kept y
-    same-first =
-        let both : Some (kept x) ≡ Some (kept y) = sym (at-first x xs) ∙ alike (key x) ∙ ap (λ (k : K). at k (y ∷ ys)) same-head ∙ at-first y ys in
-        cc
+    same-first = grind (arith, alike (key x), itself (key x), same-head)
 
     -- and go on with the same
     same-tail : (k : K) → at k xs ≡ at k ys
-    same-tail k = by (same (key x) k) refl where
-      by : (b : Bool) → same (key x) k ≡ b → at k xs ≡ at k ys
-      by true is =
-          none-after k xs (subst (λ (j : K). AllAfter j xs) (equal (key x) k is) rise_x.0)
-          ∙ sym (none-after k ys (subst (λ (j : K). AllAfter j ys) (sym same-head ∙ equal (key x) k is) rise_y.0))
-      by false other = sym (at-past x xs k other) ∙ alike k ∙ at-past y ys k (ap (λ (j : K). same j k) (sym same-head) ∙ other)
+    same-tail k = grind (arith, alike k, same-head, none-after (key x) k xs rise_x.0, none-after (key y) k ys rise_y.0)
 
   -- they keep the same
   pub same-kept : (xs ys : List X) → InOrder xs → InOrder ys → ((k : K) → at k xs ≡ at k ys) → map kept xs ≡ map kept ys
   same-kept [] [] rise_x rise_y alike = refl
-  same-kept [] (y ∷ ys) rise_x rise_y alike = let out : None ≡ Some (kept y) = alike (key y) ∙ at-first y ys in absurd cc
-  same-kept (x ∷ xs) [] rise_x rise_y alike = let out : None ≡ Some (kept x) = sym (alike (key x)) ∙ at-first x xs in absurd cc
-  same-kept (x ∷ xs) (y ∷ ys) rise_x rise_y alike =
-      ap (λ (v : V). v ∷ map kept xs) (same-first x xs y ys rise_x rise_y alike)
-      ∙ ap (λ (vs : List V). kept y ∷ vs) (same-kept xs ys rise_x.1 rise_y.1 (same-tail x xs y ys rise_x rise_y alike))
+  same-kept [] (y ∷ ys) rise_x rise_y alike = grind (arith, alike (key y), itself (key y))
+  same-kept (x ∷ xs) [] rise_x rise_y alike = grind (arith, alike (key x), itself (key x))
+  same-kept (x ∷ xs) (y ∷ ys) rise_x rise_y alike = rw (same-first x xs y ys rise_x rise_y alike, same-kept xs ys rise_x.1 rise_y.1 (same-tail x xs y ys rise_x rise_y alike)) refl
 
   -- ## one row less
 
   at-other : (r k : K) (xs : List X) → same r k ≡ false → at k (without r xs) ≡ at k xs
   at-other r k [] other = refl
-  at-other r k (x ∷ xs) other =
-      let here = equal (key x) r in
-      let rest = at-other r k xs other in
-      grind arith
+  at-other r k (x ∷ xs) other = grind (arith, equal (key x) r, at-other r k xs other)
 
   at-removed : (r : K) (xs : List X) → InOrder xs → at r (without r xs) ≡ None
   at-removed r [] rises = refl
-  at-removed r (x ∷ xs) rises = by (same (key x) r) refl (at-removed r xs rises.1) where
-    by : (b : Bool) → same (key x) r ≡ b → at r (without r xs) ≡ None → at r (cond b xs (x ∷ without r xs)) ≡ None
-    by true here rest = none-after r xs (subst (λ (j : K). AllAfter j xs) (equal (key x) r here) rises.0)
-    by false past rest = at-past x (without r xs) r past ∙ rest
+  at-removed r (x ∷ xs) rises = grind (arith, none-after (key x) r xs rises.0, at-removed r xs rises.1)
 
   module _ (r : K) (xs ys : List X) (rise_x : InOrder xs) (rise_y : InOrder ys) (alike : (k : K) → same r k ≡ false → at k ys ≡ at k xs) where
     alike-without : (k : K) → at k (without r xs) ≡ at k (without r ys)
-    alike-without k = by (same r k) refl where
-      by : (b : Bool) → same r k ≡ b → at k (without r xs) ≡ at k (without r ys)
-      by true is = subst (λ (j : K). at j (without r xs) ≡ at j (without r ys)) (equal r k is) (at-removed r xs rise_x ∙ sym (at-removed r ys rise_y))
-      by false other = at-other r k xs other ∙ sym (alike k other) ∙ sym (at-other r k ys other)
+    alike-without k =
+        by_bool (λ _. at k (without r xs) ≡ at k (without r ys)) (same r k)
+        (λ is. subst (λ (j : K). at j (without r xs) ≡ at j (without r ys)) (equal r k is) (at-removed r xs rise_x ∙ sym (at-removed r ys rise_y)))
+        (λ other. at-other r k xs other ∙ sym (alike k other) ∙ sym (at-other r k ys other))
 
     -- the others keep the same
     same-others : map kept (without r xs) ≡ map kept (without r ys)

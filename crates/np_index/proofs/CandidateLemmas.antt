@@ -1,5 +1,5 @@
 -- the candidates of pools in order, with their ranks, and the least candidate of all lines
-use Rattle.np_index.proofs.Prelude.{AllByRecursion, AreOpen, Bool, Configuration, IfSome, IsLineFrom, IsWalkedPast, List, Member, None, OpenOf, Option, PoolId, Rank, RequestEntry, Rises, Rises-filter, Some, State, all-from_at, all-insert_before, all-weaker, and-first, and-second, ap, arith, candidate_of, candidate_ranks, cases_order, comes_before, cond, earlier, earlier_rank, eqb-true, false, filter, find, find-passes, first-line, first_line, first_of, fold, ids-in_order, in_order, inl, inr, insert_before, is_candidate, is_id_before, is_past, is_rank_before, is_requested_at, later-request-apart, least, line_after, line_of, lines_left, list_any, list_any-insert_before, map, may_take_up, nat_tests, next-line, next_among, option_map, option_map_or, past-end, rank_equal, rank_of, rank_one_way, rank_transitive, ranks-are, ranks_of, refl, request-equal, request_entry, rises-insert_before, row-passes, same_rank, same_request, slice_get, slice_get-map, slice_get_past, subst, suc, sym, true, waits-there, ℕ, [], ◌&&◌, ◌-◌, ◌<◌, ◌==◌, ◌^◌, ◌||◌, ◌∙◌, ◌∷◌, ◌≡◌, ◌≤◌, ◌⊎◌}
+use Rattle.np_index.proofs.Prelude.{AllByRecursion, AreOpen, Bool, Configuration, IfSome, IsLineFrom, IsWalkedPast, List, Member, None, OpenOf, Option, PoolId, Rank, RequestEntry, Rises, Rises-filter, Some, State, all-from_at, all-insert_before, all-weaker, and-first, and-second, ap, arith, candidate_of, candidate_ranks, by_bool, cases_order, comes_before, cond, earlier, earlier_rank, eqb-true, false, filter, find, find-passes, first-line, first_line, first_of, fold, ids-in_order, in_order, inl, inr, insert_before, is_candidate, is_id_before, is_past, is_rank_before, is_requested_at, later-request-apart, least, line_after, line_of, lines_left, list_any, list_any-insert_before, map, may_take_up, nat_tests, next-line, next_among, option_map, option_map_or, past-end, rank_equal, rank_of, rank_one_way, rank_transitive, ranks-are, ranks_of, refl, request-equal, request_entry, rises-insert_before, row-passes, same_rank, same_request, slice_get, slice_get-map, slice_get_past, subst, suc, sym, true, waits-there, ℕ, [], ◌&&◌, ◌-◌, ◌<◌, ◌==◌, ◌^◌, ◌||◌, ◌∙◌, ◌∷◌, ◌≡◌, ◌≤◌, ◌⊎◌}
 use Rattle.np_index.proofs.Firsts.{beats, earlier-is, find-always, find-least, find-next, find-none, found-least, found-there, has, is-beaten, none-found, passes, stays-beaten, takes}
 
 -- # the candidates of pools in order, with their ranks, and the least candidate of all lines
@@ -45,13 +45,9 @@ one_way a b first = rank_one_way (rank a) (rank b) first
 -- one entry more is the first if it comes before what was the first
 in_order-first : (e : RequestEntry) (es : List RequestEntry) → slice_get (in_order (e ∷ es)) 0 ≡ earlier (slice_get (in_order es) 0) e
 in_order-first e es = at (in_order es) where
-  by : (b : Bool) (x : RequestEntry) (xs ys : List RequestEntry) → slice_get (cond b (e ∷ x ∷ xs) (x ∷ ys)) 0 ≡ cond b (Some e) (Some x)
-  by true x xs ys = refl
-  by false x xs ys = refl
-
   at : (rows : List RequestEntry) → slice_get (insert_before (λ other. comes_before e other) e rows) 0 ≡ earlier (slice_get rows 0) e
   at [] = refl
-  at (x ∷ xs) = by (comes_before e x) x xs (insert_before (λ other. comes_before e other) e xs)
+  at (x ∷ xs) = by_bool (λ b. slice_get (cond b (e ∷ x ∷ xs) (x ∷ insert_before (λ other. comes_before e other) e xs)) 0 ≡ cond b (Some e) (Some x)) (comes_before e x) (λ _. refl) (λ _. refl)
 
 -- two entries more, compared in turn with the first of the others
 module _ (a e : RequestEntry) (order : is_id_before a.id e.id ≡ true) where
@@ -130,9 +126,7 @@ module _ (test : RequestEntry → Bool) where
 module _ (c : Configuration) (s : State) (p : PoolId) where
   -- the candidate at a place by its rank
   pub candidate-rank : (at : ℕ) → option_map (λ x. x.request) (slice_get (candidate_ranks c s p) at) ≡ candidate_of c s p at
-  candidate-rank at = ap (option_map (λ (x : Rank). x.request)) (slice_get-map rank (in_order (filter (is_candidate c s p) s.requests)) at) ∙ by (slice_get (in_order (filter (is_candidate c s p) s.requests)) at) where
-    by : (o : Option RequestEntry) → option_map (λ x. x.request) (option_map rank o) ≡ option_map (λ e. e.id) o
-    by o = grind arith
+  candidate-rank at = grind (arith, slice_get-map rank (in_order (filter (is_candidate c s p) s.requests)) at)
 
   module _ (once : Rises (λ a b. is_id_before a.id b.id) s.requests) where
     -- if no two requests have one id, the first candidate in order is the least

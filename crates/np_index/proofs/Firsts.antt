@@ -1,5 +1,5 @@
 -- the first rank of a line that passes, of ranks in order, and the walk over the ranks of a line
-use Rattle.np_index.proofs.Prelude.{AllByRecursion, AreOpen, Asked, Bool, Configuration, IsOpenFrom, IsWaiting, List, Member, None, OpenOf, Option, PoolId, Rank, RequestEntry, RequestId, RequestRecord, Rises, Some, State, TenantId, all-at, all-filter, all-from_at, all-weaker, ap, arith, asked_of, blocking, by_bool, closed-shut, cond, count_by, drop, drop-past, earlier_rank, false, false_from_ne_true, filter, filter-nothing, filter-open_from, find, find-passes, inl, inr, is_candidate, is_closed_rank, is_none, is_open_to, is_past, is_rank_before, is_some, key-least, key-there, length, length-filter, line-blocks, list_any, may_take_up, nat_tests, new_record, next_among, no-key, not, open_record, option_and_then, option_map, option_map_or, rank-waits, rank_equal, rank_one_way, rank_transitive, ranks-are, ranks_of, refl, request_entry, request_in, same_rank, same_rank-itself, slice_get, subst, suc, sym, there, true, zero, ℕ, [], ◌&&◌, ◌+◌, ◌∙◌, ◌∷◌, ◌≡◌, ◌⊎◌}
+use Rattle.np_index.proofs.Prelude.{AllByRecursion, AreOpen, Asked, Bool, Configuration, IsOpenFrom, IsWaiting, List, Member, None, OpenOf, Option, PoolId, Rank, RequestId, RequestRecord, Rises, Some, State, TenantId, all-at, all-filter, all-from_at, all-weaker, ap, arith, asked_of, blocking, by_bool, closed-shut, cond, count_by, drop, drop-past, earlier_rank, false, false_from_ne_true, filter, filter-nothing, filter-open_from, find, find-passes, inl, inr, is_closed_rank, is_none, is_past, is_rank_before, is_some, key-least, key-there, length, length-filter, line-blocks, list_any, may_take_up, nat_tests, new_record, next_among, no-key, not, open_record, option_map_or, rank-waits, rank_equal, rank_one_way, rank_transitive, ranks-are, ranks_of, refl, request_in, same_rank, same_rank-itself, slice_get, subst, suc, sym, there, true, zero, ℕ, [], ◌&&◌, ◌+◌, ◌∙◌, ◌∷◌, ◌≡◌, ◌⊎◌}
 
 -- # the first rank that passes, of ranks in order, and the earlier of two
 
@@ -134,10 +134,7 @@ beats-later (Some b) x y order out = false_from_ne_true (is_rank_before y b) (λ
 pub earlier-is : (best found : Option Rank) (b : Rank) → earlier_rank best found ≡ Some b → (best ≡ Some b) ⊎ (found ≡ Some b)
 earlier-is None found b is = inr is
 earlier-is (Some a) None b is = inl is
-earlier-is (Some a) (Some f) b is = by (is_rank_before f a) is where
-  by : (t : Bool) → cond t (Some f) (Some a) ≡ Some b → (Some a ≡ Some b) ⊎ (Some f ≡ Some b)
-  by true first = inr first
-  by false past = inl past
+earlier-is (Some a) (Some f) b is = by_bool (λ t. cond t (Some f) (Some a) ≡ Some b → (Some a ≡ Some b) ⊎ (Some f ≡ Some b)) (is_rank_before f a) (λ _ first. inr first) (λ _ past. inl past) is
 
 past-earlier : (x f b : Rank) → is_rank_before x b ≡ false → is_rank_before f b ≡ true → is_rank_before x f ≡ false
 past-earlier x f b past first = grind (arith, nat_tests)
@@ -183,28 +180,20 @@ module _ (c : Configuration) (s : State) (p : PoolId) (r : RequestId) where
 
   -- one that is not open is not taken up
   pub shut-fails : open_record p r s ≡ None → may_take_up c s p r ≡ false
-  shut-fails shut = by (request_entry r s.requests) shut where
-    by : (o : Option RequestEntry) → option_and_then (λ e. cond (is_open_to p e) (Some e.kept) None) o ≡ None → option_map_or (is_candidate c s p) o false ≡ false
-    by o is = grind arith
+  shut-fails shut = grind arith
 
   module _ (kept : RequestRecord) (opens : open_record p r s ≡ Some kept) where
     -- one that is open is taken up if its tenant has room
     pub open-takes : may_take_up c s p r ≡ is_none (blocking c s p kept)
-    open-takes = by (request_entry r s.requests) opens where
-      by : (o : Option RequestEntry) → option_and_then (λ e. cond (is_open_to p e) (Some e.kept) None) o ≡ Some kept → option_map_or (is_candidate c s p) o false ≡ is_none (blocking c s p kept)
-      by o is = grind arith
+    open-takes = grind arith
 
     -- and its record is that of the state
     open-there : request_in r s.requests ≡ Some kept
-    open-there = by (request_entry r s.requests) opens where
-      by : (o : Option RequestEntry) → option_and_then (λ e. cond (is_open_to p e) (Some e.kept) None) o ≡ Some kept → option_map (λ e. e.kept) o ≡ Some kept
-      by o is = grind arith
+    open-there = grind arith
 
   -- one whose tenant has no room is not taken up
   blocked-fails : (kept : RequestRecord) → request_in r s.requests ≡ Some kept → is_none (blocking c s p kept) ≡ false → may_take_up c s p r ≡ false
-  blocked-fails kept there blocked = by (request_entry r s.requests) there where
-    by : (o : Option RequestEntry) → option_map (λ e. e.kept) o ≡ Some kept → option_map_or (is_candidate c s p) o false ≡ false
-    by o is = grind arith
+  blocked-fails kept there blocked = grind arith
 
 -- ## the walk over the ranks of a line
 
@@ -220,9 +209,7 @@ IsWalked c s p members line given place =
 
 module _ (c : Configuration) (s : State) (p : PoolId) (kept : OpenOf) (are : AreOpen c s kept) (line : ℕ) where
   closed-fails : (x : Rank) → is_closed_rank line p x kept.members ≡ true → takes c s p x ≡ false
-  closed-fails x closed = by (request_entry x.request s.requests) (closed-shut c s kept are line p x closed) where
-    by : (o : Option RequestEntry) → option_map_or (is_open_to p) o false ≡ false → option_map_or (is_candidate c s p) o false ≡ false
-    by o shut = grind arith
+  closed-fails x closed = let shut = closed-shut c s kept are line p x closed in grind arith
 
   passed-over : (place found : ℕ) → IsOpenFrom kept.members line p place found
       → filter (takes c s p) (drop place (ranks_of line kept.members)) ≡ filter (takes c s p) (drop found (ranks_of line kept.members))

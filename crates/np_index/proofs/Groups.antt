@@ -1,13 +1,9 @@
 -- the groups of nodes and requests: what is in one, its members in order, and walks over groups beside one another
-use Rattle.np_index.proofs.Prelude.{AllByRecursion, AreClasses, AreNodeGroups, AreRequestGroups, Bool, ClassesOf, Configuration, Group, IsLeast, LabelId, List, Member, NodeEntry, NodeId, None, Option, PoolId, RequestEntry, RequestId, RequestRecord, Rises, Rises-filter, Some, State, TenantId, UnheldKind, all-find, all-weaker, and_false, any-same, ap, arith, coming_group, coming_group_of, cond, decline_set, declined_group, declined_group_of, due_of, false, filter, find, find-passes, free_group, group-equal, group-itself, group-not_before, group-some_way, group-transitive, group_after, group_from, group_if, has_member, holder, ids-has, ids-in_order, ids-rise, ids_in, if◌then◌else◌, is_alike, is_among, is_beside, is_coming, is_free_ready, is_group_before, is_id_before, is_in_tenant_group, is_kind, is_member_before, is_node_before, is_none, is_pending_by, is_pinned_as, is_place, is_ready, is_spare, is_spent_min_ready, is_still_requested, is_unclaimed, is_unheld_as, is_unheld_pending, kind_group, label_group, label_if, later-node-apart, later-request-apart, least-found, list_any, list_any-none, map, nat_lt, nat_tests, next_label, next_label_group_of, node_entry, node_equal, node_groups, node_one_way, none-find, not, not-true, option_map, option_map_or, or_right, pending_group, pending_group_of, pinned_label_group_of, refl, request-itself, request_entry, request_equal, request_groups, request_holder, request_in, request_one_way, row-passes, rows-found, same-list, same_group, same_kind, same_member, same_node, same_node-self, same_request, spare_group, spent_group, spent_group_of, subst, sym, tenant_group, third_if, true, unheld_group, unheld_group_of, unheld_kind, unheld_pending_group, unheld_pending_group_of, ℕ, [], ◌&&◌, ◌<◌, ◌==◌, ◌||◌, ◌∙◌, ◌∷◌, ◌≡◌}
+use Rattle.np_index.proofs.Prelude.{AllByRecursion, AreClasses, AreNodeGroups, AreRequestGroups, Bool, ClassesOf, Configuration, Group, IsLeast, LabelId, List, Member, NodeEntry, NodeId, None, Option, PoolId, RequestEntry, RequestId, RequestRecord, Rises, Rises-filter, Some, State, TenantId, UnheldKind, all-find, all-weaker, and_false, any-same, ap, arith, coming_group, coming_group_of, cond, decline_set, declined_group, declined_group_of, due_of, false, filter, find, find-passes, free_group, group-equal, group-itself, group-not_before, group-some_way, group-transitive, group_after, group_from, group_if, has_member, holder, ids-has, ids-in_order, ids-rise, ids_in, if◌then◌else◌, is_among, is_beside, is_coming, is_free_ready, is_group_before, is_id_before, is_in_tenant_group, is_kind, is_member_before, is_node_before, is_none, is_pending_by, is_pinned_as, is_place, is_ready, is_spare, is_spent_min_ready, is_still_requested, is_unclaimed, is_unheld_as, is_unheld_pending, kind_group, label_group, label_if, later-node-apart, later-request-apart, least-found, list_any, list_any-none, map, nat_lt, nat_tests, next_label, next_label_group_of, node_entry, node_equal, node_groups, node_one_way, none-find, not, not-true, option_map, option_map_or, or_right, pending_group, pending_group_of, pinned_label_group_of, refl, request-itself, request_entry, request_equal, request_groups, request_holder, request_in, request_one_way, row-passes, rows-found, same-list, same_group, same_kind, same_member, same_node, same_node-self, same_request, spare_group, spent_group, spent_group_of, subst, sym, tenant_group, third_if, true, unheld_group, unheld_group_of, unheld_kind, unheld_pending_group, unheld_pending_group_of, ℕ, [], ◌&&◌, ◌<◌, ◌==◌, ◌||◌, ◌∙◌, ◌∷◌, ◌≡◌}
 
 -- # whether a member of a list passes a test
 
--- ## answers
-
--- ## two tests
-
--- that say the same of each member of the list
+-- two tests that say the same of each member of the list
 pub any-each : {X : Type 0} (p q : X → Bool) (xs : List X) → AllByRecursion (λ x. p x ≡ q x) xs → list_any p xs ≡ list_any q xs
 any-each p q [] all = refl
 any-each p q (x ∷ xs) all = rw (all.0, any-each p q xs all.1) refl
@@ -175,8 +171,6 @@ requests-by s ms are g test same =
 
 -- # the walk over groups that differ in their third number alone
 
--- ## numbers
-
 -- the number is below the next, if there is one
 abbrev pub is_below : Option ℕ → ℕ → Bool
 is_below None k = true
@@ -192,86 +186,52 @@ group-each {K = K} P ms all g some =
     subst P (group-equal found.0.group g (find-passes (λ (m : Member K). same_group m.group g) ms found.0 found.1))
     (all-find (λ (m : Member K). P m.group) (λ (m : Member K). same_group m.group g) ms found.0 all found.1)
 
-module _ (class first second : ℕ) where
-  -- ## groups
+-- the first group that passes is not after one that passes and has a member
+pub found-upto : {K : Type 0} (before : K → K → Bool) (ms : List (Member K)) → Rises (is_member_before before) ms → (q : Group → Bool) (g : Group) → q g ≡ true → list_any (λ (m : Member K). same_group m.group g) ms ≡ true
+    → option_map_or (λ (m : Member K). is_group_before g m.group) (find (λ (m : Member K). q m.group) ms) true ≡ false
+found-upto {K = K} before ms rises q g passes there = by (find (λ (m : Member K). q m.group) ms) refl where
+  by : (o : Option (Member K)) → find (λ (m : Member K). q m.group) ms ≡ o → option_map_or (λ (m : Member K). is_group_before g m.group) o true ≡ false
+  by None found = let out : q g ≡ false = group-each (λ h. q h ≡ false) ms (none-find (λ (m : Member K). q m.group) ms found) g there in absurd cc
+  by (Some m) found =
+      not-both (q g) (is_group_before g m.group)
+      (group-each (λ h. (not (q h) || not (is_group_before h m.group)) ≡ true) ms (least-found before q ms rises m.group (ap (option_map (λ (m : Member K). m.group)) found)).least g there) passes
 
+module _ (class first second : ℕ) where
   abbrev pub third_group : ℕ → Group
   third_group third = record { class = class; first = first; second = second; third = third }
-
-  alike-is : (h : Group) → is_alike h (third_group 0) ≡ true → h ≡ third_group h.third
-  alike-is h alike = group-equal h (third_group h.third) (grind (arith, nat_tests))
-
-  -- another group that is not before the first of them is after all of them
-  other-after : (h : Group) (k : ℕ) → is_alike h (third_group 0) ≡ false → is_group_before h (third_group 0) ≡ false → is_group_before (third_group k) h ≡ true
-  other-after h k other past = grind (arith, nat_tests)
-
-  after-low-third : (n : ℕ) (h : Group) → is_group_before (third_group n) h ≡ true → is_group_before h (third_group 0) ≡ false
-  after-low-third n h past = grind (arith, nat_tests)
-
-  third-order : (n k : ℕ) → is_group_before (third_group n) (third_group k) ≡ nat_lt n k
-  third-order n k = grind (arith, nat_tests)
-
-  first-low : (k : ℕ) → not (is_group_before (third_group k) (third_group 0)) ≡ true
-  first-low k = grind (arith, nat_tests)
-
-  third-is : (h : Group) (n : ℕ) → third_if (third_group 0) (Some h) ≡ Some n → h ≡ third_group n
-  third-is h n is = by (is_alike h (third_group 0)) refl is where
-    by : (b : Bool) → is_alike h (third_group 0) ≡ b → (if b then Some h.third else None) ≡ Some n → h ≡ third_group n
-    by true alike here = let same : h.third ≡ n = cc in alike-is h alike ∙ ap third_group same
-    by false alike here = absurd cc
-
-  -- ## the first group that passes
 
   module _ {K : Type 0} (before : K → K → Bool) (ms : List (Member K)) (rises : Rises (is_member_before before) ms) where
     -- the group has a member
     abbrev pub has_third : ℕ → Bool
     has_third k = list_any (λ (m : Member K). same_group m.group (third_group k)) ms
 
-    module _ (q : Group → Bool) where
-      least-third : (o : Option (Member K)) → find (λ (m : Member K). q m.group) ms ≡ o → (n : ℕ) → third_if (third_group 0) (option_map (λ m. m.group) o) ≡ Some n → IsLeast q ms (third_group n)
-      least-third None found n is = absurd cc
-      least-third (Some m) found n is =
-          subst (λ (h : Group). IsLeast q ms h) (third-is m.group n is) (least-found before q ms rises m.group (ap (option_map (λ (m : Member K). m.group)) found))
-
-      module _ (low : (h : Group) → q h ≡ true → is_group_before h (third_group 0) ≡ false) (k : ℕ) (passes : q (third_group k) ≡ true) (there : has_third k ≡ true) where
-        not-below : (h : Group) (b : Bool) → is_alike h (third_group 0) ≡ b → IsLeast q ms h → is_below (if b then Some h.third else None) k ≡ false
-        not-below h b alike least = by b alike where
-          past : is_group_before (third_group k) h ≡ false
-          past = not-both (q (third_group k)) (is_group_before (third_group k) h)
-              (group-each (λ g. (not (q g) || not (is_group_before g h)) ≡ true) ms least.least (third_group k) there) passes
-
-          by : (x : Bool) → is_alike h (third_group 0) ≡ x → is_below (if x then Some h.third else None) k ≡ false
-          by true is = sym (third-order k h.third) ∙ subst (λ (g : Group). is_group_before (third_group k) g ≡ false) (alike-is h is) past
-          by false is = absurd (let clash : true ≡ false = sym (other-after h k is (low h least.passes)) ∙ past in cc)
-
-        no-third-by : (o : Option (Member K)) → find (λ (m : Member K). q m.group) ms ≡ o → is_below (third_if (third_group 0) (option_map (λ m. m.group) o)) k ≡ false
-        no-third-by None found =
-            let out : q (third_group k) ≡ false = group-each (λ g. q g ≡ false) ms (none-find (λ (m : Member K). q m.group) ms found) (third_group k) there in
-            absurd cc
-        no-third-by (Some m) found =
-            not-below m.group (is_alike m.group (third_group 0)) refl (least-found before q ms rises m.group (ap (option_map (λ (m : Member K). m.group)) found))
+    -- no group that passes and has a member is below the first that passes
+    no-third : (q : Group → Bool) → ((h : Group) → q h ≡ true → is_group_before h (third_group 0) ≡ false) → (k : ℕ) → q (third_group k) ≡ true → has_third k ≡ true
+        → is_below (third_if (third_group 0) (option_map (λ m. m.group) (find (λ (m : Member K). q m.group) ms))) k ≡ false
+    no-third q low k passes there = by (find (λ (m : Member K). q m.group) ms) refl (found-upto before ms rises q (third_group k) passes there) where
+      by : (o : Option (Member K)) → find (λ (m : Member K). q m.group) ms ≡ o → option_map_or (λ (m : Member K). is_group_before (third_group k) m.group) o true ≡ false → is_below (third_if (third_group 0) (option_map (λ m. m.group) o)) k ≡ false
+      by None found past = absurd cc
+      by (Some m) found past = let above = low m.group (find-passes (λ (m : Member K). q m.group) ms m found) in grind (arith, nat_tests)
 
     -- no group with a member is below the first
     pub from-past : (k : ℕ) → has_third k ≡ true → is_below (third_if (third_group 0) (group_from (third_group 0) ms)) k ≡ false
-    from-past k there =
-        no-third-by (λ h. not (is_group_before h (third_group 0))) (λ h past. not-true (is_group_before h (third_group 0)) past) k (first-low k) there
-        (find (λ (m : Member K). not (is_group_before m.group (third_group 0))) ms) refl
+    from-past k there = no-third (λ h. not (is_group_before h (third_group 0))) (λ h past. not-true (is_group_before h (third_group 0)) past) k (grind (arith, nat_tests)) there
 
     -- the first has a member
     pub from-has : (n : ℕ) → third_if (third_group 0) (group_from (third_group 0) ms) ≡ Some n → has_third n ≡ true
-    from-has n is = (least-third (λ h. not (is_group_before h (third_group 0))) (find (λ (m : Member K). not (is_group_before m.group (third_group 0))) ms) refl n is).member
+    from-has n is = by (find (λ (m : Member K). not (is_group_before m.group (third_group 0))) ms) refl is where
+      by : (o : Option (Member K)) → find (λ (m : Member K). not (is_group_before m.group (third_group 0))) ms ≡ o → third_if (third_group 0) (option_map (λ m. m.group) o) ≡ Some n → has_third n ≡ true
+      by None found it = absurd cc
+      by (Some m) found it = find-any (λ (m : Member K). not (is_group_before m.group (third_group 0))) (λ (m : Member K). same_group m.group (third_group n)) ms m found (grind (arith, nat_tests))
 
     module _ (n : ℕ) where
       -- none between this group and the next has a member
       pub after-past : (k : ℕ) → nat_lt n k ≡ true → has_third k ≡ true → is_below (third_if (third_group 0) (group_after (third_group n) ms)) k ≡ false
-      after-past k greater there =
-          no-third-by (λ h. is_group_before (third_group n) h) (λ h past. after-low-third n h past) k (third-order n k ∙ greater) there
-          (find (λ (m : Member K). is_group_before (third_group n) m.group) ms) refl
+      after-past k greater there = no-third (λ h. is_group_before (third_group n) h) (λ h past. grind (arith, nat_tests)) k (grind (arith, nat_tests)) there
 
       -- the next is greater
       pub after-more : (k : ℕ) → third_if (third_group 0) (group_after (third_group n) ms) ≡ Some k → nat_lt n k ≡ true
-      after-more k is =
-          sym (third-order n k) ∙ (least-third (λ h. is_group_before (third_group n) h) (find (λ (m : Member K). is_group_before (third_group n) m.group) ms) refl k is).passes
+      after-more k is = let passes = find-passes (λ (m : Member K). is_group_before (third_group n) m.group) ms in grind (arith, nat_tests)
 
 -- # the walk over the labels of a class and a pool
 

@@ -1,6 +1,6 @@
 -- what groups say of nodes: which is due first, how many there are, what they add up to, and those of a tenant
-use Rattle.np_index.proofs.Prelude.{AllByRecursion, Amount, AmountFits, AreClasses, Bool, ClassesOf, Configuration, Fits, Group, IsFew, IsLeast, IsPart, LabelId, List, Member, NodeEntry, NodeId, None, Offer, Option, PoolId, RequestEntry, RequestId, Rises, Some, State, TenantId, UnheldKind, all-filter_to, all-find, all-weaker, amount_of, amount_of_node, and-first, and_true, ap, arith, beside_if, coming_group, cond, count_by, count_of, due_of, eq-eqb, eqb-true, false, filter, filter-each, filter-nothing, find, find-passes, first_due, first_unheld_pending, fold, free_group, free_ready_of, get_or, group-apart, group-is, group-one_way, group-turned, group_after, group_from, ids_in, if◌then◌else◌, is_among, is_beside, is_coming, is_free_ready, is_group_before, is_in_tenant_group, is_kind, is_member_before, is_node_before, is_pending_by, is_spare, is_spent_min_ready, is_tenant, is_unheld_as, is_unheld_pending, kind_group, least-found, length, length-filter, length-filter_at_most, length-map, list_any, map, member, nat_lt, nat_tests, node_entry, node_is_in, none-find, not, not-true, nothing, nothing-plus, number_of, offers_of, option_map, option_map_or, part_bound, passed_total, pending_group, pending_requests, plus, plus-assoc, refl, same_amount, same_group, same_member, same_node, slice_get, slice_get-map, sooner, soonest, spare_group, spent_group, subst, swapped, sym, take, taken_by, tenant_group, third_if, times, times-suc, total, total-filter_at_most, total_more, true, unheld_class, unheld_group, unheld_pending_group, ℕ, [], ◌&&◌, ◌*◌, ◌+◌, ◌-◌, ◌<◌, ◌==◌, ◌||◌, ◌∙◌, ◌∷◌, ◌≡◌, ◌≤◌}
-use Rattle.np_index.proofs.Groups.{after-up, any-find, any-weaker, beside-before, coming-test, due-test, free-test, from-has, from-past, group-each, groups_of, groups_of_request, has_third, is_below, kind-test, nodes-by, nodes-found, not-both, pending-test, requests-by, spare-test, spent-test, tenant-test, unheld_pending-test}
+use Rattle.np_index.proofs.Prelude.{AllByRecursion, Amount, AmountFits, AreClasses, Bool, ClassesOf, Configuration, Fits, Group, IsFew, IsPart, LabelId, List, Member, NodeEntry, NodeId, None, Offer, Option, PoolId, RequestEntry, RequestId, Rises, Some, State, TenantId, UnheldKind, all-filter_to, all-find, all-weaker, amount_of, amount_of_node, and-first, and_true, ap, arith, beside_if, coming_group, cond, count_by, count_of, due_of, eq-eqb, eqb-true, false, filter, filter-each, filter-nothing, find, find-passes, first_due, first_unheld_pending, fold, free_group, free_ready_of, get_or, group-apart, group-is, group-one_way, group-turned, group_after, group_from, ids_in, is_among, is_beside, is_coming, is_free_ready, is_group_before, is_in_tenant_group, is_kind, is_member_before, is_node_before, is_pending_by, is_spare, is_spent_min_ready, is_tenant, is_unheld_as, is_unheld_pending, kind_group, length, length-filter, length-filter_at_most, length-map, list_any, map, member, nat_lt, nat_tests, node_entry, node_is_in, none-find, not, not-true, nothing, nothing-plus, number_of, offers_of, option_map, option_map_or, part_bound, passed_total, pending_group, pending_requests, plus, plus-assoc, refl, same_amount, same_group, same_member, same_node, slice_get, slice_get-map, sooner, soonest, spare_group, spent_group, subst, swapped, sym, take, taken_by, tenant_group, third_if, times, times-suc, total, total-filter_at_most, total_more, true, unheld_class, unheld_group, unheld_pending_group, ℕ, [], ◌&&◌, ◌*◌, ◌+◌, ◌-◌, ◌<◌, ◌==◌, ◌||◌, ◌∙◌, ◌∷◌, ◌≡◌, ◌≤◌}
+use Rattle.np_index.proofs.Groups.{after-up, any-find, any-weaker, beside-before, coming-test, due-test, free-test, found-upto, from-has, from-past, groups_of, groups_of_request, has_third, is_below, kind-test, nodes-by, nodes-found, pending-test, requests-by, spare-test, spent-test, tenant-test, unheld_pending-test}
 
 -- # the node that is due first, by the groups of its kind
 
@@ -319,37 +319,13 @@ module _ (t : TenantId) where
   found-beside : (found : Option Group) → option_map_or (λ h. is_beside h (first_of t)) (beside_if (first_of t) found) true ≡ true
   found-beside found = grind arith
 
-  found-is : (found : Option Group) (h : Group) → beside_if (first_of t) found ≡ Some h → found ≡ Some h
-  found-is found h is = grind arith
-
-  -- ## the first group that passes
-
-  module _ {K : Type 0} (before : K → K → Bool) (ms : List (Member K)) (rises : Rises (is_member_before before) ms) (q : Group → Bool) where
-    abbrev found_by : Option (Member K) → Option Group
-    found_by o = beside_if (first_of t) (option_map (λ (m : Member K). m.group) o)
-
-    next-passes : (o : Option (Member K)) → find (λ (m : Member K). q m.group) ms ≡ o → (h : Group) → found_by o ≡ Some h → q h ≡ true
-    next-passes o found h is =
-        (least-found before q ms rises h (ap (option_map (λ (m : Member K). m.group)) found ∙ found-is (option_map (λ (m : Member K). m.group) o) h is)).passes
-
-    module _ (low : (h : Group) → q h ≡ true → is_group_before h (first_of t) ≡ false)
-        (g : Group) (here : is_beside g (first_of t) ≡ true) (passes : q g ≡ true) (there : list_any (λ (m : Member K). same_group m.group g) ms ≡ true) where
-      not-past : (h : Group) (b : Bool) → is_beside h (first_of t) ≡ b → IsLeast q ms h → is_past (if b then Some h else None) g ≡ false
-      not-past h b beside least = by b beside where
-        past : is_group_before g h ≡ false
-        past = not-both (q g) (is_group_before g h) (group-each (λ k. (not (q k) || not (is_group_before k h)) ≡ true) ms least.least g there) passes
-
-        by : (x : Bool) → is_beside h (first_of t) ≡ x → is_past (if x then Some h else None) g ≡ false
-        by true is = past
-        by false is = absurd (let clash : true ≡ false = sym (beside-before (first_of t) g h here is (low h least.passes)) ∙ past in cc)
-
-      -- no group of the tenant that passes and has a member comes before it
-      none-past : (o : Option (Member K)) → find (λ (m : Member K). q m.group) ms ≡ o → is_past (found_by o) g ≡ false
-      none-past None found =
-          let out : q g ≡ false = group-each (λ k. q k ≡ false) ms (none-find (λ (m : Member K). q m.group) ms found) g there in
-          absurd cc
-      none-past (Some m) found =
-          not-past m.group (is_beside m.group (first_of t)) refl (least-found before q ms rises m.group (ap (option_map (λ (m : Member K). m.group)) found))
+  -- no group of the tenant that passes and has a member comes before the first that passes
+  none-past : {K : Type 0} (before : K → K → Bool) (ms : List (Member K)) → Rises (is_member_before before) ms → (q : Group → Bool) → ((h : Group) → q h ≡ true → is_group_before h (first_of t) ≡ false)
+      → (g : Group) → is_beside g (first_of t) ≡ true → q g ≡ true → list_any (λ (m : Member K). same_group m.group g) ms ≡ true → is_past (beside_if (first_of t) (option_map (λ m. m.group) (find (λ (m : Member K). q m.group) ms))) g ≡ false
+  none-past {K = K} before ms rises q low g here passes there = by (find (λ (m : Member K). q m.group) ms) refl (found-upto before ms rises q g passes there) where
+    by : (o : Option (Member K)) → find (λ (m : Member K). q m.group) ms ≡ o → option_map_or (λ (m : Member K). is_group_before g m.group) o true ≡ false → is_past (beside_if (first_of t) (option_map (λ m. m.group) o)) g ≡ false
+    by None found past = absurd cc
+    by (Some m) found past = grind (arith, beside-before (first_of t) g m.group here, low m.group (find-passes (λ (m : Member K). q m.group) ms m found))
 
 -- ## rows
 
@@ -425,7 +401,6 @@ module _ (c : Configuration) (s : State) (t : TenantId) where
       by true has =
           none-past t is_node_before classes.nodes are.nodes.rises (λ h. not (is_group_before h (first_of t))) (λ h past. not-true (is_group_before h (first_of t)) past)
           g (own-beside t e.kept.pool e.kept.label) (ap not (own-low t e.kept.pool e.kept.label)) (has refl)
-          (find (λ (m : Member NodeId). not (is_group_before m.group (first_of t))) classes.nodes) refl
       by false has = refl
 
     -- ## the next group
@@ -435,8 +410,7 @@ module _ (c : Configuration) (s : State) (t : TenantId) where
       after_next = beside_if (first_of t) (group_after g classes.nodes)
 
       next-more : (h : Group) → after_next ≡ Some h → is_group_before g h ≡ true
-      next-more h is =
-          next-passes t is_node_before classes.nodes are.nodes.rises (λ k. is_group_before g k) (find (λ (m : Member NodeId). is_group_before g m.group) classes.nodes) refl h is
+      next-more h is = let passes = find-passes (λ (m : Member NodeId). is_group_before g m.group) classes.nodes in grind arith
 
       -- what is before the next group is before this one or the same
       past-by : (k : Group) → is_beside k (first_of t) ≡ true → list_any (λ (m : Member NodeId). same_group m.group k) classes.nodes ≡ true
@@ -448,8 +422,7 @@ module _ (c : Configuration) (s : State) (t : TenantId) where
 
         by : (b : Bool) → is_group_before g k ≡ b → is_past after_next k ≡ (is_group_before k g || same_group k g)
         by true later =
-            none-past t is_node_before classes.nodes are.nodes.rises (λ h. is_group_before g h) (λ h past. after-low t g h here past)
-            k beside later there (find (λ (m : Member NodeId). is_group_before g m.group) classes.nodes) refl
+            none-past t is_node_before classes.nodes are.nodes.rises (λ h. is_group_before g h) (λ h past. after-low t g h here past) k beside later there
             ∙ sym (rw (group-one_way g k later, group-turned g k false (group-apart g k later)) refl)
         by false upto =
             up-to upto after_next next-more

@@ -1,6 +1,6 @@
 -- what groups say of requests: the first that every pool declined, and those that wait, are stuck or under way
 use Rattle.np_index.proofs.Prelude.{AllByRecursion, Amount, AreClasses, AreRequestGroups, Bool, ClassesOf, Configuration, Declined, Group, LabelId, List, Member, None, Option, PoolId, Registration, RequestEntry, RequestId, RequestRecord, Rises, Some, State, add-one, all-find, all-from_at, all-weaker, amount_of, and-first, and-second, and_from, and_true, any-same, any_found, any_later, ap, arith, as_it_is, both-ways, cond, contrapositive, count_by, count_of, decline_set, declined_group, drop, eq-eqb, eqb-true, false, find, find-none, find-passes, first_of_set, fits, group-equal, group-itself, group_after, group_from, has_member, holder, ids_in, if◌then◌else◌, is_among, is_beside, is_declined_by, is_declined_by_all, is_id_before, is_late, is_none, is_of_set, is_pending_by, is_pinned_as, is_requested, is_short, is_some, is_spare, is_still_requested, is_stuck_as, is_stuck_label, is_under_way_as, label_group, label_if, length, limit_of, list_any, member, nat_lt, nat_tests, next_label, none-find, none-list_any, not, option_map, option_map_or, plus, refl, request-itself, request_entry, request_groups, request_in, request_is_in, request_one_way, same-declines, same_group, same_label, same_member, same_request, slice_get, subst, sum_by-cons, sym, third_if, true, undeclined, ℕ, [], ◌&&◌, ◌+◌, ◌-◌, ◌<◌, ◌==◌, ◌||◌, ◌∙◌, ◌∷◌, ◌≡◌, ◌≤◌}
-use Rattle.np_index.specs.Sets.{earlier}
+use Rattle.np_index.specs.Index.{earlier}
 use Rattle.np_index.proofs.Groups.{AreFlat, after-greater, after-has, after-more, after-past, after-rest, any-either, any-find, any-weaker, beside-is, beside-of, declined-test, find-any, first_group, flat-requests, from-past, group_of, groups_of_request, has_label, has_third, is_below, is_wanted, label-test, now-rest, requests-by, requests-found, rest_from, start-has, start-rest, third-test, waits_for}
 use Rattle.np_index.proofs.Nodes.{first-passes}
 
@@ -40,10 +40,6 @@ module _ (p q r : RequestEntry → Bool) where
   abbrev id_of : Option RequestEntry → Option RequestId
   id_of o = option_map (λ (e : RequestEntry). e.id) o
 
-  same-either : (b : Bool) (i : RequestId) → Some i ≡ (if b then Some i else Some i)
-  same-either true i = refl
-  same-either false i = refl
-
   -- one row comes before what is found later
   before-later : (x : RequestEntry) (o : Option RequestEntry) → ((y : RequestEntry) → o ≡ Some y → is_id_before x.id y.id ≡ true) → Some x.id ≡ earlier (Some x.id) (id_of o)
   before-later x None later = refl
@@ -61,7 +57,7 @@ module _ (p q r : RequestEntry → Bool) where
 
     by : (a b : Bool) → id_of (find r xs) ≡ earlier (id_of (find p xs)) (id_of (find q xs))
         → id_of (cond (a || b) (Some x) (find r xs)) ≡ earlier (id_of (cond a (Some x) (find p xs))) (id_of (cond b (Some x) (find q xs)))
-    by true true rest = same-either (is_id_before x.id x.id) x.id
+    by true true rest = grind arith
     by true false rest = before-later x (find q xs) (later q)
     by false true rest = later-before x (find p xs) (later p)
     by false false rest = rest
@@ -459,12 +455,8 @@ module _ (p : PoolId) (pinned : Bool) where
   abbrev every_label : LabelId → Bool
   every_label l = true
 
-  some-next : (o : Option LabelId) → option_map_or every_label o false ≡ is_some o
-  some-next None = refl
-  some-next (Some l) = refl
-
   under_way-at : (e : RequestEntry) → waits_at p pinned every_label e ≡ is_under_way_as p pinned e
-  under_way-at e = ap (λ (b : Bool). is_pinned_as pinned e.kept && (is_pending_by p e.kept && b)) (some-next (next_label e.kept))
+  under_way-at e = grind arith
 
   -- a label whose group has a member
   some-rest : (ms : List (Member RequestId)) (o : Option LabelId) → has_label (class_of pinned) p.0 every_label ms o ≡ true → is_some o ≡ rest_from (class_of pinned) p.0 every_label ms o

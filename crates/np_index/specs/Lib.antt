@@ -1,9 +1,3 @@
+pub mod Lower
 pub mod Index
-pub mod Prepared
-pub mod Candidates
-pub mod Taken
 pub mod Waiting
-pub mod Thirds
-pub mod Sets
-pub mod TenantGroups
-pub mod Awaited

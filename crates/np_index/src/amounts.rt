@@ -1,8 +1,8 @@
 //! What a node takes.
 
 ghost use Rattle.std.specs.Prelude.{◌≡◌};
-ghost use Rattle.np_changes.specs.Prelude.{AmountFits, IsFew, LabelId, PoolId, amount_of};
-ghost use Rattle.np_index.specs.Taken.{taken_by};
+ghost use Rattle.np_index.specs.Lower.{AmountFits, IsFew, LabelId, PoolId, amount_of};
+ghost use Rattle.np_index.specs.Index.{taken_by};
 
 use np_amount::Amount;
 use np_look::{NOTHING, Rows, amount};

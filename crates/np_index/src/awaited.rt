@@ -1,9 +1,8 @@
 //! The amounts by tenant, and what one request adds to them.
 
 ghost use Rattle.std.specs.Prelude.{◌≡◌, ◌≤◌, IfOk, length, replicate, suc};
-ghost use Rattle.np_changes.specs.Prelude.{Amount, Configuration, Fits, IsPlanned, IsReached, State, changed, minus, nothing, plus};
-ghost use Rattle.np_changes.specs.declared.changes.Changes.{Changes};
-ghost use Rattle.np_index.specs.Awaited.{AreAwaited, AreSmall, IsSmall, OthersStay, amount_at, exchange, first_rest, rest_at, rest_by, with_rest, without_rest};
+ghost use Rattle.np_index.specs.Lower.{Amount, Changes, Configuration, Fits, IsPlanned, IsReached, State, changed, minus, nothing, plus};
+ghost use Rattle.np_index.specs.Waiting.{AreAwaited, AreSmall, IsSmall, OthersStay, amount_at, exchange, first_rest, rest_at, rest_by, with_rest, without_rest};
 
 use np_amount::Amount;
 use np_config::Config;
@@ -28,7 +27,7 @@ pub struct Awaited {
 
 impl Model for Awaited {
     ghost use Rattle.std.specs.Prelude.{List};
-    ghost use Rattle.np_amount.specs.declared.amount.Amount.{Amount};
+    ghost use Rattle.np_index.specs.Lower.{Amount};
 
     ghost Value = { List Amount };
 

@@ -1,12 +1,9 @@
 //! The requests that a pool's launcher may take up, by their order.
 
 ghost use Rattle.std.specs.Prelude.{◌≡◌};
-ghost use Rattle.np_changes.specs.Prelude.{Fits, first_of};
-ghost use Rattle.np_index.specs.Awaited.{AreAwaited};
-ghost use Rattle.np_classes.specs.Classes.{AreClasses};
-ghost use Rattle.np_lookups.specs.Open.{AreOpen, ranks_of};
-ghost use Rattle.np_index.specs.Candidates.{candidate_of, earlier_rank, next_among, open_record};
-ghost use Rattle.np_index.specs.Index.{IsIndexOf};
+ghost use Rattle.np_index.specs.Lower.{AreClasses, AreOpen, Fits, first_of, ranks_of};
+ghost use Rattle.np_index.specs.Waiting.{AreAwaited};
+ghost use Rattle.np_index.specs.Index.{candidate_of, earlier_rank, next_among, open_record, IsIndexOf};
 
 use crate::index::Index;
 use crate::{Awaited, blocking};

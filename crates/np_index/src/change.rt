@@ -1,10 +1,9 @@
 //! What the changes of an event make of an index.
 
 ghost use Rattle.std.specs.Prelude.{◌≡◌, IfOk, OnErr};
-ghost use Rattle.np_changes.specs.Prelude.{Configuration, Fits, IsPlanned, IsReached, SessionId, State, changed};
+ghost use Rattle.np_index.specs.Lower.{Configuration, Fits, IsPlanned, IsReached, SessionId, State, changed};
 ghost use Rattle.np_changes.specs.declared.changes.SessionsChange.TheVariants as sessions;
-ghost use Rattle.np_index.specs.Index.{IsIndexOf};
-ghost use Rattle.np_index.specs.Prepared.{HasRoomFor, IsPreparedFor};
+ghost use Rattle.np_index.specs.Index.{IsIndexOf, HasRoomFor, IsPreparedFor};
 
 use crate::index::Index;
 use crate::{Rest, first_rest};
@@ -29,7 +28,7 @@ pub struct Prepared {
 }
 
 impl Model for Prepared {
-    ghost use Rattle.np_index.specs.Prepared.{PreparedOf};
+    ghost use Rattle.np_index.specs.Index.{PreparedOf};
 
     ghost Value = { PreparedOf };
 

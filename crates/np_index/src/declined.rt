@@ -2,9 +2,8 @@
 
 ghost use Rattle.std.specs.Prelude.{◌≡◌, ◌<◌, false, length};
 ghost use Rattle.std.specs.List.{list_any};
-ghost use Rattle.np_look.specs.Readers.{first_declined_by_all};
-ghost use Rattle.np_classes.specs.Classes.{AreClasses};
-ghost use Rattle.np_index.specs.Sets.{earlier, first_of_set, is_late};
+ghost use Rattle.np_index.specs.Lower.{AreClasses, first_declined_by_all};
+ghost use Rattle.np_index.specs.Index.{earlier, first_of_set, is_late};
 
 use crate::kinds::third_if;
 use np_classes::{Classes, declined_group};

@@ -1,10 +1,7 @@
 //! The index of a state.
 
 ghost use Rattle.std.specs.Prelude.{◌≡◌, ◌<◌, ◌^◌, IfOk, length};
-ghost use Rattle.np_changes.specs.Prelude.{Configuration, Fits, IsReached, State, blocking, count_of, count_of_tenant, has_live_session, is_paused, is_spare, is_spent_min_ready, list_any, new_record, owner_of, ready_count};
-ghost use Rattle.np_look.specs.Jobs.{job_to_acquire, job_to_begin, job_to_finish, job_to_release, job_to_take};
-ghost use Rattle.np_look.specs.Given.{node_to_leave, node_to_lock};
-ghost use Rattle.np_look.specs.Readers.{current_of, first_declined_by_all, first_due, first_mute, first_unheld_pending, free_ready_of, has_request_under_way, pending_requests, queued_nodes, queued_requests, unfinished_of};
+ghost use Rattle.np_index.specs.Lower.{Configuration, Fits, IsReached, State, blocking, count_of, count_of_tenant, current_of, first_declined_by_all, first_due, first_mute, first_unheld_pending, free_ready_of, has_live_session, has_request_under_way, is_paused, is_spare, is_spent_min_ready, job_to_acquire, job_to_begin, job_to_finish, job_to_release, job_to_take, list_any, new_record, node_to_leave, node_to_lock, owner_of, pending_requests, queued_nodes, queued_requests, ready_count, unfinished_of};
 ghost use Rattle.np_index.specs.Index.{IsIndexOf};
 
 use crate::Awaited;

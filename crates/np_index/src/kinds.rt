@@ -2,10 +2,8 @@
 //! that nobody holds, and the node that is due first.
 
 ghost use Rattle.std.specs.Prelude.{◌≡◌, length};
-ghost use Rattle.np_changes.specs.Prelude.{Configuration, State};
-ghost use Rattle.np_look.specs.Readers.{first_due, first_unheld_pending, pending_requests};
-ghost use Rattle.np_classes.specs.Classes.{AreClasses};
-ghost use Rattle.np_index.specs.Thirds.{third_if};
+ghost use Rattle.np_index.specs.Lower.{AreClasses, Configuration, State, first_due, first_unheld_pending, pending_requests};
+ghost use Rattle.np_index.specs.Index.{third_if};
 
 use np_classes::{Classes, pending_group, unheld_group, unheld_pending_group};
 use np_lists::Group;

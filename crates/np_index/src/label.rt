@@ -1,8 +1,7 @@
 //! What is there and what is coming of a label.
 
 ghost use Rattle.std.specs.Prelude.{◌≡◌};
-ghost use Rattle.np_changes.specs.Prelude.{Configuration, Fits, State, is_spent_min_ready, list_any, ready_count};
-ghost use Rattle.np_classes.specs.Classes.{AreClasses};
+ghost use Rattle.np_index.specs.Lower.{AreClasses, Configuration, Fits, State, is_spent_min_ready, list_any, ready_count};
 
 use np_classes::{Classes, coming_group, free_group, spent_group};
 use np_look::Rows;

@@ -18,7 +18,7 @@
 //!
 //! An event's changes are made in three steps: what may take memory before the state changes
 //! (`prepare`), the state's change, and then the rest, which can't fail (`note`). If the state could
-//! not change, `take_back` undoes the first. `specs/Prepared` says what holds between them, so who
+//! not change, `take_back` undoes the first. `specs/Index` says what holds between them, so who
 //! keeps an index need not know its parts (np_rules).
 #![tactic(auto)]
 

@@ -2,9 +2,7 @@
 //! for room.
 
 ghost use Rattle.std.specs.Prelude.{◌≡◌, ◌<◌, ◌^◌};
-ghost use Rattle.np_changes.specs.Prelude.{Configuration, Fits, State, count_of, is_paused, is_spare, list_any};
-ghost use Rattle.np_look.specs.Readers.{free_ready_of, has_request_under_way};
-ghost use Rattle.np_classes.specs.Classes.{AreClasses};
+ghost use Rattle.np_index.specs.Lower.{AreClasses, Configuration, Fits, State, count_of, free_ready_of, has_request_under_way, is_paused, is_spare, list_any};
 ghost use Rattle.np_index.specs.Waiting.{is_stuck_as, is_stuck_label, is_under_way_as, label_group, label_if};
 
 use np_amount::Amount;

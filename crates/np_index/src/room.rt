@@ -1,9 +1,8 @@
 //! Whether a request's tenant has room for it.
 
 ghost use Rattle.std.specs.Prelude.{◌≡◌};
-ghost use Rattle.np_changes.specs.Prelude.{Fits, blocking, new_record};
-ghost use Rattle.np_index.specs.Awaited.{AreAwaited};
-ghost use Rattle.np_classes.specs.Classes.{AreClasses};
+ghost use Rattle.np_index.specs.Lower.{AreClasses, Fits, blocking, new_record};
+ghost use Rattle.np_index.specs.Waiting.{AreAwaited};
 
 use crate::Awaited;
 use crate::tenant::used_by;

@@ -1,10 +1,8 @@
 //! What a tenant uses.
 
 ghost use Rattle.std.specs.Prelude.{◌≡◌, ◌<◌, ◌^◌, filter, map};
-ghost use Rattle.np_changes.specs.Prelude.{Fits, IsFew, amount_of_node, count_of_tenant, is_pending_of, is_tenant, rest_of_request, total};
-ghost use Rattle.np_index.specs.Awaited.{AreAwaited};
-ghost use Rattle.np_classes.specs.Classes.{AreClasses};
-ghost use Rattle.np_index.specs.TenantGroups.{beside_if, is_in_tenant_group, tenant_class};
+ghost use Rattle.np_index.specs.Lower.{AreClasses, Fits, IsFew, amount_of_node, count_of_tenant, is_pending_of, is_tenant, rest_of_request, total};
+ghost use Rattle.np_index.specs.Waiting.{AreAwaited, beside_if, is_in_tenant_group, tenant_class};
 
 use crate::Awaited;
 use crate::amounts::taken_by;

@@ -1,4 +1,2 @@
-pub mod Order
-pub mod Candidates
+pub mod Lower
 pub mod Struck
-pub mod Finishes

@@ -1,9 +1,56 @@
+-- which nodes a janitor tries, by place
+use Rattle.std.specs.Prelude.{ℕ, Bool, List, [], ◌∷◌, Option, length, nat_lt, option_and_then, slice_get, ◌≡◌, ◌==◌, true, Some, None, ◌++◌, if◌then◌else◌}
+use Rattle.np_janitor.specs.Lower.{Configuration, Event, EventKind, Fault, FaultKind, IsUseful, Janitor, Job, JobId, JobKind, Node, NodeId, NodeKind, PoolId, Reaper, Request, RequestKind, RequesterId, Role, SessionId, State, UnheldKind, current_of, first_due, is_due, job_is, next_fault, option_map}
+
+-- the kinds of nodes that nobody holds, in the order in which they are tried
+abbrev pub tried_kinds : List UnheldKind
+tried_kinds = UnheldKind.Abandoned ∷ UnheldKind.LeftOver ∷ UnheldKind.Hold ∷ UnheldKind.Free ∷ []
+
+-- the node of the pool that is due first among those of the kind at the place
+abbrev pub due_at : Configuration → State → PoolId → ℕ → Option NodeId
+due_at c s p at = option_and_then (λ kind. first_due c p kind s) (slice_get tried_kinds at)
+
+-- the session's lock of that node
+abbrev pub lock_due_at : Configuration → State → SessionId → PoolId → ℕ → Option Event
+lock_due_at c s session p at = option_map (λ n. Event.LockNode session n) (due_at c s p at)
+
+-- fewer registrations than pools, so that some pool has none
+abbrev pub lacks_registration : Configuration → State → Bool
+lacks_registration c s = nat_lt (length s.registrations) (length c.pools)
+
+-- what a search among the jobs of a requester returns
+
+-- no finish of a job of the requester is useful, whoever makes it (own)
+abbrev pub NoneFinished : Configuration → State → PoolId → RequesterId → Type 0
+NoneFinished c s p q = (session : SessionId) (j : JobId) → job_is j c (λ row. row.requester.0 == q.0) ≡ true → IsUseful c s (Janitor p) (Event.Finish session j) → ⊥
+
+-- a useful event, or none if no such finish is useful (own)
+abbrev pub ChoosesFinish : Configuration → State → PoolId → RequesterId → Option Event → Type 0
+ChoosesFinish c s p q None = NoneFinished c s p q
+ChoosesFinish c s p q (Some e) = IsUseful c s (Janitor p) e
+
+-- in which order a janitor's kinds of events are tried
+
+-- the kinds before fail-declined: what it holds first, then what it gives back (own)
+abbrev pub before_fail : List EventKind
+before_fail =
+    Node NodeKind.Gone
+    ∷ Node NodeKind.Free
+    ∷ Node NodeKind.MarkDeleting
+    ∷ Node NodeKind.Unlock
+    ∷ Request RequestKind.Reset
+    ∷ Request RequestKind.Unlock
+    ∷ []
+
+-- the kinds after finish and release: new locks (own)
+abbrev pub after_release : List EventKind
+after_release = Request RequestKind.Lock ∷ Node NodeKind.Lock ∷ []
+
+-- all of them, in order (own)
+abbrev pub janitor_order : List EventKind
+janitor_order = before_fail ++ Request RequestKind.FailDeclined ∷ Job JobKind.Finish ∷ Job JobKind.Release ∷ after_release
+
 -- what the planned faults do now
-use Rattle.std.specs.Prelude.{◌≡◌, if◌then◌else◌, Option, Some, None, option_and_then}
-use Rattle.np_changes.specs.Prelude.{Configuration, Event, Fault, FaultKind, Reaper, Role, SessionId, State, option_map}
-use Rattle.np_look.specs.Readers.{current_of}
-use Rattle.np_useful.specs.Sessions.{is_due, next_fault}
-use Rattle.np_useful.specs.Useful.{IsUseful}
 
 -- the kind of the role's next fault, if it is due
 abbrev pub due_kind : Configuration → Role → State → Option FaultKind

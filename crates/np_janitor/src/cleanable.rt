@@ -1,9 +1,7 @@
 //! Which nodes a janitor removes or frees.
 
 ghost use Rattle.std.specs.Prelude.{◌≡◌};
-ghost use Rattle.np_machine.specs.Reasons.{is_past, is_old_ready, is_old_hold, is_paused};
-ghost use Rattle.np_changes.specs.Fits.{Fits};
-ghost use Rattle.np_useful.specs.Cleanable.{is_left_over, is_to_go, is_cleanable};
+ghost use Rattle.np_janitor.specs.Lower.{Fits, is_cleanable, is_left_over, is_old_hold, is_old_ready, is_past, is_paused, is_to_go};
 
 use np_look::{Look, Rows, is_unclaimed, ready_age};
 use np_record::NodeRecord;

@@ -1,17 +1,11 @@
 //! The janitor of a pool.
 
 ghost use Rattle.std.specs.Prelude.{◌≡◌, ◌&&◌, true, not, is_none};
-ghost use Rattle.np_changes.specs.Prelude.{Fits, IsReached, Janitor, Requester, is_paused, is_pending, is_pending_by, is_role, node_holder};
-ghost use Rattle.np_useful.specs.Cleanable.{is_cleanable};
-ghost use Rattle.np_useful.specs.Rows.{request_is, node_is, job_is, is_node_of, has_some_handle};
-ghost use Rattle.np_useful.specs.Sessions.{is_current, is_stopped};
-ghost use Rattle.np_useful.specs.declared.kind.EventKind.TheVariants.{Request, Node, Job};
+ghost use Rattle.np_janitor.specs.Lower.{Chooses, ChoosesOf, Fits, IsReached, Janitor, Job, Node, Request, Requester, has_some_handle, is_cleanable, is_current, is_node_of, is_paused, is_pending, is_pending_by, is_role, is_stopped, job_is, node_holder, node_is, request_is};
 ghost use Rattle.np_useful.specs.declared.kind.RequestKind.TheVariants as of_request;
 ghost use Rattle.np_useful.specs.declared.kind.NodeKind.TheVariants as of_node;
 ghost use Rattle.np_useful.specs.declared.kind.JobKind.TheVariants as of_job;
-ghost use Rattle.np_useful.specs.Choices.{Chooses, ChoosesOf};
-ghost use Rattle.np_janitor.specs.Candidates.{lacks_registration};
-ghost use Rattle.np_janitor.specs.Finishes.{ChoosesFinish};
+ghost use Rattle.np_janitor.specs.Struck.{lacks_registration, ChoosesFinish};
 
 use crate::cleanable::{PoolPause, is_cleanable};
 use crate::listed::LocksOfDue;
@@ -43,10 +37,7 @@ fn is_served<R: Rows>(rows: &R, pool: PoolId, request: RequestId) -> bool
     let Some(asked) = rows.asked(request) else {
         return false;
     };
-    let own = match asked.pool {
-        None => false,
-        Some(other) => other.0 == pool.0,
-    };
+    let own = asked.pool.is_some_and(|other| other.0 == pool.0);
     asked.state == RequestState::Pending && own
 }
 
@@ -55,20 +46,15 @@ fn is_given_back<R: Rows>(rows: &R, request: RequestId) -> bool
     ensures { result ≡
         request_is request (R.state rows.now) (λ kept. not (is_pending kept.state)) }
 {
-    match rows.asked(request) {
-        None => false,
-        Some(asked) => asked.state != RequestState::Pending,
-    }
+    rows.asked(request)
+        .is_some_and(|asked| asked.state != RequestState::Pending)
 }
 
 /// Whether the node exists and belongs to the pool.
 fn is_of_pool<R: Rows>(rows: &R, pool: PoolId, node: NodeId) -> bool
     ensures { result ≡ node_is node (R.state rows.now) (is_node_of pool) }
 {
-    match rows.node(node) {
-        None => false,
-        Some(kept) => kept.pool.0 == pool.0,
-    }
+    rows.node(node).is_some_and(|kept| kept.pool.0 == pool.0)
 }
 
 /// Whether the node exists, belongs to the pool, must be cleaned up, and is held by nobody.
@@ -96,10 +82,9 @@ fn is_clean<L: Look>(look: &L, known: PoolPause, node: NodeId) -> bool
     ensures { result ≡ node_is node (L.state look.now)
         (λ k. not (is_cleanable (L.site look.now) (L.state look.now) k)) }
 {
-    match look.rows().node(node) {
-        None => false,
-        Some(kept) => !is_cleanable(look, known, &kept),
-    }
+    look.rows()
+        .node(node)
+        .is_some_and(|kept| !is_cleanable(look, known, &kept))
 }
 
 /// Whether the job's requester stopped for good.
@@ -107,20 +92,18 @@ fn is_left_alone<R: Rows>(rows: &R, job: JobId) -> bool
     ensures { result ≡ job_is job (R.site rows.now)
         (λ row. is_stopped (R.site rows.now) (Requester row.requester) (R.state rows.now)) }
 {
-    match rows.config().job(job) {
-        None => false,
-        Some(row) => is_stopped(rows, Role::Requester(row.requester)),
-    }
+    rows.config()
+        .job(job)
+        .is_some_and(|row| is_stopped(rows, Role::Requester(row.requester)))
 }
 
 /// Whether the job exists and has a handle.
 fn has_handle_left<R: Rows>(rows: &R, job: JobId) -> bool
     ensures { result ≡ job_is job (R.site rows.now) (has_some_handle (R.state rows.now) job) }
 {
-    match rows.config().job(job) {
-        None => false,
-        Some(row) => has_handles(rows, job, row),
-    }
+    rows.config()
+        .job(job)
+        .is_some_and(|row| has_handles(rows, job, row))
 }
 
 /// The rows of a pool's janitor, which knows whether the pool is paused.

@@ -1,7 +1,7 @@
 //! What a janitor takes up as candidates: of each kind of nodes the one that is due first.
 
 ghost use Rattle.std.specs.Prelude.{◌≡◌, length, slice_get};
-ghost use Rattle.np_janitor.specs.Candidates.{tried_kinds, lock_due_at};
+ghost use Rattle.np_janitor.specs.Struck.{tried_kinds, lock_due_at};
 
 use np_event::Event;
 use np_look::{Look, UnheldKind};

@@ -1,9 +1,7 @@
 //! The reaper, which ends sessions.
 
 ghost use Rattle.std.specs.Prelude.{◌≡◌};
-ghost use Rattle.np_text.specs.declared.id.Role.TheVariants.{Reaper};
-ghost use Rattle.np_useful.specs.Sessions.{is_due};
-ghost use Rattle.np_useful.specs.Choices.{Chooses};
+ghost use Rattle.np_janitor.specs.Lower.{Chooses, Reaper, is_due};
 ghost use Rattle.np_janitor.specs.Struck.{due_kind, strike_on, strike_of, strike_by, ChoosesStrike};
 
 use np_config::{Fault, FaultKind};
@@ -16,10 +14,7 @@ use np_useful::{fault_of, strikes_of};
 fn is_due<R: Rows>(rows: &R, role: Role, fault: &Fault) -> bool
     ensures { result ≡ is_due role (R.state rows.now) fault.now }
 {
-    match rows.role(role) {
-        None => false,
-        Some(deeds) => fault.after <= deeds.acts,
-    }
+    matches!(rows.role(role), Some(deeds) if fault.after <= deeds.acts)
 }
 
 /// The kind of the role's next fault, if it is due.
@@ -27,11 +22,7 @@ fn due_kind<R: Rows>(rows: &R, role: Role) -> Option<FaultKind>
     ensures { result ≡ due_kind (R.site rows.now) role (R.state rows.now) }
 {
     let fault = fault_of(rows.config(), role, strikes_of(rows, role))?;
-    if is_due(rows, role, &fault) {
-        Some(fault.kind)
-    } else {
-        None
-    }
+    is_due(rows, role, &fault).then_some(fault.kind)
 }
 
 /// What a fault of the kind does to the session: the session ends, or its party crashes.

@@ -1,5 +1,5 @@
 -- the nodes that are for a requester: how they are found, and when a lock, an end or an unlock of one is useful
-use Rattle.np_jobs.proofs.Prelude.{AllByRecursion, Bool, ChoosesOf, Configuration, Done, EndAs, Event, EventKind, Invariant, IsGiven, IsReached, IsUseful, Job, JobId, JobRecord, List, NoLeave, NodeEntry, NodeId, NodeKind, NodeRecord, NodeState, None, NoneOf, Ok, Option, OwnsItsLabels, PassesAt, RequestEntry, RequestId, RequestState, Requester, RequesterId, SessionId, Some, StandsIn, State, [], all-at, and-first, and-second, any-place, ap, arith, asker, both-ways, by_node_holder, each-node, false, false_from_ne_true, filter, find, find-passes, find-place, from-map_some, fulfilled-Runs, handed_to, if◌then◌else◌, invariant-Runs, is_asked, is_asked_by, is_current, is_for, is_from_node_queue, is_fulfilled, is_given_to, is_handed_over, is_in_use, is_listed, is_queued, is_ready, is_to_leave, is_to_lock, judge, leaving, length, length-filter_at_most, length-map, list_any-there, made-by, maker-is, map, member-there, named, named-place, nat_tests, node-maker, node-place, node-queued, node_entry, node_event, node_in, node_is, node_queue, node_to_leave, node_to_lock, none-find, not, ok-is, on-check, on-found, on-given, on-need, option_and_then, option_map, option_map_or, passes, passes-useful, refl, request_entry, request_in, requester, row-there, same_node, same_node-is, same_request, slice_get, slice_get_within, subst, sym, true, useful-passes, ℕ, ◌&&◌, ◌<◌, ◌==◌, ◌∙◌, ◌≡◌}
+use Rattle.np_jobs.proofs.Prelude.{AllByRecursion, Bool, ChoosesOf, Configuration, Done, EndAs, Event, EventKind, Invariant, IsGiven, IsReached, IsUseful, Job, JobId, JobRecord, List, NoLeave, NodeEntry, NodeId, NodeKind, NodeRecord, NodeState, None, NoneOf, Ok, Option, OwnsItsLabels, PassesAt, RequestEntry, RequestId, Requester, RequesterId, SessionId, Some, StandsIn, State, all-at, and-first, and-second, any-place, ap, arith, asker, both-ways, by_bool, by_node_holder, each-node, false, false_from_ne_true, filter, find, find-passes, find-place, from-map_some, fulfilled-Runs, handed_to, if◌then◌else◌, invariant-Runs, is_asked, is_asked_by, is_current, is_for, is_from_node_queue, is_fulfilled, is_given_to, is_handed_over, is_in_use, is_listed, is_queued, is_ready, is_to_leave, is_to_lock, judge, leaving, length, length-filter_at_most, length-map, list_any-there, made-by, maker-is, map, member-there, named, named-place, nat_tests, node-maker, node-place, node-queued, node_entry, node_event, node_in, node_is, node_queue, node_to_leave, node_to_lock, none-find, not, ok-is, on-check, on-found, on-given, on-need, option_and_then, option_map, option_map_or, passes, passes-useful, refl, request_entry, request_in, requester, row-there, same_node, same_node-is, same_request, slice_get, slice_get_within, subst, sym, true, useful-passes, ℕ, [], ◌&&◌, ◌<◌, ◌==◌, ◌∙◌, ◌≡◌}
 
 -- # the nodes that are for a requester are those that were given to it, as their allocations say
 
@@ -21,13 +21,9 @@ module _ (q : RequesterId) where
     asks-of None = refl
     asks-of (Some j) = asks j
 
-    over-by : (state : RequestState) (job : Option JobId) (b : Bool) → is_fulfilled state ≡ b → (is_fulfilled state && option_map_or (is_asked_by c s q) job false) ≡ is_requester (handed_to c s state job)
-    over-by state job true is = rw is (asks-of job)
-    over-by state job false is = rw is refl
-
     -- a request is handed over to the requester that its job's row names
     over-is : (e : RequestEntry) → is_handed_over c s q e ≡ is_requester (handed_to c s e.kept.state e.kept.job)
-    over-is e = over-by e.kept.state e.kept.job (is_fulfilled e.kept.state) refl
+    over-is e = by_bool (λ _. is_handed_over c s q e ≡ is_requester (handed_to c s e.kept.state e.kept.job)) (is_fulfilled e.kept.state) (λ is. rw is (asks-of e.kept.job)) (λ is. rw is refl)
 
 -- the node exists, is ready, and is allocated to a request that is handed over and lists it
 pub record IsHanded (s : State) (n : NodeId) (e : RequestEntry) : Type 0 where

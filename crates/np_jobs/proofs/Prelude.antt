@@ -4,39 +4,23 @@ pub use Rattle.np_changes.proofs.Lookups.{same_node, same_node-is}
 pub use Rattle.np_changes.proofs.RequestStates.{PassesAt, any-place, node-place}
 pub use Rattle.np_changes.proofs.Runs.{fulfilled-Runs, invariant-Runs}
 pub use Rattle.np_changes.specs.Parts.{Invariant}
-pub use Rattle.np_changes.specs.Prelude.{AllByRecursion, Configuration, Done, EndAs, IsReached, IsSound, Janitor, Job, JobId, JobRecord, Launcher, NodeEntry, NodeRecord, NodeState, Phase, REQUESTERS, Reaper, Refusal, RequestEntry, RequestId, RequestRecord, RequestState, Requester, RequesterId, Role, SemId, SessionFacts, SessionId, State, by_node_holder, first_full, has_handle, is_asked, is_fulfilled, is_full, is_in_use, is_new, is_over, is_queued, is_ready, is_role, judge, list_any, maker, maker_of, missing_handles, node_entry, node_in, node_queue, none_missing, option_map, option_map_or, own_job, request_entry, request_in, requester, same_request, same_role, session_of, ◌>>=◌}
-pub use Rattle.np_event.specs.declared.event.Event.{Event}
+pub use Rattle.np_changes.specs.Prelude.{EndAs, Job, REQUESTERS, ◌>>=◌}
 pub use Rattle.np_janitor.proofs.Janitors.{finishable-by, none-chosen}
 pub use Rattle.np_janitor.proofs.Nodes.{each-node, maker-is}
 pub use Rattle.np_janitor.proofs.Undeclined.{sessions-of_site}
-pub use Rattle.np_jobs.specs.Idle.{ArePoolsIdle, AreRequestersIdle, IsIdle, IsPoolIdle}
-pub use Rattle.np_jobs.specs.Steps.{ChoosesInWindow, ChoosesOfNew, ChoosesToAcquire, ChoosesToFinish, ChoosesToLeave, ChoosesToTake, ChoosesToTakeOne, ChoosesUnderWay, NoLeave, NoNewStep, NoTake, NoneUnderWay, leaving, phase_is, requester_kinds}
+pub use Rattle.np_jobs.specs.Steps.{ArePoolsIdle, AreRequestersIdle, IsIdle, IsPoolIdle, ChoosesInWindow, ChoosesOfNew, ChoosesToAcquire, ChoosesToFinish, ChoosesToLeave, ChoosesToTake, ChoosesToTakeOne, ChoosesUnderWay, NoLeave, NoNewStep, NoTake, NoneUnderWay, leaving, phase_is, requester_kinds}
+pub use Rattle.np_jobs.specs.Lower.{AllByRecursion, Chooses, ChoosesOf, ChoosesOfAny, ChoosesRelease, Configuration, Done, Event, EventKind, IsReached, IsSettled, IsSound, IsUseful, Janitor, JobId, JobKind, JobRecord, Launcher, NodeEntry, NodeId, NodeKind, NodeRecord, NodeState, NoneOf, NoneOpens, NoneReleased, POOLS, Phase, Reaper, Refusal, RequestEntry, RequestId, RequestRecord, RequestState, Requester, RequesterId, Role, SemId, SessionFacts, SessionId, State, by_node_holder, first_full, has_fulfilled_request, has_handle, is_asked, is_asked_by, is_current, is_for, is_fulfilled, is_full, is_handed_over, is_in_use, is_in_window, is_job_to_acquire, is_job_to_begin, is_job_to_finish, is_job_to_take, is_listed, is_maker_of, is_new, is_over, is_own, is_queued, is_ready, is_role, is_supplied, is_unfinished, is_unfinished_job, job_is, job_to_acquire, job_to_begin, job_to_finish, job_to_take, jobs_from, jobs_of, judge, list_any, maker, maker_of, may_acquire, may_begin, missing_handles, node_entry, node_in, node_is, node_queue, none_missing, option_map, option_map_or, own_job, passes, request_entry, request_in, request_state_of, requester, row_holds, same_request, same_role, session_of, takes_part, unfinished_from, waits_for_handles, was_given, window_of}
 pub use Rattle.np_launch.proofs.Finds.{count-cons, named, one, row-there, such-one}
 pub use Rattle.np_lists.proofs.Changes.{all-at, find-passes, length-filter_at_most, list_any-there}
 pub use Rattle.np_lists.proofs.Plain.{and-first, and-second, both-ways, by_bool, false-apart, from-map_some, member-there, none-is, some-within, then-ok}
 pub use Rattle.np_lists.proofs.Searches.{none-find}
 pub use Rattle.np_look.proofs.Looks.{session-at}
 pub use Rattle.np_look.specs.Given.{asker, handed_to, is_given_to, is_to_leave, is_to_lock, node_to_leave, node_to_lock}
-pub use Rattle.np_look.specs.Jobs.{is_job_to_acquire, is_job_to_begin, is_job_to_finish, is_job_to_take, is_own, is_supplied, job_to_acquire, job_to_begin, job_to_finish, job_to_take, may_acquire, may_begin, was_given}
-pub use Rattle.np_look.specs.Readers.{is_unfinished_job, jobs_from, request_state_of, unfinished_from}
 pub use Rattle.np_machine.specs.Safe.{IsGiven, OwnsItsLabels}
 pub use Rattle.np_machine.specs.Semaphore.{is_finishable, may_finish, may_release, may_take, requester_or_janitor, unheld}
-pub use Rattle.np_text.specs.declared.id.NodeId.{NodeId}
-pub use Rattle.np_text.specs.declared.limit.TheConstants.{POOLS}
 pub use Rattle.np_useful.proofs.Useful.{IsAmong, StandsIn, among, and-parts, before-end, below-jobs, current-speaks, find-place, job-maker, kinds-choose, made-by, named-place, node-maker, node-queued, opening-chooses, passes-useful, same-role, same-there, useful-passes}
 pub use Rattle.np_useful.specs.Candidates.{is_from_node_queue}
-pub use Rattle.np_useful.specs.Choices.{Chooses, ChoosesOf, ChoosesOfAny, ChoosesRelease, NoneOf, NoneOpens, NoneReleased}
 pub use Rattle.np_useful.specs.Kinds.{job_event, node_event}
-pub use Rattle.np_useful.specs.Passing.{passes}
-pub use Rattle.np_useful.specs.Requester.{has_fulfilled_request, is_asked_by, is_for, is_handed_over, waits_for_handles}
-pub use Rattle.np_useful.specs.Rows.{is_listed, job_is, node_is}
-pub use Rattle.np_useful.specs.Sessions.{is_current}
-pub use Rattle.np_useful.specs.Settled.{IsSettled, takes_part}
-pub use Rattle.np_useful.specs.Useful.{IsUseful, is_maker_of, row_holds}
-pub use Rattle.np_useful.specs.Window.{is_in_window, is_unfinished, jobs_of, window_of}
-pub use Rattle.np_useful.specs.declared.kind.EventKind.{EventKind}
-pub use Rattle.np_useful.specs.declared.kind.JobKind.{JobKind}
-pub use Rattle.np_useful.specs.declared.kind.NodeKind.{NodeKind}
 pub use Rattle.std.proofs.Common.{Bool, Err, List, None, Ok, Option, Result, Some, ap, arith, below_more, drop, false, length, refl, subst, suc, sym, take, true, zero, ℕ, [], ◌+◌, ◌<◌, ◌∙◌, ◌∷◌, ◌≡◌, ◌≤◌}
 pub use Rattle.std.proofs.lemmas.Bool.{eqb-true, false_from_ne_true, not-true, or_right, true_from_ne_false}
 pub use Rattle.std.proofs.lemmas.Bool.Decides.{nat_tests}

@@ -18,17 +18,12 @@ module _ (c : Configuration) (s : State) (q : RequesterId) (session : SessionId)
 
     -- its submit passes if it asks for its nodes first or has all its handles, else its acquire
     begins : NoNewStep c s q session j → ⊥
-    begins none = by is.row.resources_first (missing_handles s j is.row == 0) refl refl where
-      submits : (is.row.resources_first || (missing_handles s j is.row == 0)) ≡ true → ⊥
-      submits ready = let no : true ≡ false = sym (submit-passes ready) ∙ none.submit in cc
-
-      by : (b d : Bool) → is.row.resources_first ≡ b → (missing_handles s j is.row == 0) ≡ d → ⊥
-      by true d first missing = submits (rw first refl)
-      by false true first missing = submits (rw (first, missing) refl)
-      by false false first missing =
-          let room : first_full c s j is.row ≡ None = none-is (first_full c s j is.row) (rw first at is.may) in
-          let no : true ≡ false = sym (acquire-passes first missing room) ∙ none.acquire in
-          cc
+    begins none = by_bool (λ _. ⊥) is.row.resources_first (λ first. submits (rw first refl)) (λ first. by_bool (λ _. ⊥) (missing_handles s j is.row == 0) (λ missing. submits (rw (first, missing) refl)) (λ missing.
+        let room : first_full c s j is.row ≡ None = none-is (first_full c s j is.row) (rw first at is.may) in
+        let no : true ≡ false = sym (acquire-passes first missing room) ∙ none.acquire in
+        cc)) where
+          submits : (is.row.resources_first || (missing_handles s j is.row == 0)) ≡ true → ⊥
+          submits ready = let no : true ≡ false = sym (submit-passes ready) ∙ none.submit in cc
 
     -- so one of the two is found, and no other job is looked at
     begun : (o : Option Event) → ChoosesOfNew c s q session j o → ChoosesInWindow c s q session o
@@ -140,13 +135,10 @@ module _ (c : Configuration) (s : State) (q : RequesterId) (session : SessionId)
 
     module _ (full : job_to_acquire c q s ≡ None) where
       no_acquire : (j : JobId) (is : WasGiven c s q j) → first_full c s j is.row ≡ None → passes c s (Requester q) (Event.Acquire session j) ≡ false
-      no_acquire j is room = by (is_supplied s j is.row) refl where
-        by : (b : Bool) → is_supplied s j is.row ≡ b → passes c s (Requester q) (Event.Acquire session j) ≡ false
-        by true supplies = (no_take j is supplies).acquire
-        by false waits =
-            let place = among (is_job_to_acquire c s q) 0 s.jobs j.0 is.kept j (omega arith) is.there (acquire-listed c s q j is waits room) in
-            let low : place.at < 0 = before-end (jobs_from (is_job_to_acquire c s q) 0 s.jobs) 0 place.at j full place.there in
-            absurd (omega (arith, low))
+      no_acquire j is room = by_bool (λ _. passes c s (Requester q) (Event.Acquire session j) ≡ false) (is_supplied s j is.row) (λ supplies. (no_take j is supplies).acquire) (λ waits.
+          let place = among (is_job_to_acquire c s q) 0 s.jobs j.0 is.kept j (omega arith) is.there (acquire-listed c s q j is waits room) in
+          let low : place.at < 0 = before-end (jobs_from (is_job_to_acquire c s q) 0 s.jobs) 0 place.at j full place.there in
+          absurd (omega (arith, low)))
 
       -- the acquire of a job that has asked for its nodes fails: if the job was given them, it is one of those
       -- that were tried, or it waits for handles and its semaphores have no room

@@ -1,5 +1,5 @@
 -- the jobs of a requester by their place in its window: which are to begin, which were given their nodes, and which an accepted event can be of
-use Rattle.np_jobs.proofs.Prelude.{Bool, Configuration, Done, Err, Event, IsAmong, Job, JobId, JobRecord, List, None, Ok, Option, Phase, Refusal, RequestRecord, Requester, RequesterId, Result, SemId, SessionId, Some, State, [], among, and-first, and-second, ap, arith, before-end, by_bool, count-cons, count_by, drop, eqb-true, false, false_from_ne_true, find, finishable-by, first_full, has_fulfilled_request, has_handle, if◌then◌else◌, is_asked, is_finishable, is_fulfilled, is_full, is_in_window, is_job_to_acquire, is_job_to_begin, is_job_to_finish, is_job_to_take, is_new, is_none, is_over, is_own, is_supplied, is_unfinished, is_unfinished_job, job_is, jobs_from, jobs_of, judge, length, list_any, maker, may_acquire, may_begin, may_finish, may_release, may_take, missing_handles, nat_le, nat_lt, nat_tests, needed, none-is, none_missing, not, not-true, on-check, on-found, on-given, on-need, on-vacant, one, option_and_then, option_map, option_map_or, or_right, own_job, phase_is, refl, request_in, request_state_of, requester_or_janitor, row_holds, slice_get, subst, suc, such-one, sym, take, then-ok, true, unfinished_from, unheld, waits_for_handles, was_given, window_of, zero, zip, ℕ, ◌&&◌, ◌+◌, ◌<◌, ◌==◌, ◌>>=◌, ◌||◌, ◌∙◌, ◌∷◌, ◌≡◌, ◌≤◌}
+use Rattle.np_jobs.proofs.Prelude.{Bool, Configuration, Done, Err, Event, IsAmong, Job, JobId, JobRecord, List, None, Ok, Option, Phase, Refusal, RequestRecord, Requester, RequesterId, Result, SemId, SessionId, Some, State, among, and-first, and-second, ap, arith, before-end, by_bool, count-cons, count_by, drop, eqb-true, false, false_from_ne_true, find, finishable-by, first_full, has_fulfilled_request, has_handle, if◌then◌else◌, is_asked, is_finishable, is_fulfilled, is_full, is_in_window, is_job_to_acquire, is_job_to_begin, is_job_to_finish, is_job_to_take, is_new, is_none, is_over, is_own, is_supplied, is_unfinished, is_unfinished_job, job_is, jobs_from, jobs_of, judge, length, list_any, maker, may_acquire, may_begin, may_finish, may_release, may_take, missing_handles, nat_le, nat_lt, nat_tests, needed, none-is, none_missing, not, not-true, on-check, on-found, on-given, on-need, on-vacant, one, option_and_then, option_map, option_map_or, own_job, phase_is, refl, request_in, request_state_of, requester_or_janitor, row_holds, slice_get, subst, suc, such-one, sym, take, then-ok, true, unfinished_from, unheld, waits_for_handles, was_given, window_of, zero, zip, ℕ, [], ◌&&◌, ◌+◌, ◌<◌, ◌==◌, ◌>>=◌, ◌||◌, ◌∙◌, ◌∷◌, ◌≡◌, ◌≤◌}
 
 -- # the jobs that pass a test: each is one of the jobs, and their numbers rise
 
@@ -211,9 +211,7 @@ new-open p is = grind (arith, nat_tests)
 -- if a list counts none, none is found in it that also passes a second test
 uncounted : {X : Type 0} (p full : X → Bool) (xs : List X) → count_by p xs ≡ 0 → find (λ y. p y && full y) xs ≡ None
 uncounted p full [] none = refl
-uncounted p full (x ∷ xs) none =
-    by_bool (λ b. find (λ y. p y && full y) (x ∷ xs) ≡ None) (p x)
-    (λ is. absurd (omega (arith, counted p x xs true is, none))) (λ is. rw is (uncounted p full xs (sym (counted p x xs false is) ∙ none)))
+uncounted p full (x ∷ xs) none = grind (arith, nat_tests, counted p x xs true, counted p x xs false, uncounted p full xs)
 
 module _ (c : Configuration) (s : State) (j : JobId) (row : Job) where
   -- a job that has all its handles lacks no full semaphore
@@ -222,11 +220,8 @@ module _ (c : Configuration) (s : State) (j : JobId) (row : Job) where
 
   -- a job that asks for its nodes first, or has all its handles, need not wait
   pub ready-may : (row.resources_first || (missing_handles s j row == 0)) ≡ true → may_begin c s j row ≡ true
-  ready-may ready = by row.resources_first (missing_handles s j row == 0) refl refl ready where
-    by : (b d : Bool) → row.resources_first ≡ b → (missing_handles s j row == 0) ≡ d → (b || d) ≡ true → may_begin c s j row ≡ true
-    by true d first none is = rw first refl
-    by false true first none is = rw (first, none-full (eqb-true (missing_handles s j row) 0 none)) refl
-    by false false first none is = absurd cc
+  ready-may ready = by_bool (λ b. (b || (missing_handles s j row == 0)) ≡ true → (b || is_none (first_full c s j row)) ≡ true) row.resources_first
+      (λ _ _. refl) (λ _ none. rw (none-full (eqb-true (missing_handles s j row) 0 none)) refl) ready
 
   -- nor need a job that lacks no full semaphore
   pub room-may : first_full c s j row ≡ None → may_begin c s j row ≡ true
@@ -261,9 +256,7 @@ module _ (c : Configuration) (s : State) (q : RequesterId) (j : JobId) where
 -- if a list counts none that lacks something, it is empty or one of its members has it
 supplied : {X : Type 0} (has : X → Bool) (xs : List X) → count_by (λ y. not (has y)) xs ≡ 0 → ((length xs == 0) || list_any has xs) ≡ true
 supplied has [] none = refl
-supplied has (x ∷ xs) none =
-    by_bool (λ b. ((length (x ∷ xs) == 0) || list_any has (x ∷ xs)) ≡ true) (has x) (λ is. or_right (length (x ∷ xs) == 0) (list_any has (x ∷ xs)) (rw is refl))
-    (λ is. let lacks : not (has x) ≡ true = rw is refl in absurd (omega (arith, counted (λ (y : _). not (has y)) x xs true lacks, none)))
+supplied has (x ∷ xs) none = grind (arith, nat_tests, counted (λ (y : _). not (has y)) x xs true)
 
 module _ (s : State) (j : JobId) (row : Job) where
   -- a job that has all its handles need not wait for them

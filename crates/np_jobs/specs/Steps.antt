@@ -1,16 +1,24 @@
+-- when a role has nothing to do
+use Rattle.std.specs.Prelude.{ℕ, ◌<◌, ◌≡◌, List, [], ◌∷◌, Bool, true, false, Option, Some, None, slice_get}
+use Rattle.np_jobs.specs.Lower.{Configuration, Event, IsUseful, Janitor, Launcher, POOLS, PoolId, REQUESTERS, Requester, Role, State, EndAs, EventKind, Job, JobId, JobKind, Node, NodeId, NodeKind, NoneOf, Phase, RequesterId, SessionId, is_asked, is_in_window, is_new, job_to_acquire, job_to_take, option_map_or, passes}
+
+-- the role has no useful event (own)
+abbrev pub IsIdle : Configuration → State → Role → Type 0
+IsIdle c s role = (e : Event) → IsUseful c s role e → ⊥
+
+-- the pool's launcher and its janitor have none (own)
+abbrev pub IsPoolIdle : Configuration → State → PoolId → Type 0
+IsPoolIdle c s p = IsIdle c s (Launcher p) × IsIdle c s (Janitor p)
+
+-- no launcher and no janitor has one, at each place that a pool may have (own)
+abbrev pub ArePoolsIdle : Configuration → State → Type 0
+ArePoolsIdle c s = (k : ℕ) → k < POOLS → IsPoolIdle c s (record { 0 = k })
+
+-- no requester has one, at each place that a requester may have (own)
+abbrev pub AreRequestersIdle : Configuration → State → Type 0
+AreRequestersIdle c s = (k : ℕ) → k < REQUESTERS → IsIdle c s (Requester (record { 0 = k }))
+
 -- what a requester may do next with its jobs and nodes
-use Rattle.std.specs.Prelude.{◌≡◌, ℕ, List, [], ◌∷◌, Bool, true, false, Option, Some, None, slice_get}
-use Rattle.np_changes.specs.Prelude.{Configuration, Event, JobId, NodeId, Phase, Requester, RequesterId, SessionId, State, is_asked, is_new, option_map_or}
-use Rattle.np_look.specs.Jobs.{job_to_take, job_to_acquire}
-use Rattle.np_useful.specs.Useful.{IsUseful}
-use Rattle.np_useful.specs.Window.{is_in_window}
-use Rattle.np_useful.specs.declared.kind.EventKind.{EventKind}
-use Rattle.np_useful.specs.declared.kind.EventKind.TheVariants.{Node, Job}
-use Rattle.np_useful.specs.Choices.{NoneOf}
-use Rattle.np_useful.specs.Passing.{passes}
-use Rattle.np_text.specs.declared.word.EndAs.{EndAs}
-use Rattle.np_useful.specs.declared.kind.NodeKind.{NodeKind}
-use Rattle.np_useful.specs.declared.kind.JobKind.{JobKind}
 
 -- the kinds that are tried on each node to leave (own)
 abbrev pub leaving : List EventKind

@@ -1,9 +1,7 @@
 //! The choice of any role.
 
 ghost use Rattle.std.specs.Prelude.{◌≡◌};
-ghost use Rattle.np_changes.specs.Prelude.{Fits, IsReached};
-ghost use Rattle.np_useful.specs.Choices.{Chooses};
-ghost use Rattle.np_useful.specs.Settled.{takes_part};
+ghost use Rattle.np_jobs.specs.Lower.{Chooses, Fits, IsReached, takes_part};
 
 use crate::choose_requester;
 use np_event::Event;

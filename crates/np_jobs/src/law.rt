@@ -1,9 +1,8 @@
 //! What is true of the sessions of a run. Each function does nothing: its contract is the law.
 
 ghost use Rattle.std.specs.Prelude.{◌≡◌, Some, true, false};
-ghost use Rattle.np_changes.specs.Prelude.{Configuration, IsReached, Role, SessionFacts, SessionId, State, is_role, session_of};
-ghost use Rattle.np_useful.specs.Settled.{takes_part};
-ghost use Rattle.np_jobs.specs.Idle.{IsIdle};
+ghost use Rattle.np_jobs.specs.Lower.{Configuration, IsReached, Role, SessionFacts, SessionId, State, is_role, session_of, takes_part};
+ghost use Rattle.np_jobs.specs.Steps.{IsIdle};
 
 /// Each session of a run belongs to a role of the configuration.
 pub fn a_session_is_of_a_role_of_the_configuration()

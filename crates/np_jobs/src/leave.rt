@@ -1,10 +1,7 @@
 //! How a requester leaves nodes.
 
 ghost use Rattle.std.specs.Prelude.{◌≡◌, IfSome, true};
-ghost use Rattle.np_changes.specs.Prelude.{Fits, IsReached, Requester};
-ghost use Rattle.np_useful.specs.Sessions.{is_current};
-ghost use Rattle.np_useful.specs.Useful.{IsUseful};
-ghost use Rattle.np_useful.specs.Choices.{ChoosesOfAny};
+ghost use Rattle.np_jobs.specs.Lower.{ChoosesOfAny, Fits, IsReached, IsUseful, Requester, is_current};
 ghost use Rattle.np_jobs.specs.Steps.{leaving, ChoosesToLeave};
 
 use crate::rows::RequesterRows;
@@ -29,12 +26,8 @@ pub(crate) fn first_to_leave<L: Look>(
     ensures { IfSome result
         (IsUseful (L.site look.now) (L.state look.now) (Requester rows.now.requester)) }
 {
-    let Some(row) = look.rows().config().job(job) else {
-        return None;
-    };
-    let Some(kept) = look.rows().job(job) else {
-        return None;
-    };
+    let row = look.rows().config().job(job)?;
+    let kept = look.rows().job(job)?;
     if kept.phase != Phase::Using {
         return None;
     }
@@ -87,11 +80,7 @@ fn step_to_leave<L: Look>(
         return Some(hold);
     }
     let unlock = Event::UnlockNode { session, node };
-    if passes(look, rows, unlock) {
-        Some(unlock)
-    } else {
-        None
-    }
+    passes(look, rows, unlock).then_some(unlock)
 }
 
 /// The first useful end-node or unlock-node, or `None` if and only if there is none. Only a node to

@@ -1,9 +1,7 @@
 //! Which nodes are for a requester, and how it leaves them.
 
 ghost use Rattle.std.specs.Prelude.{◌≡◌, not};
-ghost use Rattle.np_changes.specs.Prelude.{IsReached, is_in_use};
-ghost use Rattle.np_useful.specs.Requester.{is_for, same_end, is_left_as};
-ghost use Rattle.np_useful.specs.Rows.{node_is};
+ghost use Rattle.np_jobs.specs.Lower.{IsReached, is_for, is_in_use, is_left_as, node_is, same_end};
 
 use np_look::{Look, Rows, is_given_to};
 use np_text::{EndAs, NodeId, NodeState, RequesterId};
@@ -55,8 +53,6 @@ pub(crate) fn is_left_as<L: Look>(look: &L, node: NodeId, end: EndAs) -> bool
     let Some(job) = look.owner(node) else {
         return false;
     };
-    match look.rows().config().job(job) {
-        None => false,
-        Some(row) => is_same_end(row.end, end),
-    }
+    let job = look.rows().config().job(job);
+    job.is_some_and(|row| is_same_end(row.end, end))
 }

@@ -1,8 +1,7 @@
 //! A requester's choice.
 
 ghost use Rattle.std.specs.Prelude.{◌≡◌, true};
-ghost use Rattle.np_changes.specs.Prelude.{Fits, IsReached, Requester, is_role};
-ghost use Rattle.np_useful.specs.Choices.{Chooses};
+ghost use Rattle.np_jobs.specs.Lower.{Chooses, Fits, IsReached, Requester, is_role};
 
 use crate::leave::first_step_to_leave;
 use crate::rows::RequesterRows;

@@ -1,9 +1,7 @@
 //! The rows of a requester.
 
 ghost use Rattle.std.specs.Prelude.{◌≡◌};
-ghost use Rattle.np_changes.specs.Prelude.{IsReached, Requester};
-ghost use Rattle.np_useful.specs.Rows.{job_is, has_some_handle};
-ghost use Rattle.np_useful.specs.Useful.{row_holds};
+ghost use Rattle.np_jobs.specs.Lower.{IsReached, Requester, has_some_handle, job_is, row_holds};
 
 use crate::node::{is_for, is_idle, is_left_as};
 use crate::window::{is_in_window, is_to_acquire};
@@ -22,10 +20,9 @@ pub(crate) struct RequesterRows {
 fn has_handles<R: Rows>(rows: &R, id: JobId) -> bool
     ensures { result ≡ job_is id (R.site rows.now) (has_some_handle (R.state rows.now) id) }
 {
-    match rows.config().job(id) {
-        None => false,
-        Some(job) => np_look::has_handles(rows, id, job),
-    }
+    rows.config()
+        .job(id)
+        .is_some_and(|job| np_look::has_handles(rows, id, job))
 }
 
 impl RoleRows for RequesterRows {

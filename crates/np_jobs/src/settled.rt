@@ -1,9 +1,8 @@
 //! Whether nothing is left to do.
 
 ghost use Rattle.std.specs.Prelude.{◌≡◌, ◌↔◌, true};
-ghost use Rattle.np_changes.specs.Prelude.{Fits, IsReached};
-ghost use Rattle.np_useful.specs.Settled.{IsSettled};
-ghost use Rattle.np_jobs.specs.Idle.{IsIdle, IsPoolIdle, ArePoolsIdle, AreRequestersIdle};
+ghost use Rattle.np_jobs.specs.Lower.{Fits, IsReached, IsSettled};
+ghost use Rattle.np_jobs.specs.Steps.{IsIdle, IsPoolIdle, ArePoolsIdle, AreRequestersIdle};
 
 use crate::choice::choose;
 use np_look::{Look, Rows};

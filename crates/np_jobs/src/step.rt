@@ -1,12 +1,9 @@
 //! What a requester does next with its jobs.
 
 ghost use Rattle.std.specs.Prelude.{◌≡◌, true};
-ghost use Rattle.np_changes.specs.Prelude.{Fits, IsReached, Requester};
-ghost use Rattle.np_useful.specs.Sessions.{is_current};
-ghost use Rattle.np_useful.specs.declared.kind.EventKind.TheVariants.{Node, Job};
+ghost use Rattle.np_jobs.specs.Lower.{ChoosesOf, Fits, IsReached, Job, Node, Requester, is_current};
 ghost use Rattle.np_useful.specs.declared.kind.NodeKind.TheVariants as of_node;
 ghost use Rattle.np_useful.specs.declared.kind.JobKind.TheVariants as of_job;
-ghost use Rattle.np_useful.specs.Choices.{ChoosesOf};
 ghost use Rattle.np_jobs.specs.Steps.{ChoosesToFinish, ChoosesToTakeOne, ChoosesToTake, ChoosesToAcquire, ChoosesUnderWay, ChoosesOfNew, ChoosesInWindow};
 
 use crate::leave::first_to_leave;
@@ -36,11 +33,7 @@ fn step_to_finish<L: Look>(
         return left;
     }
     let finish = Event::Finish { session, job };
-    if passes(look, rows, finish) {
-        Some(finish)
-    } else {
-        None
-    }
+    passes(look, rows, finish).then_some(finish)
 }
 
 /// The first useful event on the jobs that use their nodes or whose request failed, the first job

@@ -1,11 +1,7 @@
 //! Which jobs of a requester are in its window, and which wait for their semaphores.
 
 ghost use Rattle.std.specs.Prelude.{◌≡◌, false, slice_get};
-ghost use Rattle.np_changes.specs.Prelude.{Fits, option_map_or};
-ghost use Rattle.np_look.specs.Readers.{is_unfinished_job};
-ghost use Rattle.np_useful.specs.Rows.{job_is};
-ghost use Rattle.np_useful.specs.Window.{window_of, is_in_window};
-ghost use Rattle.np_useful.specs.Requester.{has_fulfilled_request, waits_for_handles, is_to_acquire};
+ghost use Rattle.np_jobs.specs.Lower.{Fits, has_fulfilled_request, is_in_window, is_to_acquire, is_unfinished_job, job_is, option_map_or, waits_for_handles, window_of};
 
 use np_config::{Config, Job};
 use np_decision::missing_handles;
@@ -17,10 +13,7 @@ use np_text::{JobId, Phase, RequestState, RequesterId};
 fn window(config: &Config, requester: RequesterId) -> u32
     ensures { result ≡ window_of config.now requester }
 {
-    match config.requester(requester) {
-        None => 0,
-        Some(row) => row.window,
-    }
+    config.requester(requester).map_or(0, |row| row.window)
 }
 
 /// Whether the job exists, is the requester's and is not over. It costs one lookup.
@@ -64,10 +57,8 @@ fn has_fulfilled_request<R: Rows>(rows: &R, kept: &JobRecord) -> bool
     let Some(request) = kept.request else {
         return false;
     };
-    match rows.asked(request) {
-        None => false,
-        Some(asked) => asked.state == RequestState::Fulfilled,
-    }
+    rows.asked(request)
+        .is_some_and(|asked| asked.state == RequestState::Fulfilled)
 }
 
 /// Whether the job waits for its semaphores.

@@ -1,8 +1,7 @@
 -- the events of a launcher that name more than a request, a node or a job, by place
-use Rattle.std.specs.Prelude.{ℕ, Bool, true, false, ◌==◌, if◌then◌else◌, Option, Some, None, length, find, slice_get, is_ok, option_and_then}
-use Rattle.np_changes.specs.Prelude.{Configuration, Event, Janitor, LabelId, Launcher, NodeId, PoolId, Reaper, Reason, RequestId, RequestRecord, Requester, Role, SessionId, State, first_unoffered, is_pending_by, is_spent, judge, never_fits, next_label, node_in, option_map, outcome_of, request_in, session_of, tenant_never_fits}
-use Rattle.np_look.specs.Readers.{free_ready_of, queued_requests, queued_nodes}
+use Rattle.std.specs.Prelude.{ℕ, Bool, true, false, ◌==◌, if◌then◌else◌, Option, Some, None, length, find, slice_get, is_ok, option_and_then, ◌+◌, ◌&&◌, not, count_by, nat_lt}
 use Rattle.np_launch.specs.declared.computed.ComputedKind.{ComputedKind}
+use Rattle.np_launch.specs.Lower.{Configuration, Event, Janitor, LabelId, Launcher, NodeId, PoolId, Reaper, Reason, RequestEntry, RequestId, RequestRecord, Requester, Role, SessionId, State, first_unoffered, free_ready_of, holder, is_held_near, is_pending, is_pending_by, is_served_near, is_sister, is_spent, judge, never_fits, next_label, node_in, option_map, option_map_or, outcome_of, pending_requests, queued_nodes, queued_requests, registered, request_in, request_is, role_of, session_of, tenant_never_fits}
 
 -- ## what is computed
 
@@ -94,3 +93,40 @@ computed_at c s p session ComputedKind.Done at = done_at c s p session at
 computed_at c s p session ComputedKind.TakeReady at = take_ready_at c s p session at
 computed_at c s p session ComputedKind.Decline at = decline_at c s p session at
 computed_at c s p session ComputedKind.MinReady at = min_ready_at c session at
+
+-- how many requests the launchers of a provider work on, pool by pool
+
+-- ## what counts at each pool
+
+-- pending, and a pool of the provider serves it (own)
+abbrev pub is_served_by_sister : Configuration → PoolId → RequestRecord → Bool
+is_served_by_sister c p request = is_pending request.state && option_map_or (is_sister c p) request.pool false
+
+-- how many requests have the session in their queues and are served by no pool of the provider (own)
+abbrev pub unserved_requests : Configuration → State → PoolId → SessionId → ℕ
+unserved_requests c s p session = count_by (λ r. not (request_is r s (is_served_by_sister c p))) (queued_requests session s)
+
+-- how many requests the other pool serves, plus those in whose queues its registered session is and
+-- that no pool of the provider serves (own)
+abbrev pub launcher_requests : Configuration → State → PoolId → PoolId → ℕ
+launcher_requests c s p other = length (pending_requests other s) + option_map_or (unserved_requests c s p) (registered other s.registrations) 0
+
+-- that, or none if the other pool is of another provider (own)
+abbrev pub sister_requests : Configuration → State → PoolId → PoolId → ℕ
+sister_requests c s p other = if is_sister c p other then launcher_requests c s p other else 0
+
+-- ## each request once
+
+-- the pool of the provider whose launcher works on the request: the one that serves it, or else that
+-- of the launcher that holds it (own)
+abbrev pub near_pool : Configuration → State → PoolId → RequestEntry → Option PoolId
+near_pool c s p e =
+    if is_served_near c p e
+    then e.kept.pool
+    else if is_held_near c s p e
+    then option_and_then pool_of_role (option_and_then (λ session. role_of session s) (holder e.queue))
+    else None
+
+-- there is such a pool, and its number is below this one (own)
+abbrev pub is_near_below : Configuration → State → PoolId → ℕ → RequestEntry → Bool
+is_near_below c s p number e = option_map_or (λ other. nat_lt other.0 number) (near_pool c s p e) false

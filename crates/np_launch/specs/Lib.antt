@@ -1,6 +1,3 @@
-pub mod Allocated
-pub mod Hands
-pub mod Sisters
+pub mod Lower
 pub mod Computed
-pub mod Choices
 pub mod Planned

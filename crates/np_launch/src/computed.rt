@@ -1,9 +1,7 @@
 //! The events of a launcher that name something computed, as candidates.
 
 ghost use Rattle.std.specs.Prelude.{◌≡◌, length, find};
-ghost use Rattle.np_changes.specs.Prelude.{Fits, IsReached, is_spent, new_record};
-ghost use Rattle.np_useful.specs.Launcher.{may_take_ready, is_first_reason};
-ghost use Rattle.np_useful.specs.Rows.{request_is};
+ghost use Rattle.np_launch.specs.Lower.{Fits, IsReached, is_first_reason, is_spent, may_take_ready, new_record, request_is};
 ghost use Rattle.np_launch.specs.Computed.{same_reason, is_reason, first_reason, pool_of, first_free, is_takable, first_takable, done_at, take_ready_at, decline_at, min_ready_at, computed_places, computed_at};
 
 use crate::request::{is_served_by, is_spent, outcome_of};
@@ -42,9 +40,7 @@ fn is_takable<L: Look>(look: &L, session: SessionId, request: RequestId, node: N
 fn pool_of<R: Rows>(rows: &R, session: SessionId) -> Option<PoolId>
     ensures { result ≡ pool_of (R.state rows.now) session }
 {
-    let Some(facts) = rows.session(session) else {
-        return None;
-    };
+    let facts = rows.session(session)?;
     match facts.role {
         Role::Launcher(pool) => Some(pool),
         Role::Janitor(_) | Role::Requester(_) | Role::Reaper => None,
@@ -55,9 +51,7 @@ fn pool_of<R: Rows>(rows: &R, session: SessionId) -> Option<PoolId>
 fn first_free<L: Look>(look: &L, request: RequestId, pool: PoolId) -> Option<NodeId>
     ensures { result ≡ first_free (L.state look.now) request pool }
 {
-    let Some(asked) = look.rows().asked(request) else {
-        return None;
-    };
+    let asked = look.rows().asked(request)?;
     match asked.labels.at(asked.nodes.len()) {
         None => None,
         Some(label) => look.free_ready(pool, label, 0),
@@ -72,17 +66,9 @@ fn first_takable<L: Look>(look: &L, session: SessionId, request: RequestId) -> O
     requires { Fits (L.site look.now) (L.state look.now) }
     ensures { result ≡ first_takable (L.site look.now) (L.state look.now) session request }
 {
-    let Some(pool) = pool_of(look.rows(), session) else {
-        return None;
-    };
-    let Some(node) = first_free(look, request, pool) else {
-        return None;
-    };
-    if is_takable(look, session, request, node) {
-        Some(node)
-    } else {
-        None
-    }
+    let pool = pool_of(look.rows(), session)?;
+    let node = first_free(look, request, pool)?;
+    is_takable(look, session, request, node).then_some(node)
 }
 
 /// Whether some ready node may be allocated to the request. It costs the test of one node.
@@ -122,10 +108,7 @@ fn first_reason<R: Rows>(rows: &R, pool: PoolId, asked: &Asked) -> Option<Reason
     if tenant_never_fits(rows.config(), pool, asked) {
         return Some(Reason::TenantNeverFits);
     }
-    match first_spent(rows, asked.nodes.items()) {
-        None => None,
-        Some(node) => Some(Reason::Spent(node)),
-    }
+    first_spent(rows, asked.nodes.items()).map(|node| Reason::Spent(node))
 }
 
 /// Whether the reason is the first of the pool's for the request.
@@ -151,12 +134,8 @@ fn done_at<L: Look>(look: &L, pool: PoolId, session: SessionId, at: u32) -> Opti
     ensures { result ≡ done_at (L.site look.now) (L.state look.now) pool session at }
 {
     let rows = look.rows();
-    let Some(node) = look.queued_node_at(session, at) else {
-        return None;
-    };
-    let Some(kept) = rows.node(node) else {
-        return None;
-    };
+    let node = look.queued_node_at(session, at)?;
+    let kept = rows.node(node)?;
     Some(Event::Done {
         session,
         node,
@@ -176,23 +155,17 @@ pub(crate) fn take_ready_at<L: Look>(
     requires { Fits (L.site look.now) (L.state look.now) }
     ensures { result ≡ take_ready_at (L.site look.now) (L.state look.now) pool session at }
 {
-    let Some(request) = look.queued_request_at(session, at) else {
-        return None;
-    };
-    let Some(asked) = look.rows().asked(request) else {
-        return None;
-    };
+    let request = look.queued_request_at(session, at)?;
+    let asked = look.rows().asked(request)?;
     if !is_served_by(pool, &asked) {
         return None;
     }
-    match first_takable(look, session, request) {
-        None => None,
-        Some(node) => Some(Event::TakeReady {
-            session,
-            request,
-            node,
-        }),
-    }
+    let node = first_takable(look, session, request)?;
+    Some(Event::TakeReady {
+        session,
+        request,
+        node,
+    })
 }
 
 /// The request at a place, of those in whose queues the session is, with its first reason.
@@ -206,30 +179,21 @@ pub(crate) fn decline_at<L: Look>(
     ensures { result ≡ decline_at (L.site look.now) (L.state look.now) pool session at }
 {
     let rows = look.rows();
-    let Some(request) = look.queued_request_at(session, at) else {
-        return None;
-    };
-    let Some(asked) = rows.asked(request) else {
-        return None;
-    };
-    match first_reason(rows, pool, &asked) {
-        None => None,
-        Some(reason) => Some(Event::Decline {
-            session,
-            request,
-            reason,
-        }),
-    }
+    let request = look.queued_request_at(session, at)?;
+    let asked = rows.asked(request)?;
+    let reason = first_reason(rows, pool, &asked)?;
+    Some(Event::Decline {
+        session,
+        request,
+        reason,
+    })
 }
 
 /// Whether the reason is the one that was found.
 fn is_reason(reason: Reason, found: Option<Reason>) -> bool
     ensures { result ≡ is_reason reason found }
 {
-    match found {
-        None => false,
-        Some(other) => is_same_reason(reason, other),
-    }
+    found.is_some_and(|other| is_same_reason(reason, other))
 }
 
 /// Whether both are the same reason.
@@ -280,10 +244,9 @@ fn min_ready_at(config: &Config, session: SessionId, at: u32) -> Option<Event>
         return None;
     }
     let label = LabelId(at as u16);
-    match config.label(label) {
-        None => None,
-        Some(_) => Some(Event::MinReady { session, label }),
-    }
+    config
+        .label(label)
+        .map(|_| Event::MinReady { session, label })
 }
 
 /// The session's events of the kind, by place. The machine accepts a report, an allocation and a

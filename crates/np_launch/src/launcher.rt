@@ -1,14 +1,8 @@
 //! The launcher of a pool.
 
 ghost use Rattle.std.specs.Prelude.{◌≡◌, ◌&&◌, true, not};
-ghost use Rattle.np_changes.specs.Prelude.{Fits, IsReached, Launcher, is_role};
-ghost use Rattle.np_useful.specs.Sessions.{is_current};
-ghost use Rattle.np_useful.specs.Launcher.{may_take_ready, is_by_registrant, registered_row};
-ghost use Rattle.np_useful.specs.Rows.{request_is, has_failed_node};
-ghost use Rattle.np_useful.specs.declared.kind.EventKind.TheVariants.{Request};
-ghost use Rattle.np_useful.specs.declared.kind.RequestKind.TheVariants.{Lock};
-ghost use Rattle.np_useful.specs.Choices.{Chooses, ChoosesOf};
-ghost use Rattle.np_launch.specs.Choices.{launcher_order, ChoosesComputed, ChoosesLaunched, ChoosesOfAnyKind};
+ghost use Rattle.np_launch.specs.Lower.{Chooses, ChoosesOf, Fits, IsReached, Launcher, Lock, Request, has_failed_node, is_by_registrant, is_current, is_role, may_take_ready, registered_row, request_is};
+ghost use Rattle.np_launch.specs.Planned.{launcher_order, ChoosesComputed, ChoosesLaunched, ChoosesOfAnyKind};
 
 use crate::computed::{ComputedKind, OfComputed, is_first_reason, may_take_ready};
 use crate::request::is_done_with;

@@ -1,10 +1,8 @@
 //! The launchers of one provider, and the requests that they work on.
 
 ghost use Rattle.std.specs.Prelude.{◌≡◌, ◌≤◌, cond};
-ghost use Rattle.np_changes.specs.Fits.{Fits};
-ghost use Rattle.np_useful.specs.Launcher.{provider_of, is_sister, concurrency_of};
-ghost use Rattle.np_useful.specs.Rows.{request_is};
-ghost use Rattle.np_launch.specs.Sisters.{is_served_by_sister, unserved_requests, launcher_requests, sister_requests};
+ghost use Rattle.np_launch.specs.Lower.{Fits, concurrency_of, is_sister, provider_of, request_is};
+ghost use Rattle.np_launch.specs.Computed.{is_served_by_sister, unserved_requests, launcher_requests, sister_requests};
 
 use np_config::Config;
 use np_look::{Look, Rows};
@@ -14,10 +12,7 @@ use np_text::{PoolId, RequestId, RequestState, SessionId};
 fn provider_of(config: &Config, pool: PoolId) -> Option<u16>
     ensures { result ≡ provider_of config.now pool }
 {
-    match config.pool(pool) {
-        None => None,
-        Some(row) => Some(row.provider),
-    }
+    config.pool(pool).map(|row| row.provider)
 }
 
 /// Whether both pools belong to one provider.
@@ -27,10 +22,7 @@ fn is_sister(config: &Config, pool: PoolId, other: PoolId) -> bool
     let Some(own) = provider_of(config, pool) else {
         return false;
     };
-    match provider_of(config, other) {
-        None => false,
-        Some(of) => of == own,
-    }
+    provider_of(config, other).is_some_and(|of| of == own)
 }
 
 /// Whether the request is pending, and a pool of the provider serves it. It costs one lookup.
@@ -102,11 +94,5 @@ pub(crate) fn sister_requests<L: Look>(look: &L, pool: PoolId, other: PoolId) ->
 pub(crate) fn concurrency_of(config: &Config, pool: PoolId) -> Option<u32>
     ensures { result ≡ concurrency_of config.now pool }
 {
-    match provider_of(config, pool) {
-        None => None,
-        Some(place) => match config.provider(place) {
-            None => None,
-            Some(provider) => provider.concurrency,
-        },
-    }
+    config.provider(provider_of(config, pool)?)?.concurrency
 }

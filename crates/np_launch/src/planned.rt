@@ -1,8 +1,7 @@
 //! The events of a launcher that can be planned.
 
 ghost use Rattle.std.specs.Prelude.{◌≡◌, true};
-ghost use Rattle.np_changes.specs.Prelude.{Fits, IsReached, Launcher, is_role};
-ghost use Rattle.np_useful.specs.Sessions.{is_current};
+ghost use Rattle.np_launch.specs.Lower.{Fits, IsReached, Launcher, is_current, is_role};
 ghost use Rattle.np_launch.specs.Planned.{ChoosesPlanned, ChoosesPlannedOf, ChoosesPlannedOfAny, planned_at, planned_order, planned_places};
 
 use crate::computed::{decline_at, take_ready_at};

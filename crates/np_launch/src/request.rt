@@ -1,12 +1,8 @@
 //! What a launcher tests of one request or node.
 
 ghost use Rattle.std.specs.Prelude.{◌≡◌, ◌==◌, ◌&&◌, not};
-ghost use Rattle.np_changes.specs.Prelude.{Fits, is_pending, is_pending_by, is_pool, is_spent, list_any, new_record};
-ghost use Rattle.np_machine.specs.Plan.{fail_starts_of, outcome_of};
-ghost use Rattle.np_useful.specs.Launcher.{same_outcome, is_as_planned, is_done_with};
-ghost use Rattle.np_useful.specs.Rows.{request_is, is_listed, has_failed_node};
-ghost use Rattle.np_launch.specs.Allocated.{served_request};
-ghost use Rattle.np_launch.specs.Hands.{is_in_hand_at};
+ghost use Rattle.np_launch.specs.Lower.{Fits, fail_starts_of, has_failed_node, is_as_planned, is_done_with, is_listed, is_pending, is_pending_by, is_pool, is_spent, list_any, new_record, outcome_of, request_is, same_outcome};
+ghost use Rattle.np_launch.specs.Planned.{served_request, is_in_hand_at};
 
 use np_changes::Asked;
 use np_config::Config;
@@ -33,10 +29,7 @@ pub(crate) fn is_served_by(pool: PoolId, asked: &Asked) -> bool
 fn is_pending_in(pool: PoolId, state: RequestState, server: Option<PoolId>) -> bool
     ensures { result ≡ (is_pending state && is_pool pool server) }
 {
-    let own = match server {
-        None => false,
-        Some(other) => other.0 == pool.0,
-    };
+    let own = server.is_some_and(|other| other.0 == pool.0);
     state == RequestState::Pending && own
 }
 
@@ -49,17 +42,9 @@ pub(crate) fn served_request<R: Rows>(
 ) -> Option<RequestRecord>
     ensures { result ≡ served_request pool (R.state rows.now) node.now }
 {
-    let Some(request) = node.allocated_to else {
-        return None;
-    };
-    let Some(kept) = rows.request(request) else {
-        return None;
-    };
-    if is_pending_by(pool, &kept) {
-        Some(kept)
-    } else {
-        None
-    }
+    let request = node.allocated_to?;
+    let kept = rows.request(request)?;
+    is_pending_by(pool, &kept).then_some(kept)
 }
 
 /// Whether the node is in the request's list.
@@ -73,10 +58,8 @@ pub fn is_listed(node: NodeId, request: &RequestRecord) -> bool
 pub fn is_spent<R: Rows>(rows: &R, node: NodeId) -> bool
     ensures { result ≡ is_spent node (R.state rows.now) }
 {
-    match rows.node(node) {
-        None => false,
-        Some(kept) => kept.state == NodeState::Failed,
-    }
+    rows.node(node)
+        .is_some_and(|kept| kept.state == NodeState::Failed)
 }
 
 /// Whether a node of the request's list has no launch left.

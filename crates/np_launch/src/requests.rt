@@ -1,8 +1,7 @@
 //! Whether some request passes a test, and how many the launchers of a provider work on.
 
 ghost use Rattle.std.specs.Prelude.{◌≡◌};
-ghost use Rattle.np_changes.specs.Prelude.{Fits, IsReached, list_any};
-ghost use Rattle.np_useful.specs.Launcher.{is_to_launch, is_in_hand, requests_near, has_turn_left};
+ghost use Rattle.np_launch.specs.Lower.{Fits, IsReached, has_turn_left, is_in_hand, is_to_launch, list_any, requests_near};
 
 use crate::near::{concurrency_of, sister_requests};
 use crate::request::{has_failed_node, is_in_hand, needs_launch, served_request};
@@ -87,8 +86,5 @@ pub fn has_turn_left<L: Look>(look: &L, pool: PoolId) -> bool
     requires fits { Fits (L.site look.now) (L.state look.now) }
     ensures { result ≡ has_turn_left (L.site look.now) (L.state look.now) pool }
 {
-    match concurrency_of(look.rows().config(), pool) {
-        None => true,
-        Some(most) => requests_near(look, pool) < most,
-    }
+    concurrency_of(look.rows().config(), pool).map_or(true, |most| requests_near(look, pool) < most)
 }

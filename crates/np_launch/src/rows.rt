@@ -1,9 +1,7 @@
 //! The conditions of a launcher's rows.
 
 ghost use Rattle.std.specs.Prelude.{◌≡◌, ◌&&◌, not};
-ghost use Rattle.np_changes.specs.Prelude.{Fits, IsReached, is_session_of, list_any, registered};
-ghost use Rattle.np_useful.specs.Launcher.{is_wanted_by, is_as_planned, is_under_way, is_in_hand, has_turn_left};
-ghost use Rattle.np_useful.specs.Rows.{request_is, node_is, has_failed_node};
+ghost use Rattle.np_launch.specs.Lower.{Fits, IsReached, has_failed_node, has_turn_left, is_as_planned, is_in_hand, is_session_of, is_under_way, is_wanted_by, list_any, node_is, registered, request_is};
 
 use crate::request::{has_failed_node, is_as_planned, served_request};
 use crate::requests::{has_request_in_hand, has_turn_left};
@@ -15,10 +13,8 @@ use np_text::{NodeId, PoolId, RequestId, SessionId};
 pub fn is_registrant<R: Rows>(rows: &R, pool: PoolId, session: SessionId) -> bool
     ensures { result ≡ is_session_of session (registered pool (R.state rows.now).registrations) }
 {
-    match rows.registration(pool) {
-        None => false,
-        Some(other) => other.0 == session.0,
-    }
+    rows.registration(pool)
+        .is_some_and(|other| other.0 == session.0)
 }
 
 /// Whether the launcher is done with the node: no launch of it is running, and no request that the
@@ -44,10 +40,8 @@ pub fn is_unfailed<R: Rows>(rows: &R, request: RequestId) -> bool
     ensures { result ≡ request_is request (R.state rows.now)
         (λ kept. not (has_failed_node (R.state rows.now) kept)) }
 {
-    match rows.request(request) {
-        None => false,
-        Some(kept) => !has_failed_node(rows, &kept),
-    }
+    rows.request(request)
+        .is_some_and(|kept| !has_failed_node(rows, &kept))
 }
 
 /// Whether it is the simulated cloud's report on the node's last attempt.
@@ -61,10 +55,7 @@ pub fn is_planned_report<R: Rows>(
     ensures { result ≡ node_is node (R.state rows.now)
         (is_as_planned (R.site rows.now) pool attempt outcome) }
 {
-    match rows.node(node) {
-        None => false,
-        Some(kept) => is_as_planned(rows.config(), pool, attempt, outcome, &kept),
-    }
+    rows.node(node).is_some_and(|kept| is_as_planned(rows.config(), pool, attempt, outcome, &kept))
 }
 
 /// Whether the launcher may take up another request: it has none under way and none in hand, and

@@ -26,9 +26,6 @@ blocks_as c s p pinned labels tenant =
     then option_and_then (short_tenant c s p (bare labels)) tenant
     else None
 
-blocking-as : (c : Configuration) (s : State) (p : PoolId) (k : RequestRecord) → blocking c s p k ≡ blocks_as c s p k.pinned k.labels (tenant_of_request c k)
-blocking-as c s p k = refl
-
 tenant-is : (t : TenantId) (o : Option TenantId) → is_tenant t o ≡ true → o ≡ Some t
 tenant-is t None is = absurd cc
 tenant-is t (Some other) is = ap (λ (n : ℕ). Some (record { 0 = n })) (equal-numbers other.0 t.0 is)
@@ -46,21 +43,19 @@ line-blocking c s p k i of = by (slice_get c.jobs i.0) (and-second (is_none k.pi
       let free = and-first (is_none k.pinned) (option_map_or (is_like c k) (slice_get c.jobs i.0) false) of in
       let limited = and-first (is_tenant job.tenant (tenant_of_request c k) && has_limit (limit_of_tenant c job.tenant)) (same_labels job.labels k.labels) like in
       let labels = and-second (is_tenant job.tenant (tenant_of_request c k) && has_limit (limit_of_tenant c job.tenant)) (same_labels job.labels k.labels) like in
-      blocking-as c s p k
-      ∙ ap (λ (pinned : Option PoolId). blocks_as c s p pinned k.labels (tenant_of_request c k)) (none-is k.pinned free)
+      ap (λ (pinned : Option PoolId). blocks_as c s p pinned k.labels (tenant_of_request c k)) (none-is k.pinned free)
       ∙ ap (λ (list : List LabelId). blocks_as c s p None list (tenant_of_request c k)) (sym ((slice_eq-Decides label-decides job.labels k.labels (same_labels job.labels k.labels) refl).0 labels))
       ∙ ap (blocks_as c s p None job.labels) (tenant-is job.tenant (tenant_of_request c k) (and-first (is_tenant job.tenant (tenant_of_request c k)) (has_limit (limit_of_tenant c job.tenant)) limited))
 
 -- a line after the common one is that of a job
 line-job : (c : Configuration) (lines : List JobId) (k : RequestRecord) (line : ℕ) → line_of c lines k ≡ suc line → is_of_line c k (record { 0 = line }) ≡ true
 line-job c lines k line is = of (option_and_then (λ j. slice_get lines j.0) k.job) is where
-  by : (i : JobId) (b : Bool) → is_of_line c k i ≡ b → cond b (suc i.0) 0 ≡ suc line → is_of_line c k (record { 0 = line }) ≡ true
-  by i true like is = let number : i.0 ≡ line = omega arith in subst (λ (j : JobId). is_of_line c k j ≡ true) (ap (λ (n : ℕ). record { 0 = n }) number) like
-  by i false other is = absurd (omega arith)
-
   of : (o : Option JobId) → option_map_or (λ i. if is_of_line c k i then suc i.0 else 0) o 0 ≡ suc line → is_of_line c k (record { 0 = line }) ≡ true
   of None is = absurd (omega arith)
-  of (Some i) is = by i (is_of_line c k i) refl is
+  of (Some i) is =
+      by_bool (λ (b : Bool). cond b (suc i.0) 0 ≡ suc line → is_of_line c k (record { 0 = line }) ≡ true) (is_of_line c k i)
+      (λ like same. let number : i.0 ≡ line = omega arith in subst (λ (j : JobId). is_of_line c k j ≡ true) (ap (λ (n : ℕ). record { 0 = n }) number) like)
+      (λ other same. absurd (omega arith)) is
 
 -- the same tenant, or none, has no room for each request of a line after the common one
 pub line-blocks : (c : Configuration) (s : State) (p : PoolId) (lines : List JobId) (k other : RequestRecord) (line : ℕ)
@@ -83,7 +78,7 @@ open-is g is = group-equal (open_group g.third) g is
 earlier-other : (g : Group) (line n : ℕ) → line ≤ n → not (is_group_before g (open_group line)) ≡ false → same_group g (open_group n) ≡ false
 earlier-other g line n low first = grind (arith, nat_tests)
 
--- nor is one that is not before the first group of that line or a later one
+-- nor is one that is before that of the line, or not before a group that is after that of the later line
 least-other : (g h : Group) (line n : ℕ) → line ≤ n → is_group_before (open_group n) g ≡ true → (not (not (is_group_before h (open_group line))) || not (is_group_before h g)) ≡ true → same_group h (open_group n) ≡ false
 least-other g h line n low after least = false_from_ne_true (same_group h (open_group n)) (λ is.
     let it : h ≡ open_group n = group-equal h (open_group n) is in
@@ -91,14 +86,15 @@ least-other g h line n low after least = false_from_ne_true (same_group h (open_
     let past : is_group_before (open_group n) (open_group line) ≡ false = grind (arith, nat_tests) in
     absurd (grind (arith, first, past, after)))
 
--- the group of requested requests that is not before that of a line is of that line or a later one
+-- a group of requested requests that is not before that of a line is of that line or a later one
 from-line : (g : Group) (line : ℕ) → not (is_group_before g (open_group line)) ≡ true → is_open g ≡ true → line ≤ g.third
 from-line g line passes is = grind (arith, nat_tests)
 
+-- it is after those of all earlier lines
 before-open : (g : Group) (n : ℕ) → is_open g ≡ true → n < g.third → is_group_before (open_group n) g ≡ true
 before-open g n is high = grind (arith, nat_tests)
 
--- another such group is after those of all later lines
+-- any other group that is not before that of a line is after those of all later lines
 before-other : (g : Group) (line n : ℕ) → not (is_group_before g (open_group line)) ≡ true → is_open g ≡ false → line ≤ n → is_group_before (open_group n) g ≡ true
 before-other g line n passes out low = grind (arith, nat_tests)
 
@@ -169,11 +165,10 @@ module _ {X : Type 0} (p : X → Bool) where
   pub run-all : (xs : List X) (at after k : ℕ) (x : X) → after ≤ length xs → counted xs after ≡ counted xs at + (after - at)
       → at ≤ k → k < after → slice_get xs k ≡ Some x → p x ≡ true
   run-all [] at after k x within all low high there = absurd cc
-  run-all (y ∷ ys) at zero k x within all low high there = absurd (omega arith)
   run-all (y ∷ ys) zero (suc after) zero x within all low high there = grind (arith, counted-most ys after)
   run-all (y ∷ ys) zero (suc after) (suc k) x within all low high there = grind (arith, counted-most ys after, run-all ys zero after k x)
-  run-all (y ∷ ys) (suc at) (suc after) zero x within all low high there = absurd (omega arith)
   run-all (y ∷ ys) (suc at) (suc after) (suc k) x within all low high there = grind (arith, run-all ys at after k x)
+  run-all (y ∷ ys) at after k x within all low high there = absurd (omega arith)
 
 -- ## the closed ranks are a part of all
 
@@ -189,9 +184,7 @@ has-passes q x (k ∷ ks) = grind (arith, rank_equal k x, has-passes q x ks)
 found-open : (pools : ℕ) (of : RequestRecord → ℕ) (line : ℕ) (p : PoolId) (x : Rank) (found : Option RequestRecord)
     → is_found_in pools of (closed_group line p) x found ≡ true → is_found_in pools of (open_group line) x found ≡ true
 found-open pools of line p x None is = is
-found-open pools of line p x (Some k) is = by (k.relative_priority == x.relative) (is_requested k.state) (of k == line) (p.0 == p.0) _ is where
-  by : (a b e i d : Bool) → (a && (b && ((i && e) && d))) ≡ true → (a && (b && (e || false))) ≡ true
-  by a b e i d is = grind (arith, nat_tests)
+found-open pools of line p x (Some k) is = grind (arith, nat_tests)
 
 module _ (c : Configuration) (s : State) (kept : OpenOf) (are : AreOpen c s kept) (line : ℕ) (p : PoolId) where
   abbrev closed : Rank → Bool
@@ -259,9 +252,7 @@ module _ (c : Configuration) (s : State) (kept : OpenOf) (are : AreOpen c s kept
 found-requested : (c : Configuration) (lines : List JobId) (line : ℕ) (x : Rank) (found : Option RequestRecord)
     → is_found_in (length c.pools) (line_of c lines) (open_group line) x found ≡ is_requested_at c lines line x found
 found-requested c lines line x None = refl
-found-requested c lines line x (Some k) = by (k.relative_priority == x.relative) (is_requested k.state) (line_of c lines k == line) where
-  by : (a b e : Bool) → (a && (b && (e || false))) ≡ (b && a && e)
-  by a b e = grind (arith, nat_tests)
+found-requested c lines line x (Some k) = grind (arith, nat_tests)
 
 module _ (c : Configuration) (s : State) (kept : OpenOf) (are : AreOpen c s kept) (line : ℕ) where
   -- they are those of the line's requested requests

@@ -68,31 +68,25 @@ was-open c s ch j later puts premise open_is = by (put-nodes c s ch j later puts
   by (inl keeps) = (keeps.kept, keeps.stands, early-open keeps.kept.phase (keeps.early open_is))
   by (inr takes) = (takes.takes.kept, takes.stands, early-open takes.takes.kept.phase (or_right _ _ takes.takes.asked))
 
-module _ (c : Configuration) (s t : State) (lists : List (List JobId)) (old : AreUnfinished c s lists) where
+module _ (c : Configuration) (s : State) (ch : Changes) (lists : List (List JobId)) (old : AreUnfinished c s lists) (q : RequesterId) where
   -- the job leaves the list of its requester, if it has one
-  one-over : (j : JobId) (q : RequesterId) (o : Option Job) → list_at q.0 (option_map_or (λ row. change_at row.requester.0 (without_id same_job j) lists) o lists)
+  one-over : (j : JobId) (o : Option Job) → list_at q.0 (option_map_or (λ row. change_at row.requester.0 (without_id same_job j) lists) o lists)
       ≡ cond (option_map_or (λ row. row.requester.0 == q.0) o false) (without_id same_job j (list_at q.0 lists)) (list_at q.0 lists)
-  one-over j q None = refl
-  one-over j q (Some row) = at-changed row.requester.0 q.0 (without_id same_job j) lists (λ _. refl)
+  one-over j None = refl
+  one-over j (Some row) = at-changed row.requester.0 q.0 (without_id same_job j) lists (λ _. refl)
 
-  after-jobs : (ch : Changes) (change : JobsChange) → ch.jobs ≡ change → t.jobs ≡ jobs_changed change s.jobs → JobsPremise c s ch change → AreUnfinished c t (unfinished_changed c change lists)
-  after-jobs ch JobsChange.Same is jobs_are premise = record { each = λ q. old.each q ∙ ap (unfinished_from c q 0) (sym jobs_are) }
-  after-jobs ch (JobsChange.EndNode j n) is jobs_are premise = record { each = λ q. old.each q ∙ sym (ap (unfinished_from c q 0) jobs_are ∙ unfinished-mark c q n 0 j.0 s.jobs) }
-  after-jobs ch (JobsChange.Put j kept) is jobs_are premise = by (is_over kept.phase) refl where
-    by : (b : Bool) → is_over kept.phase ≡ b → AreUnfinished c t (cond b (option_map_or (λ row. change_at row.requester.0 (without_id same_job j) lists) (slice_get c.jobs j.0) lists) lists)
-    by true over = record {
-      each = λ q.
-          one-over j q (slice_get c.jobs j.0)
-          ∙ ap (λ (jobs : List JobId). cond (is_own c q j.0) (without_id same_job j jobs) jobs) (old.each q)
-          ∙ sym (ap (unfinished_from c q 0) jobs_are ∙ unfinished-over c q 0 j.0 j.0 s.jobs kept (omega arith) over);
-    }
-    by false open_is = let was = was-open c s ch j kept is premise open_is in record {
-      each = λ q. old.each q ∙ sym (ap (unfinished_from c q 0) jobs_are ∙ unfinished-put c q 0 j.0 s.jobs was.0 kept was.1 (open_is ∙ sym was.2));
-    }
+  after-jobs : (change : JobsChange) → ch.jobs ≡ change → JobsPremise c s ch change → list_at q.0 (unfinished_changed c change lists) ≡ unfinished_from c q 0 (jobs_changed change s.jobs)
+  after-jobs JobsChange.Same is premise = old.each q
+  after-jobs (JobsChange.EndNode j n) is premise = old.each q ∙ sym (unfinished-mark c q n 0 j.0 s.jobs)
+  after-jobs (JobsChange.Put j kept) is premise =
+      by_bool (λ (b : Bool). list_at q.0 (cond b (option_map_or (λ row. change_at row.requester.0 (without_id same_job j) lists) (slice_get c.jobs j.0) lists) lists) ≡ unfinished_from c q 0 (slice_set s.jobs j.0 kept)) (is_over kept.phase)
+      (λ over. one-over j (slice_get c.jobs j.0) ∙ ap (λ (jobs : List JobId). cond (is_own c q j.0) (without_id same_job j jobs) jobs) (old.each q) ∙ sym (unfinished-over c q 0 j.0 j.0 s.jobs kept (omega arith) over))
+      (λ open_is. let was = was-open c s ch j kept is premise open_is in old.each q ∙ sym (unfinished-put c q 0 j.0 s.jobs was.0 kept was.1 (open_is ∙ sym was.2)))
 
 pub unfinished-changed : (c : Configuration) (s : State) (ch : Changes) (lists : List (List JobId)) → JobsPremise c s ch ch.jobs → AreUnfinished c s lists → AreUnfinished c (changed c ch s) (unfinished_changed c ch.jobs lists)
-unfinished-changed c s ch lists premise old =
-    after-jobs c s (changed c ch s) lists old ch ch.jobs refl (ap (jobs_changed ch.jobs) (jobs-grown c ch.maker ch.grows s)) premise
+unfinished-changed c s ch lists premise old = record {
+  each = λ q. after-jobs c s ch lists old q ch.jobs refl premise ∙ ap (λ (jobs : List JobRecord). unfinished_from c q 0 (jobs_changed ch.jobs jobs)) (sym (jobs-grown c ch.maker ch.grows s));
+}
 
 -- # the jobs of lookups, made from a state job by job
 
@@ -283,26 +277,20 @@ lookups-changed c s ch l old unused given is room = record {
   unfinished = unfinished-changed c s ch l.unfinished given.jobs is.unfinished;
   requests = record {
     each = λ x. request-list c s ch old given x l.requests (is.requests.each x) is.requests.many;
-    many = omega (
-      arith,
-      session-more c s ch,
-      room.requests,
-      length-changed (λ (e : SessionId). e.0) (λ _ _. []) (ending ch.sessions) _
-          ∙ length-changed (λ (w : Wait RequestId). w.session.0) (λ w. without_id same_request w.id) (leaves_request ch.maker ch.requests (holder_at (removed_request ch.requests) s)) _
-          ∙ length-changed (λ (w : Wait RequestId). w.session.0) (λ w. with_id is_id_before same_request w.id) (joins_request ch.maker ch.grows) l.requests,
-    );
+    many =
+        let same = length-changed (λ (e : SessionId). e.0) (λ _ _. []) (ending ch.sessions) _
+        ∙ length-changed (λ (w : Wait RequestId). w.session.0) (λ w. without_id same_request w.id) (leaves_request ch.maker ch.requests (holder_at (removed_request ch.requests) s)) _
+        ∙ length-changed (λ (w : Wait RequestId). w.session.0) (λ w. with_id is_id_before same_request w.id) (joins_request ch.maker ch.grows) l.requests in
+        omega (arith, session-more c s ch, room.requests, same);
   };
   nodes = record {
     each = λ x. node-list c s ch old given x l.nodes (is.nodes.each x) is.nodes.many;
-    many = omega (
-      arith,
-      session-more c s ch,
-      room.nodes,
-      length-changed (λ (e : SessionId). e.0) (λ _ _. []) (ending ch.sessions) _
-          ∙ length-removed same_node (removed_node ch.nodes) (queue_at (removed_node ch.nodes) s) _
-          ∙ length-changed (λ (w : Wait NodeId). w.session.0) (λ w. without_id same_node w.id) (leaves_node ch.maker ch.nodes) _
-          ∙ length-changed (λ (w : Wait NodeId). w.session.0) (λ w. with_id is_node_before same_node w.id) (joins_node ch.maker ch.grows s.next_node) l.nodes,
-    );
+    many =
+        let same = length-changed (λ (e : SessionId). e.0) (λ _ _. []) (ending ch.sessions) _
+        ∙ length-removed same_node (removed_node ch.nodes) (queue_at (removed_node ch.nodes) s) _
+        ∙ length-changed (λ (w : Wait NodeId). w.session.0) (λ w. without_id same_node w.id) (leaves_node ch.maker ch.nodes) _
+        ∙ length-changed (λ (w : Wait NodeId). w.session.0) (λ w. with_id is_node_before same_node w.id) (joins_node ch.maker ch.grows s.next_node) l.nodes in
+        omega (arith, session-more c s ch, room.nodes, same);
   };
   owners = owners-changed c s ch old unused given l.owners is.owners;
 }

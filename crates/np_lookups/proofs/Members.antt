@@ -1,5 +1,5 @@
 -- the members of groups of requests: after a move, after a change, and made request by request
-use Rattle.np_lookups.proofs.Prelude.{AreAsKept, AreBy, AreListed, AreOpen, Bool, Changes, Configuration, Declined, Group, IsEither, IsPrepared, IsReached, JobId, List, Member, None, NonePass, OpenOf, Option, Past, PoolId, Rank, RequestEntry, RequestId, RequestRecord, RequestView, Rises, Some, State, [], all-at, all-map, all-weaker, and_false, ap, apart, arith, by_bool, changed, closed_group, closed_member, cond, contrapositive, false, find, find-none, find-push_new, find-push_other, has-with, has-without, has_member, inl, inr, invariant-Runs, is-below, is_closed_to, is_declined_by, is_elsewhere, is_found_closed, is_found_in, is_found_open, is_id_before, is_listed, is_member_before, is_rank_before, is_requested, is_some, length, line_of, list_any, list_any-append, map, member, member-equal, nat_lt, nat_tests, not, numbered, open_group, open_member, option_map, option_map_or, or_false, passes_moved, passes_with, past_of, pool_of, rank_equal, rank_is_in, rank_of, rank_one_way, rank_some_way, rank_transitive, refl, request-untouched, request_equal, request_in, request_one_way, request_view, rises-with, rises-without, same_group, same_members, same_rank, same_request, slice_get, subst, suc, sym, take, take-all, take_there, touches_request, true, with_moved, with_one, without_one, zero, ℕ, ◌&&◌, ◌*◌, ◌++◌, ◌+◌, ◌-◌, ◌<◌, ◌==◌, ◌||◌, ◌∙◌, ◌∷◌, ◌≡◌, ◌≤◌, ◌⊎◌}
+use Rattle.np_lookups.proofs.Prelude.{AreAsKept, AreBy, AreListed, AreOpen, Bool, Changes, Configuration, Declined, Group, IsEither, IsPrepared, IsReached, JobId, List, Member, None, NonePass, OpenOf, Option, Past, PoolId, Rank, RequestEntry, RequestId, RequestRecord, RequestView, Rises, Some, State, [], all-at, all-map, all-weaker, and_false, ap, apart, arith, by_bool, changed, closed_group, closed_member, cond, contrapositive, false, find, find-none, find-push_new, find-push_other, has-with, has-without, has_member, inl, inr, invariant-Runs, is-below, is_closed_to, is_declined_by, is_elsewhere, is_found_closed, is_found_in, is_found_open, is_id_before, is_listed, is_member_before, is_rank_before, is_requested, is_some, length, line_of, list_any, list_any-append, map, member, member-equal, nat_lt, nat_tests, not, numbered, open_group, open_member, option_map, option_map_or, or_false, passes_moved, passes_with, past_of, pool_of, rank_equal, rank_is_in, rank_of, rank_one_way, rank_some_way, rank_transitive, refl, request-untouched, request_equal, request_in, request_one_way, request_view, rises-with, rises-without, same_group, same_members, same_rank, same_request, slice_get, suc, sym, take, take-all, take_there, touches_request, true, with_moved, with_one, without_one, zero, ℕ, ◌&&◌, ◌*◌, ◌++◌, ◌+◌, ◌-◌, ◌<◌, ◌==◌, ◌||◌, ◌∙◌, ◌∷◌, ◌≡◌, ◌≤◌, ◌⊎◌}
 use Rattle.np_lookups.proofs.QueueLemmas.{earlier}
 
 -- # the members of groups after a request is moved from those that one record has it in to another's
@@ -40,7 +40,7 @@ same-at None (Some b) g x same = absurd cc
 same-at (Some a) None g x same = absurd cc
 same-at (Some a) (Some b) g x same = ap (λ (m : Member Rank). same_group m.group g && same_rank m.id x) (member-equal same_rank rank_equal a b same)
 
--- where a rank stays, if it is the request's and in these groups
+-- where a rank stays; `among` says whether the group is one of these, and `own` whether the rank is the request's
 stays : (among own was now old new passes : Bool) → was ≡ (among && (own && old)) → now ≡ (among && (own && new))
     → (among ≡ true → own ≡ true → (passes ≡ old) ⊎ (passes ≡ new)) → was ≡ now → passes ≡ cond (among && own) new passes
 stays among own was now old new passes was_is now_is either same = grind (arith, was_is, now_is, either)
@@ -98,18 +98,12 @@ not-open g line out = grind (arith, nat_tests)
 not-closed : (g : Group) (line : ℕ) (p : PoolId) → is_closed_of p g ≡ false → same_group (closed_group line p) g ≡ false
 not-closed g line p out = grind (arith, nat_tests)
 
-open-not_closed : (g : Group) (line : ℕ) (p : PoolId) → is_open g ≡ true → same_group (closed_group line p) g ≡ false
-open-not_closed g line p is = grind (arith, nat_tests)
-
-closed-not_open : (g : Group) (line : ℕ) (p : PoolId) → is_closed_of p g ≡ true → same_group (open_group line) g ≡ false
-closed-not_open g line p is = grind (arith, nat_tests)
-
 abbrev pub pool_by : ℕ → PoolId
 pool_by n = record { 0 = n }
 
 -- ## the groups of a record
 
--- such a group is that of its pool
+-- a group of those that are closed to a pool says which pool
 pool-is : (g : Group) (p : PoolId) → is_closed_of p g ≡ true → pool_of g ≡ p
 pool-is g p is = let first : g.first ≡ p.0 = grind (arith, nat_tests) in ap pool_by first
 
@@ -118,12 +112,12 @@ at-if : (b : Bool) (m : Member Rank) (g : Group) (x : Rank) → is_at g x (cond 
 at-if true m g x = refl
 at-if false m g x = refl
 
--- of what an open member is at, and what is said of the record, each says the other
+-- that a member is in a group of requested requests says the same as that its record is in the group
 open-table : (own asked here closed is same relative : Bool) → (own ≡ true → closed ≡ false) → (own ≡ false → here ≡ false)
     → (asked && (here && (same && relative))) ≡ (own && (same && (relative && (asked && (here || (closed && is))))))
 open-table own asked here closed is same relative other out = grind (arith, other, out)
 
--- and so for a closed one
+-- the same for a group of those that are closed to a pool
 closed-table : (own asked shut here opened closed low is same relative : Bool) → (own ≡ true → opened ≡ false) → (own ≡ true → closed ≡ here) → (own ≡ true → low ≡ true) → (own ≡ true → is ≡ shut) → (own ≡ false → here ≡ false)
     → ((asked && shut) && (here && (same && relative))) ≡ (own && (same && (relative && (asked && (opened || (closed && (low && is)))))))
 closed-table own asked shut here opened closed low is same relative other alike within says out = grind (arith, other, alike, within, says, out)
@@ -135,7 +129,7 @@ module _ (pools : ℕ) (of : RequestRecord → ℕ) (r : RequestId) where
   open-is (Some k) g x =
       at-if (is_requested k.state) (member (open_group (of k)) (rank_of r k)) g x
       ∙ open-table (is_open g) (is_requested k.state) (same_group (open_group (of k)) g) (same_group (closed_group (of k) (pool_of g)) g) (nat_lt g.first pools && is_closed_to (pool_of g) k)
-      (same_request r x.request) (k.relative_priority == x.relative) (open-not_closed g (of k) (pool_of g)) (not-open g (of k))
+      (same_request r x.request) (k.relative_priority == x.relative) (λ is. grind (arith, nat_tests)) (not-open g (of k))
 
   module _ (p : PoolId) (within : nat_lt p.0 pools ≡ true) where
     closed-is : (found : Option RequestRecord) (g : Group) (x : Rank)
@@ -145,7 +139,7 @@ module _ (pools : ℕ) (of : RequestRecord → ℕ) (r : RequestId) where
         at-if (is_requested k.state && is_closed_to p k) (member (closed_group (of k) p) (rank_of r k)) g x
         ∙ closed-table (is_closed_of p g) (is_requested k.state) (is_closed_to p k) (same_group (closed_group (of k) p) g) (same_group (open_group (of k)) g) (same_group (closed_group (of k) (pool_of g)) g)
         (nat_lt g.first pools) (is_closed_to (pool_of g) k) (same_request r x.request) (k.relative_priority == x.relative)
-        (closed-not_open g (of k) p) (λ is. ap (λ (q : PoolId). same_group (closed_group (of k) q) g) (pool-is g p is)) (λ is. ap (λ (q : PoolId). nat_lt q.0 pools) (pool-is g p is) ∙ within)
+        (λ is. grind (arith, nat_tests)) (λ is. ap (λ (q : PoolId). same_group (closed_group (of k) q) g) (pool-is g p is)) (λ is. ap (λ (q : PoolId). nat_lt q.0 pools) (pool-is g p is) ∙ within)
         (λ is. ap (λ (q : PoolId). is_closed_to q k) (pool-is g p is)) (not-closed g (of k) p)
 
 -- ## the groups so far
@@ -158,16 +152,12 @@ is_done n g = is_open g || (is_closed g && nat_lt g.first n)
 abbrev pub passes_so_far : ℕ → (RequestRecord → ℕ) → RequestId → Option RequestRecord → ℕ → (Group → Rank → Bool) → Group → Rank → Bool
 passes_so_far pools of r now n passes g x = cond (same_request r x.request && is_done n g) (is_found_in pools of g x now) (passes g x)
 
-none_below : (n : ℕ) → nat_lt n 0 ≡ false
-none_below n = grind (arith, nat_tests)
+-- first those of requested requests, then those of each pool
+none-done : (g : Group) → is_done 0 g ≡ is_open g
+none-done g = grind (arith, nat_tests)
 
--- a group of another pool
-other-done : (p : PoolId) (g : Group) → is_closed_of p g ≡ false → (is_closed g && nat_lt g.first (p.0 + 1)) ≡ (is_closed g && nat_lt g.first p.0)
-other-done p g other = grind (arith, nat_tests)
-
--- one of the pool
-own-done : (p : PoolId) (g : Group) → is_closed_of p g ≡ true → is_done (p.0 + 1) g ≡ true
-own-done p g is = grind (arith, nat_tests)
+next-done : (p : PoolId) (g : Group) → is_done (p.0 + 1) g ≡ (is_closed_of p g || is_done p.0 g)
+next-done p g = grind (arith, nat_tests)
 
 not-done : (p : PoolId) (g : Group) → is_closed_of p g ≡ true → is_done p.0 g ≡ false
 not-done p g is = grind (arith, nat_tests)
@@ -199,9 +189,16 @@ not_open-not_closed (Some k) out = rw out refl
 pub moved-as : (a b k l : Option (Member Rank)) (ms later : List (Member Rank)) → later ≡ with_moved a b ms → a ≡ k → b ≡ l → later ≡ with_moved k l ms
 moved-as a b k l ms later is was now = rw (← was, ← now) is
 
--- a rank of no group that the record before or after is in
+-- a rank in a group that neither record is in stays as it was
 left-out : (own done old new passes : Bool) → (own ≡ true → (passes ≡ old) ⊎ (passes ≡ new)) → (done ≡ false → old ≡ false) → (done ≡ false → new ≡ false) → cond (own && done) new passes ≡ cond own new passes
 left-out own done old new passes either was now = grind (arith, either, was, now)
+
+-- a rank in the groups so far, with more of them
+one-done : (among own done later new passes : Bool) → later ≡ (among || done) → cond (among && own) new (cond (own && done) new passes) ≡ cond (own && later) new passes
+one-done among own done later new passes is = grind (arith, is)
+
+first-done : (among own later new passes : Bool) → later ≡ among → cond (among && own) new passes ≡ cond (own && later) new passes
+first-done among own later new passes is = grind (arith, is)
 
 module _ (pools : ℕ) (of : RequestRecord → ℕ) (r : RequestId) (was now : Option RequestRecord) (passes : Group → Rank → Bool) (either : IsEither pools of r was now passes) where
   abbrev line_was : ℕ
@@ -214,42 +211,25 @@ module _ (pools : ℕ) (of : RequestRecord → ℕ) (r : RequestId) (was now : O
   pub open-moved : (ms : List (Member Rank)) → AreBy passes ms
       → AreBy (passes_so_far pools of r now 0 passes) (with_moved (open_member line_was r was) (open_member line_now r now) ms)
   open-moved ms are =
-      groups-by _ (passes_so_far pools of r now 0 passes) _ (λ g x. by g x (is_open g) (same_request r x.request))
+      groups-by _ (passes_so_far pools of r now 0 passes) _ (λ g x. first-done (is_open g) (same_request r x.request) (is_done 0 g) (is_found_in pools of g x now) (passes g x) (none-done g))
       (one-moved is_open r (open_member line_was r was) (open_member line_now r now) (λ g x. is_found_in pools of g x was) (λ g x. is_found_in pools of g x now)
       (open-is pools of r was) (open-is pools of r now) passes (λ g x here is. either g x is) ms are)
-    where
-      by : (g : Group) (x : Rank) (q e : Bool)
-          → cond (q && e) (is_found_in pools of g x now) (passes g x) ≡ cond (e && (q || (is_closed g && nat_lt g.first 0))) (is_found_in pools of g x now) (passes g x)
-      by g x true true = refl
-      by g x true false = refl
-      by g x false true = rw (none_below g.first, and_false (is_closed g)) refl
-      by g x false false = refl
 
   -- as a call does it
   pub open-moved-by : (left joined : ℕ) (a b : Option (Member Rank)) (ms later : List (Member Rank)) → left ≡ line_was → joined ≡ line_now
       → a ≡ open_member left r was → b ≡ open_member joined r now → later ≡ with_moved a b ms → AreBy passes ms → AreBy (passes_so_far pools of r now 0 passes) later
   open-moved-by left joined a b ms later left_is joined_is a_is b_is is are =
-      subst (AreBy (passes_so_far pools of r now 0 passes))
-      (sym (moved-as a b (open_member line_was r was) (open_member line_now r now) ms later is
-      (a_is ∙ ap (λ (line : ℕ). open_member line r was) left_is) (b_is ∙ ap (λ (line : ℕ). open_member line r now) joined_is)))
-      (open-moved ms are)
+      rw (is, a_is, b_is, left_is, joined_is) (open-moved ms are)
 
   -- then in those of each pool
   pub closed-moved : (p : PoolId) → p.0 < pools → (ms : List (Member Rank)) → AreBy (passes_so_far pools of r now p.0 passes) ms
       → AreBy (passes_so_far pools of r now (p.0 + 1) passes) (with_moved (closed_member line_was p r was) (closed_member line_now p r now) ms)
   closed-moved p within ms are =
-      groups-by _ (passes_so_far pools of r now (p.0 + 1) passes) _ (λ g x. by g x (is_closed_of p g) (same_request r x.request) refl)
+      groups-by _ (passes_so_far pools of r now (p.0 + 1) passes) _
+      (λ g x. one-done (is_closed_of p g) (same_request r x.request) (is_done p.0 g) (is_done (p.0 + 1) g) (is_found_in pools of g x now) (passes g x) (next-done p g))
       (one-moved (is_closed_of p) r (closed_member line_was p r was) (closed_member line_now p r now) (λ g x. is_found_in pools of g x was) (λ g x. is_found_in pools of g x now)
       (closed-is pools of r p (is-below p.0 pools within) was) (closed-is pools of r p (is-below p.0 pools within) now) (passes_so_far pools of r now p.0 passes)
       (λ g x here is. rw (is, not-done p g here) (either g x is)) ms are)
-    where
-      by : (g : Group) (x : Rank) (q e : Bool) → is_closed_of p g ≡ q
-          → cond (q && e) (is_found_in pools of g x now) (cond (e && is_done p.0 g) (is_found_in pools of g x now) (passes g x))
-          ≡ cond (e && is_done (p.0 + 1) g) (is_found_in pools of g x now) (passes g x)
-      by g x true true here = rw (own-done p g here) refl
-      by g x false true other = ap (λ (b : Bool). cond (is_open g || b) (is_found_in pools of g x now) (passes g x)) (sym (other-done p g other))
-      by g x true false here = refl
-      by g x false false other = refl
 
   -- and no other group has ranks
   pub all-moved : (ms : List (Member Rank)) → AreBy (passes_so_far pools of r now pools passes) ms → AreBy (passes_with pools of r now passes) ms

@@ -1,5 +1,5 @@
 -- the owners of nodes: the first job that has a node, after a change, and made node by node
-use Rattle.np_lookups.proofs.Prelude.{AllByRecursion, AreOwners, Asked, AsksForJob, Bool, Changes, Configuration, EndAs, EndsNode, Entry, Event, FinishesJob, Frees, GivesUp, Growth, Invariant, IsReached, Job, JobId, JobRecord, JobsChange, JobsPremise, List, Maker, Marked, NodeEntry, NodeId, NodeRecord, NodeState, NodesChange, NodesPremise, None, Option, Phase, Premises, PutsJob, PutsNode, Reports, RequestId, RequestsChange, Rises, Some, Starts, State, TakesOver, Withdraws, all-at, all-change_at, all-map, all-set, ap, arith, by_bool, cases_lt, change_at, changed, cond, ended_as, eqb-true, false, false_from_ne_true, false≢true, found-same, freed, grown, grown-node, grown-numbered, inl, inr, invariant-changed, invariant-start, is_asked, is_building, is_marked, is_new, is_ok, is_over, is_ready, is_request, is_using, jobs-grown, jobs_changed, judge, le_refl, leave-node, length, length-append, length-set, list_any, list_any-map, list_any-none, map, marked, member-there, nat_lt, nat_tests, new_job, next, next-more, node-place, node_in, node_in-allocated, node_in-below, node_in-freed, node_in-in_use, node_in-other, node_in-put, node_in-remove, node_in-removed, nodes-after, nodes_changed, none-list_any, none-some, option_map, or_left, or_right, owner_at, owner_of, owners_changed, owners_grown, owners_with, owns-if, plan, plan-next, position, position-here, position-later, premises, refl, remove_node, request_after_withdraw, same_Some, set-here, set-other, slice_get, slice_get-left, slice_get-middle, slice_get_past, slice_get_within, slice_set, start, state_after, subst, suc, sym, true, unended, unwrap_or, used_from, with_mark, zero, ℕ, [], ◌++◌, ◌+◌, ◌<◌, ◌==◌, ◌||◌, ◌∙◌, ◌∷◌, ◌≡◌, ◌≤◌, ◌⊎◌}
+use Rattle.np_lookups.proofs.Prelude.{AllByRecursion, AreOwners, Asked, AsksForJob, Bool, Changes, Configuration, EndAs, EndsNode, Entry, Event, FinishesJob, Frees, GivesUp, Growth, Invariant, IsReached, Job, JobId, JobRecord, JobsChange, JobsPremise, List, Maker, Marked, NodeEntry, NodeId, NodeRecord, NodeState, NodesChange, NodesPremise, None, Option, Phase, Premises, PutsJob, PutsNode, Reports, RequestId, RequestsChange, Rises, Some, Starts, State, TakesOver, Withdraws, all-at, all-change_at, all-map, all-set, ap, arith, by_bool, cases_lt, change_at, changed, cond, ended_as, eqb-true, false, false_from_ne_true, false≢true, found-same, freed, from-map_some, grown, grown-node, grown-numbered, inl, inr, invariant-changed, invariant-start, is_asked, is_building, is_marked, is_new, is_ok, is_over, is_ready, is_request, is_using, jobs-grown, jobs_changed, judge, le_refl, leave-node, length, length-append, length-set, list_any, list_any-map, list_any-none, map, marked, member-there, nat_lt, nat_tests, new_job, next, next-more, node-place, node_in, node_in-allocated, node_in-below, node_in-freed, node_in-in_use, node_in-other, node_in-put, node_in-remove, node_in-removed, nodes-after, nodes_changed, none-list_any, none-some, option_map, or_left, or_right, owner_at, owner_of, owners_changed, owners_grown, owners_with, owns-if, plan, plan-next, position, position-here, position-later, premises, refl, remove_node, request_after_withdraw, same_Some, set-here, set-other, slice_get, slice_get-left, slice_get-middle, slice_get_past, slice_get_within, slice_set, start, state_after, subst, suc, sym, true, unended, unwrap_or, used_from, with_mark, zero, ℕ, [], ◌++◌, ◌+◌, ◌<◌, ◌==◌, ◌||◌, ◌∙◌, ◌∷◌, ◌≡◌, ◌≤◌, ◌⊎◌}
 use Rattle.np_lookups.proofs.QueueLemmas.{at-push}
 
 -- # the place of the first member that passes, as one member of the list changes
@@ -33,20 +33,13 @@ module _ {X : Type 0} (p : X → Bool) where
 
   pub first-same : (xs : List X) (i : ℕ) (x y : X) → slice_get xs i ≡ Some x → p y ≡ p x → position p (slice_set xs i y) ≡ position p xs
   first-same [] i x y is same = absurd cc
-  first-same (z ∷ xs) zero x y is same =
-      let here : z ≡ x = cc in
-      position-cons y xs ∙ ap (λ (b : Bool). ahead b (position p xs)) (same ∙ ap p (sym here)) ∙ sym (position-cons z xs)
+  first-same (z ∷ xs) zero x y is same = let here : z ≡ x = cc in grind (arith, same, here, position-cons y xs, position-cons z xs)
   first-same (z ∷ xs) (suc i) x y is same = position-cons z (slice_set xs i y) ∙ ap (ahead (p z)) (first-same xs i x y is same) ∙ sym (position-cons z xs)
 
   pub first-changed : (i : ℕ) (f : X → X) (xs : List X) → ((x : X) → p (f x) ≡ p x) → position p (change_at i f xs) ≡ position p xs
   first-changed i f [] same = refl
   first-changed zero f (x ∷ xs) same = position-cons (f x) xs ∙ ap (λ (b : Bool). ahead b (position p xs)) (same x) ∙ sym (position-cons x xs)
   first-changed (suc i) f (x ∷ xs) same = position-cons x (change_at i f xs) ∙ ap (ahead (p x)) (first-changed i f xs same) ∙ sym (position-cons x xs)
-
-  pub any-changed : (i : ℕ) (f : X → X) (xs : List X) → ((x : X) → p (f x) ≡ p x) → list_any p (change_at i f xs) ≡ list_any p xs
-  any-changed i f [] same = refl
-  any-changed zero f (x ∷ xs) same = ap (λ (b : Bool). b || list_any p xs) (same x)
-  any-changed (suc i) f (x ∷ xs) same = ap (λ (b : Bool). p x || b) (any-changed i f xs same)
 
 -- # what the changes of an event make of the nodes of a job
 
@@ -158,22 +151,19 @@ module _ (rows : List JobRecord) where
   -- each node was unused if it is
   mapped : (entries later : List NodeEntry) (f : NodeId → NodeRecord → NodeRecord) → ((n : NodeId) → node_in n later ≡ option_map (f n) (node_in n entries))
       → ((n : NodeId) (k : NodeRecord) → node_in n entries ≡ Some k → is_unused (f n k).state ≡ true → is_unused k.state ≡ true) → UnusedFree rows entries → UnusedFree rows later
-  mapped entries later f looks was old = λ n k is. by n k (node_in n entries) refl (sym (looks n) ∙ is) where
-    by : (n : NodeId) (k : NodeRecord) (o : Option NodeRecord) → node_in n entries ≡ o → option_map (f n) o ≡ Some k → is_unused k.state ≡ true → IsFree rows n
-    by n k None at is = absurd (none-some k is)
-    by n k (Some x) at is = λ unused. old n x at (was n x at (ap (λ (y : NodeRecord). is_unused y.state) (same_Some (f n x) k is) ∙ unused))
+  mapped entries later f looks was old = λ n k is unused.
+      let x = from-map_some (f n) (node_in n entries) k (sym (looks n) ∙ is) in
+      old n x.0 x.1 (was n x.0 x.1 (ap (λ (y : NodeRecord). is_unused y.state) x.2 ∙ unused))
 
   removed : (n0 : NodeId) (entries : List NodeEntry) → Rises (λ (a b : NodeEntry). nat_lt a.id.0 b.id.0) entries → UnusedFree rows entries → UnusedFree rows (remove_node n0 entries)
-  removed n0 entries rises old = λ n k is. by n k is (n0.0 == n.0) refl where
-    by : (n : NodeId) (k : NodeRecord) → node_in n (remove_node n0 entries) ≡ Some k → (b : Bool) → (n0.0 == n.0) ≡ b → is_unused k.state ≡ true → IsFree rows n
-    by n k is true same = absurd (none-some k (sym (node_in-removed n0 n entries rises same) ∙ is))
-    by n k is false other = old n k (sym (node_in-remove n0 n entries other) ∙ is)
+  removed n0 entries rises old = λ n k is.
+      by_bool (λ _. is_unused k.state ≡ true → IsFree rows n) (n0.0 == n.0)
+      (λ same. absurd (none-some k (sym (node_in-removed n0 n entries rises same) ∙ is))) (λ other. old n k (sym (node_in-remove n0 n entries other) ∙ is))
 
   pushed : (new : NodeEntry) (entries : List NodeEntry) → IsFree rows new.id → UnusedFree rows entries → UnusedFree rows (entries ++ new ∷ [])
-  pushed new entries free old = λ n k is unused. by n k is unused (new.id.0 == n.0) refl where
-    by : (n : NodeId) (k : NodeRecord) → node_in n (entries ++ new ∷ []) ≡ Some k → is_unused k.state ≡ true → (b : Bool) → (new.id.0 == n.0) ≡ b → IsFree rows n
-    by n k is unused true same = subst (λ (i : ℕ). IsFree rows (record { 0 = i })) (eqb-true new.id.0 n.0 same) free
-    by n k is unused false other = old n k (sym (node_in-other new n entries other) ∙ is) unused
+  pushed new entries free old = λ n k is unused.
+      by_bool (λ _. IsFree rows n) (new.id.0 == n.0)
+      (λ same. subst (λ (i : ℕ). IsFree rows (record { 0 = i })) (eqb-true new.id.0 n.0 same) free) (λ other. old n k (sym (node_in-other new n entries other) ∙ is) unused)
 
 -- a node that is changed or not: if it is unused afterwards, it was
 if-unused : (b : Bool) (x y : NodeRecord) → (b ≡ true → is_unused x.state ≡ true → is_unused y.state ≡ true) → is_unused (cond b x y).state ≡ true → is_unused y.state ≡ true
@@ -254,7 +244,8 @@ module _ (c : Configuration) (s : State) (ch : Changes) (inv : Invariant c s) (o
   still-free : (change : JobsChange) → ch.jobs ≡ change → JobsPremise c s ch change → (n : NodeId) → IsFree s.jobs n
       → ((r : RequestId) (takes : TakesOver c s ch r) → list_any (λ m. m.0 == n.0) takes.request.nodes ≡ false) → IsFree (jobs_changed change s.jobs) n
   still-free JobsChange.Same at premise n free none = free
-  still-free (JobsChange.EndNode j m) at premise n free none = any-changed (is_marked n) j.0 (with_mark m) s.jobs (marked-has m n) ∙ free
+  still-free (JobsChange.EndNode j m) at premise n free none =
+      list_any-none (is_marked n) (change_at j.0 (with_mark m) s.jobs) (all-change_at (λ job. is_marked n job ≡ false) j.0 (with_mark m) s.jobs (λ job out. marked-has m n job ∙ out) (none-list_any (is_marked n) s.jobs free))
   still-free (JobsChange.Put j later) at premise n free none = none-set (is_marked n) s.jobs j.0 later free (by (put-nodes c s ch j later at premise)) where
     by : KeepsNodes s j later ⊎ TakesNodes c s ch j later → is_marked n later ≡ false
     by (inl keeps) = ap (λ (marks : List Marked). list_any (λ m. m.node.0 == n.0) marks) keeps.same ∙ none-there (is_marked n) s.jobs j.0 keeps.kept free keeps.stands
@@ -285,31 +276,28 @@ module _ (c : Configuration) (s : State) (ch : Changes) (inv : Invariant c s) (o
 
 -- ## every state that a run leads to
 
-all-free : (rows : List Job) (n : NodeId) → IsFree (map (λ _. new_job) rows) n
-all-free [] n = refl
-all-free (row ∷ rows) n = all-free rows n
-
 unused-start : (c : Configuration) → AreUnused (start c)
-unused-start c = record { early = all-map IsBare (λ (_ : Job). new_job) c.jobs (λ row early. refl); unused = λ n k is unused. absurd cc; later = λ n past. all-free c.jobs n }
+unused-start c = record {
+  early = all-map IsBare (λ (_ : Job). new_job) c.jobs (λ row early. refl);
+  unused = λ n k is unused. absurd cc;
+  later = λ n past. list_any-none (is_marked n) (map (λ _. new_job) c.jobs) (all-map (λ job. is_marked n job ≡ false) (λ (_ : Job). new_job) c.jobs (λ row. refl));
+}
 
-record Holds (c : Configuration) (s : State) : Type 0 where
-  pub invariant : Invariant c s
-  pub unused : AreUnused s
+abbrev Holds : Configuration → State → Type 0
+Holds c s = Invariant c s × AreUnused s
 
 holds-next : (c : Configuration) (s : State) (e : Event) → Holds c s → Holds c (next c s e)
-holds-next c s e old = by (is_ok (judge c s e)) refl where
-  by : (b : Bool) → is_ok (judge c s e) ≡ b → Holds c (next c s e)
-  by true ok =
-      let given : Premises c s (plan c s e) = premises c s e ok in
-      subst (Holds c) (plan-next c s e ok) (record { invariant = invariant-changed c s (plan c s e) old.invariant given; unused = unused-changed c s (plan c s e) old.invariant old.unused given })
-  by false refused = rw refused old
+holds-next c s e old = by_bool (λ _. Holds c (next c s e)) (is_ok (judge c s e))
+    (λ ok. let given : Premises c s (plan c s e) = premises c s e ok in
+    subst (Holds c) (plan-next c s e ok) (invariant-changed c s (plan c s e) old.0 given, unused-changed c s (plan c s e) old.0 old.1 given))
+    (λ refused. rw refused old)
 
 holds-after : (c : Configuration) (s : State) (journal : List Entry) → Holds c s → Holds c (state_after c s journal)
 holds-after c s [] old = old
 holds-after c s (entry ∷ journal) old = holds-after c (next c s entry.event) journal (holds-next c s entry.event old)
 
 pub unused-reached : (c : Configuration) (s : State) → IsReached c s → AreUnused s
-unused-reached c s reached = subst AreUnused reached.runs.ends (holds-after c (start c) reached.journal (record { invariant = invariant-start c; unused = unused-start c })).unused
+unused-reached c s reached = subst AreUnused reached.runs.ends (holds-after c (start c) reached.journal (invariant-start c, unused-start c)).1
 
 -- # what the changes of an event make of the owners of nodes
 

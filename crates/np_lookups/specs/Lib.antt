@@ -1,12 +1,6 @@
-pub mod Lists
+pub mod Lower
 pub mod Waits
 pub mod Lookups
-pub mod Unfinished
-pub mod Changed
-pub mod Prepared
 pub mod Ranks
-pub mod Lines
 pub mod Open
-pub mod Pasts
 pub mod Moves
-pub mod Runs

@@ -1,15 +1,11 @@
 -- what records before and after a change make of the members of groups (own)
 use Rattle.std.specs.Prelude.{◌≡◌, ◌⊎◌, ℕ, List, Bool, true, false, ◌==◌, ◌&&◌, ◌||◌, not, is_some, Option, Some, None, if◌then◌else◌, length, option_and_then}
-use Rattle.np_changes.specs.Prelude.{AllByRecursion, Configuration, JobId, PoolId, RequestId, RequestRecord, Rises, State, is_requested, option_map_or, same_request}
-use Rattle.np_lists.specs.declared.groups.Group.{Group}
-use Rattle.np_lists.specs.declared.groups.Member.{Member}
-use Rattle.np_lists.specs.Groups.{has_member, is_member_before, member, same_member, with_member, without_member}
 use Rattle.np_lookups.specs.declared.moves.Past.{Past}
 use Rattle.np_lookups.specs.declared.ranks.Rank.{Rank}
-use Rattle.np_lookups.specs.Lines.{line_of}
-use Rattle.np_lookups.specs.Open.{closed_group, is_closed_to, is_found_in, open_group, rank_is_in}
-use Rattle.np_lookups.specs.Pasts.{is_listed}
+use Rattle.np_lookups.specs.Open.{line_of, closed_group, is_closed_to, is_found_in, open_group, rank_is_in}
+use Rattle.np_lookups.specs.Waits.{is_listed}
 use Rattle.np_lookups.specs.Ranks.{is_rank_before, same_rank}
+use Rattle.np_lookups.specs.Lower.{AllByRecursion, Configuration, Group, JobId, Member, PoolId, RequestId, RequestRecord, Rises, State, has_member, is_member_before, is_requested, member, option_map_or, same_member, same_request, with_member, without_member}
 
 -- ## one member
 

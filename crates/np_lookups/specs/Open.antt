@@ -1,12 +1,30 @@
--- which requests are open, in which line each waits, and which of them are closed to a pool
-use Rattle.std.specs.Prelude.{◌≡◌, ◌≤◌, ◌<◌, ℕ, List, [], Bool, true, false, ◌==◌, ◌&&◌, ◌||◌, Option, Some, None, if◌then◌else◌, nat_lt, length, max, option_and_then, slice_get}
-use Rattle.np_changes.specs.Prelude.{Configuration, JobId, PoolId, RequestRecord, Rises, State, is_declined_by, is_id_before, is_pinned_away, is_requested, list_any, option_map_or, request_in}
-use Rattle.np_lists.specs.declared.groups.Group.{Group}
-use Rattle.np_lists.specs.declared.groups.Member.{Member}
-use Rattle.np_lists.specs.Groups.{same_group, group_after, group_from, has_member, ids_in, is_member_before}
+-- in which line a request waits: the requests of a line are alike, so a tenant that has no room for one
+-- of them has none for the others
+use Rattle.std.specs.Prelude.{ℕ, suc, List, Bool, false, ◌==◌, ◌&&◌, is_none, if◌then◌else◌, option_and_then, slice_get, ◌≡◌, ◌≤◌, ◌<◌, [], true, ◌||◌, Option, Some, None, nat_lt, length, max, ◌+◌, ◌-◌, ◌⊎◌}
+use Rattle.std.specs.Cmp.Lexicographic.{pointwise}
+use Rattle.np_lookups.specs.Lower.{Configuration, Job, JobId, LabelId, RequestRecord, has_limit, is_tenant, limit_of_tenant, option_map_or, tenant_of_request, Group, Member, PoolId, Rises, State, group_after, group_from, has_member, ids_in, is_declined_by, is_id_before, is_member_before, is_pinned_away, is_requested, list_any, request_in, same_group}
 use Rattle.np_lookups.specs.declared.ranks.Rank.{Rank}
-use Rattle.np_lookups.specs.Lines.{line_of}
 use Rattle.np_lookups.specs.Ranks.{is_rank_before, same_rank}
+use Rattle.std.specs.List.{prefix_len}
+
+-- the same labels, in the same order
+abbrev pub same_labels : List LabelId → List LabelId → Bool
+same_labels = pointwise (λ a b. a.0 == b.0)
+
+-- a request with this record has the job's tenant, which has a limit, and its labels
+abbrev pub is_like : Configuration → RequestRecord → Job → Bool
+is_like c k job = is_tenant job.tenant (tenant_of_request c k) && has_limit (limit_of_tenant c job.tenant) && same_labels job.labels k.labels
+
+-- it is not pinned, and is like this job of the configuration
+abbrev pub is_of_line : Configuration → RequestRecord → JobId → Bool
+is_of_line c k i = is_none k.pinned && option_map_or (is_like c k) (slice_get c.jobs i.0) false
+
+-- the line, where `lines` has for each job one that may be like it: one more than the number of the job
+-- that the request is like, or 0, the common line, where each waits alone
+abbrev pub line_of : Configuration → List JobId → RequestRecord → ℕ
+line_of c lines k = option_map_or (λ i. if is_of_line c k i then suc i.0 else 0) (option_and_then (λ j. slice_get lines j.0) k.job) 0
+
+-- which requests are open, in which line each waits, and which of them are closed to a pool
 
 -- ## groups (own)
 
@@ -120,3 +138,21 @@ pub record IsLeastLine (members : List (Member Rank)) (start line : ℕ) : Type 
 abbrev pub IsLineFrom : List (Member Rank) → ℕ → Option ℕ → Type 0
 IsLineFrom members start None = (n : ℕ) → start ≤ n → ranks_of n members ≡ []
 IsLineFrom members start (Some line) = IsLeastLine members start line
+
+-- runs of closed requests, by counts (own)
+
+-- how many ranks of the group come before the rank at the line's place, or how many it has if there is none
+abbrev pub count_before : ℕ → Group → List (Member Rank) → ℕ → ℕ
+count_before line g members at =
+    option_map_or (λ rank. prefix_len (λ k. is_rank_before k rank) (ids_in g members)) (slice_get (ranks_of line members) at) (length (ids_in g members))
+
+-- as many ranks of the group come between two places of the line as there are places between them
+abbrev pub is_run : ℕ → Group → List (Member Rank) → ℕ → ℕ → Bool
+is_run line g members place after = count_before line g members after == (count_before line g members place + (after - place))
+
+-- a run from the place ends here: it is one rank, or there is a run up to here, and none up to the next place
+pub record IsRunEnd (line : ℕ) (g : Group) (members : List (Member Rank)) (place after : ℕ) : Type 0 where
+  pub some : place < after
+  pub within : after ≤ length (ranks_of line members)
+  pub run : (after ≡ place + 1) ⊎ (is_run line g members place after ≡ true)
+  pub longest : (after ≡ length (ranks_of line members)) ⊎ (is_run line g members place (after + 1) ≡ false)

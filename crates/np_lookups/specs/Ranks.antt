@@ -2,8 +2,8 @@
 use Rattle.std.proofs.Common.{◌≡◌, arith, true, false, refl}
 use Rattle.std.specs.Prelude.{Bool, nat_lt, ◌==◌, ◌&&◌, if◌then◌else◌}
 use Rattle.std.proofs.lemmas.Bool.Decides.{nat_tests}
-use Rattle.np_machine.specs.Tables.{same_request}
 use Rattle.np_lookups.specs.declared.ranks.Rank.{Rank}
+use Rattle.np_lookups.specs.Lower.{same_request}
 
 -- by priority, then relative priority, then sequence
 abbrev pub is_rank_before : Rank → Rank → Bool

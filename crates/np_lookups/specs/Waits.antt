@@ -1,12 +1,38 @@
--- which queues a change joins and leaves
-use Rattle.std.specs.Prelude.{ℕ, Option, Some, None}
-use Rattle.np_changes.specs.Prelude.{NodeId, RequestId, SessionId, option_map}
-use Rattle.np_changes.specs.declared.changes.Growth.{Growth}
-use Rattle.np_changes.specs.declared.changes.Maker.{Maker}
-use Rattle.np_changes.specs.declared.changes.NodesChange.{NodesChange}
-use Rattle.np_changes.specs.declared.changes.RequestsChange.{RequestsChange}
-use Rattle.np_changes.specs.declared.changes.SessionsChange.{SessionsChange}
+-- which requests are listed before a change, and what is prepared for it
+use Rattle.std.specs.Prelude.{◌≡◌, ◌≤◌, ◌+◌, ◌*◌, List, Bool, true, length, false, slice_get, ℕ, Option, Some, None}
+use Rattle.np_lookups.specs.declared.moves.Past.{Past}
+use Rattle.np_lookups.specs.Open.{OpenOf}
+use Rattle.np_lookups.specs.Lower.{AllByRecursion, Changes, Configuration, RequestId, State, list_any, request_in, same_request, touches_request, JobId, is_over, option_map_or, Growth, Maker, NodeId, NodesChange, RequestsChange, SessionId, SessionsChange, option_map}
 use Rattle.np_lookups.specs.declared.waits.Wait.{Wait}
+
+-- each request that the changes touch is among these
+abbrev pub AreListed : Changes → State → List RequestId → Type 0
+AreListed ch s requests = (r : RequestId) → touches_request ch s r ≡ true → list_any (λ x. same_request x r) requests ≡ true
+
+-- the request with its record in the state (own)
+abbrev pub past_of : State → RequestId → Past
+past_of s r = record { request = r; kept = request_in r s.requests }
+
+-- the request is among those that are listed with their records
+abbrev pub is_listed : RequestId → List Past → Bool
+is_listed r moved = list_any (λ past. same_request past.request r) moved
+
+-- each request that the changes touch is listed, and each record is that of the state
+pub record IsPrepared (s : State) (ch : Changes) (moved : List Past) : Type 0 where
+  pub touched : (r : RequestId) → touches_request ch s r ≡ true → is_listed r moved ≡ true
+  pub kept : AllByRecursion (λ past. past.kept ≡ request_in past.request s.requests) moved
+
+-- there is room for each of them in a group of open requests and in one of each pool
+abbrev pub HasRoom : Configuration → List Past → OpenOf → Type 0
+HasRoom c moved kept = length moved * (length c.pools + 1) ≤ kept.room
+
+-- which jobs are over
+
+-- the job exists and is over
+abbrev pub has_ended : State → JobId → Bool
+has_ended s j = option_map_or (λ kept. is_over kept.phase) (slice_get s.jobs j.0) false
+
+-- which queues a change joins and leaves
 
 -- the maker's session at the row
 abbrev pub by : {I : Type 0} → Option Maker → I → Option (Wait I)

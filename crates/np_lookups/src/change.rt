@@ -1,11 +1,9 @@
 //! What the changes of an event make of the lookups.
 
 ghost use Rattle.std.specs.Prelude.{◌≡◌, IfOk, OnErr, OnOk};
-ghost use Rattle.np_changes.specs.Prelude.{Configuration, Fits, IsPlanned, IsReached, SessionId, State};
+ghost use Rattle.np_lookups.specs.Lower.{Configuration, Fits, IsPlanned, IsReached, SessionId, State};
 ghost use Rattle.np_changes.specs.declared.changes.SessionsChange.TheVariants as sessions;
-ghost use Rattle.np_lookups.specs.Changed.{lookups_grown, lookups_settled, lookups_taken_back};
-ghost use Rattle.np_lookups.specs.Lookups.{AreLookupsOf};
-ghost use Rattle.np_lookups.specs.Prepared.{IsPrepared, lookups_made, lookups_unmade};
+ghost use Rattle.np_lookups.specs.Lookups.{lookups_grown, lookups_settled, lookups_taken_back, AreLookupsOf, IsPrepared, lookups_made, lookups_unmade};
 
 use crate::lookups::Lookups;
 use crate::owners::{grow_owners, settle_owners, take_back_owner};
@@ -31,7 +29,7 @@ pub struct Prepared {
 }
 
 impl Model for Prepared {
-    ghost use Rattle.np_lookups.specs.Prepared.{PreparedOf};
+    ghost use Rattle.np_lookups.specs.Lookups.{PreparedOf};
 
     ghost Value = { PreparedOf };
 

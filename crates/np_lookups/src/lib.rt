@@ -23,8 +23,8 @@
 //! nothing in common: they are pinned, or without a job, or their tenant has no limit, or their labels
 //! are not those of their job.
 //!
-//! `specs/Lines` says in which line a record is, by a list of jobs that are alike. Nothing is
-//! assumed of that list, since a request is compared with the job that it names. `specs/Open` says
+//! `specs/Open` says in which line a record is, by a list of jobs that are alike. Nothing is
+//! assumed of that list, since a request is compared with the job that it names. It says
 //! which groups a record is in, and when the members of all groups are those of a state. The closed
 //! requests of a line are a part of it, in the same order, so `open_from` finds where a run of them
 //! ends by counts. `Open` keeps the groups as each event changes the state: `prepare` lists the

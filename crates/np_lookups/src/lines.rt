@@ -1,9 +1,8 @@
 //! In which line a request waits, by its record and the job that its job is like.
 
 ghost use Rattle.std.specs.Prelude.{◌≡◌, false};
-ghost use Rattle.np_changes.specs.Prelude.{is_tenant, limit_of_tenant, option_map_or};
-ghost use Rattle.np_look.specs.Readers.{has_limit};
-ghost use Rattle.np_lookups.specs.Lines.{is_like, is_of_line, line_of, same_labels};
+ghost use Rattle.np_lookups.specs.Lower.{has_limit, is_tenant, limit_of_tenant, option_map_or};
+ghost use Rattle.np_lookups.specs.Open.{is_like, is_of_line, line_of, same_labels};
 
 use np_config::{Config, Job};
 use np_look::tenant_of_job;
@@ -15,22 +14,15 @@ use std::alloc::{AllocError, Global};
 fn is_tenant(tenant: TenantId, found: Option<TenantId>) -> bool
     ensures { result ≡ is_tenant tenant found }
 {
-    match found {
-        None => false,
-        Some(other) => other.0 == tenant.0,
-    }
+    matches!(found, Some(other) if other.0 == tenant.0)
 }
 
 /// Whether at least one part of what the tenant may use is limited.
 fn has_limit(config: &Config, tenant: TenantId) -> bool
     ensures { result ≡ has_limit (limit_of_tenant config.now tenant) }
 {
-    match config.tenant(tenant) {
-        None => false,
-        Some(row) => {
-            row.limit.instances.is_some() || row.limit.cores.is_some() || row.limit.ram.is_some()
-        }
-    }
+    matches!(config.tenant(tenant), Some(row)
+        if row.limit.instances.is_some() || row.limit.cores.is_some() || row.limit.ram.is_some())
 }
 
 /// Whether the labels are the same, in the same order. It compares at most 32.
@@ -57,10 +49,7 @@ fn is_of_line(config: &Config, kept: &RequestRecord, job: JobId) -> bool
     if kept.pinned.is_some() {
         return false;
     }
-    match config.job(job) {
-        None => false,
-        Some(row) => is_like(config, kept, row),
-    }
+    matches!(config.job(job), Some(row) if is_like(config, kept, row))
 }
 
 /// The line of a request with this record. Four lookups, and the labels are compared.

@@ -1,8 +1,8 @@
 //! Lists of ids by place: at each place a table.
 
 ghost use Rattle.std.specs.Prelude.{◌≡◌, ◌++◌, ◌∷◌, [], true, IfOk, OnErr, OnOk};
-ghost use Rattle.np_changes.specs.Prelude.{AllByRecursion, change_at};
-ghost use Rattle.np_lookups.specs.Lists.{list_at, taken_back, with_id, without_id};
+ghost use Rattle.np_lookups.specs.Lower.{AllByRecursion, change_at};
+ghost use Rattle.np_lookups.specs.Lookups.{list_at, taken_back, with_id, without_id};
 
 use np_lists::{KeyTable, Order};
 use std::alloc::{AllocError, Global};

@@ -1,8 +1,7 @@
 //! The lookups of a state.
 
 ghost use Rattle.std.specs.Prelude.{◌≡◌, IfOk, OnOk, length};
-ghost use Rattle.np_changes.specs.Prelude.{Configuration, Fits, IsReached, State, owner_of};
-ghost use Rattle.np_look.specs.Readers.{queued_nodes, queued_requests, unfinished_of};
+ghost use Rattle.np_lookups.specs.Lower.{Configuration, Fits, IsReached, State, owner_of, queued_nodes, queued_requests, unfinished_of};
 ghost use Rattle.np_lookups.specs.Lookups.{AreNodesOf, AreRequestsOf, HasRoom, AreLookupsOf};
 
 use crate::lists::list_of;

@@ -2,9 +2,9 @@
 //! stays is left where it is.
 
 ghost use Rattle.std.specs.Prelude.{◌≡◌, ◌<◌, ◌≤◌, ◌+◌, ◌*◌, Bool, length};
-ghost use Rattle.np_lists.specs.declared.groups.Group.{Group};
+ghost use Rattle.np_lookups.specs.Lower.{Group};
 ghost use Rattle.np_lookups.specs.declared.ranks.Rank.{Rank};
-ghost use Rattle.np_lookups.specs.Lines.{line_of};
+ghost use Rattle.np_lookups.specs.Open.{line_of};
 ghost use Rattle.np_lookups.specs.Moves.{AreAsKept, AreBy, IsEither, is_found_closed, is_found_open, passes_moved, passes_with, same_members, with_moved, with_one, without_one};
 
 use crate::group::{closed_member, open_member, pools_of};
@@ -71,23 +71,16 @@ fn move_one(groups: &mut Groups<ByRank>, was: Option<Member<Rank>>, now: Option<
 fn is_open(kept: &Option<RequestRecord>) -> bool
     ensures { result ≡ is_found_open kept.now }
 {
-    match kept {
-        None => false,
-        Some(kept) => kept.state == RequestState::Requested,
-    }
+    matches!(kept, Some(kept) if kept.state == RequestState::Requested)
 }
 
 /// Whether a pool declined it as well, or it is pinned, so that it may be closed to a pool.
 fn is_closed(kept: &Option<RequestRecord>) -> bool
     ensures { result ≡ is_found_closed kept.now }
 {
-    match kept {
-        None => false,
-        Some(kept) => {
-            kept.state == RequestState::Requested
-                && (kept.pinned.is_some() || kept.declined.len() != 0)
-        }
-    }
+    matches!(kept, Some(kept)
+        if kept.state == RequestState::Requested
+            && (kept.pinned.is_some() || kept.declined.len() != 0))
 }
 
 /// Moves a request from the groups that it is in by the one record to those that it is in by the

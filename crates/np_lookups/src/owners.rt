@@ -1,9 +1,8 @@
 //! For each node, by its number, the job that has it.
 
 ghost use Rattle.std.specs.Prelude.{◌≡◌, IfOk, OnErr, OnOk};
-ghost use Rattle.np_changes.specs.Planned.{IsReached};
-ghost use Rattle.np_lookups.specs.Changed.{owners_changed, owners_grown, owners_taken_back};
-ghost use Rattle.np_lookups.specs.Lookups.{AreOwners};
+ghost use Rattle.np_lookups.specs.Lower.{IsReached};
+ghost use Rattle.np_lookups.specs.Lookups.{owners_changed, owners_grown, owners_taken_back, AreOwners};
 
 use np_changes::{Growth, JobsChange};
 use np_look::{Look, Rows, Scan};

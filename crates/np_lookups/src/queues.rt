@@ -1,8 +1,8 @@
 //! For each session, by its number, the rows in whose queues it is.
 
 ghost use Rattle.std.specs.Prelude.{◌≡◌, IfOk, OnErr, OnOk};
-ghost use Rattle.np_changes.specs.Fits.{Fits};
-ghost use Rattle.np_lookups.specs.Changed.{lists_ended, lists_joined, lists_left, lists_removed, lists_taken_back, lists_without, holder_at, queue_at};
+ghost use Rattle.np_lookups.specs.Lower.{Fits};
+ghost use Rattle.np_lookups.specs.Lookups.{lists_ended, lists_joined, lists_left, lists_removed, lists_taken_back, lists_without, holder_at, queue_at};
 
 use crate::lists::{add_at, clear_at, remove_at, take_back_at};
 use crate::waits::Wait;

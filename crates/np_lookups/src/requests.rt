@@ -2,13 +2,10 @@
 //! them.
 
 ghost use Rattle.std.specs.Prelude.{◌≡◌, ◌+◌, ◌*◌, Bool, IfOk, IfSome, None, OnOk, Some, length, map, not, slice_get};
-ghost use Rattle.np_changes.specs.Prelude.{Configuration, IsReached, State, changed, count_by};
-ghost use Rattle.np_changes.specs.declared.changes.Changes.{Changes};
-ghost use Rattle.np_lists.specs.declared.groups.Group.{Group};
+ghost use Rattle.np_lookups.specs.Lower.{Changes, Configuration, Group, IsReached, State, changed, count_by};
 ghost use Rattle.np_lookups.specs.declared.ranks.Rank.{Rank};
-ghost use Rattle.np_lookups.specs.Lines.{line_of};
-ghost use Rattle.np_lookups.specs.Open.{AreOpen, IsOpenFrom, first_line, line_after, rank_is_in, ranks_of};
-ghost use Rattle.np_lookups.specs.Pasts.{AreListed, HasRoom, IsPrepared, past_of};
+ghost use Rattle.np_lookups.specs.Open.{line_of, AreOpen, IsOpenFrom, first_line, line_after, rank_is_in, ranks_of};
+ghost use Rattle.np_lookups.specs.Waits.{AreListed, HasRoom, IsPrepared, past_of};
 ghost use Rattle.np_lookups.specs.Moves.{AreBy, IsEither, passes_with};
 ghost use Rattle.np_lookups.specs.Ranks.{is_rank_before};
 

@@ -1,8 +1,7 @@
 //! Where runs of closed requests end, by counts.
 
 ghost use Rattle.std.specs.Prelude.{◌≡◌, ◌==◌, ◌<◌, ◌+◌, ◌-◌, length};
-ghost use Rattle.np_lookups.specs.Open.{ranks_of};
-ghost use Rattle.np_lookups.specs.Runs.{IsRunEnd, count_before, is_run};
+ghost use Rattle.np_lookups.specs.Open.{ranks_of, IsRunEnd, count_before, is_run};
 
 use crate::group::open_group;
 use crate::ranks::ByRank;

@@ -1,10 +1,9 @@
 //! The jobs of each requester that are not over.
 
 ghost use Rattle.std.specs.Prelude.{◌≡◌, ◌≤◌, [], List, length, replicate, IfOk};
-ghost use Rattle.np_text.specs.declared.id.JobId.{JobId};
-ghost use Rattle.np_lookups.specs.Changed.{unfinished_changed};
-ghost use Rattle.np_lookups.specs.Lookups.{AreUnfinished};
-ghost use Rattle.np_lookups.specs.Unfinished.{has_ended};
+ghost use Rattle.np_lookups.specs.Lower.{JobId};
+ghost use Rattle.np_lookups.specs.Lookups.{unfinished_changed, AreUnfinished};
+ghost use Rattle.np_lookups.specs.Waits.{has_ended};
 
 use crate::lists::{push_at, remove_at};
 use np_changes::JobsChange;
@@ -17,10 +16,7 @@ use std::alloc::{AllocError, Global};
 fn has_ended<R: Rows>(rows: &R, job: JobId) -> bool
     ensures { result ≡ has_ended (R.state rows.now) job }
 {
-    match rows.job(job) {
-        None => false,
-        Some(kept) => kept.phase == Phase::Over,
-    }
+    matches!(rows.job(job), Some(kept) if kept.phase == Phase::Over)
 }
 
 /// A table for each requester, with no job.

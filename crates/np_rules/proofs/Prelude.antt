@@ -8,9 +8,7 @@ pub use Rattle.np_decision.specs.declared.verdict.Verdict.{Verdict}
 pub use Rattle.np_lists.proofs.Changes.{length-filter_at_most}
 pub use Rattle.np_look.specs.Readers.{pending_requests}
 pub use Rattle.np_lookups.proofs.QueueLemmas.{few-nodes, few-requests}
-pub use Rattle.np_rules.specs.Ran.{Ran, answer_of, applied}
-pub use Rattle.np_rules.specs.Running.{Running, ran_of}
-pub use Rattle.np_rules.specs.RunsOn.{RunsOn, answer_after, applied_after, has_room_after}
+pub use Rattle.np_rules.specs.Running.{Ran, answer_of, applied, Running, ran_of, RunsOn, answer_after, applied_after, has_room_after}
 pub use Rattle.std.proofs.Common.{List, Result, ap, append-nil, arith, length, refl, subst, sym, true, ℕ, [], ◌++◌, ◌+◌, ◌<◌, ◌∙◌, ◌∷◌, ◌≡◌, ◌≤◌}
 pub use Rattle.std.proofs.lemmas.Bool.Decides.{nat_tests}
 pub use Rattle.std.proofs.lemmas.List.{append_assoc, length-append, length-map}

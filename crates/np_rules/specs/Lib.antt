@@ -1,3 +1,1 @@
-pub mod Ran
-pub mod RunsOn
 pub mod Running

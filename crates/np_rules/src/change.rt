@@ -6,8 +6,8 @@ ghost use Rattle.np_decision.specs.Verdicts.{answer_of};
 ghost use Rattle.np_index.specs.Index.{IsIndexOf};
 
 use np_changes::Changes;
-use np_decision::Verdict;
-use np_event::{Event, Refusal, Reply};
+use np_decision::Ruling;
+use np_event::{Event, Reply};
 use np_index::{Index, ending};
 use np_look::Store;
 use np_tables::Tables;
@@ -66,7 +66,7 @@ pub(crate) fn step<S: Store>(
     index: &mut Index,
     store: &mut S,
     event: Event,
-    decided: Result<Verdict, Refusal>,
+    decided: Ruling,
 ) -> Result<Reply, AllocError>
     requires reached { IsReached tables.old.configuration tables.old.state }
     requires fits { Fits tables.old.configuration tables.old.state }

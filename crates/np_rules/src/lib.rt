@@ -6,7 +6,7 @@
 //! written to a store before the tables take it: `replay` and `audit` play the machine over no
 //! store (`Plain`), and the board (np_board) over a coordination tree. A machine begins before the
 //! first event, or goes on from tables in a state that a run reached (`Machine::of_tables`): it then
-//! knows how many entries led there and keeps those that follow (`specs/RunsOn`).
+//! knows how many entries led there and keeps those that follow (`specs/Running`).
 //!
 //! An event goes so. `decide` reads tables and index, and answers a refusal or what changes. Then
 //! index, tables and journal take all memory that the change needs; then the store writes; up to

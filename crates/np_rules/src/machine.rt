@@ -2,8 +2,7 @@
 
 ghost use Rattle.std.specs.Prelude.{◌≡◌, [], IfErr, IfOk, OnErr, OnOk};
 ghost use Rattle.np_changes.specs.Prelude.{IsFitSite, start};
-ghost use Rattle.np_rules.specs.Running.{ran_of};
-ghost use Rattle.np_rules.specs.RunsOn.{RunsOn, answer_after, applied_after, has_room_after};
+ghost use Rattle.np_rules.specs.Running.{ran_of, RunsOn, answer_after, applied_after, has_room_after};
 
 mod look;
 

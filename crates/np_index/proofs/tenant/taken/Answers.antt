@@ -12,19 +12,13 @@ taken_in-requires-clause-tenants g c =
     walked-class (g.R.Rows.site c.args.rows.now) (g.R.Rows.state c.args.rows.now) c.args.tenant c.loop-next.next c.in-Some.group c.loop-next.sum c.in-Some.is c.loop-next.invariant
 
 pub plus-sum-requires-clause-instances : goal.plus-sum-requires-clause-instances
-plus-sum-requires-clause-instances g c =
-    let few = walked-few (g.R.Rows.site c.args.rows.now) (g.R.Rows.state c.args.rows.now) c.args.tenant c.requires.fits c.loop-next.next c.loop-next.sum c.loop-next.invariant in
-    omega (arith, few.instances, c.taken_in.ensures.few.instances)
+plus-sum-requires-clause-instances g c = omega (arith, (walked-few _ _ _ c.requires.fits _ _ c.loop-next.invariant).instances, c.taken_in.ensures.few.instances)
 
 pub plus-sum-requires-clause-cores : goal.plus-sum-requires-clause-cores
-plus-sum-requires-clause-cores g c =
-    let few = walked-few (g.R.Rows.site c.args.rows.now) (g.R.Rows.state c.args.rows.now) c.args.tenant c.requires.fits c.loop-next.next c.loop-next.sum c.loop-next.invariant in
-    omega (arith, few.cores, c.taken_in.ensures.few.cores)
+plus-sum-requires-clause-cores g c = omega (arith, (walked-few _ _ _ c.requires.fits _ _ c.loop-next.invariant).cores, c.taken_in.ensures.few.cores)
 
 pub plus-sum-requires-clause-ram : goal.plus-sum-requires-clause-ram
-plus-sum-requires-clause-ram g c =
-    let few = walked-few (g.R.Rows.site c.args.rows.now) (g.R.Rows.state c.args.rows.now) c.args.tenant c.requires.fits c.loop-next.next c.loop-next.sum c.loop-next.invariant in
-    omega (arith, few.ram, c.taken_in.ensures.few.ram)
+plus-sum-requires-clause-ram g c = omega (arith, (walked-few _ _ _ c.requires.fits _ _ c.loop-next.invariant).ram, c.taken_in.ensures.few.ram)
 
 pub loop-next-smaller : goal.loop-next-smaller
 loop-next-smaller g c =

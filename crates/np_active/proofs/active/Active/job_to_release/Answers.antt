@@ -3,5 +3,4 @@ use Rattle.np_active.proofs.KindLemmas.{job-at}
 use Rattle.np_active.proofs.active.Active.job_to_release.Goals as goal
 
 pub returns : goal.returns
-returns c site state are =
-    c.at.ensures ∙ job-at site state c.args.self.now are (releasing_ones c.args.requester) c.releasing_group.result c.releasing_group.ensures _ (ap (λ (x : _). x.jobs) c.self.view_is) c.args.at
+returns c site state are = c.at.ensures ∙ job-at site state _ are (releasing_ones c.args.requester) _ c.releasing_group.ensures _ (ap (λ (x : _). x.jobs) c.self.view_is) c.args.at

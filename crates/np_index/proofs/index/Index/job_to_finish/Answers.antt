@@ -1,5 +1,0 @@
-use Rattle.np_index.proofs.Prelude.{AreActive, subst, sym}
-use Rattle.np_index.proofs.index.Index.job_to_finish.Goals as goal
-
-pub returns : goal.returns
-returns c config s is = c.job_to_finish.ensures config s (subst (λ index. AreActive config s index.active) (sym c.self.view_is) is.active)
