@@ -1,5 +1,5 @@
 -- what a turn at a board leaves: its entries, outstanding plans, due nodes and watches
-use Rattle.np_board.proofs.Prelude.{AllByRecursion, AreFreshPaths, AreOfSpots, Ask, Bool, Configuration, Done, Entry, Err, Event, FreshAreAccepted, FreshCommits, HasNoNews, Holds, IfOk, IsAsBefore, IsCommitted, IsDue, IsKept, IsLater, IsMayDo, IsNewPlan, IsNews, IsNotKept, IsOutstanding, IsPlanTaken, IsPlanning, IsReplied, IsStored, IsTaken, IsUseful, Janitor, Launcher, List, MatchResult, NoMemory, NodeId, NodeRecord, None, Ok, OnErr, Option, Outstanding, PlanAsk, PlanTurn, Planning, PoolId, Ran, Refusal, Reply, Result, Role, Runs, SessionId, Since, Some, Spot, SpotsHaveParents, SpotsHavePaths, StaleHasParent, StandsIn, State, TakenNews, TreeState, Turn, WasUseful, Watch, after, all-find, all-remove_first, and_from, and_parts, answer_of, answers, answers_act, answers_do, answers_due, answers_sweep, ap, append-nil, applied, arith, change_at, current-has, dite, entries_of, equal-itself, equal-numbers, false, find, fired_spot, get_or_from_slice_get, has_current, has_key, has_room, holder-queued, holder-waits, if◌then◌else◌, insert_before, is_current, is_deleting, is_due, is_fired, is_legal, is_ok, is_planned, is_session_of, is_some, is_swept, is_watched, judge, key_before, later-joined, later-than-itself, legal-next, length, length-append, length-change_at, length-replicate, list_any, map, nat_lt, nat_tests, node_holder, node_in, node_queue, not, one-current, option_and_then, option_map, option_map_or, path_at, paths_at, plan_answers, plan_in, plan_of, plan_recorded, queued-node, queued_nodes, recorded, refl, remove_first, remove_first-absent, replicate, reply_of, slice_get, slice_get-change_at, slice_get-change_at_other, spots_of, subst, suc, sym, take, take-append-le, take-length, take_more, told_by, true, turn-replied, watch_of, watches_from, watches_of, with_plan, with_watch, zero, ℕ, ℕ_discrete, [], ◌&&◌, ◌++◌, ◌+◌, ◌<◌, ◌==◌, ◌∙◌, ◌∷◌, ◌≡◌, ◌≤◌}
+use Rattle.np_board.proofs.Prelude.{AllByRecursion, AreFreshPaths, AreOfSpots, Ask, Bool, Configuration, Entry, Err, Event, FreshAreAccepted, FreshCommits, HasNoNews, Holds, IfOk, IsAsBefore, IsCommitted, IsDue, IsKept, IsLater, IsMayDo, IsNewPlan, IsNotKept, IsOutstanding, IsPlanTaken, IsPlanning, IsReplied, IsStored, IsTaken, IsUseful, Janitor, Launcher, List, MatchResult, NoMemory, NodeId, NodeRecord, None, Ok, OnErr, Option, Outstanding, PlanAsk, PlanTurn, Planning, PoolId, Ran, Reply, Result, Role, Runs, RunsOn-reached, SessionId, Since, Some, Spot, SpotsHaveParents, SpotsHavePaths, StaleHasParent, StandsIn, State, TakenNews, TreeState, Turn, Watch, after, all-find, all-remove_first, and_from, and_parts, answer_of, answers, answers_act, answers_do, answers_due, answers_sweep, ap, append-nil, applied, arith, change_at, change_at-twice, current-has, dite, entries_of, equal-itself, equal-numbers, false, false_from_ne_true, find, fired_spot, from-map_some, get_or_from_slice_get, has_current, has_key, has_room, holder-queued, holder-waits, if◌then◌else◌, insert_before, is_current, is_deleting, is_due, is_fired, is_legal, is_ok, is_session_of, is_some, is_swept, is_watched, judge, key_before, later-joined, later-than-itself, legal-next, length, length-append, length-change_at, length-map, length-replicate, length-take-le, list_any, member-there, nat_lt, nat_tests, node_holder, node_in, node_queue, not, ok-is, one-current, option_and_then, option_map_or, path_at, paths_at, plan_answers, plan_in, plan_of, plan_recorded, queued-node, queued_nodes, recorded, refl, remove_first, remove_first-absent, replicate, reply_of, rules, slice_get, slice_get-change_at, slice_get-change_at_other, spots_of, subst, suc, sym, take, take-append-le, take-length, take_more, told_by, true, turn-replied, watch_of, watches_from, watches_of, with_plan, with_watch, zero, ℕ, ℕ_discrete, [], ◌&&◌, ◌++◌, ◌+◌, ◌<◌, ◌==◌, ◌∙◌, ◌∷◌, ◌≡◌, ◌≤◌}
 use Rattle.np_board.specs.Outstanding.{ran_of}
 
 -- # outstanding plans, from turn to turn
@@ -7,86 +7,47 @@ use Rattle.np_board.specs.Outstanding.{ran_of}
 -- ## lists
 
 pub is-some-within : {X : Type 0} (xs : List X) (i : ℕ) → i < length xs → is_some (slice_get xs i) ≡ true
-is-some-within [] i within = absurd (omega arith)
-is-some-within (x ∷ xs) zero within = refl
-is-some-within (x ∷ xs) (suc i) within = is-some-within xs i (omega arith)
+is-some-within xs i within = let x = member-there xs i within in rw x.1 refl
 
 -- ## the plan of a pool
 
-in-plan : (o : Option (Option Outstanding)) (x : Outstanding) → plan_in o ≡ Some x → o ≡ Some (Some x)
-in-plan (Some (Some y)) x is = let same : y ≡ x = cc in ap (λ (z : Outstanding). Some (Some z)) same
-in-plan other x is = absurd cc
-
 pub plan-there : (p : PoolId) (plans : List (Option Outstanding)) (x : Outstanding) → plan_of p plans ≡ Some x → slice_get plans p.0 ≡ Some (Some x)
-plan-there p plans x is = in-plan (slice_get plans p.0) x is
+plan-there p plans x is = grind arith
 
--- a pool with no plan has none put out
-none-put : (i : ℕ) (plans : List (Option Outstanding)) → plan_in (slice_get plans i) ≡ None → change_at i (λ _. None) plans ≡ plans
-none-put i [] none = refl
-none-put zero (None ∷ plans) none = refl
-none-put zero (Some x ∷ plans) none = absurd cc
-none-put (suc i) (o ∷ plans) none = ap (λ (rest : List (Option Outstanding)). o ∷ rest) (none-put i plans none)
+same-put : (i : ℕ) (o : Option Outstanding) (plans : List (Option Outstanding)) → plan_in (slice_get plans i) ≡ o → change_at i (λ _. o) plans ≡ plans
+same-put i o [] there = refl
+same-put zero o (x ∷ plans) there = ap (λ (y : Option Outstanding). y ∷ plans) (sym there)
+same-put (suc i) o (x ∷ plans) there = ap (λ (rest : List (Option Outstanding)). x ∷ rest) (same-put i o plans there)
 
-pub with-none : (p : PoolId) (plans : List (Option Outstanding)) → plan_of p plans ≡ None → with_plan p None plans ≡ plans
-with-none p plans none = none-put p.0 plans none
-
-twice : (i : ℕ) (a b : Option Outstanding) (plans : List (Option Outstanding)) → change_at i (λ _. b) (change_at i (λ _. a) plans) ≡ change_at i (λ _. b) plans
-twice i a b [] = refl
-twice zero a b (o ∷ plans) = refl
-twice (suc i) a b (o ∷ plans) = ap (λ (rest : List (Option Outstanding)). o ∷ rest) (twice i a b plans)
+-- a pool's own plan, or none, put in its place
+pub with-same : (p : PoolId) (o : Option Outstanding) (plans : List (Option Outstanding)) → plan_of p plans ≡ o → with_plan p o plans ≡ plans
+with-same p o plans is = same-put p.0 o plans is
 
 -- a plan that is put in place of another
 pub with-twice : (p : PoolId) (a b : Option Outstanding) (plans : List (Option Outstanding)) → with_plan p b (with_plan p a plans) ≡ with_plan p b plans
-with-twice p a b plans = twice p.0 a b plans
-
-same-put : (i : ℕ) (x : Outstanding) (plans : List (Option Outstanding)) → slice_get plans i ≡ Some (Some x) → change_at i (λ _. Some x) plans ≡ plans
-same-put i x [] there = refl
-same-put zero x (o ∷ plans) there = let same : o ≡ Some x = cc in ap (λ (y : Option Outstanding). y ∷ plans) (sym same)
-same-put (suc i) x (o ∷ plans) there = ap (λ (rest : List (Option Outstanding)). o ∷ rest) (same-put i x plans there)
-
--- a plan that is put back
-pub with-same : (p : PoolId) (x : Outstanding) (plans : List (Option Outstanding)) → plan_of p plans ≡ Some x → with_plan p (Some x) (with_plan p None plans) ≡ plans
-with-same p x plans is = with-twice p None (Some x) plans ∙ same-put p.0 x plans (plan-there p plans x is)
+with-twice p a b plans = change_at-twice p.0 (λ (_ : Option Outstanding). b) (λ (_ : Option Outstanding). a) plans
 
 -- ## a plan, later
 
-module _ (c : Configuration) (p : ℕ) (x : Outstanding) where
-  pub outstanding-later : (journal es : List Entry) (t u : TreeState) → IsLater t u → IsOutstanding c journal t p x → IsOutstanding c (journal ++ es) u p x
-  outstanding-later journal es t u later old = record {
-    pool = old.pool;
-    place = old.place;
-    within = omega (arith, length-append {A = Entry} journal es, old.within);
-    before = old.before;
-    runs = subst (λ (j : List Entry). Runs c j old.before) (sym (take-append-le old.place journal es old.within)) old.runs;
-    peeked = old.peeked;
-    stored = old.stored;
-    at = old.at;
-    later = later-joined old.peeked t u old.later later;
-    useful = old.useful;
-    planned = old.planned;
-    spots = old.spots;
-    paths = old.paths;
-    watches = old.watches;
-  }
-
-  -- with one watch less
-  pub outstanding-less : (journal : List Entry) (t : TreeState) (fires : Watch → Bool) → IsOutstanding c journal t p x → IsOutstanding c journal t p (record x { watches = remove_first fires x.watches })
-  outstanding-less journal t fires old = record {
-    pool = old.pool;
-    place = old.place;
-    within = old.within;
-    before = old.before;
-    runs = old.runs;
-    peeked = old.peeked;
-    stored = old.stored;
-    at = old.at;
-    later = old.later;
-    useful = old.useful;
-    planned = old.planned;
-    spots = old.spots;
-    paths = old.paths;
-    watches = all-remove_first (λ (w : Watch). is_some (slice_get x.plan.spots w.key) ≡ true) fires x.watches old.watches;
-  }
+-- over a longer journal and a later tree, with all watches or fewer
+outstanding-on : (c : Configuration) (journal longer : List Entry) (t u : TreeState) (p : ℕ) (x : Outstanding) (ws : List Watch) → length journal ≤ length longer → ((k : ℕ) → k ≤ length journal → take k longer ≡ take k journal) → IsLater t u → (AreOfSpots x → AreOfSpots (record x { watches = ws })) →
+    IsOutstanding c journal t p x → IsOutstanding c longer u p (record x { watches = ws })
+outstanding-on c journal longer t u p x ws more same later fewer old = record {
+  pool = old.pool;
+  place = old.place;
+  within = omega (arith, more, old.within);
+  before = old.before;
+  runs = subst (λ (j : List Entry). Runs c j old.before) (sym (same old.place old.within)) old.runs;
+  peeked = old.peeked;
+  stored = old.stored;
+  at = old.at;
+  later = later-joined old.peeked t u old.later later;
+  useful = old.useful;
+  planned = old.planned;
+  spots = old.spots;
+  paths = old.paths;
+  watches = fewer old.watches;
+}
 
 -- ## a new plan
 
@@ -94,16 +55,12 @@ all-of-spots : (spots : List Spot) (z k : ℕ) (paths : List (List ℕ)) → k +
 all-of-spots spots z k [] few = tt
 all-of-spots spots z k (path ∷ paths) few = (is-some-within spots k (omega arith), all-of-spots spots z (suc k) paths (omega arith))
 
-length-map : (spots : List Spot) → length (map path_at spots) ≡ length spots
-length-map [] = refl
-length-map (spot ∷ spots) = ap suc (length-map spots)
-
 pub stored-of : (c : Configuration) (s : State) (t : TreeState) → Holds c s t → IsStored c s t
 stored-of c s t holds = subst (λ (u : State). IsStored c u t) holds.state holds.held.stored
 
 pub new-outstanding : (c : Configuration) (journal : List Entry) (s : State) (t : TreeState) (p : PoolId) (x : Outstanding) → Runs c journal s → Holds c s t → IsNewPlan c s t p x → IsOutstanding c journal t p.0 x
 new-outstanding c journal s t p x runs holds new =
-    let watches : AreOfSpots x = rw (new.watches, new.paths) (all-of-spots x.plan.spots x.plan.at 0 (paths_at x.plan.spots) (omega (arith, length-map x.plan.spots))) in
+    let watches : AreOfSpots x = rw (new.watches, new.paths) (all-of-spots x.plan.spots x.plan.at 0 (paths_at x.plan.spots) (omega (arith, length-map path_at x.plan.spots))) in
     record {
       pool = ap (λ (q : PoolId). q.0) new.pool;
       place = length journal;
@@ -128,7 +85,7 @@ pub planning-later : (m n : Planning) (es : List Entry) → IsPlanning m → n.c
 planning-later m n es planning configuration journal later plans commits = record {
   plans = λ p x there.
       let was : slice_get m.plans p ≡ Some (Some x) = subst (λ (ps : List (Option Outstanding)). slice_get ps p ≡ Some (Some x)) plans there in
-      let after : IsOutstanding m.configuration (m.journal ++ es) n.tree p x = outstanding-later m.configuration p x m.journal es m.tree n.tree later (planning.plans p x was) in
+      let after : IsOutstanding m.configuration (m.journal ++ es) n.tree p x = outstanding-on m.configuration m.journal (m.journal ++ es) m.tree n.tree p x x.watches (omega (arith, length-append {A = Entry} m.journal es)) (λ k within. take-append-le k m.journal es within) later (λ of. of) (planning.plans p x was) in
       rw (configuration, journal) after;
   room = rw (plans, configuration) planning.room;
   commits = rw (commits, journal) (omega (arith, planning.commits, length-append {A = Entry} m.journal es));
@@ -141,43 +98,42 @@ planning-with m p o planning new = record {
   room = length-change_at p.0 (λ (_ : Option Outstanding). o) m.plans ∙ planning.room;
   commits = planning.commits;
 } where
-  here : (w : Option (Option Outstanding)) (x : Outstanding) → option_map (λ (_ : Option Outstanding). o) w ≡ Some (Some x) → o ≡ Some x
-  here None x is = absurd cc
-  here (Some y) x is = cc
-
   each : (q : ℕ) (x : Outstanding) → slice_get (with_plan p o m.plans) q ≡ Some (Some x) → IsOutstanding m.configuration m.journal m.tree q x
   each q x there = dite (ℕ_discrete q p.0)
-      (λ same. subst (λ (k : ℕ). IsOutstanding m.configuration m.journal m.tree k x) (sym same) (new x (here (slice_get m.plans p.0) x (sym (slice_get-change_at p.0 (λ (_ : Option Outstanding). o) m.plans) ∙ subst (λ (k : ℕ). slice_get (with_plan p o m.plans) k ≡ Some (Some x)) same there))))
+      (λ same. subst (λ (k : ℕ). IsOutstanding m.configuration m.journal m.tree k x) (sym same) (new x (from-map_some (λ (_ : Option Outstanding). o) (slice_get m.plans p.0) (Some x) (sym (slice_get-change_at p.0 (λ (_ : Option Outstanding). o) m.plans) ∙ subst (λ (k : ℕ). slice_get (with_plan p o m.plans) k ≡ Some (Some x)) same there)).2))
       (λ other. planning.plans q x (sym (slice_get-change_at_other p.0 q (λ (_ : Option Outstanding). o) m.plans other) ∙ there))
 
 -- ## what a plan says now
 
-module _ (c : Configuration) (journal : List Entry) (s : State) (t : TreeState) (p : ℕ) (x : Outstanding) (runs : Runs c journal s) (holds : Holds c s t) (out : IsOutstanding c journal t p x) where
-  since-plan : Since x.plan.at out.peeked t
-  since-plan = out.later.since x.plan.at (omega (arith, out.at))
+module _ (m : Planning) (p : PoolId) (x : Outstanding) (planning : IsPlanning m) (there : plan_of p m.plans ≡ Some x) where
+  pub plan-out : IsOutstanding m.configuration m.journal m.tree p.0 x
+  plan-out = planning.plans p.0 x (plan-there p m.plans x there)
 
   -- its paths are those of its event
-  same-paths : x.paths ≡ paths_at (spots_of out.before x.plan.event)
-  same-paths = out.paths ∙ ap paths_at out.spots
+  same-paths : x.paths ≡ paths_at (spots_of plan-out.before x.plan.event)
+  same-paths = plan-out.paths ∙ ap paths_at plan-out.spots
 
-  pub accepted-now : FreshCommits → AreFreshPaths x.plan.at t x.paths → is_ok (judge c s x.plan.event) ≡ true
-  accepted-now law fresh =
-      law c journal out.before s out.peeked t x.plan.at x.plan.event runs out.stored (stored-of c s t holds) since-plan
-      (subst (λ (paths : List (List ℕ)). AreFreshPaths x.plan.at t paths) same-paths fresh) out.planned out.useful.accepted
+  pub plan-few : SpotsHavePaths → length x.paths ≤ 68
+  plan-few law =
+      let have = law m.configuration (take plan-out.place m.journal) plan-out.before plan-out.peeked x.plan.event plan-out.runs plan-out.stored plan-out.planned plan-out.useful.accepted in
+      rw same-paths (omega (arith, have.few, length-map path_at (spots_of plan-out.before x.plan.event)))
 
-  pub few-now : SpotsHavePaths → length x.paths ≤ 68
-  few-now law =
-      let have = law c (take out.place journal) out.before out.peeked x.plan.event out.runs out.stored out.planned out.useful.accepted in
-      rw same-paths (omega (arith, have.few, length-map (spots_of out.before x.plan.event)))
+  module _ (runs : Runs m.configuration m.journal m.state) (holds : Holds m.configuration m.state m.tree) where
+    since-plan : Since x.plan.at plan-out.peeked m.tree
+    since-plan = plan-out.later.since x.plan.at (omega (arith, plan-out.at))
 
-  pub parent-now : SpotsHaveParents → StaleHasParent t x.plan.at x.paths
-  parent-now law =
-      rw same-paths (law c (take out.place journal) out.before s out.peeked t x.plan.at x.plan.event out.runs out.stored (stored-of c s t holds) since-plan out.planned out.useful.accepted)
+    pub plan-accepted : FreshCommits → AreFreshPaths x.plan.at m.tree x.paths → is_ok (judge m.configuration m.state x.plan.event) ≡ true
+    plan-accepted law fresh =
+        law m.configuration m.journal plan-out.before m.state plan-out.peeked m.tree x.plan.at x.plan.event runs plan-out.stored (stored-of m.configuration m.state m.tree holds) since-plan
+        (subst (λ (paths : List (List ℕ)). AreFreshPaths x.plan.at m.tree paths) same-paths fresh) plan-out.planned plan-out.useful.accepted
+
+    pub plan-parent : SpotsHaveParents → StaleHasParent m.tree x.plan.at x.paths
+    plan-parent law =
+        rw same-paths (law m.configuration (take plan-out.place m.journal) plan-out.before m.state plan-out.peeked m.tree x.plan.at x.plan.event plan-out.runs plan-out.stored (stored-of m.configuration m.state m.tree holds) since-plan plan-out.planned plan-out.useful.accepted)
 
 -- of each outstanding plan, a spot isn't fresh, or the event is accepted
 pub fresh-accepted : (m : Planning) → FreshCommits → IsPlanning m → Runs m.configuration m.journal m.state → Holds m.configuration m.state m.tree → FreshAreAccepted m
-fresh-accepted m law planning runs holds = λ p x is fresh.
-    accepted-now m.configuration m.journal m.state m.tree p.0 x runs holds (planning.plans p.0 x (plan-there p m.plans x is)) law fresh
+fresh-accepted m law planning runs holds = λ p x is fresh. plan-accepted m p x planning is runs holds law fresh
 
 -- ## each turn
 
@@ -216,27 +172,14 @@ module _ (m n : Planning) (planning : IsPlanning m) (later : IsLater m.tree n.tr
         commits = rw (commits, journal) (omega (arith, planning.commits, length-append {A = Entry} m.journal (e ∷ [])));
       }
 
--- what a test of the pool's plan wants
-module _ (m : Planning) (p : PoolId) (x : Outstanding) (planning : IsPlanning m) (there : plan_of p m.plans ≡ Some x) where
-  pub plan-out : IsOutstanding m.configuration m.journal m.tree p.0 x
-  plan-out = planning.plans p.0 x (plan-there p m.plans x there)
-
-  pub plan-few : SpotsHavePaths → Runs m.configuration m.journal m.state → Holds m.configuration m.state m.tree → length x.paths ≤ 68
-  plan-few law runs holds = few-now m.configuration m.journal m.state m.tree p.0 x runs holds plan-out law
-
-  pub plan-parent : SpotsHaveParents → Runs m.configuration m.journal m.state → Holds m.configuration m.state m.tree → StaleHasParent m.tree x.plan.at x.paths
-  plan-parent law runs holds = parent-now m.configuration m.journal m.state m.tree p.0 x runs holds plan-out law
-
 -- a watch of a pool's plan was taken out
 pub planning-news : (m : Planning) (p : PoolId) (x : Outstanding) → IsPlanning m → plan_of p m.plans ≡ Some x → IsPlanning (record m { plans = with_plan p (Some (record x { watches = remove_first (is_fired m.tree) x.watches })) m.plans })
 planning-news m p x planning there =
     let less : Outstanding = record x { watches = remove_first (is_fired m.tree) x.watches } in
-    let out = outstanding-less m.configuration p.0 x m.journal m.tree (is_fired m.tree) (planning.plans p.0 x (plan-there p m.plans x there)) in
+    let out = outstanding-on m.configuration m.journal m.journal m.tree m.tree p.0 x less.watches (omega arith) (λ k _. refl) (later-than-itself m.tree) (all-remove_first (λ (w : Watch). is_some (slice_get x.plan.spots w.key) ≡ true) (is_fired m.tree) x.watches) (plan-out m p x planning there) in
     planning-with m p (Some less) planning (λ y is. let same : less ≡ y = cc in subst (λ (z : Outstanding). IsOutstanding m.configuration m.journal m.tree p.0 z) same out)
 
 -- # what a turn at a board leaves
-
--- ## the spot of a path
 
 -- ## news
 
@@ -245,59 +188,36 @@ module _ (old : Planning) (p : PoolId) (x : Outstanding) (there : plan_of p old.
   abbrev less : Outstanding
   less = record x { watches = remove_first (is_fired old.tree) x.watches }
 
-  news-left : with_plan p (Some less) (with_plan p None old.plans) ≡ with_plan p (Some less) old.plans
-  news-left = with-twice p None (Some less) old.plans
-
-  none-fired : AreOfSpots x → (o : Option Watch) → find (is_fired old.tree) x.watches ≡ o → option_and_then (λ (w : Watch). slice_get x.plan.spots w.key) o ≡ None → find (is_fired old.tree) x.watches ≡ None
-  none-fired of None is none = is
-  none-fired of (Some w) is none =
-      let some : is_some (slice_get x.plan.spots w.key) ≡ true = all-find (λ (v : Watch). is_some (slice_get x.plan.spots v.key) ≡ true) (is_fired old.tree) x.watches w of is in
-      let told : slice_get x.plan.spots w.key ≡ None = none in
-      absurd (cc)
-
-  pub no-news : AreOfSpots x → fired_spot old.tree x ≡ None → find (is_fired old.tree) x.watches ≡ None
-  no-news of none = none-fired of (find (is_fired old.tree) x.watches) refl none
-
-  pub no-news-left : find (is_fired old.tree) x.watches ≡ None → with_plan p (Some less) (with_plan p None old.plans) ≡ old.plans
-  no-news-left none =
-      ap (λ (ws : List Watch). with_plan p (Some (record x { watches = ws })) (with_plan p None old.plans)) (remove_first-absent (is_fired old.tree) x.watches none)
-      ∙ with-same p x old.plans there
+  no-news : AreOfSpots x → fired_spot old.tree x ≡ None → find (is_fired old.tree) x.watches ≡ None
+  no-news of none =
+      let some : (w : Watch) → find (is_fired old.tree) x.watches ≡ Some w → is_some (slice_get x.plan.spots w.key) ≡ true = λ w. all-find (λ (v : Watch). is_some (slice_get x.plan.spots v.key) ≡ true) (is_fired old.tree) x.watches w of in
+      grind (arith, some)
 
   fired-by : (spot : Spot) (o : Option Watch) → option_and_then (λ (w : Watch). slice_get x.plan.spots w.key) o ≡ Some spot → (w : Watch) × ((o ≡ Some w) × (slice_get x.plan.spots w.key ≡ Some spot))
   fired-by spot None is = absurd cc
   fired-by spot (Some w) is = (w, (refl, is))
 
-  pub news : (spot : Spot) (new : Planning) → fired_spot old.tree x ≡ Some spot → new ≡ record old { plans = with_plan p (Some less) (with_plan p None old.plans) } → IsNews old p spot new
-  news spot new is left =
-      let fired = fired-by spot (find (is_fired old.tree) x.watches) is in
+  -- what the news of a plan are: no watch of it fires, or the first that does
+  pub news-taken : (o : Option Spot) (new : Planning) → AreOfSpots x → o ≡ fired_spot old.tree x → new ≡ record old { plans = with_plan p (Some less) (with_plan p None old.plans) } → TakenNews old p (told_by o) new
+  news-taken None new of is left =
+      let quiet = no-news of (sym is) in (
+        λ plan stands. let same : x ≡ plan = cc in subst (λ (y : Outstanding). find (is_fired old.tree) y.watches ≡ None) same quiet,
+        left ∙ ap (λ (plans : List (Option Outstanding)). record old { plans = plans })
+            (ap (λ (ws : List Watch). with_plan p (Some (record x { watches = ws })) (with_plan p None old.plans)) (remove_first-absent (is_fired old.tree) x.watches quiet)
+            ∙ (with-twice p None (Some x) old.plans ∙ with-same p (Some x) old.plans there)),
+      )
+  news-taken (Some spot) new of is left =
+      let fired = fired-by spot (find (is_fired old.tree) x.watches) (sym is) in
       record {
         plan = x;
         there = there;
         watch = fired.0;
         fired = fired.1.0;
         of = fired.1.1;
-        left = left ∙ ap (λ (plans : List (Option Outstanding)). record old { plans = plans }) news-left;
+        left = left ∙ ap (λ (plans : List (Option Outstanding)). record old { plans = plans }) (with-twice p None (Some less) old.plans);
       }
 
 -- ## a commit
-
-pub was-useful : (c : Configuration) (journal : List Entry) (t : TreeState) (p : PoolId) (x : Outstanding) (e : Event) → IsOutstanding c journal t p.0 x → x.plan.event ≡ e → is_ok (judge c (after c journal) e) ≡ true → WasUseful c journal (Launcher p) e
-was-useful c journal t p x e out event accepted =
-    let pool : x.plan.pool ≡ p = ap (λ (n : ℕ). record { 0 = n }) out.pool in
-    let before : IsUseful c (after c (take out.place journal)) (Launcher x.plan.pool) x.plan.event = subst (λ (s : State). IsUseful c s (Launcher x.plan.pool) x.plan.event) (sym out.runs.ends) out.useful in
-    let ours : IsUseful c (after c (take out.place journal)) (Launcher p) x.plan.event = subst (λ (q : PoolId). IsUseful c (after c (take out.place journal)) (Launcher q) x.plan.event) pool before in
-    record {
-      planned = subst (λ (f : Event). is_planned f ≡ true) event out.planned;
-      place = out.place;
-      within = out.within;
-      useful = subst (λ (f : Event). IsUseful c (after c (take out.place journal)) (Launcher p) f) event ours;
-      accepted = accepted;
-    }
-
--- the reply to an accepted event
-done-of : (r : Result Done Refusal) → is_ok r ≡ true → (d : Done) × (reply_of r ≡ Reply.Done d)
-done-of (Ok d) is = (d, refl)
-done-of (Err refusal) is = absurd cc
 
 module _ (old new : Planning) (p : PoolId) (e : Event) (r : Reply) where
   pub committed : FreshAreAccepted old → IsPlanning old → Runs old.configuration old.journal old.state → (may : IsMayDo old p e) → r ≡ answer_of (ran_of old) e → ran_of new ≡ applied (ran_of old) e → new.plans ≡ with_plan p None old.plans → new.commits ≡ old.commits + 1 → IsLater old.tree new.tree → IsCommitted old p (record { event = e; reply = r }) new
@@ -308,16 +228,22 @@ module _ (old new : Planning) (p : PoolId) (e : Event) (r : Reply) where
       let roomy : has_room (ran_of old) ≡ true = let room = may.room in grind (arith, nat_tests) in
       let reply-is : r ≡ reply_of (judge old.configuration old.state e) = replied ∙ rw roomy refl in
       let ends : old.state ≡ after old.configuration old.journal = sym runs.ends in
-      let done = done-of (judge old.configuration old.state e) accepted in
+      let done = ok-is (judge old.configuration old.state e) accepted in
       record {
         plan = x;
         there = may.there;
         fresh = may.fresh;
         event = sym may.event;
-        was = was-useful old.configuration old.journal old.tree p x e out may.event (subst (λ (s : State). is_ok (judge old.configuration s e) ≡ true) ends accepted);
+        was = record {
+          planned = rw (← may.event) out.planned;
+          place = out.place;
+          within = out.within;
+          useful = rw (out.runs.ends, ← may.event) (subst (λ (q : PoolId). IsUseful old.configuration out.before (Launcher q) x.plan.event) (ap (λ (n : ℕ). record { 0 = n }) out.pool) out.useful);
+          accepted = subst (λ (s : State). is_ok (judge old.configuration s e) ≡ true) ends accepted;
+        };
         replied = record { room = may.room; reply = reply-is ∙ ap (λ (s : State). reply_of (judge old.configuration s e)) ends };
         done = done.0;
-        accepted = reply-is ∙ done.1;
+        accepted = reply-is ∙ ap reply_of done.1;
         configuration = ap (λ (m : Ran). m.configuration) is;
         journal = ap (λ (m : Ran). m.journal) is ∙ rw roomy (ap (λ (y : Reply). old.journal ++ record { event = e; reply = y } ∷ []) (sym reply-is));
         plans = plans;
@@ -331,70 +257,30 @@ module _ (old new : Planning) where
   -- the turn answers as a desk wants it
   pub taken-answers : (a : PlanAsk) (t : PlanTurn) → IsPlanTaken old a t new → plan_answers old.configuration old.journal a t
   taken-answers (PlanAsk.Plain plain) (PlanTurn.Plain t) taken = taken.taken.answer
-  taken-answers (PlanAsk.Peek p) (PlanTurn.Plain t) taken = absurd taken
-  taken-answers (PlanAsk.Peek p) (PlanTurn.Planned plan) taken = tt
-  taken-answers (PlanAsk.Peek p) (PlanTurn.Fired spot) taken = absurd taken
-  taken-answers (PlanAsk.Peek p) (PlanTurn.Did e) taken = absurd taken
-  taken-answers (PlanAsk.Peek p) (PlanTurn.Stale spot change) taken = absurd taken
-  taken-answers (PlanAsk.Peek p) PlanTurn.Idle taken = tt
-  taken-answers (PlanAsk.Peek p) PlanTurn.Full taken = absurd taken
-  taken-answers (PlanAsk.News p) (PlanTurn.Plain t) taken = absurd taken
-  taken-answers (PlanAsk.News p) (PlanTurn.Planned plan) taken = absurd taken
-  taken-answers (PlanAsk.News p) (PlanTurn.Fired spot) taken = tt
-  taken-answers (PlanAsk.News p) (PlanTurn.Did e) taken = absurd taken
-  taken-answers (PlanAsk.News p) (PlanTurn.Stale spot change) taken = absurd taken
-  taken-answers (PlanAsk.News p) PlanTurn.Idle taken = tt
-  taken-answers (PlanAsk.News p) PlanTurn.Full taken = absurd taken
-  taken-answers (PlanAsk.Commit p) (PlanTurn.Plain t) taken = absurd taken
-  taken-answers (PlanAsk.Commit p) (PlanTurn.Planned plan) taken = absurd taken
-  taken-answers (PlanAsk.Commit p) (PlanTurn.Fired spot) taken = absurd taken
   taken-answers (PlanAsk.Commit p) (PlanTurn.Did e) taken = (taken.was, taken.replied)
-  taken-answers (PlanAsk.Commit p) (PlanTurn.Stale spot change) taken = tt
-  taken-answers (PlanAsk.Commit p) PlanTurn.Idle taken = tt
   taken-answers (PlanAsk.Commit p) PlanTurn.Full taken = taken.0.full
-  taken-answers (PlanAsk.Plain plain) other taken = absurd taken
+  taken-answers (PlanAsk.Peek p) (PlanTurn.Planned plan) taken = tt
+  taken-answers (PlanAsk.News p) (PlanTurn.Fired spot) taken = tt
+  taken-answers _ _ taken = search rules
 
   -- what a turn does to the journal
-  pub record Grows (a : PlanAsk) (t : PlanTurn) : Type 0 where
-    pub configuration : new.configuration ≡ old.configuration
-    pub journal : new.journal ≡ old.journal ++ entries_of (plan_recorded a t)
+  abbrev pub Grows : PlanAsk → PlanTurn → Type 0
+  Grows a t = (new.configuration ≡ old.configuration) × (new.journal ≡ old.journal ++ entries_of (plan_recorded a t))
 
-  none-grows : (a : PlanAsk) (t : PlanTurn) → plan_recorded a t ≡ None → new.configuration ≡ old.configuration → new.journal ≡ old.journal → Grows a t
-  none-grows a t none configuration journal = record {
-    configuration = configuration;
-    journal = journal ∙ sym (ap (λ (o : Option Entry). old.journal ++ entries_of o) none ∙ append-nil old.journal);
-  }
-
-  same-grows : (a : PlanAsk) (t : PlanTurn) (plans : List (Option Outstanding)) → plan_recorded a t ≡ None → new ≡ record old { plans = plans } → Grows a t
-  same-grows a t plans none is = none-grows a t none (ap (λ (m : Planning). m.configuration) is) (ap (λ (m : Planning). m.journal) is)
-
-  still-grows : (a : PlanAsk) (t : PlanTurn) → plan_recorded a t ≡ None → new ≡ old → Grows a t
-  still-grows a t none is = none-grows a t none (ap (λ (m : Planning). m.configuration) is) (ap (λ (m : Planning). m.journal) is)
+  still : {next : Planning} → new ≡ next → next.configuration ≡ old.configuration → next.journal ≡ old.journal → (new.configuration ≡ old.configuration) × (new.journal ≡ old.journal ++ [])
+  still is configuration journal = (ap (λ (m : Planning). m.configuration) is ∙ configuration, ap (λ (m : Planning). m.journal) is ∙ (journal ∙ sym (append-nil old.journal)))
 
   pub taken-grows : (a : PlanAsk) (t : PlanTurn) → IsPlanTaken old a t new → Grows a t
-  taken-grows (PlanAsk.Plain plain) (PlanTurn.Plain t) taken = record { configuration = taken.taken.configuration; journal = taken.taken.journal }
-  taken-grows (PlanAsk.Peek p) (PlanTurn.Plain t) taken = absurd taken
-  taken-grows (PlanAsk.Peek p) (PlanTurn.Planned plan) taken = same-grows (PlanAsk.Peek p) (PlanTurn.Planned plan) (with_plan p (Some taken.watched) old.plans) refl taken.left
-  taken-grows (PlanAsk.Peek p) (PlanTurn.Fired spot) taken = absurd taken
-  taken-grows (PlanAsk.Peek p) (PlanTurn.Did e) taken = absurd taken
-  taken-grows (PlanAsk.Peek p) (PlanTurn.Stale spot change) taken = absurd taken
-  taken-grows (PlanAsk.Peek p) PlanTurn.Idle taken = still-grows (PlanAsk.Peek p) PlanTurn.Idle refl taken.1
-  taken-grows (PlanAsk.Peek p) PlanTurn.Full taken = absurd taken
-  taken-grows (PlanAsk.News p) (PlanTurn.Plain t) taken = absurd taken
-  taken-grows (PlanAsk.News p) (PlanTurn.Planned plan) taken = absurd taken
-  taken-grows (PlanAsk.News p) (PlanTurn.Fired spot) taken = same-grows (PlanAsk.News p) (PlanTurn.Fired spot) (with_plan p (Some (record taken.plan { watches = remove_first (is_fired old.tree) taken.plan.watches })) old.plans) refl taken.left
-  taken-grows (PlanAsk.News p) (PlanTurn.Did e) taken = absurd taken
-  taken-grows (PlanAsk.News p) (PlanTurn.Stale spot change) taken = absurd taken
-  taken-grows (PlanAsk.News p) PlanTurn.Idle taken = still-grows (PlanAsk.News p) PlanTurn.Idle refl taken.1
-  taken-grows (PlanAsk.News p) PlanTurn.Full taken = absurd taken
-  taken-grows (PlanAsk.Commit p) (PlanTurn.Plain t) taken = absurd taken
-  taken-grows (PlanAsk.Commit p) (PlanTurn.Planned plan) taken = absurd taken
-  taken-grows (PlanAsk.Commit p) (PlanTurn.Fired spot) taken = absurd taken
-  taken-grows (PlanAsk.Commit p) (PlanTurn.Did e) taken = record { configuration = taken.configuration; journal = taken.journal }
-  taken-grows (PlanAsk.Commit p) (PlanTurn.Stale spot change) taken = same-grows (PlanAsk.Commit p) (PlanTurn.Stale spot change) (with_plan p None old.plans) refl taken.left
-  taken-grows (PlanAsk.Commit p) PlanTurn.Idle taken = still-grows (PlanAsk.Commit p) PlanTurn.Idle refl taken.1
-  taken-grows (PlanAsk.Commit p) PlanTurn.Full taken = still-grows (PlanAsk.Commit p) PlanTurn.Full refl taken.1
-  taken-grows (PlanAsk.Plain plain) other taken = absurd taken
+  taken-grows (PlanAsk.Plain plain) (PlanTurn.Plain t) taken = (taken.taken.configuration, taken.taken.journal)
+  taken-grows (PlanAsk.Commit p) (PlanTurn.Did e) taken = (taken.configuration, taken.journal)
+  taken-grows (PlanAsk.Peek p) (PlanTurn.Planned plan) taken = still taken.left refl refl
+  taken-grows (PlanAsk.News p) (PlanTurn.Fired spot) taken = still taken.left refl refl
+  taken-grows (PlanAsk.Commit p) (PlanTurn.Stale spot change) taken = still taken.left refl refl
+  taken-grows (PlanAsk.Peek p) PlanTurn.Idle taken = still taken.1 refl refl
+  taken-grows (PlanAsk.News p) PlanTurn.Idle taken = still taken.1 refl refl
+  taken-grows (PlanAsk.Commit p) PlanTurn.Idle taken = still taken.1 refl refl
+  taken-grows (PlanAsk.Commit p) PlanTurn.Full taken = still taken.1 refl refl
+  taken-grows _ _ taken = absurd taken
 
 -- each entry of a turn has the machine's reply
 plan-replied : (c : Configuration) (journal : List Entry) (a : PlanAsk) (t : PlanTurn) (e : Entry) → plan_answers c journal a t → plan_recorded a t ≡ Some e → IsReplied c journal e
@@ -408,23 +294,18 @@ legal-by c journal a t (Some e) is legal answer = legal-next c journal e legal (
 
 pub plan-legal : (old new : Planning) (a : PlanAsk) (r : Result PlanTurn NoMemory) → is_legal old.configuration old.journal ≡ true → IfOk r (λ t. IsPlanTaken old a t new) → OnErr r (IsAsBefore old new) → is_legal old.configuration new.journal ≡ true
 plan-legal old new a (Ok t) legal taken before =
-    subst (λ (j : List Entry). is_legal old.configuration j ≡ true) (sym (taken-grows old new a t taken).journal)
+    subst (λ (j : List Entry). is_legal old.configuration j ≡ true) (sym (taken-grows old new a t taken).1)
     (legal-by old.configuration old.journal a t (plan_recorded a t) refl legal (taken-answers old new a t taken))
 plan-legal old new a (Err e) legal taken before = subst (λ (m : Ran). is_legal old.configuration m.journal ≡ true) (sym before.ran) legal
 
-pub plan-fixed : (old new : Planning) (a : PlanAsk) (r : Result PlanTurn NoMemory) → IfOk r (λ t. IsPlanTaken old a t new) → OnErr r (IsAsBefore old new) → new.configuration ≡ old.configuration
-plan-fixed old new a (Ok t) taken before = (taken-grows old new a t taken).configuration
-plan-fixed old new a (Err e) taken before = ap (λ (m : Ran). m.configuration) before.ran
-
-pub plan-answer : (old new : Planning) (a : PlanAsk) (r : Result PlanTurn NoMemory) → IfOk r (λ t. IsPlanTaken old a t new) → IfOk r (λ t. plan_answers old.configuration old.journal a t)
-plan-answer old new a (Ok t) taken = taken-answers old new a t taken
-plan-answer old new a (Err e) taken = taken
-
-pub plan-history : (old new : Planning) (a : PlanAsk) (r : Result PlanTurn NoMemory) → IfOk r (λ t. IsPlanTaken old a t new) → OnErr r (IsAsBefore old new) → MatchResult r (λ t. new.journal ≡ old.journal ++ entries_of (plan_recorded a t)) (λ _. new.journal ≡ old.journal)
-plan-history old new a (Ok t) taken before = (taken-grows old new a t taken).journal
-plan-history old new a (Err e) taken before = ap (λ (m : Ran). m.journal) before.ran
+pub plan-history : (old new : Planning) (a : PlanAsk) (r : Result PlanTurn NoMemory) → IfOk r (λ t. IsPlanTaken old a t new) → OnErr r (IsAsBefore old new) → (new.configuration ≡ old.configuration) × MatchResult r (λ t. new.journal ≡ old.journal ++ entries_of (plan_recorded a t)) (λ _. new.journal ≡ old.journal)
+plan-history old new a (Ok t) taken before = taken-grows old new a t taken
+plan-history old new a (Err e) taken before = (ap (λ (m : Ran). m.configuration) before.ran, ap (λ (m : Ran). m.journal) before.ran)
 
 -- ## what the methods leave
+
+-- what holds where a turn does nothing, and what a choice has to know
+pub ruleset turned = (later-than-itself, RunsOn-reached)
 
 pub not-at-all : (old new : Planning) → new ≡ old → IsAsBefore old new
 not-at-all old new is = rw is (record { ran = refl; plans = refl; commits = refl; later = later-than-itself old.tree })
@@ -433,25 +314,12 @@ not-at-all old new is = rw is (record { ran = refl; plans = refl; commits = refl
 pub no-plan-news : (old new : Planning) (p : PoolId) → plan_of p old.plans ≡ None → new ≡ record old { plans = with_plan p None old.plans } → HasNoNews old p × (new ≡ old)
 no-plan-news old new p none left = (
   λ plan there. absurd cc,
-  left ∙ ap (λ (plans : List (Option Outstanding)). record old { plans = plans }) (with-none p old.plans none),
+  left ∙ ap (λ (plans : List (Option Outstanding)). record old { plans = plans }) (with-same p None old.plans none),
 )
-
--- no watch of the plan fires
-pub none-news : (old new : Planning) (p : PoolId) (x : Outstanding) → plan_of p old.plans ≡ Some x → AreOfSpots x → fired_spot old.tree x ≡ None → new ≡ record old { plans = with_plan p (Some (record x { watches = remove_first (is_fired old.tree) x.watches })) (with_plan p None old.plans) } → HasNoNews old p × (new ≡ old)
-none-news old new p x there of none left =
-    let quiet : find (is_fired old.tree) x.watches ≡ None = no-news old p x there of none in (
-      λ plan is. let same : x ≡ plan = cc in subst (λ (y : Outstanding). find (is_fired old.tree) y.watches ≡ None) same quiet,
-      left ∙ ap (λ (plans : List (Option Outstanding)). record old { plans = plans }) (no-news-left old p x there quiet),
-    )
 
 pub err-before : (old new : Planning) (r : Result PlanTurn NoMemory) → OnErr r (new ≡ old) → OnErr r (IsAsBefore old new)
 err-before old new (Ok t) is = is
 err-before old new (Err e) is = not-at-all old new is
-
--- what the news of a plan are
-pub news-taken : (old new : Planning) (p : PoolId) (x : Outstanding) (o : Option Spot) → plan_of p old.plans ≡ Some x → AreOfSpots x → o ≡ fired_spot old.tree x → new ≡ record old { plans = with_plan p (Some (record x { watches = remove_first (is_fired old.tree) x.watches })) (with_plan p None old.plans) } → TakenNews old p (told_by o) new
-news-taken old new p x None there of is left = none-news old new p x there of (sym is) left
-news-taken old new p x (Some spot) there of is left = news old p x there spot new (sym is) left
 
 -- # what a turn leaves
 
@@ -551,9 +419,6 @@ module _ (s : State) (p : PoolId) (session : SessionId) where
   abbrev held : NodeId → Bool
   held n = is_session_of session (node_holder n s.nodes)
 
-  parts : (n : NodeId) → is_due p session n s ≡ true → (seen n ≡ true) × (held n ≡ true)
-  parts n is = and_parts (seen n) (held n) is
-
   -- ## the search
 
   -- of the nodes in whose queues the session is, the one at this place is not due
@@ -564,24 +429,21 @@ module _ (s : State) (p : PoolId) (session : SessionId) where
   not-due-at k node here fails = λ n there. let same : node ≡ n = cc in subst (λ (m : NodeId). is_due p session m s ≡ false) same fails
 
   place : (n : NodeId) → is_due p session n s ≡ true → StandsIn n (queued_nodes session s)
-  place n is = queued-node s session n (holder-queued session (node_queue n s.nodes) (parts n is).1)
+  place n is = queued-node s session n (holder-queued session (node_queue n s.nodes) (and_parts (seen n) (held n) is).1)
 
   -- who holds a node is in its queue, so if none is due there, none is
   pub none-left : ((k : ℕ) → k < length (queued_nodes session s) → IsNotDueAt k) → (n : NodeId) → is_due p session n s ≡ false
-  none-left none n = by (is_due p session n s) refl where
-    by : (b : Bool) → is_due p session n s ≡ b → b ≡ false
-    by false is = refl
-    by true is = let at = place n is in let fails = none at.at at.within n at.there in absurd cc
+  none-left none n = false_from_ne_true (is_due p session n s) (λ is. let at = place n is in let fails = none at.at at.within n at.there in cc)
 
   -- ## as a turn asks
 
   pub no-node : (n : NodeId) → node_in n s.nodes ≡ None → is_due p session n s ≡ true → ⊥
-  no-node n none is = let sees = rw none at (parts n is).0 in cc
+  no-node n none is = let sees = rw none at (and_parts (seen n) (held n) is).0 in cc
 
   module _ (current : is_current (Janitor p) session s ≡ true) where
     pub due-is : (n : NodeId) (kept : NodeRecord) → node_in n s.nodes ≡ Some kept → is_due p session n s ≡ true → IsDue p s n kept.server
     due-is n kept stands is =
-        let both = parts n is in
+        let both = and_parts (seen n) (held n) is in
         let sees = and_parts (kept.pool.0 == p.0) (is_deleting kept.state) (rw stands at both.0) in
         record {
           node = kept;
@@ -622,26 +484,11 @@ new-key z k j (first ∷ paths) past =
     let other : (k == j) ≡ false = grind (arith, nat_tests) in
     rw (other, new-key z (suc k) j paths (omega (arith, past))) refl
 
--- one more watch, of the next path
-pub with-next : (z : ℕ) (paths : List (List ℕ)) (path : List ℕ) → with_watch (watch_at z (length paths) path) (watches_of z paths) ≡ watches_of z (paths ++ path ∷ [])
-with-next z paths path = past-end z 0 (length paths) paths path (omega arith)
-
-pub next-is-new : (z : ℕ) (paths : List (List ℕ)) → is_watched (length paths) (watches_of z paths) ≡ false
-next-is-new z paths = new-key z 0 (length paths) paths (omega arith)
-
-take-next : {X : Type 0} (xs : List X) (k : ℕ) (x : X) → k < length xs → slice_get xs k ≡ Some x → take (k + 1) xs ≡ take k xs ++ x ∷ []
-take-next xs k x within there = take_more xs k x within ∙ ap (λ (y : _). take k xs ++ y ∷ []) (get_or_from_slice_get xs k x x there)
-
-length-taken : {X : Type 0} (xs : List X) (k : ℕ) → k ≤ length xs → length (take k xs) ≡ k
-length-taken xs zero few = refl
-length-taken [] (suc k) few = absurd (omega arith)
-length-taken (x ∷ xs) (suc k) few = ap suc (length-taken xs k (omega arith))
-
 -- the next path is watched too
 pub set-next : (t : TreeState) (paths : List (List ℕ)) (k : ℕ) (path : List ℕ) (old new : List Watch) (is_new : Bool) → k < length paths → slice_get paths k ≡ Some path → old ≡ watches_of t.changes (take k paths) → is_new ≡ not (is_watched k old) → new ≡ (if is_new then with_watch (watch_of t k path) old else old) → new ≡ watches_of t.changes (take (k + 1) paths)
 set-next t paths k path old new is_new within there was fresh set =
-    let long : length (take k paths) ≡ k = length-taken paths k (omega arith) in
-    let unwatched : is_watched k old ≡ false = rw was (subst (λ (j : ℕ). is_watched j (watches_of t.changes (take k paths)) ≡ false) long (next-is-new t.changes (take k paths))) in
-    let sets : is_new ≡ true = fresh ∙ ap not unwatched in
-    let next : with_watch (watch_of t k path) (watches_of t.changes (take k paths)) ≡ watches_of t.changes (take k paths ++ path ∷ []) = subst (λ (j : ℕ). with_watch (watch_of t j path) (watches_of t.changes (take k paths)) ≡ watches_of t.changes (take k paths ++ path ∷ [])) long (with-next t.changes (take k paths) path) in
-    set ∙ rw sets (ap (λ (ws : List Watch). with_watch (watch_of t k path) ws) was ∙ (next ∙ ap (watches_of t.changes) (sym (take-next paths k path within there))))
+    let long : length (take k paths) ≡ k = length-take-le k paths (omega arith) in
+    let unwatched : is_watched k old ≡ false = rw was (new-key t.changes 0 k (take k paths) (omega (arith, long))) in
+    let next : with_watch (watch_of t k path) (watches_of t.changes (take k paths)) ≡ watches_of t.changes (take k paths ++ path ∷ []) = past-end t.changes 0 k (take k paths) path (omega (arith, long)) in
+    let taken : take (k + 1) paths ≡ take k paths ++ path ∷ [] = take_more paths k path within ∙ ap (λ (y : List ℕ). take k paths ++ y ∷ []) (get_or_from_slice_get paths k path path there) in
+    set ∙ rw (fresh ∙ ap not unwatched) (ap (λ (ws : List Watch). with_watch (watch_of t k path) ws) was ∙ (next ∙ ap (watches_of t.changes) (sym taken)))

@@ -1,5 +1,5 @@
 -- the turns of a series at the desk of a board, taken with one ticket or with several
-use Rattle.np_board.proofs.Prelude.{Also, Answered, AnsweredAtOnce, Ask, Asked, Batch, Bool, Configuration, DeskView, Entry, Err, Event, HasEnded, Heard, HearsWithTicket, IfOk, Launcher, List, NoMemory, None, Ok, Once, Option, PlanAsk, PlanTurn, PoolId, Records, Result, Role, Sight, Some, Stage, Took, TookAtOnce, TookWithTicket, TookWithTickets, Turn, Turned, Unturned, Walk, Walked, WasUseful, Went, answers, answers_also, ap, arith, asks_once, asks_with_ticket, eqb-false, false, heard-append, hears_once, if◌then◌else◌, inl, inr, launcher_ask, launchers_before, length, length-append, next_ask, plan_answers, plan_recorded, recorded, refl, starts_on, starts_same, subst, sym, took-part, took-whole, true, turn_ask, unless_heard, unturned-same, unturned_on, walk-append, ℕ, [], ⊎_elim, ◌++◌, ◌+◌, ◌-◌, ◌==◌, ◌∙◌, ◌∷◌, ◌≡◌, ◌≢◌, ◌⊎◌}
+use Rattle.np_board.proofs.Prelude.{Also, Answered, AnsweredAtOnce, Ask, Asked, Batch, Configuration, DeskView, Entry, Err, Event, HasEnded, Heard, HearsWithTicket, IfOk, Launcher, List, NoMemory, None, Ok, Once, Option, PlanAsk, PlanTurn, PoolId, Records, Result, Role, Sight, Some, Stage, Took, TookAtOnce, TookWithTicket, TookWithTickets, Turn, Turned, Unturned, Walk, Walked, WasUseful, Went, answers, answers_also, ap, arith, asks_once, asks_with_ticket, eqb-false, false, heard-append, hears_once, inl, inr, launchers_before, length, length-append, next_ask, plan_answers, plan_recorded, recorded, refl, starts_on, starts_same, subst, sym, took-part, took-whole, unless_heard, unturned-same, unturned_on, walk-append, ℕ, [], ⊎_elim, ◌++◌, ◌+◌, ◌-◌, ◌==◌, ◌∙◌, ◌∷◌, ◌≡◌, ◌≢◌, ◌⊎◌}
 
 -- # turns at the desk of a board, as those of parties that plan nothing
 
@@ -19,10 +19,7 @@ module _ {F E A T : Type 0} (says : F → List E → A → T → Type 0) (record
 -- a role may have recorded more
 pub also : (c : Configuration) (journal : List Entry) (more : Also) (a : Ask) (t : Turn) → answers c journal a t → answers_also more c journal a t
 also c journal more (Ask.Act r) (Turn.Did e) h = (inl h.0, h.1)
-also c journal more (Ask.Do event) t h = h
-also c journal more (Ask.Due p) t h = h
-also c journal more (Ask.Sweep p n x) t h = h
-also c journal more (Ask.Act r) other h = h
+also c journal more a t h = h
 
 old-use : (c : Configuration) (journal : List Entry) (r : Role) (e : Event) → launchers_before c journal r e → WasUseful c journal r e
 old-use c journal (Role.Launcher p) e h = h
@@ -31,10 +28,7 @@ old-use c journal other e h = absurd h
 wider : (c : Configuration) (journal : List Entry) (a : Ask) (t : Turn) → answers_also launchers_before c journal a t → answers_also WasUseful c journal a t
 wider c journal (Ask.Act r) (Turn.Did e) (inl h, replied) = (inl h, replied)
 wider c journal (Ask.Act r) (Turn.Did e) (inr h, replied) = (inr (old-use c journal r e.event h), replied)
-wider c journal (Ask.Do event) t h = h
-wider c journal (Ask.Due p) t h = h
-wider c journal (Ask.Sweep p n x) t h = h
-wider c journal (Ask.Act r) other h = h
+wider c journal a t h = h
 
 pub turned-wider : (c : Configuration) (v w : Sight Entry) (a : Ask) (r : Result Turn NoMemory) → Turned (answers_also launchers_before) recorded c v a r w → Turned (answers_also WasUseful) recorded c v a r w
 turned-wider c v w a (Ok t) h = (h.0, h.1, wider c h.0 a t h.2, h.3)
@@ -42,27 +36,12 @@ turned-wider c v w a (Err e) h = h
 
 -- # the turns of a series that were taken with one ticket
 
-of-left : (b : Bool) (o : Option PlanAsk) (a : PlanAsk) → (if b then None else o) ≡ Some a → (b ≡ false) × (o ≡ Some a)
-of-left true o a h = absurd cc
-of-left false o a h = (refl, h)
+-- what is asked beside plans is asked by the series, which may have another turn
+own-plain : (s : Stage) (left : ℕ) (o : Option Ask) (x : Ask) → next_ask s left o ≡ Some (PlanAsk.Plain x) → (o ≡ Some x) × ((left == 0) ≡ false)
+own-plain s left o x e = (grind arith, grind arith)
 
-asks-turn : (s : Stage) (left : ℕ) (x : Ask) (a : PlanAsk) → next_ask s left (Some x) ≡ Some a → ((p : PoolId) × (Some (PlanAsk.Peek p) ≡ Some a)) ⊎ (((left == 0) ≡ false) × (turn_ask s x ≡ Some a))
-asks-turn (Stage.PlanningNext p) left x a h = inl (p, h)
-asks-turn Stage.Committing left x a h = inr (of-left (left == 0) (turn_ask Stage.Committing x) a h)
-asks-turn Stage.Hearing left x a h = inr (of-left (left == 0) (turn_ask Stage.Hearing x) a h)
-asks-turn Stage.Planning left x a h = inr (of-left (left == 0) (turn_ask Stage.Planning x) a h)
-asks-turn Stage.Asking left x a h = inr (of-left (left == 0) (turn_ask Stage.Asking x) a h)
-asks-turn Stage.Planned left x a h = inr (of-left (left == 0) (turn_ask Stage.Planned x) a h)
-
-asks-none : (s : Stage) (left : ℕ) (a : PlanAsk) → next_ask s left None ≡ Some a → (p : PoolId) × (Some (PlanAsk.Peek p) ≡ Some a)
-asks-none (Stage.PlanningNext p) left a h = (p, h)
-asks-none other left a h = absurd cc
-
--- with a ticket a launcher plans its next event, or there is a turn of the series
-asks-what : (s : Stage) (left : ℕ) (o : Option Ask) (a : PlanAsk) → next_ask s left o ≡ Some a
-    → ((p : PoolId) × (Some (PlanAsk.Peek p) ≡ Some a)) ⊎ ((x : Ask) × (o ≡ Some x) × ((left == 0) ≡ false) × (turn_ask s x ≡ Some a))
-asks-what s left None a h = inl (asks-none s left a h)
-asks-what s left (Some x) a h = ⊎_elim (λ (k : (p : PoolId) × (Some (PlanAsk.Peek p) ≡ Some a)). inl k) (λ (k : ((left == 0) ≡ false) × (turn_ask s x ≡ Some a)). inr (x, refl, k.0, k.1)) (asks-turn s left x a h)
+own-commit : (s : Stage) (left : ℕ) (o : Option Ask) (p : PoolId) → next_ask s left o ≡ Some (PlanAsk.Commit p) → (o ≡ Some (Ask.Act (Launcher p))) × ((left == 0) ≡ false)
+own-commit s left o p e = (grind arith, grind arith)
 
 one-less : (n m : ℕ) → (n == 0) ≡ false → m ≡ n - 1 → m + 1 ≡ n
 one-less n m h k = let some : n ≢ 0 = λ (e : n ≡ 0). eqb-false n 0 h e in omega (arith, some, k)
@@ -80,76 +59,39 @@ module _ {S : Type 0} (asks_of : S → Option Ask) (hears : S → Turn → S →
   abbrev NoTurn : Batch S → Batch S → Sight Entry → Sight Entry → Type 0
   NoTurn b d w u = (d.series ≡ b.series) × (d.left ≡ b.left) × (u ≡ w)
 
-  same-sight : (w u : Sight Entry) → (u.seen ≡ w.seen) × (u.mine ≡ w.mine) → u ≡ w
-  same-sight w u h = ap (λ (seen : List Entry). let s : Sight Entry = record { seen = seen; mine = u.mine } in s) h.0 ∙ ap (λ (mine : List ℕ). let s : Sight Entry = record { seen = w.seen; mine = mine } in s) h.1
-
   no-turn : (b d : Batch S) (s : Stage) (w u : Sight Entry) → d ≡ record b { stage = s } → (u.seen ≡ w.seen) × (u.mine ≡ w.mine) → OneTurn b d w u ⊎ NoTurn b d w u
-  no-turn b d s w u h k = inr (ap (λ (z : Batch S). z.series) h, ap (λ (z : Batch S). z.left) h, same-sight w u k)
+  no-turn b d s w u h k = inr (ap (λ (z : Batch S). z.series) h, ap (λ (z : Batch S). z.left) h, λ i. record { seen = k.0 i; mine = k.1 i })
 
-  -- the ask is this one
-  asking : (w u : Sight Entry) (x a : PlanAsk) (t : PlanTurn) → Some x ≡ Some a → AtOnce w a t u → AtOnce w x t u
-  asking w u x a t is h = let same : a ≡ x = cc in subst (λ (z : PlanAsk). AtOnce w z t u) same h
+  -- the ask is of the series, which may have another turn, if a turn of the series answers it
+  abbrev IsOwn : Batch S → PlanAsk → Type 0
+  IsOwn b (PlanAsk.Plain x) = (asks_of b.series ≡ Some x) × ((b.left == 0) ≡ false)
+  IsOwn b (PlanAsk.Commit p) = (asks_of b.series ≡ Some (Ask.Act (Launcher p))) × ((b.left == 0) ≡ false)
+  IsOwn b _ = Unit {0}
 
-  after-peek : (p : PoolId) (t : PlanTurn) (b d : Batch S) (w u : Sight Entry) → Hears b t d → AtOnce w (PlanAsk.Peek p) t u → OneTurn b d w u ⊎ NoTurn b d w u
-  after-peek p (PlanTurn.Planned plan) b d w u h k = no-turn b d _ w u h k.1
-  after-peek p PlanTurn.Idle b d w u h k = no-turn b d _ w u h k.1
-  after-peek p other b d w u h k = absurd k.0
+  after-ask : (a : PlanAsk) (t : PlanTurn) (b d : Batch S) (w u : Sight Entry) → IsOwn b a → Hears b t d → AtOnce w a t u → OneTurn b d w u ⊎ NoTurn b d w u
+  after-ask (PlanAsk.Plain x) (PlanTurn.Plain y) b d w u own h k = inl (x, y, own.0, h.0, one-less b.left d.left own.1 h.1, (w.seen, starts_same w.seen, also c w.seen launchers_before x y k.0, k.1))
+  after-ask (PlanAsk.Commit p) (PlanTurn.Did e) b d w u own h k = inl (Ask.Act (Launcher p), Turn.Did e, own.0, h.0, one-less b.left d.left own.1 h.1, (w.seen, starts_same w.seen, (inr k.0.0, k.0.1), k.1))
+  after-ask a (PlanTurn.Plain y) b d w u own h k = absurd k.0
+  after-ask a (PlanTurn.Did e) b d w u own h k = absurd k.0
+  after-ask a t b d w u own h k = no-turn b d _ w u h k.1
 
-  after-news : (p : PoolId) (t : PlanTurn) (b d : Batch S) (w u : Sight Entry) → Hears b t d → AtOnce w (PlanAsk.News p) t u → OneTurn b d w u ⊎ NoTurn b d w u
-  after-news p (PlanTurn.Fired spot) b d w u h k = no-turn b d _ w u h k.1
-  after-news p PlanTurn.Idle b d w u h k = no-turn b d _ w u h k.1
-  after-news p other b d w u h k = absurd k.0
-
-  after-commit : (p : PoolId) (t : PlanTurn) (b d : Batch S) (w u : Sight Entry) → asks_of b.series ≡ Some (Ask.Act (Launcher p)) → (b.left == 0) ≡ false → Hears b t d → AtOnce w (PlanAsk.Commit p) t u → OneTurn b d w u ⊎ NoTurn b d w u
-  after-commit p (PlanTurn.Did e) b d w u is some h k = inl (Ask.Act (Launcher p), Turn.Did e, is, h.0, one-less b.left d.left some h.1, (w.seen, starts_same w.seen, (inr k.0.0, k.0.1), k.1))
-  after-commit p (PlanTurn.Stale spot change) b d w u is some h k = no-turn b d _ w u h k.1
-  after-commit p PlanTurn.Idle b d w u is some h k = no-turn b d _ w u h k.1
-  after-commit p PlanTurn.Full b d w u is some h k = no-turn b d _ w u h k.1
-  after-commit p other b d w u is some h k = absurd k.0
-
-  after-plain : (x : Ask) (t : PlanTurn) (b d : Batch S) (w u : Sight Entry) → asks_of b.series ≡ Some x → (b.left == 0) ≡ false → Hears b t d → AtOnce w (PlanAsk.Plain x) t u → OneTurn b d w u ⊎ NoTurn b d w u
-  after-plain x (PlanTurn.Plain y) b d w u is some h k = inl (x, y, is, h.0, one-less b.left d.left some h.1, (w.seen, starts_same w.seen, also c w.seen launchers_before x y k.0, k.1))
-  after-plain x other b d w u is some h k = absurd k.0
-
-  after-launcher : (s : Stage) (p : PoolId) (a : PlanAsk) (t : PlanTurn) (b d : Batch S) (w u : Sight Entry) → asks_of b.series ≡ Some (Ask.Act (Launcher p)) → (b.left == 0) ≡ false → launcher_ask s p ≡ Some a
-      → Hears b t d → AtOnce w a t u → OneTurn b d w u ⊎ NoTurn b d w u
-  after-launcher Stage.Committing p a t b d w u is some e h k = after-commit p t b d w u is some h (asking w u (PlanAsk.Commit p) a t e k)
-  after-launcher Stage.Hearing p a t b d w u is some e h k = after-news p t b d w u h (asking w u (PlanAsk.News p) a t e k)
-  after-launcher Stage.Planning p a t b d w u is some e h k = after-peek p t b d w u h (asking w u (PlanAsk.Peek p) a t e k)
-  after-launcher Stage.Asking p a t b d w u is some e h k = after-plain (Ask.Act (Launcher p)) t b d w u is some h (asking w u (PlanAsk.Plain (Ask.Act (Launcher p))) a t e k)
-  after-launcher other p a t b d w u is some e h k = absurd cc
-
-  after-turn : (s : Stage) (x : Ask) (a : PlanAsk) (t : PlanTurn) (b d : Batch S) (w u : Sight Entry) → asks_of b.series ≡ Some x → (b.left == 0) ≡ false → turn_ask s x ≡ Some a
-      → Hears b t d → AtOnce w a t u → OneTurn b d w u ⊎ NoTurn b d w u
-  after-turn s (Ask.Act (Role.Launcher p)) a t b d w u is some e h k = after-launcher s p a t b d w u is some e h k
-  after-turn s (Ask.Act (Role.Janitor p)) a t b d w u is some e h k = after-plain (Ask.Act (Role.Janitor p)) t b d w u is some h (asking w u (PlanAsk.Plain (Ask.Act (Role.Janitor p))) a t e k)
-  after-turn s (Ask.Act (Role.Requester q)) a t b d w u is some e h k = after-plain (Ask.Act (Role.Requester q)) t b d w u is some h (asking w u (PlanAsk.Plain (Ask.Act (Role.Requester q))) a t e k)
-  after-turn s (Ask.Act Role.Reaper) a t b d w u is some e h k = after-plain (Ask.Act Role.Reaper) t b d w u is some h (asking w u (PlanAsk.Plain (Ask.Act Role.Reaper)) a t e k)
-  after-turn s (Ask.Do x) a t b d w u is some e h k = after-plain (Ask.Do x) t b d w u is some h (asking w u (PlanAsk.Plain (Ask.Do x)) a t e k)
-  after-turn s (Ask.Due p) a t b d w u is some e h k = after-plain (Ask.Due p) t b d w u is some h (asking w u (PlanAsk.Plain (Ask.Due p)) a t e k)
-  after-turn s (Ask.Sweep p n x) a t b d w u is some e h k = after-plain (Ask.Sweep p n x) t b d w u is some h (asking w u (PlanAsk.Plain (Ask.Sweep p n x)) a t e k)
-
-  after-ask : (a : PlanAsk) (t : PlanTurn) (b d : Batch S) (w u : Sight Entry) → asks_with_ticket asks_of b ≡ Some a → Hears b t d → AtOnce w a t u → OneTurn b d w u ⊎ NoTurn b d w u
-  after-ask a t b d w u e h k = ⊎_elim
-      (λ (q : (p : PoolId) × (Some (PlanAsk.Peek p) ≡ Some a)). after-peek q.0 t b d w u h (asking w u (PlanAsk.Peek q.0) a t q.1 k))
-      (λ (q : (x : Ask) × (asks_of b.series ≡ Some x) × ((b.left == 0) ≡ false) × (turn_ask b.stage x ≡ Some a)). after-turn b.stage q.0 a t b d w u q.1 q.2 q.3 h k)
-      (asks-what b.stage b.left (asks_of b.series) a e)
+  own : (b : Batch S) (s : Stage) (o : Option Ask) (a : PlanAsk) → asks_of b.series ≡ o → next_ask s b.left o ≡ Some a → IsOwn b a
+  own b s o (PlanAsk.Plain x) is e = let h = own-plain s b.left o x e in (is ∙ h.0, h.1)
+  own b s o (PlanAsk.Commit p) is e = let h = own-commit s b.left o p e in (is ∙ h.0, h.1)
+  own b s o a is e = tt
 
   -- from here on, with nothing else seen between
   abbrev TookFrom : Sight Entry → S → ℕ → Sight Entry → S → ℕ → Type 0
   TookFrom w p left u q rest = (xs : List (Asked Ask Turn)) × Walked (answers_also launchers_before) recorded c w xs u × Heard asks_of hears p xs q × (length xs + rest ≡ left)
 
-  one-turn-more : (b d : Batch S) (q : S) (rest : ℕ) (w m u : Sight Entry) → OneTurn b d w m → TookFrom m d.series d.left u q rest → TookFrom w b.series b.left u q rest
-  one-turn-more b d q rest w m u h k = (record { ask = h.0; turn = h.1 } ∷ k.0, (m, h.5, k.1), (h.2, d.series, h.3, k.2), omega (arith, h.4, k.3))
-
-  no-turn-more : (b d : Batch S) (q : S) (rest : ℕ) (w m u : Sight Entry) → NoTurn b d w m → TookFrom m d.series d.left u q rest → TookFrom w b.series b.left u q rest
-  no-turn-more b d q rest w m u h k = subst (λ (p : S). TookFrom w p b.left u q rest) h.0 (subst (λ (n : ℕ). TookFrom w d.series n u q rest) h.1 (subst (λ (v : Sight Entry). TookFrom v d.series d.left u q rest) h.2 k))
-
   took-from : (w u : Sight Entry) (b d : Batch S) (xs : List (Asked PlanAsk PlanTurn)) → Walk AtOnce w xs u → Heard (asks_with_ticket asks_of) Hears b xs d → TookFrom w b.series b.left u d.series d.left
   took-from w u b d [] k h = ([], k, ap (λ (z : Batch S). z.series) h, omega (arith, ap (λ (z : Batch S). z.left) h))
   took-from w u b d (x ∷ xs) k h = let m : Sight Entry = k.0 in let e : Batch S = h.1 in
       let rest = took-from m u e d xs k.2 h.3 in
-      ⊎_elim (λ (one : OneTurn b e w m). one-turn-more b e d.series d.left w m u one rest) (λ (none : NoTurn b e w m). no-turn-more b e d.series d.left w m u none rest) (after-ask x.ask x.turn b e w m h.0 h.2 k.1)
+      ⊎_elim
+      (λ (one : OneTurn b e w m). (record { ask = one.0; turn = one.1 } ∷ rest.0, (m, one.5, rest.1), (one.2, e.series, one.3, rest.2), omega (arith, one.4, rest.3)))
+      (λ (none : NoTurn b e w m). subst (λ (p : S). TookFrom w p b.left u d.series d.left) none.0 (subst (λ (n : ℕ). TookFrom w e.series n u d.series d.left) none.1 (subst (λ (v : Sight Entry). TookFrom v e.series e.left u d.series d.left) none.2 rest)))
+      (after-ask x.ask x.turn b e w m (own b b.stage (asks_of b.series) x.ask refl h.0) h.2 k.1)
 
   -- what came of a ticket
   pub after-ticket : {R : Type 0} (v w : Sight Entry) (b d : Batch S) (most : ℕ) (result : Result R NoMemory)
@@ -212,28 +154,13 @@ module _ {S : Type 0} (asks : S → Option Ask) (hears : S → Turn → S → Ty
     one-ticket-more s = with-turns s.first s.turns s.saw s.walked s.heard s.count
 
   went : (v w : Sight Entry) (p q : S) (left rest : ℕ) (t : TookWithTickets asks hears c v p left w q rest) → Went Steps asks hears v p (length t.turns) t.last q
-  went v w p q left rest t = record {
-    turns = t.turns;
-    walked = t.walked;
-    heard = t.heard;
-    count = refl;
-  }
-
-  is-over : (v w : Sight Entry) (p q : S) (left rest : ℕ) (t : TookWithTickets asks hears c v p left w q rest) → HasEnded asks q rest → (asks q ≡ None) ⊎ (length t.turns ≡ left)
-  is-over v w p q left rest t ended = ⊎_elim (λ (e : asks q ≡ None). inl e) (λ (z : rest ≡ 0). inr (omega (arith, t.count, z))) ended
-
-  -- the turns of a series that has ended
-  all-tickets : {R : Type 0} (v w : Sight Entry) (p q : S) (most rest : ℕ) (y : R) → TookWithTickets asks hears c v p most w q rest → HasEnded asks q rest → Took (answers_also launchers_before) recorded asks hears c v p most (Ok y) w q
-  all-tickets v w p q most rest y t ended = took-whole (answers_also launchers_before) recorded asks hears c v w p q most (length t.turns) y
-      (subst (λ (z : Sight Entry). Went Steps asks hears v p (length t.turns) z q) (sym (t.still ended)) (went v w p q most rest t)) (omega (arith, t.count)) (is-over v w p q most rest t ended)
-
-  -- the same when memory ran out
-  some-tickets : {R : Type 0} (v w : Sight Entry) (p q : S) (most rest : ℕ) (result : Result R NoMemory) (y : NoMemory) → result ≡ Err y → TookWithTickets asks hears c v p most w q rest → Took (answers_also launchers_before) recorded asks hears c v p most result w q
-  some-tickets v w p q most rest result y is t = took-part (answers_also launchers_before) recorded asks hears c v t.last w p q most (length t.turns) result y is (went v w p q most rest t) (omega (arith, t.count)) t.after
+  went v w p q left rest t = record { turns = t.turns; walked = t.walked; heard = t.heard; count = refl }
 
   pub any-tickets : {R : Type 0} (v w : Sight Entry) (p q : S) (most rest : ℕ) (result : Result R NoMemory) → TookWithTickets asks hears c v p most w q rest → IfOk result (λ _. HasEnded asks q rest) → Took (answers_also launchers_before) recorded asks hears c v p most result w q
-  any-tickets v w p q most rest (Ok y) t ended = all-tickets v w p q most rest y t ended
-  any-tickets v w p q most rest (Err y) t ended = some-tickets v w p q most rest (Err y) y refl t
+  any-tickets v w p q most rest (Ok y) t ended = took-whole (answers_also launchers_before) recorded asks hears c v w p q most (length t.turns) y
+      (subst (λ (z : Sight Entry). Went Steps asks hears v p (length t.turns) z q) (sym (t.still ended)) (went v w p q most rest t)) (omega (arith, t.count))
+      (⊎_elim (λ (e : asks q ≡ None). inl e) (λ (z : rest ≡ 0). inr (omega (arith, t.count, z))) ended)
+  any-tickets v w p q most rest (Err y) t ended = took-part (answers_also launchers_before) recorded asks hears c v t.last w p q most (length t.turns) (Err y) y refl (went v w p q most rest t) (omega (arith, t.count)) t.after
 
 module _ {S : Type 0} (asks : S → Option Ask) (hears : S → Turn → S → Type 0) where
   -- one ticket more, of a series that went on

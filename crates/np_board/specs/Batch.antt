@@ -1,14 +1,15 @@
 -- what comes with one ticket of the turns of a series, and what the series hears of it
-use Rattle.std.specs.Prelude.{◌≡◌, ℕ, ◌-◌, ◌==◌, Option, Some, None, if◌then◌else◌}
-use Rattle.np_changes.specs.Prelude.{PoolId}
-use Rattle.np_worker.specs.declared.ask.Ask.{Ask}
-use Rattle.np_worker.specs.declared.ask.Turn.{Turn}
+use Rattle.std.specs.Prelude.{◌≡◌, ℕ, ◌-◌, ◌==◌, Option, Some, None, if◌then◌else◌, List, ◌<◌, length, find, option_and_then, slice_get}
 use Rattle.np_board.specs.declared.batch.Batch.{Batch}
 use Rattle.np_board.specs.declared.batch.Stage.{Stage}
 use Rattle.np_board.specs.declared.once.Once.{Once}
 use Rattle.np_board.specs.declared.board.plan.PlanAsk.{PlanAsk}
 use Rattle.np_board.specs.declared.board.plan.PlanTurn.{PlanTurn}
-use Rattle.np_text.specs.declared.id.Role.{Role}
+use Rattle.np_board.specs.Outstanding.{Outstanding, Planning, plan_of}
+use Rattle.np_board.specs.PlanTaken.{IsBarred}
+use Rattle.np_board.specs.declared.board.Test.{Test}
+use Rattle.np_board.specs.declared.board.commit.StaleSpot.{StaleSpot}
+use Rattle.np_board.specs.Lower.{AreFreshPaths, Ask, Configuration, Entry, Event, IsFirstStale, IsFull, IsReplied, Launcher, PoolId, Role, Spot, TreeState, Turn, WasUseful, answers, is_fired, recorded}
 
 -- what the pool's launcher asks for its next turn, unless its plan is for the next ticket
 abbrev pub launcher_ask : Stage → PoolId → Option PlanAsk
@@ -87,3 +88,96 @@ asks_once s = unless_heard s.ask s.turn
 
 abbrev pub hears_once : Once → Turn → Once → Type 0
 hears_once s t r = r ≡ record s { turn = Some t }
+
+-- which answers an ask may have at a board, after a journal
+
+abbrev pub answers_plain : Configuration → List Entry → Ask → PlanTurn → Type 0
+answers_plain c journal plain (PlanTurn.Plain t) = answers c journal plain t
+answers_plain c journal plain (PlanTurn.Planned plan) = ⊥
+answers_plain c journal plain (PlanTurn.Fired spot) = ⊥
+answers_plain c journal plain (PlanTurn.Did e) = ⊥
+answers_plain c journal plain (PlanTurn.Stale spot change) = ⊥
+answers_plain c journal plain PlanTurn.Idle = ⊥
+answers_plain c journal plain PlanTurn.Full = ⊥
+
+abbrev pub answers_peek : PlanTurn → Type 0
+answers_peek (PlanTurn.Plain t) = ⊥
+answers_peek (PlanTurn.Planned plan) = Unit {0}
+answers_peek (PlanTurn.Fired spot) = ⊥
+answers_peek (PlanTurn.Did e) = ⊥
+answers_peek (PlanTurn.Stale spot change) = ⊥
+answers_peek PlanTurn.Idle = Unit {0}
+answers_peek PlanTurn.Full = ⊥
+
+abbrev pub answers_news : PlanTurn → Type 0
+answers_news (PlanTurn.Plain t) = ⊥
+answers_news (PlanTurn.Planned plan) = ⊥
+answers_news (PlanTurn.Fired spot) = Unit {0}
+answers_news (PlanTurn.Did e) = ⊥
+answers_news (PlanTurn.Stale spot change) = ⊥
+answers_news PlanTurn.Idle = Unit {0}
+answers_news PlanTurn.Full = ⊥
+
+-- an event of the pool's launcher was recorded that was useful before and is accepted now (own)
+abbrev pub answers_commit : Configuration → List Entry → PoolId → PlanTurn → Type 0
+answers_commit c journal p (PlanTurn.Plain t) = ⊥
+answers_commit c journal p (PlanTurn.Planned plan) = ⊥
+answers_commit c journal p (PlanTurn.Fired spot) = ⊥
+answers_commit c journal p (PlanTurn.Did e) = WasUseful c journal (Launcher p) e.event × IsReplied c journal e
+answers_commit c journal p (PlanTurn.Stale spot change) = Unit {0}
+answers_commit c journal p PlanTurn.Idle = Unit {0}
+answers_commit c journal p PlanTurn.Full = IsFull journal
+
+abbrev pub plan_answers : Configuration → List Entry → PlanAsk → PlanTurn → Type 0
+plan_answers c journal (PlanAsk.Plain plain) t = answers_plain c journal plain t
+plan_answers c journal (PlanAsk.Peek p) t = answers_peek t
+plan_answers c journal (PlanAsk.News p) t = answers_news t
+plan_answers c journal (PlanAsk.Commit p) t = answers_commit c journal p t
+
+-- what a plain turn recorded, as np_worker says, or the entry of a commit
+abbrev pub plan_recorded : PlanAsk → PlanTurn → Option Entry
+plan_recorded (PlanAsk.Plain plain) (PlanTurn.Plain t) = recorded plain t
+plan_recorded (PlanAsk.Commit p) (PlanTurn.Did e) = Some e
+plan_recorded _ _ = None
+
+-- what is tested of an outstanding plan
+
+-- the first spot that isn't fresh, with its last change, which is later
+pub record IsStaleSpot (t : TreeState) (x : Outstanding) (stale : StaleSpot) : Type 0 where
+  pub place : ℕ
+  pub first : IsFirstStale t x.plan.at x.paths (record { place = place; change = stale.change })
+  pub of : slice_get x.plan.spots place ≡ Some stale.spot
+  pub late : x.plan.at < stale.change
+
+-- the spot of the first watch that fires
+abbrev pub fired_spot : TreeState → Outstanding → Option Spot
+fired_spot t x = option_and_then (λ w. slice_get x.plan.spots w.key) (find (is_fired t) x.watches)
+
+-- what is told of it
+abbrev pub told_by : Option Spot → PlanTurn
+told_by None = PlanTurn.Idle
+told_by (Some spot) = PlanTurn.Fired spot
+
+-- ## a commit
+
+-- a plan of the pool has this event, its spots are fresh, and there is room
+pub record IsMayDo (m : Planning) (p : PoolId) (e : Event) : Type 0 where
+  pub plan : Outstanding
+  pub there : plan_of p m.plans ≡ Some plan
+  pub room : length m.journal < 262144
+  pub fresh : AreFreshPaths plan.plan.at m.tree plan.paths
+  pub event : plan.plan.event ≡ e
+
+-- a spot of the pool's plan isn't fresh, and there is room
+pub record IsMayNot (m : Planning) (p : PoolId) (spot : Spot) (change : ℕ) : Type 0 where
+  pub plan : Outstanding
+  pub there : plan_of p m.plans ≡ Some plan
+  pub room : length m.journal < 262144
+  pub stale : IsStaleSpot m.tree plan (record { spot = spot; change = change })
+
+-- what a commit would do
+abbrev pub IsTested : Planning → PoolId → Test → Type 0
+IsTested m p Test.Idle = plan_of p m.plans ≡ None
+IsTested m p Test.Full = IsBarred m p
+IsTested m p (Test.Stale spot change) = IsMayNot m p spot change
+IsTested m p (Test.MayDo e) = IsMayDo m p e

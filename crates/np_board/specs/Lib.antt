@@ -1,8 +1,4 @@
-pub mod Taken
-pub mod Due
+pub mod Lower
 pub mod Outstanding
 pub mod PlanTaken
-pub mod PlanAnswers
-pub mod PlanTested
 pub mod Batch
-pub mod Planner

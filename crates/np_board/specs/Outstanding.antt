@@ -1,14 +1,14 @@
--- plans that were made and not committed
-use Rattle.std.specs.Prelude.{◌≡◌, ◌≤◌, ℕ, suc, true, List, [], ◌∷◌, length, take, Option, Some, None, slice_get, is_ok}
-use Rattle.np_changes.specs.Prelude.{AllByRecursion, Configuration, Entry, Launcher, PoolId, Runs, State, change_at, is_some, judge}
-use Rattle.np_layout.specs.Prelude.{IsLater, IsStored, TreeState}
-use Rattle.np_watch.specs.Fresh.{AreFreshPaths}
-use Rattle.np_watch.specs.declared.watch.Watch.{Watch}
-use Rattle.np_worker.specs.Prelude.{IsUseful, is_planned}
-use Rattle.np_planned.specs.Spots.{paths_at, spots_of}
-use Rattle.np_rules.specs.Ran.{Ran}
-use Rattle.np_rules.specs.Running.{Running}
+-- which nodes are due, as a test
+use Rattle.std.specs.Prelude.{Bool, false, ◌==◌, ◌&&◌, ◌≡◌, ◌≤◌, ℕ, suc, true, List, [], ◌∷◌, length, take, Option, Some, None, slice_get, is_ok, ◌⊎◌, ◌+◌}
 use Rattle.np_board.specs.declared.board.plan.Plan.{Plan}
+use Rattle.np_board.specs.Lower.{AllByRecursion, Also, AreFreshPaths, Ask, Asked, Configuration, Entry, Heard, IsLater, IsStored, IsUseful, Launcher, NodeId, PoolId, Ran, Role, Running, Runs, SessionId, Sight, State, TreeState, Turn, Unturned, Walked, WasUseful, Watch, answers_also, change_at, is_deleting, is_planned, is_session_of, is_some, judge, node_holder, node_in, option_map_or, paths_at, recorded, spots_of}
+
+-- the node is there, is of the pool and is being deleted, and the session holds it (own)
+abbrev pub is_due : PoolId → SessionId → NodeId → State → Bool
+is_due p session n s =
+    option_map_or (λ k. (k.pool.0 == p.0) && is_deleting k.state) (node_in n s.nodes) false && is_session_of session (node_holder n s.nodes)
+
+-- plans that were made and not committed
 
 -- a plan, the paths of its spots, and the watches on them that are left
 pub record Outstanding : Type 0 where
@@ -105,3 +105,38 @@ pub record IsPlanning (m : Planning) : Type 0 where
 -- of each outstanding plan: a spot isn't fresh, or the event is accepted now (own)
 abbrev pub FreshAreAccepted : Planning → Type 0
 FreshAreAccepted m = (p : PoolId) (x : Outstanding) → plan_of p m.plans ≡ Some x → AreFreshPaths x.plan.at m.tree x.paths → is_ok (judge m.configuration m.state x.plan.event) ≡ true
+
+-- what the turns of a series do to a history, where launchers may commit what was useful before
+
+-- of a launcher, what was useful before and is accepted now (own)
+abbrev pub launchers_before : Also
+launchers_before c journal (Role.Launcher p) e = WasUseful c journal (Role.Launcher p) e
+launchers_before c journal (Role.Janitor p) e = ⊥
+launchers_before c journal (Role.Requester q) e = ⊥
+launchers_before c journal Role.Reaper e = ⊥
+
+-- the series is over, or may take no more turns
+abbrev pub HasEnded : {S : Type 0} → (S → Option Ask) → S → ℕ → Type 0
+HasEnded asks q rest = (asks q ≡ None) ⊎ (rest ≡ 0)
+
+module _ {S : Type 0} (asks : S → Option Ask) (hears : S → Turn → S → Type 0) (c : Configuration) where
+  -- With one ticket the series took these turns, as many as fewer are left, and nothing else was seen
+  -- from the first of them on
+  pub record TookWithTicket (v : Sight Entry) (p : S) (left : ℕ) (w : Sight Entry) (q : S) (rest : ℕ) : Type 0 where
+    pub turns : List (Asked Ask Turn)
+    pub first : Sight Entry
+    pub saw : Unturned v first
+    pub walked : Walked (answers_also launchers_before) recorded c first turns w
+    pub heard : Heard asks hears p turns q
+    pub count : length turns + rest ≡ left
+
+  -- With several tickets it took these. More may have been seen after the last of them, unless the
+  -- series has ended
+  pub record TookWithTickets (v : Sight Entry) (p : S) (left : ℕ) (w : Sight Entry) (q : S) (rest : ℕ) : Type 0 where
+    pub turns : List (Asked Ask Turn)
+    pub last : Sight Entry
+    pub walked : Walked (answers_also launchers_before) recorded c v turns last
+    pub heard : Heard asks hears p turns q
+    pub count : length turns + rest ≡ left
+    pub after : Unturned last w
+    pub still : HasEnded asks q rest → w ≡ last

@@ -1,21 +1,18 @@
--- what a turn at a board leaves
-use Rattle.std.specs.Prelude.{◌≡◌, ◌<◌, ◌+◌, ℕ, true, ◌++◌, ◌∷◌, [], length, Some, None, find, slice_get}
-use Rattle.np_changes.specs.Prelude.{Done, Entry, Event, Launcher, PoolId, remove_first}
-use Rattle.np_tree.specs.Dates.{IsLater}
-use Rattle.np_watch.specs.Fresh.{AreFreshPaths}
-use Rattle.np_watch.specs.Watching.{is_fired}
-use Rattle.np_watch.specs.declared.watch.Watch.{Watch}
-use Rattle.np_worker.specs.Prelude.{IsFull, IsReplied, IsUseful, WasUseful, is_planned}
-use Rattle.np_planned.specs.Stale.{IsFirstStale}
-use Rattle.np_planned.specs.declared.spot.Spot.{Spot}
-use Rattle.np_worker.specs.declared.ask.Ask.{Ask}
-use Rattle.np_worker.specs.declared.ask.Turn.{Turn}
+-- what a turn without a plan leaves
+use Rattle.std.specs.Prelude.{◌≡◌, ◌++◌, ◌<◌, ◌+◌, ℕ, true, ◌∷◌, [], length, Some, None, find, slice_get}
 use Rattle.np_board.specs.Outstanding.{IsNewPlan, Outstanding, Planning, plan_of, ran_of, with_plan}
-use Rattle.np_board.specs.Taken.{IsTaken}
 use Rattle.np_board.specs.declared.board.plan.Plan.{Plan}
 use Rattle.np_board.specs.declared.board.plan.PlanAsk.{PlanAsk}
 use Rattle.np_board.specs.declared.board.plan.PlanTurn.{PlanTurn}
-use Rattle.np_event.specs.declared.reply.Reply.{Reply}
+use Rattle.np_board.specs.Lower.{AreFreshPaths, Ask, Done, Entry, Event, IsFirstStale, IsFull, IsLater, IsReplied, IsUseful, Launcher, PoolId, Ran, Reply, Spot, Turn, WasUseful, Watch, answers, entries_of, is_fired, is_planned, recorded, remove_first}
+
+-- the turn answers the ask after the journal so far; what it recorded is added to the journal, and nothing else is (own)
+pub record IsTaken (old : Ran) (ask : Ask) (t : Turn) (new : Ran) : Type 0 where
+  pub answer : answers old.configuration old.journal ask t
+  pub configuration : new.configuration ≡ old.configuration
+  pub journal : new.journal ≡ old.journal ++ entries_of (recorded ask t)
+
+-- what a turn at a board leaves
 
 -- ## memory ran out
 

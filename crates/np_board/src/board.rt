@@ -6,14 +6,11 @@
 //! one that is not later than the present one. `specs/PlanTaken` says what a turn leaves.
 
 ghost use Rattle.std.specs.Prelude.{◌≡◌, ◌↔◌, [], true, IfOk, None, OnErr, length, replicate};
-ghost use Rattle.np_changes.specs.Prelude.{IsFitSite, Runs, start};
-ghost use Rattle.np_layout.specs.Decoded.{decoded};
-ghost use Rattle.np_keeper.specs.Keeper.{Holds, IsHeld};
+ghost use Rattle.np_board.specs.Lower.{Holds, IsFitSite, IsHeld, IsSettled, Runs, decoded, start};
 ghost use Rattle.np_rules.specs.Running as running;
-ghost use Rattle.np_useful.specs.Settled.{IsSettled};
 ghost use Rattle.np_board.specs.Outstanding.{FreshAreAccepted, IsPlanning, ran_of, with_plan};
 ghost use Rattle.np_board.specs.PlanTaken.{IsAsBefore, IsCommitted, IsPlanTaken, TakenCommit, TakenNews, TakenPeek, TakenPlain};
-ghost use Rattle.np_board.specs.PlanTested.{IsMayDo, IsTested};
+ghost use Rattle.np_board.specs.Batch.{IsMayDo, IsTested};
 
 mod commit;
 mod object;

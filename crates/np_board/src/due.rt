@@ -1,8 +1,8 @@
 //! What the turns read of a state.
 
 ghost use Rattle.std.specs.Prelude.{◌≡◌, false, true, IfSome, None};
-ghost use Rattle.np_changes.specs.Prelude.{NodeId, is_server, is_session_of, is_swept, is_wanted, node_holder, node_in};
-ghost use Rattle.np_board.specs.Due.{is_due};
+ghost use Rattle.np_board.specs.Lower.{NodeId, is_server, is_session_of, is_swept, is_wanted, node_holder, node_in};
+ghost use Rattle.np_board.specs.Outstanding.{is_due};
 
 use np_look::{Look, Rows, node_holder};
 use np_record::NodeRecord;

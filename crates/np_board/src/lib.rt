@@ -1,9 +1,9 @@
 //! The board: the machine's state with its journal, at which parties take turns.
 //!
 //! A turn answers an ask after the journal so far: np_worker says which answers an ask may have,
-//! and `specs/Taken` what a turn leaves. `Board` is a machine (np_rules) whose store is a coordination
-//! tree (np_keeper). It lends the machine to readers, and the tree. `machine_of_tree` reads a machine
-//! back from such a tree: it goes on from there with an empty journal.
+//! and `specs/PlanTaken` what a turn leaves. `Board` is a machine (np_rules) whose store is a
+//! coordination tree (np_keeper). It lends the machine to readers, and the tree. `machine_of_tree`
+//! reads a machine back from such a tree: it goes on from there with an empty journal.
 //!
 //! Launchers may also plan at a board: they choose on the tree as it stands, and commit later, where it
 //! is as it was at what their event's judgement reads (`specs/PlanTaken`). `Board` has `SeqObject` for

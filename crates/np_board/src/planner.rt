@@ -1,9 +1,8 @@
 //! Turns at the desk of a board, of launchers that plan and of others.
 
 ghost use Rattle.std.specs.Prelude.{◌≡◌, IfOk, Some};
-ghost use Rattle.np_worker.specs.Prelude.{IsOf, Turned, WasUseful, answers_also, recorded, sight_of};
-ghost use Rattle.np_desk.specs.Series.{Took};
-ghost use Rattle.np_board.specs.Planner.{HasEnded, TookWithTicket, TookWithTickets, launchers_before};
+ghost use Rattle.np_board.specs.Lower.{IsOf, Took, Turned, WasUseful, answers_also, recorded, sight_of};
+ghost use Rattle.np_board.specs.Outstanding.{HasEnded, TookWithTicket, TookWithTickets, launchers_before};
 
 use crate::batch::{Batch, Stage};
 use crate::board::Board;
@@ -11,7 +10,7 @@ use crate::once::Once;
 use np_config::Config;
 use np_desk::{Desk, Pass, Series, Turns};
 use np_event::Entry;
-use np_text::NoMemory;
+use np_text::{Ample, NoMemory};
 use np_worker::{Ask, Turn};
 use std::sync::Wait;
 
@@ -32,7 +31,7 @@ impl<'a, R: Wait> Planner<'a, R> {
         series: &mut S,
         left: &mut u32,
         tries: u32,
-    ) -> Result<(), NoMemory>
+    ) -> Ample
         requires own { IsOf self.old.pass self.old.desk.now }
         ensures own { IsOf self.new.pass self.new.desk.now }
         ensures desk { self.new.desk.now ≡ self.old.desk.now }
@@ -62,7 +61,7 @@ impl<'a, R: Wait> Planner<'a, R> {
         &mut self,
         series: &mut S,
         left: &mut u32,
-    ) -> Result<(), NoMemory>
+    ) -> Ample
         requires own { IsOf self.old.pass self.old.desk.now }
         ensures own { IsOf self.new.pass self.new.desk.now }
         ensures desk { self.new.desk.now ≡ self.old.desk.now }
@@ -96,7 +95,7 @@ impl<'a, R: Wait> Planner<'a, R> {
         &mut self,
         series: &mut S,
         most: u32,
-    ) -> Result<(), NoMemory>
+    ) -> Ample
         requires own { IsOf self.old.pass self.old.desk.now }
         ensures own { IsOf self.new.pass self.new.desk.now }
         ensures desk { self.new.desk.now ≡ self.old.desk.now }
@@ -159,11 +158,7 @@ impl<'a, R: Wait> Turns for Planner<'a, R> {
         self.take_turn(ask)
     }
 
-    fn turns<S: Series<Ask = Ask, Turn = Turn>>(
-        &mut self,
-        series: &mut S,
-        most: u32,
-    ) -> Result<(), NoMemory> {
+    fn turns<S: Series<Ask = Ask, Turn = Turn>>(&mut self, series: &mut S, most: u32) -> Ample {
         self.take_turns(series, most)
     }
 }

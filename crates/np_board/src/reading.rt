@@ -1,9 +1,7 @@
 //! A machine read back from its tree.
 
 ghost use Rattle.std.specs.Prelude.{◌≡◌, [], IfErr, IfOk};
-ghost use Rattle.np_layout.specs.Decoded.{decoded};
-ghost use Rattle.np_keeper.specs.Keeper.{IsHeld};
-ghost use Rattle.np_rules.specs.RunsOn.{RunsOn};
+ghost use Rattle.np_board.specs.Lower.{IsHeld, RunsOn, decoded};
 
 use np_config::Config;
 use np_keeper::{TreeStore, tables_of_tree};

@@ -1,12 +1,10 @@
 //! The turns, taken at a machine that began before the first event.
+#![tactic(auto, using(crate::proofs::BoardTurns::turned))]
 
 ghost use Rattle.std.specs.Prelude.{◌≡◌, ◌↔◌, true, IfOk, OnErr};
-ghost use Rattle.np_worker.specs.Answers.{answers_due};
+ghost use Rattle.np_board.specs.Lower.{IsLater, IsSettled, answers_due, ran_of};
 ghost use Rattle.np_worker.specs.declared.ask.Ask.TheVariants as asks;
-ghost use Rattle.np_board.specs.Taken.{IsTaken};
-ghost use Rattle.np_rules.specs.Running.{ran_of};
-ghost use Rattle.np_useful.specs.Settled.{IsSettled};
-ghost use Rattle.np_tree.specs.Dates.{IsLater};
+ghost use Rattle.np_board.specs.PlanTaken.{IsTaken};
 
 use crate::due::{due_node, is_wanted, node, was_swept};
 use np_event::{Entry, Event};

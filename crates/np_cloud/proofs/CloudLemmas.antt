@@ -6,8 +6,7 @@ use Rattle.std.proofs.lemmas.Option.{slice_get_within}
 use Rattle.std.proofs.lemmas.List.{map-append}
 use Rattle.std.proofs.lemmas.List.Elements.{All-nil, All-cons, All-append}
 use Rattle.np_cloud.specs.declared.driver.Tag.{Tag}
-use Rattle.np_cloud.specs.Sim.{Simulation, simulation_of, simulation_facts, simulation_plan}
-use Rattle.np_cloud.specs.Clouds.{ArePlanned, simulations}
+use Rattle.np_cloud.specs.Inventory.{Simulation, simulation_of, simulation_facts, simulation_plan, ArePlanned, simulations}
 
 abbrev IsPlannedFor : Configuration → ℕ → (Tag → Option Outcome) → Type 0
 IsPlannedFor c n plan = (tag : Tag) → tag.pool.0 ≡ n → plan tag ≡ Some (outcome_of c tag.pool tag.start)

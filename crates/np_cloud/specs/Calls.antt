@@ -1,7 +1,7 @@
 -- what the calls of a driver do
 use Rattle.std.specs.Prelude.{◌≡◌, ◌≤◌, ◌==◌, not, ℕ, List, [], ◌∷◌, ◌++◌, filter, Option, Some, None, Result, Ok, Err}
 use Rattle.np_machine.specs.Prelude.{Outcome, option_map}
-use Rattle.np_io.specs.Counts.{Rose}
+use Rattle.np_io.specs.Memory.{Rose}
 use Rattle.np_cloud.specs.declared.driver.Tag.{Tag}
 use Rattle.np_cloud.specs.declared.driver.Launch.{Launch}
 use Rattle.np_cloud.specs.declared.driver.Server.{Server}

@@ -1,7 +1,7 @@
 //! The simulated clouds of a site.
 
 ghost use Rattle.std.specs.Prelude.{◌≡◌, length, IfOk};
-ghost use Rattle.np_cloud.specs.Clouds.{simulations};
+ghost use Rattle.np_cloud.specs.Inventory.{simulations};
 
 use crate::sim::SimDriver;
 use np_config::Config;

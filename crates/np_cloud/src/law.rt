@@ -4,9 +4,7 @@ ghost use Rattle.std.specs.Prelude.{◌≡◌, ℕ, List, [], map, All, Some, Er
 ghost use Rattle.np_config.specs.Configuration.{Configuration};
 ghost use Rattle.np_cloud.specs.declared.driver.RemoveFailed.{RemoveFailed};
 ghost use Rattle.np_cloud.specs.Calls.{Removes};
-ghost use Rattle.np_cloud.specs.Inventory.{facts_of};
-ghost use Rattle.np_cloud.specs.Clouds.{ArePlanned, simulations};
-ghost use Rattle.np_cloud.specs.Sim.{Simulation};
+ghost use Rattle.np_cloud.specs.Inventory.{facts_of, ArePlanned, simulations, Simulation};
 
 use crate::driver::Driver;
 use crate::sim::SimDriver;

@@ -1,11 +1,10 @@
 //! A driver that answers from a list.
 
 ghost use Rattle.std.specs.Prelude.{◌≡◌, ◌↔◌, Option, None, Contains, IsTrue, IsErr, OnOk, OnErr, slice_get};
-ghost use Rattle.np_io.specs.Counts.{counted};
+ghost use Rattle.np_io.specs.Memory.{counted};
 ghost use Rattle.np_cloud.specs.Calls.{KeepsCounts};
 ghost use Rattle.np_cloud.specs.Sound.{every_list, soundness_of_every_list};
-ghost use Rattle.np_cloud.specs.Inventory.{HasOutcome};
-ghost use Rattle.np_cloud.specs.Script.{script_of, next_outcome, after_scripted_removal, after_failed_removal, script_facts};
+ghost use Rattle.np_cloud.specs.Inventory.{HasOutcome, script_of, next_outcome, after_scripted_removal, after_failed_removal, script_facts};
 
 use crate::driver::{Driver, LaunchFault, RemoveFailed, Server, Tag};
 use crate::inventory::Inventory;
@@ -36,7 +35,7 @@ pub struct ScriptDriver {
 }
 
 impl Model for ScriptDriver {
-    ghost use Rattle.np_cloud.specs.Script.{Script};
+    ghost use Rattle.np_cloud.specs.Inventory.{Script};
 
     ghost Value = { Script };
 

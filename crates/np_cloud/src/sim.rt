@@ -5,8 +5,7 @@ ghost use Rattle.np_machine.specs.Prelude.{list_any, outcome_of};
 ghost use Rattle.np_cloud.specs.declared.driver.Tag.{Tag};
 ghost use Rattle.np_cloud.specs.Calls.{KeepsCounts};
 ghost use Rattle.np_cloud.specs.Sound.{every_list, soundness_of_every_list};
-ghost use Rattle.np_cloud.specs.Inventory.{after_removal, HasOutcome};
-ghost use Rattle.np_cloud.specs.Sim.{simulation_of, simulated_outcome, simulation_facts, simulation_plan};
+ghost use Rattle.np_cloud.specs.Inventory.{after_removal, HasOutcome, simulation_of, simulated_outcome, simulation_facts, simulation_plan};
 
 use crate::driver::{Driver, LaunchFault, RemoveFailed, Server, Tag};
 use crate::inventory::Inventory;
@@ -33,7 +32,7 @@ pub struct SimDriver {
 }
 
 impl Model for SimDriver {
-    ghost use Rattle.np_cloud.specs.Sim.{Simulation};
+    ghost use Rattle.np_cloud.specs.Inventory.{Simulation};
 
     ghost Value = { Simulation };
 

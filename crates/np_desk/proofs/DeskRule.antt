@@ -284,17 +284,17 @@ module _ {M F E : Type 0} (history : M → List E) (fixed : M → F) (legal : F 
   abbrev Sat : Type 0
   Sat = Me M (SeatView F E)
 
-  -- the seats change, and the words and slots stay
-  reseated : (s : St) (r : Rule s) (views : List (SeatView F E)) → (IsOut r.now r.drawer s.views → IsOut r.now r.drawer views) → ((j : ℕ) (u : SeatView F E) → get_elem? views j ≡ some u → Fits o r.next r.now r.drawer r.log j u)
-      → Shared (length o.history) r.log views → Rule record { words = s.words; homes = s.homes; views = views }
-  reseated s r views out each shared = record {
+  -- the seats and the bells change, and the tickets and slots stay
+  reseated : (s : St) (r : Rule s) (words bells : List ℕ) (views : List (SeatView F E)) → words ≡ r.next ∷ r.now ∷ bells → (IsOut r.now r.drawer s.views → IsOut r.now r.drawer views) → ((j : ℕ) (u : SeatView F E) → get_elem? views j ≡ some u → Fits o r.next r.now r.drawer r.log j u)
+      → Shared (length o.history) r.log views → Rule record { words = words; homes = s.homes; views = views }
+  reseated s r words bells views are out each shared = record {
     log = r.log;
     next = r.next;
     now = r.now;
     drawer = r.drawer;
     home = r.home;
-    bells = r.bells;
-    words = r.words;
+    bells = bells;
+    words = are;
     homes = r.homes;
     order = r.order;
     lawful = r.lawful;
@@ -307,30 +307,13 @@ module _ {M F E : Type 0} (history : M → List E) (fixed : M → F) (legal : F 
   unmoved : (s : St) (r : Rule s) (i id : ℕ) (m : Sat) → get_elem? s.views id ≡ some m.0 → Rule (stepped s i (get_or s.words i 0) id m.1 m.0 keeps)
   unmoved s r i id m at = subst (λ (z : List ℕ × List (SeatView F E)). Rule record { words = z.0; homes = s.homes; views = z.1 }) (λ k. (sym (set-get_or s.words i 0) k, sym (set_again s.views id m.0 at) k)) r
 
-  -- a bell rings
-  bell : (s : St) → Rule s → (i new : ℕ) → Rule record { words = set s.words (suc (suc i)) new; homes = s.homes; views = s.views }
-  bell s r i new = record {
-    log = r.log;
-    next = r.next;
-    now = r.now;
-    drawer = r.drawer;
-    home = r.home;
-    bells = set r.bells i new;
-    words = ap (λ (ws : List ℕ). set ws (suc (suc i)) new) r.words;
-    homes = r.homes;
-    order = r.order;
-    lawful = r.lawful;
-    object = r.object;
-    each_seat = r.each_seat;
-    shared = r.shared;
-  }
-
   pub rings : (slots id : ℕ) (m : Sat) (word i new : ℕ) → word ≡ suc (suc i) → Allows Rule slots id m word (λ _. new) (rung (step slots word new 0 none) m)
   rings slots id m word i new is s r deep at small = (
     m.0,
     keeps,
     tt,
-    subst (λ (z : ℕ × List (SeatView F E)). Rule record { words = set s.words z.0 new; homes = s.homes; views = z.1 }) (λ k. (sym is k, sym (set_again s.views id m.0 at) k)) (bell s r i new),
+    subst (λ (z : ℕ × List (SeatView F E)). Rule record { words = set s.words z.0 new; homes = s.homes; views = z.1 }) (λ k. (sym is k, sym (set_again s.views id m.0 at) k))
+        (reseated s r (set s.words (suc (suc i)) new) (set r.bells i new) s.views (ap (λ (ws : List ℕ). set ws (suc (suc i)) new) r.words) (λ h. h) r.each_seat r.shared),
     refl,
   )
 
@@ -476,11 +459,10 @@ module _ {M F E : Type 0} (history : M → List E) (fixed : M → F) (legal : F 
         w,
         keeps,
         tt,
-        subst (λ (ws : List ℕ). PassRule record { words = ws; homes = s.homes; views = set s.views id w }) (sym (set-get_or s.words 0 0))
-            (reseated history fixed legal o s r (set s.views id w) (out_stays r.now id r.drawer s.views m.0 w at refl)
+        reseated history fixed legal o s r (set s.words 0 (get_or s.words 0 0)) r.bells (set s.views id w) (set-get_or s.words 0 0 ∙ r.words) (out_stays r.now id r.drawer s.views m.0 w at refl)
             (at_each (Fits o r.next r.now r.drawer r.log) s.views id w
             (me.0, starts_same r.log, (r.log, refl), subst (Stands r.next r.now r.drawer r.log id r.log) (sym idle) tt) (λ j u _. r.each_seat j u))
-            shared),
+            shared,
         (
           r.log,
           refl,
@@ -493,7 +475,7 @@ module _ {M F E : Type 0} (history : M → List E) (fixed : M → F) (legal : F 
 
   pub splits : (id : ℕ) (v : SeatView F E) → 0 < length v.part → Splits PassRule id v (left_half v) (right_half v)
   splits id v some_part s r at = let me = r.each_seat id v at in let l : SeatView F E = left_half v in let new : SeatView F E = right_half v in
-      reseated history fixed legal o s r (set s.views id l ++ new ∷ [])
+      reseated history fixed legal o s r s.words r.bells (set s.views id l ++ new ∷ []) r.words
       (λ h. out_longer r.now r.drawer (set s.views id l) (new ∷ []) (out_stays r.now id r.drawer s.views v l at refl h))
       (at_end (Fits o r.next r.now r.drawer r.log) (set s.views id l) new
       (at_each (Fits o r.next r.now r.drawer r.log) s.views id l me (λ j u _. r.each_seat j u)) (λ _. (me.0, me.1, (r.log, refl), tt)))
@@ -503,7 +485,7 @@ module _ {M F E : Type 0} (history : M → List E) (fixed : M → F) (legal : F 
   joins id v other w some_part idle s r at apart them = let b : SeatView F E = both_views v w in let vs : List (SeatView F E) = set s.views id b in
       let there : get_elem? s.views other ≡ some w = sym (set_else s.views id other b apart) ∙ them in
       let me = r.each_seat id v at in let they = r.each_seat other w there in
-      reseated history fixed legal o s r (set vs other spent)
+      reseated history fixed legal o s r s.words r.bells (set vs other spent) r.words
       (λ h. out_stays r.now other r.drawer vs w spent them (sym idle) (out_stays r.now id r.drawer s.views v b at refl h))
       (at_each (Fits o r.next r.now r.drawer r.log) vs other spent (tt, (r.log, refl), (r.log, refl), tt)
       (λ j u _. at_each (Fits o r.next r.now r.drawer r.log) s.views id b (me.0, me.1, they.1, me.3) (λ j u _. r.each_seat j u) j u))

@@ -1,3 +1,60 @@
+-- Histories, which only grow, and the places of entries in them.
+use Rattle.std.specs.Prelude.{◌≡◌, ℕ, ◌<◌, ◌≤◌, List, [], ◌∷◌, ◌++◌, length, drop, suc, cond, nat_lt, ◌+◌, ◌-◌, ◌^◌, ◌==◌, Bool, ◌⊎◌, true, IfSome}
+use mathlib.Core.Option.{Option, some}
+use lib.ListN.{get_elem?}
+use Rattle.atomic_table.specs.Table.{State}
+use Rattle.np_desk.specs.declared.view.Origin.{Origin}
+use Rattle.np_desk.specs.declared.view.SeatView.{SeatView}
+use Rattle.np_desk.specs.declared.view.Stage.{Stage}
+use Rattle.np_desk.specs.declared.view.Stage.TheVariants.{Idle, Waits, Has}
+
+-- the history begins with what was seen
+abbrev pub StartsWith : {E : Type 0} → List E → List E → Type 0
+StartsWith {E} history seen = (rest : List E) × (history ≡ seen ++ rest)
+
+-- the places of these entries, the first of which is at n
+abbrev pub places : {E : Type 0} → ℕ → List E → List ℕ
+places n [] = []
+places n (e ∷ es) = n ∷ places (suc n) es
+
+-- the places of what was added to a history
+abbrev pub added : {E : Type 0} → List E → List E → List ℕ
+added first history = places (length first) (drop (length first) history)
+
+-- the places rise, so none occurs twice; they are at least `from`, and below `end`
+abbrev pub AreRising : ℕ → List ℕ → ℕ → Type 0
+AreRising from [] end = Unit {0}
+AreRising from (x ∷ xs) end = (from ≤ x) × (x < end) × AreRising (suc x) xs end
+
+-- one place more, before the first that is greater
+abbrev pub with_place : ℕ → List ℕ → List ℕ
+with_place x [] = x ∷ []
+with_place x (y ∷ ys) = cond (nat_lt x y) (x ∷ y ∷ ys) (y ∷ with_place x ys)
+
+-- the places of both
+abbrev pub merged : List ℕ → List ℕ → List ℕ
+merged xs [] = xs
+merged xs (y ∷ ys) = merged (with_place y xs) ys
+
+-- What the rule counts: how many times a place is held, and how much of the whole a part is.
+
+abbrev pub total : {A : Type 0} → (A → ℕ) → List A → ℕ
+total f [] = 0
+total f (x ∷ xs) = f x + total f xs
+
+-- how many times x is in the list
+abbrev pub times : ℕ → List ℕ → ℕ
+times x [] = 0
+times x (y ∷ ys) = cond (x == y) 1 0 + times x ys
+
+-- the share of a word, if the whole is 2 ^ depth
+abbrev pub share : ℕ → List Bool → ℕ
+share depth word = 2 ^ (depth - length word)
+
+abbrev pub AreShort : ℕ → List (List Bool) → Type 0
+AreShort depth [] = Unit {0}
+AreShort depth (w ∷ ws) = (length w ≤ depth) × AreShort depth ws
+
 -- The desk's rule, which holds between any two steps on its table.
 --
 -- Word 0 is the next ticket, word 1 the ticket that is served, and the one slot holds the object. The
@@ -8,16 +65,6 @@
 -- Each place that was added since the set-up belongs to one seat, once. The parts of the seats are
 -- one whole, and a seat with no part has no place and no ticket: while one pass is whole, nobody
 -- else has the object.
-use Rattle.std.specs.Prelude.{◌≡◌, ◌⊎◌, ℕ, ◌^◌, ◌<◌, ◌≤◌, List, [], ◌∷◌, length, drop, Bool, true, IfSome}
-use mathlib.Core.Option.{Option, some}
-use lib.ListN.{get_elem?}
-use Rattle.atomic_table.specs.Table.{State}
-use Rattle.np_desk.specs.History.{StartsWith, places, AreRising}
-use Rattle.np_desk.specs.Share.{total, times, share, AreShort}
-use Rattle.np_desk.specs.declared.view.Origin.{Origin}
-use Rattle.np_desk.specs.declared.view.SeatView.{SeatView}
-use Rattle.np_desk.specs.declared.view.Stage.{Stage}
-use Rattle.np_desk.specs.declared.view.Stage.TheVariants.{Idle, Waits, Has}
 
 -- what a seat's stage says: of the next ticket, of the one that is served, of who drew each, and of
 -- the history

@@ -1,13 +1,13 @@
 //! Turns at an object that no other thread has.
 
 ghost use Rattle.std.specs.Prelude.{◌≡◌, true, None};
-ghost use Rattle.np_desk.specs.Pass.{whole_sight};
+ghost use Rattle.np_desk.specs.Step.{whole_sight};
 
 use crate::object::SeqObject;
 use crate::row::take_turns;
 use crate::series::Series;
 use crate::turns::Turns;
-use np_text::NoMemory;
+use np_text::{Ample, NoMemory};
 
 /// An object in whose history every place is one's own.
 #[derive(Drop)]
@@ -44,7 +44,7 @@ impl<M: SeqObject> Turns for Alone<M> {
         &mut self,
         series: &mut S,
         most: u32,
-    ) -> Result<(), NoMemory> {
+    ) -> Ample {
         take_turns(&mut self.object, series, most)
     }
 }

@@ -1,10 +1,9 @@
 //! The desk.
 
 ghost use Rattle.std.specs.Prelude.{◌≡◌, true, [], ◌∷◌, IfOk, IfErr};
-ghost use Rattle.np_desk.specs.History.{StartsWith, added};
+ghost use Rattle.np_desk.specs.Rule.{StartsWith, added};
 ghost use Rattle.np_desk.specs.Part.{IsWhole};
-ghost use Rattle.np_desk.specs.Pass.{DeskView, IsOf, origin_of};
-ghost use Rattle.np_desk.specs.Step.{IsDesk, desk_view};
+ghost use Rattle.np_desk.specs.Step.{DeskView, IsOf, origin_of, IsDesk, desk_view};
 
 use crate::bell::WORDS;
 use crate::object::SeqObject;

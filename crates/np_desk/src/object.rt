@@ -1,7 +1,7 @@
 //! The object that turns are taken at.
 
 ghost use Rattle.std.specs.Prelude.{◌≡◌, List, ◌++◌, Bool, true, IfOk, Option, MatchResult};
-ghost use Rattle.np_desk.specs.Turned.{entries_of};
+ghost use Rattle.np_desk.specs.Series.{entries_of};
 
 use np_text::NoMemory;
 

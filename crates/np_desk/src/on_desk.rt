@@ -1,14 +1,14 @@
 //! Turns at a desk.
 
 ghost use Rattle.std.specs.Prelude.{◌≡◌, Some};
-ghost use Rattle.np_desk.specs.Pass.{IsOf, sight_of};
+ghost use Rattle.np_desk.specs.Step.{IsOf, sight_of};
 
 use crate::desk::Desk;
 use crate::object::SeqObject;
 use crate::pass::Pass;
 use crate::series::Series;
 use crate::turns::Turns;
-use np_text::NoMemory;
+use np_text::{Ample, NoMemory};
 use std::sync::Wait;
 
 /// A pass beside its desk. A turn may wait for the turns of others.
@@ -48,7 +48,7 @@ impl<'a, R: Wait, M: SeqObject> Turns for OnDesk<'a, R, M> {
         &mut self,
         series: &mut S,
         most: u32,
-    ) -> Result<(), NoMemory> {
+    ) -> Ample {
         self.pass.turns(self.rt, self.desk, series, most)
     }
 }

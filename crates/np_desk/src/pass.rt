@@ -1,12 +1,10 @@
 //! The passes of those who take turns at a desk.
 
 ghost use Rattle.std.specs.Prelude.{◌≡◌, List, [], ◌∷◌, length, Bool, true, IfSome};
-ghost use Rattle.np_desk.specs.History.{StartsWith, AreRising, added, merged};
+ghost use Rattle.np_desk.specs.Rule.{StartsWith, AreRising, added, merged};
 ghost use Rattle.np_desk.specs.Part.{IsWhole, first_half, second_half, joined};
-ghost use Rattle.np_desk.specs.Pass.{PassView, IsOf, IsAllMine, sight_of};
-ghost use Rattle.np_desk.specs.Series.{TookAtOnce};
-ghost use Rattle.np_desk.specs.Turned.{Turned};
-ghost use Rattle.np_desk.specs.Step.{pass_view, IsPass};
+ghost use Rattle.np_desk.specs.Step.{PassView, IsOf, IsAllMine, sight_of, pass_view, IsPass};
+ghost use Rattle.np_desk.specs.Series.{TookAtOnce, Turned};
 
 use crate::desk::Desk;
 use crate::object::SeqObject;
@@ -15,7 +13,7 @@ use crate::series::Series;
 use crate::step;
 use crate::view::SeatView;
 use atomic_table::Seat;
-use np_text::NoMemory;
+use np_text::{Ample, NoMemory};
 use std::marker::Model;
 use std::sync::Wait;
 
@@ -81,7 +79,7 @@ impl<M: SeqObject> Pass<M> {
         desk: &Desk<M>,
         series: &mut S,
         most: u32,
-    ) -> Result<(), NoMemory>
+    ) -> Ample
         requires own { IsOf self.old desk.now }
         ensures own { IsOf self.new desk.now }
         ensures turns { TookAtOnce M.answers M.recorded S.asks S.hears desk.now.origin.fixed

@@ -1,19 +1,19 @@
 //! Turns at an object, one after another.
 
 ghost use Rattle.std.specs.Prelude.{◌≡◌, ℕ, List, true};
-ghost use Rattle.np_desk.specs.History.{StartsWith};
+ghost use Rattle.np_desk.specs.Rule.{StartsWith};
 ghost use Rattle.np_desk.specs.Series.{TookAtOnce, grown};
 
 use crate::object::SeqObject;
 use crate::series::Series;
-use np_text::NoMemory;
+use np_text::Ample;
 
 /// Takes the turns of a series at an object, at most `most` of them.
 pub(crate) fn take_turns<M: SeqObject, S: Series<Ask = M::Ask, Turn = M::Turn>>(
     object: &mut M,
     series: &mut S,
     most: u32,
-) -> Result<(), NoMemory>
+) -> Ample
     requires legal { M.legal (M.fixed object.old) (M.history object.old) ≡ true }
     ensures fixed { M.fixed object.new ≡ M.fixed object.old }
     ensures legal { M.legal (M.fixed object.old) (M.history object.new) ≡ true }

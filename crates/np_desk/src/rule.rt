@@ -1,8 +1,7 @@
 //! The rule of the desk's table, and what is learned from each kind of step.
 
 ghost use Rattle.np_desk.specs.Rule.{Kept};
-ghost use Rattle.np_desk.specs.Pass.{origin_of};
-ghost use Rattle.np_desk.specs.Step.{first_view, spent, drew, looked, posted, rung, learned, left_half, right_half, both_views};
+ghost use Rattle.np_desk.specs.Step.{origin_of, first_view, spent, drew, looked, posted, rung, learned, left_half, right_half, both_views};
 
 use crate::object::SeqObject;
 use crate::view::SeatView;

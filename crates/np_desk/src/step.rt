@@ -2,11 +2,9 @@
 
 ghost use Rattle.std.specs.Prelude.{◌≡◌, ℕ, ◌+◌, ◌<◌, ◌^◌, List, [], ◌++◌, length, IfOk, MatchResult};
 ghost use Rattle.np_desk.specs.declared.view.Stage.TheVariants.{Idle, Waits, Has};
-ghost use Rattle.np_desk.specs.History.{StartsWith};
-ghost use Rattle.np_desk.specs.Pass.{origin_of};
-ghost use Rattle.np_desk.specs.Series.{TookAtOnce, grown};
-ghost use Rattle.np_desk.specs.Step.{IsDesk, IsAt, IsServed, at_stage, after_turn, KnowsMine, HasObject};
-ghost use Rattle.np_desk.specs.Turned.{entries_of};
+ghost use Rattle.np_desk.specs.Rule.{StartsWith};
+ghost use Rattle.np_desk.specs.Step.{origin_of, IsDesk, IsAt, IsServed, at_stage, after_turn, KnowsMine, HasObject};
+ghost use Rattle.np_desk.specs.Series.{TookAtOnce, grown, entries_of};
 
 use crate::bell::bell;
 use crate::object::SeqObject;
@@ -15,7 +13,7 @@ use crate::rule::{Draw, Law, Look, Post, Ring};
 use crate::series::Series;
 use crate::view::SeatView;
 use atomic_table::{Seat, Shared};
-use np_text::NoMemory;
+use np_text::{Ample, NoMemory};
 use std::snapshot::Snapshot;
 use std::sync::Wait;
 use std::thread::yield_now;
@@ -99,7 +97,7 @@ pub fn ask_in_row<M: SeqObject, S: Series<Ask = M::Ask, Turn = M::Turn>>(
     seat: &mut Seat<M, SeatView<M::Fixed, M::Entry>>,
     series: &mut S,
     most: u32,
-) -> Result<(), NoMemory>
+) -> Ample
     requires table { seat.old.table_id ≡ table.now.table_id }
     requires object { HasObject M.history M.fixed M.legal (M.fixed table.now.key.value) seat.old.me
         (λ h. h ≡ seat.old.me.0.seen) }

@@ -1,12 +1,11 @@
 //! Whoever can take turns, at a desk or alone.
 
 ghost use Rattle.std.specs.Prelude.{◌≡◌, List, Option};
-ghost use Rattle.np_desk.specs.Pass.{Place, Sight};
-ghost use Rattle.np_desk.specs.Series.{Took};
-ghost use Rattle.np_desk.specs.Turned.{Turned};
+ghost use Rattle.np_desk.specs.Step.{Place, Sight};
+ghost use Rattle.np_desk.specs.Series.{Took, Turned};
 
 use crate::series::Series;
-use np_text::NoMemory;
+use np_text::{Ample, NoMemory};
 
 /// Takes turns at an object, and knows what it has seen of the history and which places in it are
 /// its own.
@@ -56,7 +55,7 @@ pub trait Turns {
         &mut self,
         series: &mut S,
         most: u32,
-    ) -> Result<(), NoMemory>
+    ) -> Ample
         requires ready { ready self.old }
         ensures ready { ready self.new }
         ensures fixed { fixed self.new ≡ fixed self.old }

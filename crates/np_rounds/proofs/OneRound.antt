@@ -1,13 +1,10 @@
 -- a round of all crews is a round of their players
-use Rattle.np_rounds.proofs.Prelude.{All, All-cons, All-head, All-nil, All-tail, All-weaker, Answered, AreBack, AreGiven, AreRising, Ask, Bool, Configuration, Contains, Crew, CrewEnd, CrewPlays, DeskView, DidEnd, DriverFacts, Driving, EachPlaysFrom, EndsAs, Entry, Err, Event, HaveRounds, IfOk, IfSome, IsBack, IsCutOff, IsFull, IsMade, IsOf, IsPlayedRound, IsRound, IsRoundAtBoard, IsTick, IsUncut, Leads, List, MatchBool, Move, NoMemory, None, Ok, Option, Origin, Outcome, OwesRemoval, Pairwise, Part, PassView, Phase, Plan, Player, PlayerEnd, PlaysFrom, PoolId, Rests, Result, Role, RoundEnd, Seat, Sight, Some, Start, StartsWith, Stops, Together, TookBack, Turn, Walk, Work, Worker, acting, acts, added, after_entry, after_launch, after_removal, after_role, after_start, after_turn, allowed-walk, answers, answers_of, ap, append-nil, arith, asked, at_board, cond, crew_players, dec_le, dite, driving_of, drop, end_players, ended, eq-eqb, eqb, false, first_phase, given_pass, inl, inr, is_full, is_full_end, is_unwanted, launched, length, length-append, length-none, length-rest, looks, map, merged, merged_ends, nat_lt, nat_tests, ne_eqb, of_pool, of_reaper, of_requester, owes_due, owes_launch, owes_report, owes_swept, places, player_of, players_of, recorded, refl, removed, rests, sight_of, some_full, split_pass, start_of, starts_more, starts_on, starts_same, subst, suc, sweeps, sym, times, times_merged, true, with_end, with_place, work_of, zero, ℕ, ℕ_discrete, [], ⊎_elim, ◌++◌, ◌+◌, ◌<◌, ◌||◌, ◌∙◌, ◌∷◌, ◌≡◌, ◌≤◌, ◌⊎◌}
+use Rattle.np_rounds.proofs.Prelude.{All, All-cons, All-head, All-nil, All-tail, All-weaker, Answered, AreBack, AreGiven, AreRising, Ask, Bool, Configuration, Contains, Crew, CrewEnd, CrewPlays, DeskView, DidEnd, DriverFacts, Driving, EachPlaysFrom, EndsAs, Entry, Err, Event, HaveRounds, IfOk, IfOk-weaker, IfSome, IsBack, IsCutOff, IsFull, IsMade, IsOf, IsPlayedRound, IsRound, IsRoundAtBoard, IsTick, IsUncut, Leads, List, MatchBool, Move, NoMemory, None, Ok, Option, Origin, Outcome, OwesRemoval, Pairwise, Part, PassView, Phase, Plan, Player, PlayerEnd, PlaysFrom, PoolId, Rests, Result, Role, RoundEnd, Seat, Sight, Some, Start, StartsWith, Stops, Together, TookBack, Turn, Walk, Work, Worker, acting, acts, added, after_entry, after_launch, after_removal, after_role, after_start, after_turn, allowed-walk, answers, answers_of, ap, append-nil, arith, asked, at_board, by_bool, cond, crew_players, dec_le, dite, driving_of, drop, end_players, ended, eq-eqb, eqb, false, first_phase, given_pass, inl, inr, is_full, is_full_end, is_unwanted, launched, length, length-append, length-none, length-rest, looks, map, merged, merged_ends, nat_lt, nat_tests, ne_eqb, of_pool, of_reaper, of_requester, or_cases, or_parts, owes_launch, owes_report, owes_swept, places, player_of, players_of, recorded, refl, removed, sight_of, some_full, split_pass, start_of, starts_more, starts_on, starts_same, subst, suc, sweeps, sym, times, times_merged, true, with_end, with_place, work_of, zero, ℕ, ℕ_discrete, [], ⊎_elim, ◌++◌, ◌+◌, ◌<◌, ◌||◌, ◌∙◌, ◌∷◌, ◌≡◌, ◌≤◌, ◌⊎◌}
 use Rattle.np_rounds.proofs.Players.{players-push}
 
 -- # Places of several passes together, and how long histories are.
 
 -- ## lists
-
-pub contains_here : {X : Type 0} (x : X) (xs : List X) → Contains (x ∷ xs) x
-contains_here x xs = (0, omega arith, refl)
 
 pub contains_there : {X : Type 0} (x y : X) (xs : List X) → Contains xs x → Contains (y ∷ xs) x
 contains_there x y xs h = (suc h.0, omega (arith, h.1), h.2)
@@ -16,9 +13,6 @@ contains_there x y xs h = (suc h.0, omega (arith, h.1), h.2)
 
 abbrev one_if : Bool → ℕ
 one_if b = cond b 1 0
-
-one_here : (k : ℕ) → one_if (eqb k k) ≡ 1
-one_here k = ap one_if (eq-eqb k k refl)
 
 pub times_contains : (x : ℕ) (xs : List ℕ) → 0 < times x xs → Contains xs x
 times_contains x [] h = absurd (omega (arith, h))
@@ -32,13 +26,9 @@ of_either x xs ys h = dite (dec_le 1 (times x ys))
     (λ some. inr (omega (arith, some)))
     (λ none. inl (omega (arith, h, none, times_merged x xs ys)))
 
-by_test : {X : Type 0} (n : ℕ) (xs ys : List X) (b : Bool) → length xs ≡ n → length ys ≡ n → length (cond b xs ys) ≡ n
-by_test n xs ys true one other = one
-by_test n xs ys false one other = other
-
 length_with : (x : ℕ) (ys : List ℕ) → length (with_place x ys) ≡ suc (length ys)
 length_with x [] = refl
-length_with x (y ∷ ys) = by_test (suc (suc (length ys))) (x ∷ y ∷ ys) (y ∷ with_place x ys) (nat_lt x y) refl (ap suc (length_with x ys))
+length_with x (y ∷ ys) = grind (arith, length_with x ys)
 
 pub length_merged : (xs ys : List ℕ) → length (merged xs ys) ≡ length xs + length ys
 length_merged xs [] = omega arith
@@ -61,7 +51,7 @@ length_places n (e ∷ es) = ap suc (length_places (suc n) es)
 place_there : {E : Type 0} (x n : ℕ) (l : List E) → n ≤ x → x < n + length l → 0 < times x (places n l)
 place_there x n [] from to = absurd (omega (arith, from, to))
 place_there x n (e ∷ es) from to = dite (ℕ_discrete x n)
-    (λ same. omega (arith, one_here x, ap (λ (k : ℕ). one_if (eqb x k)) same))
+    (λ same. omega (arith, ap one_if (eq-eqb x x refl), ap (λ (k : ℕ). one_if (eqb x k)) same))
     (λ other. omega (arith, place_there x (suc n) es (omega (arith, from, other)) (omega (arith, to))))
 
 pub no_shorter : {E : Type 0} (first later : List E) → StartsWith later first → length first ≤ length later
@@ -125,43 +115,25 @@ GoesOrFull p t = GoesOn p ⊎ (t ≡ Turn.Full)
 
 turn_goes : (p : Phase) (a : Ask) (t : Turn) → GoesOn p → GoesOrFull (after_turn p a t) t
 turn_goes (acts r n) a (Turn.Did e) g = inl (entry_goes r n e)
-turn_goes (acts r n) a (Turn.DueNode node x) g = inl (role_goes r)
-turn_goes (acts r n) a Turn.Swept g = inl (role_goes r)
-turn_goes (acts r n) a Turn.Idle g = inl (role_goes r)
 turn_goes (acts r n) a Turn.Full g = inr refl
-turn_goes (owes_launch p n s) a t g = inl tt
-turn_goes (owes_report p n s o) a (Turn.Did e) g = inl (acting_goes (Role.Launcher p) n)
-turn_goes (owes_report p n s o) a (Turn.DueNode node x) g = inl (acting_goes (Role.Launcher p) n)
-turn_goes (owes_report p n s o) a Turn.Swept g = inl (acting_goes (Role.Launcher p) n)
-turn_goes (owes_report p n s o) a Turn.Idle g = inl (acting_goes (Role.Launcher p) n)
+turn_goes (acts r n) a t g = inl (role_goes r)
 turn_goes (owes_report p n s o) a Turn.Full g = inr refl
+turn_goes (owes_report p n s o) a t g = inl (acting_goes (Role.Launcher p) n)
 turn_goes (looks p n) a Turn.Full g = inr refl
-turn_goes (owes_due p n x) a t g = inl tt
-turn_goes (looks p n) a (Turn.Did e) g = inl tt
 turn_goes (looks p n) a (Turn.DueNode node None) g = inl tt
 turn_goes (looks p n) a (Turn.DueNode node (Some x)) g = inl tt
-turn_goes (looks p n) a Turn.Swept g = inl tt
-turn_goes (looks p n) a Turn.Idle g = inl tt
 turn_goes (sweeps p) a (Turn.Did e) g = inl (sweep_goes p _ (is_unwanted (Turn.Did e)))
-turn_goes (sweeps p) a (Turn.DueNode node x) g = inl tt
-turn_goes (sweeps p) a Turn.Swept g = inl tt
-turn_goes (sweeps p) a Turn.Idle g = inl tt
 turn_goes (sweeps p) a Turn.Full g = inr refl
-turn_goes (owes_swept p x) a t g = inl tt
-turn_goes rests a t g = inl tt
 turn_goes ended a t g = absurd g
+turn_goes p a t g = inl tt
 
 launch_goes : (p : Phase) (o : Outcome) → GoesOn p → GoesOn (after_launch p o)
-launch_goes (acts r n) o g = tt
-launch_goes rests o g = tt
 launch_goes ended o g = g
-launch_goes other o g = tt
+launch_goes p o g = tt
 
 removal_goes : (p : Phase) → GoesOn p → GoesOn (after_removal p)
-removal_goes (acts r n) g = tt
-removal_goes rests g = tt
 removal_goes ended g = g
-removal_goes other g = tt
+removal_goes p g = tt
 
 -- a history without room has none after it has grown
 pub full_later : (later seen : List Entry) → StartsWith later seen → IsFull seen → IsFull later
@@ -199,29 +171,24 @@ module _ (plans : Bool) (c : Configuration) where
   full_end p (launched tag o ∷ ms) v w g l h = full_end (after_launch p o) ms v w (launch_goes p o g) l.1 h
   full_end p (removed x ∷ ms) v w g l h = full_end (after_removal p) ms v w (removal_goes p g) l.1 h
 
-  pub full_round : (work : Work) (trace : List Move) (v w : Sight Entry) → Leads (first_phase work) trace ended → Walk (answers_of plans) c trace v w → IsFull w.seen
-  full_round work trace v w l h = full_end (first_phase work) trace v w (first_goes work) l h
-
 -- # What a crew's round leaves of its pass.
 
-module _ (plans : Bool) {D : Type 0} (facts : D → DriverFacts) (plan : D → Plan) (sound : D → List ℕ → Bool) (room : D → ℕ) where
-  -- a round that ended full saw a journal without room
-  full_of : (full : Bool) (to : Phase) (P : Type 0) → MatchBool full (to ≡ ended) P → full ≡ true → to ≡ ended
-  full_of true to P h is = h
-  full_of false to P h is = absurd cc
+matched : (full : Bool) (P Q : Type 0) → MatchBool full P Q → (full ≡ true → P) × (full ≡ false → Q)
+matched true P Q h = ((λ _. h), λ is. absurd cc)
+matched false P Q h = ((λ is. absurd cc), λ _. h)
 
+module _ (plans : Bool) {D : Type 0} (facts : D → DriverFacts) (plan : D → Plan) (sound : D → List ℕ → Bool) (room : D → ℕ) where
   ends_full : (desk : DeskView Configuration Entry) (crew : Crew D Seat) (e : CrewEnd D Seat) → CrewPlays plans facts plan sound room desk crew e → (r : Result RoundEnd NoMemory) → e.end ≡ r → IfOk r (λ end. end.full ≡ true → IsFull e.crew.pass.seen)
   ends_full desk crew e h (Err fault) is = tt
   ends_full desk crew e h (Ok end) is = λ full.
       let before = driving_of facts plan sound room crew.worker in let now = driving_of facts plan sound room e.crew.worker in
       let ends = subst (λ (r : Result RoundEnd NoMemory). EndsAs (work_of crew.worker) before now r h.round.trace h.round.to) is h.round.holds in
-      let to = full_of end.full h.round.to (Rests (work_of crew.worker) before now h.round.trace h.round.to) ends full in
-      full_round plans desk.origin.fixed (work_of crew.worker) h.round.trace (sight_of crew.pass) (sight_of e.crew.pass)
+      let to = (matched end.full (h.round.to ≡ ended) (Rests (work_of crew.worker) before now h.round.trace h.round.to) ends).0 full in
+      full_end plans desk.origin.fixed (first_phase (work_of crew.worker)) h.round.trace (sight_of crew.pass) (sight_of e.crew.pass) (first_goes (work_of crew.worker))
       (subst (λ (p : Phase). Leads (first_phase (work_of crew.worker)) h.round.trace p) to h.round.led) h.round.walked
 
   pub with_no_places : (r : Result RoundEnd NoMemory) (mine later : List ℕ) → mine ≡ [] → IfOk r (λ end. length later ≡ length mine + end.entries) → IfOk r (λ end. length later ≡ end.entries)
-  with_no_places (Err fault) mine later none h = tt
-  with_no_places (Ok end) mine later none h = omega (arith, h, ap length none)
+  with_no_places r mine later none h = IfOk-weaker r _ _ (λ end is. omega (arith, is, ap length none)) h
 
   back_of : (desk : DeskView Configuration Entry) (p : PassView Configuration Entry) (n : ℕ) (crew : Crew D Seat) (e : CrewEnd D Seat) → crew.pass ≡ given_pass n p → CrewPlays plans facts plan sound room desk crew e → IsBack desk n e
   back_of desk p n crew e given h = record {
@@ -233,21 +200,12 @@ module _ (plans : Bool) {D : Type 0} (facts : D → DriverFacts) (plan : D → P
 
   pub are_back : (desk : DeskView Configuration Entry) (p : PassView Configuration Entry) (n : ℕ) (crews : List (Crew D Seat)) (ends : List (CrewEnd D Seat)) → AreGiven p n crews → Pairwise (CrewPlays plans facts plan sound room desk) crews ends → AreBack desk n ends
   are_back desk p n [] [] given h = tt
-  are_back desk p n [] (e ∷ ends) given h = absurd h
-  are_back desk p n (c ∷ crews) [] given h = absurd h
   are_back desk p n (c ∷ crews) (e ∷ ends) given h = (back_of desk p n c e given.0 h.0, are_back desk p (suc n) crews ends given.1 h.1)
+  are_back desk p n _ _ given h = absurd h
 
 -- # Crews that come back one after another.
 
 -- ## the sum of a round
-
-pub or_parts : (a b : Bool) → (a || b) ≡ true → (a ≡ true) ⊎ (b ≡ true)
-or_parts true b h = inl refl
-or_parts false b h = inr h
-
-pub nor_parts : (a b : Bool) → (a || b) ≡ false → (a ≡ false) × (b ≡ false)
-nor_parts true b h = absurd cc
-nor_parts false b h = (refl, h)
 
 none_there : (n : ℕ) → nat_lt 0 n ≡ false → n ≡ 0
 none_there n h = grind (arith, nat_tests)
@@ -262,24 +220,11 @@ record OneMore (s t : Together) (r : Result RoundEnd NoMemory) : Type 0 where
   pub moved : t.moved ≡ (s.moved || nat_lt 0 end.entries)
   pub full : t.full ≡ (s.full || end.full)
 
-abbrev full_in : Result Together NoMemory → Bool
-full_in (Ok t) = t.full
-full_in (Err fault) = false
-
-abbrev moved_in : Result Together NoMemory → Bool
-moved_in (Ok t) = t.moved
-moved_in (Err fault) = true
-
-abbrev is_there : Result Together NoMemory → Bool
-is_there (Ok t) = true
-is_there (Err fault) = false
-
-not_there : (t : Together) (fault : NoMemory) → Ok t ≡ Err fault → ⊥
-not_there t fault is = let e : true ≡ false = ap is_there is in absurd cc
-
 one_more : (s t : Together) (r : Result RoundEnd NoMemory) → Ok t ≡ with_end s r → OneMore s t r
-one_more s t (Err fault) is = absurd (not_there t fault is)
-one_more s t (Ok end) is = record { end = end; is = refl; moved = ap moved_in is; full = ap full_in is }
+one_more s t (Err fault) is = absurd cc
+one_more s t (Ok end) is =
+    let same : t ≡ record { moved = s.moved || nat_lt 0 end.entries; full = s.full || end.full } = cc in
+    record { end = end; is = refl; moved = ap (λ (x : Together). x.moved) same; full = ap (λ (x : Together). x.full) same }
 
 -- ## crews
 
@@ -307,25 +252,22 @@ module _ {D : Type 0} (facts : D → DriverFacts) (plan : D → Plan) (sound : D
 
     more_still : (s.moved ≡ false → mid.mine ≡ old.mine) → t.moved ≡ false → new.mine ≡ old.mine
     more_still had still =
-        let parts = nor_parts s.moved (nat_lt 0 one.end.entries) (sym one.moved ∙ still) in
+        let parts = or_parts s.moved (nat_lt 0 one.end.entries) (sym one.moved ∙ still) in
         mine ∙ (ap (merged mid.mine) (length-none e.crew.pass.mine (entries ∙ none_there one.end.entries parts.1)) ∙ had parts.0)
 
     more_moved : (s.moved ≡ false → mid.mine ≡ old.mine) → (s.moved ≡ true → length old.mine < length mid.mine) → t.moved ≡ true → length old.mine < length new.mine
-    more_moved same had moved = by_sum s.moved refl
-      where
-        by_sum : (b : Bool) → s.moved ≡ b → length old.mine < length new.mine
-        by_sum true is = omega (arith, had is, more_mine)
-        by_sum false is = ⊎_elim
-            (λ (before : s.moved ≡ true). omega (arith, had before, more_mine))
-            (λ (now : nat_lt 0 one.end.entries ≡ true). omega (arith, some_there one.end.entries now, entries, more_mine, ap length (same is)))
-            (or_parts s.moved (nat_lt 0 one.end.entries) (sym one.moved ∙ moved))
+    more_moved same had moved = ⊎_elim
+        (λ (before : s.moved ≡ true). omega (arith, had before, more_mine))
+        (λ (now : nat_lt 0 one.end.entries ≡ true). by_bool (λ _. length old.mine < length new.mine) s.moved
+        (λ is. omega (arith, had is, more_mine)) (λ is. omega (arith, some_there one.end.entries now, entries, more_mine, ap length (same is))))
+        (or_cases s.moved (nat_lt 0 one.end.entries) (sym one.moved ∙ moved))
 
     more_full : StartsWith new.seen mid.seen → StartsWith new.seen e.crew.pass.seen → (s.full ≡ true → IsFull mid.seen) → t.full ≡ true → IsFull new.seen
     more_full seen told had full = ⊎_elim
         (λ (before : s.full ≡ true). full_later new.seen mid.seen seen (had before))
         (λ (now : one.end.full ≡ true). full_later new.seen e.crew.pass.seen told
         (subst (λ (r : Result RoundEnd NoMemory). IfOk r (λ end. end.full ≡ true → IsFull e.crew.pass.seen)) one.is back.full now))
-        (or_parts s.full one.end.full (sym one.full ∙ full))
+        (or_cases s.full one.end.full (sym one.full ∙ full))
 
   -- one crew more came back
   pub took_more : (desk : DeskView Configuration Entry) (n : ℕ) (old mid new : PassView Configuration Entry) (ws ws' ws'' : List (Worker D)) (s t : Together) (ends : List (CrewEnd D Seat)) (e : CrewEnd D Seat)
@@ -341,7 +283,7 @@ module _ {D : Type 0} (facts : D → DriverFacts) (plan : D → Plan) (sound : D
         still = more_still desk n old mid new e s t back mine one had.still;
         moved = more_moved desk n old mid new e s t back mine one had.still had.moved;
         full = more_full desk n old mid new e s t back mine one seen told had.full;
-        uncut = λ room. let parts = nor_parts s.full one.end.full (sym one.full ∙ room) in
+        uncut = λ room. let parts = or_parts s.full one.end.full (sym one.full ∙ room) in
             All-cons IsUncut e ends (one.end, one.is, parts.1) (had.uncut parts.0);
         ended = All-cons DidEnd e ends (one.end, one.is) had.ended;
         whether = one.full ∙ (ap (λ (b : Bool). b || one.end.full) had.whether ∙ ap (λ (b : Bool). some_full ends || b) (sym (ap is_full_end one.is)));
@@ -356,9 +298,8 @@ module _ {D : Type 0} (facts : D → DriverFacts) (plan : D → Plan) (sound : D
 no_report : (p : Phase) → OwesRemoval p → IsCutOff p → ⊥
 no_report (owes_launch pool n s) owes report = owes
 no_report (owes_report pool n s o) owes report = owes
-no_report rests owes report = report
 no_report ended owes report = owes
-no_report other owes report = report
+no_report p owes report = report
 
 rests_reported : (work : Work) (before now : Option Driving) (trace : List Move) (to : Phase) → Rests work before now trace to → IsCutOff to → ⊥
 rests_reported (of_pool pool) before now trace to h report = ⊎_elim
@@ -367,10 +308,6 @@ rests_reported (of_pool pool) before now trace to h report = ⊎_elim
     h
 rests_reported (of_requester q) before now trace to h report = subst IsCutOff h report
 rests_reported of_reaper before now trace to h report = subst IsCutOff h report
-
-rests_in : (full : Bool) (P Q : Type 0) → MatchBool full P Q → full ≡ false → Q
-rests_in true P Q h is = absurd cc
-rests_in false P Q h is = h
 
 -- ## players
 
@@ -395,9 +332,8 @@ module _ (plans : Bool) {D : Type 0} (facts : D → DriverFacts) (plan : D → P
 
   each_plays : (p : PassView Configuration Entry) (n : ℕ) (crews : List (Crew D Seat)) (ends : List (CrewEnd D Seat)) → AreGiven p n crews → (h : Pairwise (CrewPlays plans facts plan sound room desk) crews ends) → EachPlaysFrom plans desk.origin.fixed p.seen (crew_players facts plan sound room crews) (round_ends crews ends h)
   each_plays p n [] [] given h = tt
-  each_plays p n [] (e ∷ ends) given h = absurd h
-  each_plays p n (crew ∷ crews) [] given h = absurd h
   each_plays p n (crew ∷ crews) (e ∷ ends) given h = (plays_from p n crew e given.0 h.0, each_plays p (suc n) crews ends given.1 h.1)
+  each_plays p n _ _ given h = absurd h
 
   -- the crew's worker played a round at the board
   one_at_board : (p : PassView Configuration Entry) (n : ℕ) (crew : Crew D Seat) (e : CrewEnd D Seat) (given : crew.pass ≡ given_pass n p) (h : CrewPlays plans facts plan sound room desk crew e) (is : RoundEnd) → e.end ≡ Ok is → IsRoundAtBoard plans desk.origin.fixed p.seen (player_of facts plan sound room crew.worker) (player_end crew e h) (Ok is)
@@ -411,8 +347,6 @@ module _ (plans : Bool) {D : Type 0} (facts : D → DriverFacts) (plan : D → P
   -- so did each of them
   have_rounds : (p : PassView Configuration Entry) (n : ℕ) (crews : List (Crew D Seat)) (ends : List (CrewEnd D Seat)) → AreGiven p n crews → (h : Pairwise (CrewPlays plans facts plan sound room desk) crews ends) → All DidEnd ends → HaveRounds plans desk.origin.fixed p.seen (crew_players facts plan sound room crews) (round_ends crews ends h) (some_full ends)
   have_rounds p n [] [] given h came = record { each = tt; some = λ full. absurd cc; none = λ _ some. some }
-  have_rounds p n [] (e ∷ ends) given h came = absurd h
-  have_rounds p n (crew ∷ crews) [] given h came = absurd h
   have_rounds p n (crew ∷ crews) (e ∷ ends) given h came =
       let rest = have_rounds p (suc n) crews ends given.1 h.1 (All-tail DidEnd e ends came) in
       let did : DidEnd e = All-head DidEnd e ends came in
@@ -422,58 +356,52 @@ module _ (plans : Bool) {D : Type 0} (facts : D → DriverFacts) (plan : D → P
         some = λ full. ⊎_elim
             (λ (before : some_full ends ≡ true). inr (rest.some before))
             (λ (now : is_full_end e.end ≡ true). inl (one.ended.full (sym same ∙ now)))
-            (or_parts (some_full ends) (is_full_end e.end) full);
-        none = λ room some. let parts = nor_parts (some_full ends) (is_full_end e.end) room in
+            (or_cases (some_full ends) (is_full_end e.end) full);
+        none = λ room some. let parts = or_parts (some_full ends) (is_full_end e.end) room in
             ⊎_elim (one.ended.room (sym same ∙ parts.1)) (rest.none parts.0) some;
       }
+  have_rounds p n _ _ given h came = absurd h
 
   players_now : (crews : List (Crew D Seat)) (ends : List (CrewEnd D Seat)) (h : Pairwise (CrewPlays plans facts plan sound room desk) crews ends) → map (λ (end : PlayerEnd). end.player) (round_ends crews ends h) ≡ end_players facts plan sound room ends
   players_now [] [] h = refl
-  players_now [] (e ∷ ends) h = absurd h
-  players_now (crew ∷ crews) [] h = absurd h
   players_now (crew ∷ crews) (e ∷ ends) h = ap (λ (l : List Player). player_of facts plan sound room e.crew.worker ∷ l) (players_now crews ends h.1)
+  players_now _ _ h = absurd h
 
   all_saw : (later : List Entry) (crews : List (Crew D Seat)) (ends : List (CrewEnd D Seat)) (h : Pairwise (CrewPlays plans facts plan sound room desk) crews ends) → All (λ (e : CrewEnd D Seat). StartsWith later e.crew.pass.seen) ends → All (λ (end : PlayerEnd). StartsWith later end.sight.seen) (round_ends crews ends h)
   all_saw later [] [] h seen = All-nil (λ (end : PlayerEnd). StartsWith later end.sight.seen)
-  all_saw later [] (e ∷ ends) h seen = absurd h
-  all_saw later (crew ∷ crews) [] h seen = absurd h
   all_saw later (crew ∷ crews) (e ∷ ends) h seen = All-cons (λ (end : PlayerEnd). StartsWith later end.sight.seen) (player_end crew e h.0) (round_ends crews ends h.1)
       (All-head (λ (x : CrewEnd D Seat). StartsWith later x.crew.pass.seen) e ends seen)
       (all_saw later crews ends h.1 (All-tail (λ (x : CrewEnd D Seat). StartsWith later x.crew.pass.seen) e ends seen))
+  all_saw later _ _ h seen = absurd h
 
   reported : (crew : Crew D Seat) (e : CrewEnd D Seat) (h : CrewPlays plans facts plan sound room desk crew e) → IsUncut e → IsCutOff h.round.to → ⊥
   reported crew e h uncut =
       let before = driving_of facts plan sound room crew.worker in let now = driving_of facts plan sound room e.crew.worker in
       let ends = subst (λ (r : Result RoundEnd NoMemory). EndsAs (work_of crew.worker) before now r h.round.trace h.round.to) uncut.1 h.round.holds in
-      rests_reported (work_of crew.worker) before now h.round.trace h.round.to (rests_in uncut.0.full (h.round.to ≡ ended) (Rests (work_of crew.worker) before now h.round.trace h.round.to) ends uncut.2)
+      rests_reported (work_of crew.worker) before now h.round.trace h.round.to ((matched uncut.0.full (h.round.to ≡ ended) (Rests (work_of crew.worker) before now h.round.trace h.round.to) ends).1 uncut.2)
 
   all_reported : (crews : List (Crew D Seat)) (ends : List (CrewEnd D Seat)) (h : Pairwise (CrewPlays plans facts plan sound room desk) crews ends) → All IsUncut ends → All (λ (end : PlayerEnd). IsCutOff end.phase → ⊥) (round_ends crews ends h)
   all_reported [] [] h uncut = All-nil (λ (end : PlayerEnd). IsCutOff end.phase → ⊥)
-  all_reported [] (e ∷ ends) h uncut = absurd h
-  all_reported (crew ∷ crews) [] h uncut = absurd h
   all_reported (crew ∷ crews) (e ∷ ends) h uncut = All-cons (λ (end : PlayerEnd). IsCutOff end.phase → ⊥) (player_end crew e h.0) (round_ends crews ends h.1)
       (reported crew e h.0 (All-head IsUncut e ends uncut))
       (all_reported crews ends h.1 (All-tail IsUncut e ends uncut))
+  all_reported _ _ h uncut = absurd h
 
   -- each place is one from before, or a player's
-  made_there : (end : PlayerEnd) (ends : List PlayerEnd) (x : ℕ) → IsMade ends x → IsMade (end ∷ ends) x
-  made_there end ends x h = record { end = h.end; there = contains_there h.end end ends h.there; made = h.made }
-
   made_by : (x : ℕ) (mine : List ℕ) (crews : List (Crew D Seat)) (ends : List (CrewEnd D Seat)) (h : Pairwise (CrewPlays plans facts plan sound room desk) crews ends) → 0 < times x (merged_ends mine ends) → (0 < times x mine) ⊎ IsMade (round_ends crews ends h) x
   made_by x mine [] [] h some = inl some
-  made_by x mine [] (e ∷ ends) h some = absurd h
-  made_by x mine (crew ∷ crews) [] h some = absurd h
   made_by x mine (crew ∷ crews) (e ∷ ends) h some = ⊎_elim
       (λ (among : 0 < times x (merged_ends mine ends)). ⊎_elim
       (λ (before : 0 < times x mine). inl before)
-      (λ (made : IsMade (round_ends crews ends h.1) x). inr (made_there (player_end crew e h.0) (round_ends crews ends h.1) x made))
+      (λ (made : IsMade (round_ends crews ends h.1) x). inr (record { end = made.end; there = contains_there made.end (player_end crew e h.0) (round_ends crews ends h.1) made.there; made = made.made }))
       (made_by x mine crews ends h.1 among))
       (λ (own : 0 < times x e.crew.pass.mine). inr (record {
         end = player_end crew e h.0;
-        there = contains_here (player_end crew e h.0) (round_ends crews ends h.1);
+        there = (0, omega arith, refl);
         made = times_contains x e.crew.pass.mine own;
       }))
       (of_either x (merged_ends mine ends) e.crew.pass.mine some)
+  made_by x mine _ _ h some = absurd h
 
 -- ## what a whole pass knows
 

@@ -1,5 +1,5 @@
 -- turns without a plan
-use Rattle.np_rounds.proofs.Prelude.{Answered, AnsweredAtOnce, Ask, Asked, Configuration, Entry, Err, Heard, HearsPlain, IfOk, IsOver, List, NoMemory, None, Ok, Option, PlainSeries, PlanAsk, PlanTurn, Result, Sight, Some, Took, TookAtOnce, Turn, Went, answers, ap, arith, asks_plain, inl, inr, length, plain_ask, plan_answers, plan_recorded, recorded, refl, subst, suc, took-loosely, ℕ, [], ⊎_elim, ◌∙◌, ◌∷◌, ◌≡◌}
+use Rattle.np_rounds.proofs.Prelude.{Answered, AnsweredAtOnce, Ask, Asked, Configuration, Entry, Heard, HearsPlain, IfOk, IfOk-weaker, IsOver, List, NoMemory, None, Option, PlainSeries, PlanAsk, PlanTurn, Result, Sight, Some, Took, TookAtOnce, Turn, Went, answers, ap, arith, asks_plain, inl, inr, length, plain_ask, plan_answers, plan_recorded, recorded, refl, subst, suc, took-loosely, ℕ, [], ⊎_elim, ◌∙◌, ◌∷◌, ◌≡◌}
 use Rattle.np_desk.specs.Series.{Walk}
 
 -- ## one turn
@@ -31,8 +31,7 @@ asked_plainly None a h = absurd cc
 asked_plainly (Some x) a h = (x, refl, cc)
 
 asked_nothing : (o : Option Ask) → plain_ask o ≡ None → o ≡ None
-asked_nothing None h = refl
-asked_nothing (Some x) h = absurd cc
+asked_nothing o h = grind arith
 
 module _ {S : Type 0} (asks : S → Option Ask) (hears : S → Turn → S → Type 0) (c : Configuration) where
   went_plainly : (v w : Sight Entry) (p q : PlainSeries S) (xs : List (Asked PlanAsk PlanTurn)) → Walk (AnsweredAtOnce plan_answers plan_recorded c) v xs w → Heard (asks_plain asks) (HearsPlain hears) p xs q
@@ -52,11 +51,9 @@ module _ {S : Type 0} (asks : S → Option Ask) (hears : S → Turn → S → Ty
 
   over_plainly : {R : Type 0} (result : Result R NoMemory) (most : ℕ) (q : PlainSeries S) (xs : List (Asked PlanAsk PlanTurn)) (ys : List (Asked Ask Turn)) → length ys ≡ length xs
       → IfOk result (λ _. IsOver (asks_plain asks) most xs q) → IfOk result (λ _. IsOver asks most ys q.series)
-  over_plainly (Ok y) most q xs ys same h = ⊎_elim
+  over_plainly result most q xs ys same h = IfOk-weaker result _ _ (λ y. ⊎_elim
       (λ (none : asks_plain asks q ≡ None). inl (asked_nothing (asks q.series) none))
-      (λ (all : length xs ≡ most). inr (same ∙ all))
-      h
-  over_plainly (Err y) most q xs ys same h = tt
+      (λ (all : length xs ≡ most). inr (same ∙ all))) h
 
   -- the turns of such a series are turns of the series in it
   pub took_plainly : {R : Type 0} (v w : Sight Entry) (p q : PlainSeries S) (most : ℕ) (result : Result R NoMemory) → TookAtOnce plan_answers plan_recorded (asks_plain asks) (HearsPlain hears) c v p most result w q

@@ -1,5 +1,5 @@
 -- workers as players, and what they drive and host from one round to the next and at the end
-use Rattle.np_rounds.proofs.Prelude.{All, All-append, All-cons, All-head, All-map, All-nil, All-same, All-tail, All-weaker, AreBack, AreCarried, AreGiven, AreNumbered, Ask, BeginAfter, BeginsEmpty, BeginsNew, Bool, Configuration, Crew, CrewEnd, DeskView, DrivenAs, DriverFacts, Drives, Driving, Drove, EachAtBoard, EachPlaysFrom, Earlier, EndsWithTick, EntriesStand, Entry, Event, FailOnlyFull, HasLaps, HaveDriven, HaveDrivenAs, HaveHosted, HaveSoundness, IsBack, IsDriven, IsHosted, IsLap, IsOf, IsPlayedRound, IsRested, IsRound, IsSettled, IsSound, IsTick, Lap, Laps, LapsStand, Launcher, List, Move, None, Option, Pairwise, PassView, Plan, Player, PlayerEnd, Pool, PoolId, RequesterId, Role, RoleRecord, Runs, Runs-legal, Seat, Some, Soundness, StandAt, StartsWith, State, Stops, Terms, Ticks, TicksAfter, Turn, WasAnswered, WasPlayed, Worker, after, answers, ap, append_assoc, are-carried, arith, begin-counted, begin-hosted, begin-new, counted, crew_players, driving, driving_in, driving_of, drivings_of, fail-only-full, false, false≢true, filter, given_pass, inl, inr, is_full, is_full_lap, is_full_tick, is_ok, is_role, is_some, judge, legal-Runs, legal-beginning, length, length-append, length-map, list_any, map, map-push, may_open, no_deeds, numbered-after, option_map_or, player_of, players_of, refl, round-driven, round-have-driven, round-hosted, round-no-tick, row_holds, slice_get, slice_index_or, start, start-have-driven, starts_on, starts_same, stop-hosted, subst, suc, sym, terms_in, terms_of, tick-have-driven, tick-hosted, true, with_tick, with_turn, zero, ℕ, [], ⊎_elim, ◌++◌, ◌+◌, ◌<◌, ◌||◌, ◌∙◌, ◌∷◌, ◌≡◌, ◌≤◌}
+use Rattle.np_rounds.proofs.Prelude.{All, All-append, All-cons, All-head, All-map, All-nil, All-same, All-tail, All-weaker, AreBack, AreCarried, AreGiven, AreNumbered, BeginAfter, BeginsEmpty, BeginsNew, Bool, Configuration, Crew, CrewEnd, DeskView, DrivenAs, DriverFacts, Driving, Drove, EachAtBoard, EachPlaysFrom, Earlier, EndsWithTick, EntriesStand, Entry, Event, FailOnlyFull, HasLaps, HaveDrivenAs, HaveHosted, HaveSoundness, IsBack, IsDriven, IsHosted, IsLap, IsOf, IsPlayedRound, IsRested, IsRound, IsSettled, IsSound, IsTick, Lap, Laps, LapsStand, Launcher, List, Move, None, Option, Pairwise, PassView, Plan, Player, PlayerEnd, Pool, PoolId, RequesterId, Role, RoleRecord, Runs, Runs-legal, Seat, Some, Soundness, StandAt, StartsWith, State, Stops, Terms, TicksAfter, Turn, WasAnswered, WasPlayed, Worker, after, ap, append_assoc, are-carried, arith, begin-counted, begin-hosted, begin-new, counted, crew_players, driving, driving_in, driving_of, drivings_of, fail-only-full, false, false≢true, filter, given_pass, inl, inr, is_full, is_full_lap, is_full_tick, is_role, is_some, legal-Runs, legal-beginning, length, length-append, length-map, list_any, list_any-append, map, map-map, map-push, may_open, no_deeds, numbered-after, option_map_or, or_false, or_parts, player_of, players_of, refl, round-driven, round-have-driven, round-hosted, round-no-tick, slice_get, slice_index_or, start, start-have-driven, starts_on, starts_same, stop-hosted, subst, suc, sym, terms_in, terms_of, tick-have-driven, tick-hosted, true, with_tick, zero, ℕ, [], ⊎_elim, ◌++◌, ◌+◌, ◌<◌, ◌||◌, ◌∙◌, ◌∷◌, ◌≡◌, ◌≤◌}
 
 -- # Workers as players, in lists that grow and shrink at their end.
 
@@ -25,13 +25,10 @@ module _ {D : Type 0} (facts : D → DriverFacts) (plan : D → Plan) (sound : D
   abbrev all_drivings : List D → List (Worker D) → List Driving
   all_drivings ds ws = map (driving facts plan sound room) ds ++ drivings_of (players_of facts plan sound room ws)
 
-  pool_pushed : (ws : List (Worker D)) (p : PoolId) (d : D) → drivings_of (players_of facts plan sound room (ws ++ Worker.Pool p d ∷ [])) ≡ driving facts plan sound room d ∷ drivings_of (players_of facts plan sound room ws)
-  pool_pushed ws p d = ap drivings_of (players-push ws (Worker.Pool p d))
-
   -- a driver moves from the drivers to a worker, or back
   moved_over : (ds : List D) (d : D) (p : PoolId) (ws : List (Worker D)) → all_drivings ds (ws ++ Worker.Pool p d ∷ []) ≡ all_drivings (ds ++ d ∷ []) ws
   moved_over ds d p ws =
-      ap (λ (l : List Driving). map (driving facts plan sound room) ds ++ l) (pool_pushed ws p d)
+      ap (λ (l : List Driving). map (driving facts plan sound room) ds ++ l) (ap drivings_of (players-push ws (Worker.Pool p d)))
       ∙ (sym (append_assoc (map (driving facts plan sound room) ds) (driving facts plan sound room d ∷ []) (drivings_of (players_of facts plan sound room ws)))
       ∙ ap (λ (l : List Driving). l ++ drivings_of (players_of facts plan sound room ws)) (sym (map-push (driving facts plan sound room) ds d)))
 
@@ -68,9 +65,6 @@ module _ {D : Type 0} (facts : D → DriverFacts) (plan : D → Plan) (sound : D
     pub drivings : drivings_of (players_of facts plan sound room ws) ≡ []
     pub numbered : (n : ℕ) → AreNumbered n (players_of facts plan sound room ws)
 
-  pub reaper_alone : (ws : List (Worker D)) → ws ≡ Worker.Reaper ∷ [] → NoPools ws
-  reaper_alone ws is = subst NoPools (sym is) (record { drivings = refl; numbered = λ n. (tt, tt) })
-
   pub requester_more : (ws ws' : List (Worker D)) (q : RequesterId) → ws' ≡ ws ++ Worker.Requester q ∷ [] → NoPools ws → NoPools ws'
   requester_more ws ws' q more had =
       let players : players_of facts plan sound room ws' ≡ player_of facts plan sound room (Worker.Requester q) ∷ players_of facts plan sound room ws = ap (players_of facts plan sound room) more ∙ players-push ws (Worker.Requester q) in record {
@@ -84,36 +78,23 @@ module _ {D : Type 0} (facts : D → DriverFacts) (plan : D → Plan) (sound : D
   driver_terms d = record { plan = plan d; sound = sound d; room = room d }
 
   pub terms_of_drivers : (ds : List D) → map terms_of (map (driving facts plan sound room) ds) ≡ map driver_terms ds
-  terms_of_drivers [] = refl
-  terms_of_drivers (d ∷ ds) = ap (λ (l : List Terms). driver_terms d ∷ l) (terms_of_drivers ds)
-
-  one_term : {A : Type 0} (f : Terms → A) (g : D → A) → ((d : D) → f (driver_terms d) ≡ g d) → (ds : List D) → map f (map driver_terms ds) ≡ map g ds
-  one_term f g same [] = refl
-  one_term f g same (d ∷ ds) = ap (λ x. x ∷ map f (map driver_terms ds)) (same d) ∙ ap (λ l. g d ∷ l) (one_term f g same ds)
+  terms_of_drivers ds = map-map terms_of (driving facts plan sound room) ds
 
   -- the drivers that came back are on the same terms, so one of these is the same of each
-  pub kept_term : {A : Type 0} (f : Terms → A) (g : D → A) → ((d : D) → f (driver_terms d) ≡ g d) → (players : List Player) (ds es : List D) → map (driving facts plan sound room) ds ≡ drivings_of players → terms_in players ≡ map driver_terms es → map g ds ≡ map g es
-  kept_term f g same players ds es back kept =
-      sym (one_term f g same ds) ∙ (ap (map f) (sym (terms_of_drivers ds) ∙ (ap (map terms_of) back ∙ kept)) ∙ one_term f g same es)
-
-  pub as_many : {A : Type 0} (g : D → A) (ds es : List D) → map g ds ≡ map g es → length ds ≡ length es
-  as_many g ds es same = sym (length-map g ds) ∙ (ap length same ∙ length-map g es)
+  pub kept_term : {A : Type 0} (f : Terms → A) (players : List Player) (ds es : List D) → map (driving facts plan sound room) ds ≡ drivings_of players → terms_in players ≡ map driver_terms es → map (λ (d : D). f (driver_terms d)) ds ≡ map (λ (d : D). f (driver_terms d)) es
+  kept_term f players ds es back kept =
+      sym (map-map f driver_terms ds) ∙ (ap (map f) (sym (terms_of_drivers ds) ∙ (ap (map terms_of) back ∙ kept)) ∙ map-map f driver_terms es)
 
 -- a round keeps what no call changes
-same_terms_of : (trace : List Move) (d e : Driving) → Drives trace d e → terms_of e ≡ terms_of d
-same_terms_of trace d e h = cc (h.plan, h.sound, h.room)
-
 terms_more : (d e : Option Driving) (ds es : List Driving) (trace : List Move) → Drove trace d e → map terms_of es ≡ map terms_of ds → map terms_of (driving_in e ++ es) ≡ map terms_of (driving_in d ++ ds)
 terms_more None None ds es trace h same = same
-terms_more None (Some e) ds es trace h same = absurd h
-terms_more (Some d) None ds es trace h same = absurd h
-terms_more (Some d) (Some e) ds es trace h same = ap (λ (x : Terms). x ∷ map terms_of es) (same_terms_of trace d e h) ∙ ap (λ (l : List Terms). terms_of d ∷ l) same
+terms_more (Some d) (Some e) ds es trace h same = λ i. record { plan = h.plan i; sound = h.sound i; room = h.room i } ∷ same i
+terms_more _ _ ds es trace h same = absurd h
 
 terms_kept : (plans : Bool) (c : Configuration) (history : List Entry) (players : List Player) (ends : List PlayerEnd) → EachPlaysFrom plans c history players ends → terms_in (map (λ (end : PlayerEnd). end.player) ends) ≡ terms_in players
 terms_kept plans c history [] [] h = refl
-terms_kept plans c history [] (end ∷ ends) h = absurd h
-terms_kept plans c history (player ∷ players) [] h = absurd h
 terms_kept plans c history (player ∷ players) (end ∷ ends) h = terms_more player.driving end.player.driving (drivings_of players) (drivings_of (map (λ (e : PlayerEnd). e.player) ends)) h.0.trace h.0.drove (terms_kept plans c history players ends h.1)
+terms_kept plans c history _ _ h = absurd h
 
 pub same_terms : (plans : Bool) (c : Configuration) (history later : List Entry) (players now : List Player) (is_cut : Bool) → IsRound plans c history later players now is_cut → terms_in now ≡ terms_in players
 same_terms plans c history later players now is_cut h = ap terms_in (sym h.players_now) ∙ terms_kept plans c history players h.ends h.plays
@@ -139,15 +120,13 @@ module _ {D : Type 0} (desk : DeskView Configuration Entry) where
 module _ {A B : Type 0} (R : A → B → Type 0) where
   pub pairwise_from : (xs : List A) (ys : List B) → length ys ≡ length xs → ((i : ℕ) (x : A) (y : B) → i < length xs → R (slice_index_or xs i x) (slice_index_or ys i y)) → Pairwise R xs ys
   pairwise_from [] [] len each = tt
-  pairwise_from [] (y ∷ ys) len each = absurd (omega (arith, len))
-  pairwise_from (x ∷ xs) [] len each = absurd (omega (arith, len))
   pairwise_from (x ∷ xs) (y ∷ ys) len each = (each 0 x y (omega arith), pairwise_from xs ys (omega (arith, len)) (λ i a b lt. each (suc i) a b (omega arith)))
+  pairwise_from _ _ len each = absurd (omega (arith, len))
 
   pub pairwise_len : (xs : List A) (ys : List B) → Pairwise R xs ys → length ys ≡ length xs
   pairwise_len [] [] h = refl
-  pairwise_len [] (y ∷ ys) h = absurd h
-  pairwise_len (x ∷ xs) [] h = absurd h
   pairwise_len (x ∷ xs) (y ∷ ys) h = ap suc (pairwise_len xs ys h.1)
+  pairwise_len _ _ h = absurd h
 
 -- # Journals that the players drove, from one round to the next.
 
@@ -178,24 +157,15 @@ driven_round plans c history later players now true played runs h = record {
 }
 driven_round plans c history later players now false played runs h = round-have-driven c history later players now false played runs h refl
 
--- a round that was not cut off
-pub driven_whole : (plans : Bool) (c : Configuration) (history later : List Entry) (players now : List Player) (full : Bool) → IsRound plans c history later players now full → full ≡ false → Runs c later (after c later) → HaveDrivenAs plans c history players → HaveDrivenAs plans c later now
-driven_whole plans c history later players now full played room runs h = round-have-driven c history later players now full played runs h room
-
--- after the tick that follows a round with an entry
-pub driven_tick : (plans : Bool) (c : Configuration) (history later journal : List Entry) (players now : List Player) (cut full : Bool) → IsRound plans c history later players now cut → cut ≡ false → Runs c later (after c later) → HaveDrivenAs plans c history players → length history < length later → Ticks full later journal → IsDriven plans c full journal now
-driven_tick plans c history later journal players now cut true played room runs h more ticks =
-    let whole = driven_whole plans c history later players now cut played room runs h in record {
-      driven = subst (λ (l : List Entry). DrivenAs (WasAnswered (drivings_of now)) plans c l) (sym ticks) whole.driven;
-      numbered = whole.numbered;
-    }
-driven_tick plans c history later journal players now cut false played room runs h more ticks =
-    let whole = driven_whole plans c history later players now cut played room runs h in
+-- after a tick that follows a round with an entry
+pub driven_tick : (plans : Bool) (c : Configuration) (history later : List Entry) (players now : List Player) (e : Entry) → IsRound plans c history later players now false → Runs c later (after c later) → HaveDrivenAs plans c history players → length history < length later → e.event ≡ Event.Tick → HaveDrivenAs plans c (later ++ e ∷ []) now
+driven_tick plans c history later players now e played runs h more tick =
+    let whole = round-have-driven c history later players now false played runs h refl in
     let end = some_last later (omega (arith, more)) in
-    let plain = round-no-tick c history later players now cut played runs h end.0 end.1 [] end.2
+    let plain = round-no-tick c history later players now false played runs h end.0 end.1 [] end.2
     (omega (arith, more, ap length end.2, length-append end.0 (end.1 ∷ []))) in
-    subst (λ (l : List Entry). HaveDrivenAs plans c l now) (sym (ticks.2 ∙ ap (λ (l : List Entry). l ++ ticks.0 ∷ []) end.2))
-    (tick-have-driven c plans end.0 now end.1 ticks.0 (subst (λ (l : List Entry). HaveDrivenAs plans c l now) end.2 whole) plain ticks.1)
+    subst (λ (l : List Entry). HaveDrivenAs plans c (l ++ e ∷ []) now) (sym end.2)
+    (tick-have-driven c plans end.0 now end.1 e (subst (λ (l : List Entry). HaveDrivenAs plans c l now) end.2 whole) plain tick)
 
 -- # What drivers host, from one round to the next.
 
@@ -224,63 +194,9 @@ module _ {D : Type 0} (facts : D → DriverFacts) (plan : D → Plan) (sound : D
       (drivings-append players (player_of facts plan sound room w ∷ []))
       (All-append IsSoundDriving (drivings_of players) (drivings_of (player_of facts plan sound room w ∷ [])) (workers_sound each ws) (worker_sound each w))
 
-  -- before the first round
-  pub hosted_start : (earlier : Earlier) (c : Configuration) (players : List Player) (ds : List D) → AreNumbered 0 players → drivings_of players ≡ map (driving facts plan sound room) ds → All (λ (d : D). (facts d).servers ≡ Some []) ds → BeginAfter earlier (map (driving facts plan sound room) ds) → HaveHosted earlier c [] players
-  hosted_start earlier c players ds numbered same none begin =
-      begin-hosted earlier c players (driven_start false facts plan sound room c players ds numbered same none) (subst (BeginAfter earlier) (sym same) begin)
-
-  pub empty_servers : (ds : List D) → All (λ (d : D). BeginsEmpty (facts d)) ds → All (λ (d : D). (facts d).servers ≡ Some []) ds
-  empty_servers ds all = All-weaker (λ (d : D). BeginsEmpty (facts d)) (λ (d : D). (facts d).servers ≡ Some []) (λ d b. b.servers) ds all
-
-  pub new_servers : (ds : List D) → All (λ (d : D). BeginsNew (facts d)) ds → All (λ (d : D). (facts d).servers ≡ Some []) ds
-  new_servers ds all = All-weaker (λ (d : D). BeginsNew (facts d)) (λ (d : D). (facts d).servers ≡ Some []) (λ d b. b.servers) ds all
-
-  pub empty_begin : (ds : List D) → All (λ (d : D). BeginsEmpty (facts d)) ds → BeginAfter (counted (map (driving facts plan sound room) ds)) (map (driving facts plan sound room) ds)
-  empty_begin ds all = begin-counted (map (driving facts plan sound room) ds) (All-map (λ (d : Driving). BeginsEmpty d.facts) (driving facts plan sound room) ds all)
-
-  pub new_begin : (ds : List D) → All (λ (d : D). BeginsNew (facts d)) ds → BeginAfter (λ p. 0) (map (driving facts plan sound room) ds)
-  new_begin ds all = begin-new (map (driving facts plan sound room) ds) (All-map (λ (d : Driving). BeginsNew d.facts) (driving facts plan sound room) ds all)
-
-  -- the drivers in the end
-  pub carried_end : (earlier : Earlier) (c : Configuration) (full : Bool) (journal : List Entry) (players : List Player) (ds : List D) → map (driving facts plan sound room) ds ≡ drivings_of players → IsHosted earlier c full journal players → AreCarried c journal (map (driving facts plan sound room) ds)
-  carried_end earlier c full journal players ds same hosted = subst (AreCarried c journal) (sym same) (are-carried earlier c full journal players hosted)
-
-  pub failed_end : (c : Configuration) (full : Bool) (journal : List Entry) (players : List Player) (ds : List D) → map (driving facts plan sound room) ds ≡ drivings_of players → IsHosted (λ p. 0) c full journal players → FailOnlyFull c journal (map (driving facts plan sound room) ds)
-  failed_end c full journal players ds same hosted = subst (FailOnlyFull c journal) (sym same) (fail-only-full c full journal players hosted)
-
--- ## rounds and ticks
-
--- a round that was not cut off
-pub hosted_whole : (earlier : Earlier) (c : Configuration) (history later : List Entry) (players now : List Player) (full : Bool) → IsRound false c history later players now full → full ≡ false → Runs c later (after c later) → HaveHosted earlier c history players → HaveHosted earlier c later now
-hosted_whole earlier c history later players now true played room runs h = absurd cc
-hosted_whole earlier c history later players now false played room runs h = round-hosted earlier c history later players now false played runs h
-
--- after the tick that follows a round with an entry
-pub hosted_tick : (earlier : Earlier) (c : Configuration) (history later journal : List Entry) (players now : List Player) (cut full : Bool) → IsRound false c history later players now cut → cut ≡ false → Runs c later (after c later) → HaveHosted earlier c history players → length history < length later → Ticks full later journal → HaveSoundness (drivings_of now) → IsHosted earlier c full journal now
-hosted_tick earlier c history later journal players now cut true played room runs h more ticks sound =
-    stop-hosted earlier c journal now (subst (λ (j : List Entry). HaveHosted earlier c j now) (sym ticks) (hosted_whole earlier c history later players now cut played room runs h))
-hosted_tick earlier c history later journal players now cut false played room runs h more ticks sound =
-    let driven : HaveDriven c journal now = driven_tick false c history later journal players now cut false played room runs h.driven more ticks in
-    subst (λ (j : List Entry). HaveHosted earlier c j now) (sym ticks.2)
-    (tick-hosted earlier c later ticks.0 now ticks.1 (subst (λ (j : List Entry). HaveDriven c j now) ticks.2 driven) sound (hosted_whole earlier c history later players now cut played room runs h))
-
 -- # Laps, one after another.
 
 -- ## one lap more
-
-first_room : (lap : Lap) (laps : List Lap) → list_any is_full_lap (lap ∷ laps) ≡ false → is_full_lap lap ≡ false
-first_room lap laps room = by (is_full_lap lap) refl
-  where
-    by : (b : Bool) → is_full_lap lap ≡ b → is_full_lap lap ≡ false
-    by true is = absurd (false≢true (sym room ∙ ap (λ (b : Bool). b || list_any is_full_lap laps) is))
-    by false is = is
-
-rest_room : (lap : Lap) (laps : List Lap) → list_any is_full_lap (lap ∷ laps) ≡ false → list_any is_full_lap laps ≡ false
-rest_room lap laps room = sym (ap (λ (b : Bool). b || list_any is_full_lap laps) (first_room lap laps room)) ∙ room
-
-any_room : (laps more : List Lap) → list_any is_full_lap laps ≡ false → list_any is_full_lap (laps ++ more) ≡ list_any is_full_lap more
-any_room [] more room = refl
-any_room (lap ∷ laps) more room = ap (λ (b : Bool). b || list_any is_full_lap (laps ++ more)) (first_room lap laps room) ∙ any_room laps more (rest_room lap laps room)
 
 module _ (plans : Bool) (c : Configuration) where
   laps_append : (laps more : List Lap) (history : List Entry) (players : List Player) (journal : List Entry) (now : List Player) (later : List Entry) (those : List Player)
@@ -289,7 +205,8 @@ module _ (plans : Bool) (c : Configuration) where
       subst (λ (l : List Entry). Laps plans c more l players later those) (sym h.0)
       (subst (λ (l : List Player). Laps plans c more journal l later those) (sym h.1) k)
   laps_append (lap ∷ laps) more history players journal now later those room h k =
-      (h.0, (λ full. absurd (false≢true (sym (first_room lap laps room) ∙ full))), laps_append laps more (with_tick lap.later lap.tick) lap.now journal now later those (rest_room lap laps room) h.2 k)
+      let parts = or_parts (is_full_lap lap) (list_any is_full_lap laps) room in
+      (h.0, (λ full. absurd (false≢true (sym parts.0 ∙ full))), laps_append laps more (with_tick lap.later lap.tick) lap.now journal now later those parts.1 h.2 k)
 
   pub laps_none : (history : List Entry) (players : List Player) → HasLaps plans c history players history players false
   laps_none history players = record { laps = []; played = (refl, refl); whether = refl }
@@ -300,7 +217,7 @@ module _ (plans : Bool) (c : Configuration) where
   laps_on history players journal now later those full h k = record {
     laps = h.laps ++ k.laps;
     played = laps_append h.laps k.laps history players journal now later those (sym h.whether) h.played k.played;
-    whether = k.whether ∙ sym (any_room h.laps k.laps (sym h.whether));
+    whether = k.whether ∙ (ap (λ (b : Bool). b || list_any is_full_lap k.laps) h.whether ∙ sym (list_any-append is_full_lap h.laps k.laps));
   }
 
   one_lap : (history : List Entry) (players : List Player) (lap : Lap) → IsLap plans c history players lap → HasLaps plans c history players (with_tick lap.later lap.tick) lap.now (is_full_lap lap || false)
@@ -323,24 +240,16 @@ module _ (plans : Bool) (c : Configuration) where
     -- a tick came after it
     pub laps_tick : (ticked : List Entry) (at : Bool) → full ≡ false → length journal < length later → IsTick c later ticked at → HasLaps plans c history players ticked those at
     laps_tick ticked at is moved tick =
-        let same : ((full || is_full tick.answer) || false) ≡ at = ap (λ (b : Bool). (b || is_full tick.answer) || false) is ∙ (or_none (is_full tick.answer) ∙ sym tick.whether) in
+        let same : ((full || is_full tick.answer) || false) ≡ at = ap (λ (b : Bool). (b || is_full tick.answer) || false) is ∙ (or_false (is_full tick.answer) ∙ sym tick.whether) in
         subst (λ (b : Bool). HasLaps plans c history players ticked those b) same
         (subst (λ (l : List Entry). HasLaps plans c history players l those ((full || is_full tick.answer) || false)) (sym tick.left)
         (more (Some tick.answer) (is, moved, tick.answered)))
-      where
-        or_none : (b : Bool) → (b || false) ≡ b
-        or_none true = refl
-        or_none false = refl
 
 -- ## the journal of laps
 
-turn_starts : (later : List Entry) (t : Turn) → StartsWith (with_turn later t) later
-turn_starts later (Turn.Did e) = (e ∷ [], refl)
-turn_starts later other = starts_same later
-
 tick_starts : (later : List Entry) (tick : Option Turn) → StartsWith (with_tick later tick) later
-tick_starts later None = starts_same later
-tick_starts later (Some t) = turn_starts later t
+tick_starts later (Some (Turn.Did e)) = (e ∷ [], refl)
+tick_starts later other = starts_same later
 
 module _ (plans : Bool) (c : Configuration) where
   laps_start : (laps : List Lap) (history : List Entry) (players : List Player) (journal : List Entry) (now : List Player) → Laps plans c laps history players journal now → StartsWith journal history
@@ -382,35 +291,31 @@ module _ (plans : Bool) (c : Configuration) (Holds : Bool → List Entry → Lis
   has_kept : Keeps → (history : List Entry) (players : List Player) (journal : List Entry) (now : List Player) (full : Bool) → Runs c journal (after c journal) → HasLaps plans c history players journal now full → Holds false history players → Holds full journal now
   has_kept keeps history players journal now full runs h held = subst (λ (b : Bool). Holds b journal now) (sym h.whether) (laps_keep keeps h.laps history players journal now runs h.played held)
 
--- a tick as the board answers it
-ticks_as : (c : Configuration) (later : List Entry) (t : Turn) → answers c later (Ask.Do Event.Tick) t → Ticks (is_full t) later (with_turn later t)
-ticks_as c later (Turn.Did e) h = (e, h.0, refl)
-ticks_as c later Turn.Full h = refl
-ticks_as c later other h = absurd h
+  -- a lap keeps it, if a round does, and a tick with an entry and one without
+  lap_kept : ((history later : List Entry) (players now : List Player) (full : Bool) → IsRound plans c history later players now full → Runs c later (after c later) → Holds false history players → Holds full later now)
+      → ((journal : List Entry) (now : List Player) → Holds false journal now → Holds true journal now)
+      → ((history later : List Entry) (players now : List Player) (e : Entry) → IsRound plans c history later players now false → Runs c later (after c later) → HaveSoundness (drivings_of now) → length history < length later → e.event ≡ Event.Tick → Holds false history players → Holds false (later ++ e ∷ []) now)
+      → (history later : List Entry) (players now : List Player) (full : Bool) (tick : Option Turn) → IsRound plans c history later players now full → TicksAfter c history later full tick → HaveSoundness (drivings_of now) → Runs c later (after c later) → Holds false history players
+      → Holds (full || is_full_tick tick) (with_tick later tick) now
+  lap_kept round stop ticked history later players now true None is ticks sound runs had = round history later players now true is runs had
+  lap_kept round stop ticked history later players now false None is ticks sound runs had = round history later players now false is runs had
+  lap_kept round stop ticked history later players now false (Some (Turn.Did e)) is ticks sound runs had = ticked history later players now e is runs sound ticks.1 ticks.2.0 had
+  lap_kept round stop ticked history later players now false (Some Turn.Full) is ticks sound runs had = stop later now (round history later players now false is runs had)
+  lap_kept round stop ticked history later players now false (Some other) is ticks sound runs had = absurd ticks.2
+  lap_kept round stop ticked history later players now true (Some t) is ticks sound runs had = absurd (false≢true (sym ticks.0))
 
 -- ## driven journals
 
-driven_lap : (plans : Bool) (c : Configuration) (history later : List Entry) (players now : List Player) (full : Bool) (tick : Option Turn) → IsRound plans c history later players now full → TicksAfter c history later full tick → Runs c later (after c later) → HaveDrivenAs plans c history players → IsDriven plans c (full || is_full_tick tick) (with_tick later tick) now
-driven_lap plans c history later players now true None round ticks runs had = driven_round plans c history later players now true round runs had
-driven_lap plans c history later players now false None round ticks runs had = driven_round plans c history later players now false round runs had
-driven_lap plans c history later players now true (Some t) round ticks runs had = absurd (false≢true (sym ticks.0))
-driven_lap plans c history later players now false (Some t) round ticks runs had =
-    driven_tick plans c history later (with_turn later t) players now false (is_full t) round refl runs had ticks.1 (ticks_as c later t ticks.2)
-
 pub laps_driven : (plans : Bool) (c : Configuration) (history : List Entry) (players : List Player) (journal : List Entry) (now : List Player) (full : Bool) → Runs c journal (after c journal) → HasLaps plans c history players journal now full → HaveDrivenAs plans c history players → IsDriven plans c full journal now
-laps_driven plans c = has_kept plans c (IsDriven plans c) (λ history players lap is runs had. driven_lap plans c history lap.later players lap.now lap.full lap.tick is.played.round is.ticks runs had)
+laps_driven plans c = has_kept plans c (IsDriven plans c) (λ history players lap is runs had. lap_kept plans c (IsDriven plans c) (driven_round plans c) (λ journal now h. record { driven = h.driven; numbered = h.numbered })
+    (λ history later players now e round runs sound more tick had. driven_tick plans c history later players now e round runs had more tick) history lap.later players lap.now lap.full lap.tick is.played.round is.ticks is.sound runs had)
 
 -- ## what drivers host
 
-hosted_lap : (earlier : Earlier) (c : Configuration) (history later : List Entry) (players now : List Player) (full : Bool) (tick : Option Turn) → IsRound false c history later players now full → TicksAfter c history later full tick → HaveSoundness (drivings_of now) → Runs c later (after c later) → HaveHosted earlier c history players → IsHosted earlier c (full || is_full_tick tick) (with_tick later tick) now
-hosted_lap earlier c history later players now true None round ticks sound runs had = round-hosted earlier c history later players now true round runs had
-hosted_lap earlier c history later players now false None round ticks sound runs had = round-hosted earlier c history later players now false round runs had
-hosted_lap earlier c history later players now true (Some t) round ticks sound runs had = absurd (false≢true (sym ticks.0))
-hosted_lap earlier c history later players now false (Some t) round ticks sound runs had =
-    hosted_tick earlier c history later (with_turn later t) players now false (is_full t) round refl runs had ticks.1 (ticks_as c later t ticks.2) sound
-
 pub laps_hosted : (earlier : Earlier) (c : Configuration) (history : List Entry) (players : List Player) (journal : List Entry) (now : List Player) (full : Bool) → Runs c journal (after c journal) → HasLaps false c history players journal now full → HaveHosted earlier c history players → IsHosted earlier c full journal now
-laps_hosted earlier c = has_kept false c (IsHosted earlier c) (λ history players lap is runs had. hosted_lap earlier c history lap.later players lap.now lap.full lap.tick is.played.round is.ticks is.sound runs had)
+laps_hosted earlier c = has_kept false c (IsHosted earlier c) (λ history players lap is runs had. lap_kept false c (IsHosted earlier c) (round-hosted earlier c) (stop-hosted earlier c)
+    (λ history later players now e round runs sound more tick had. tick-hosted earlier c later e now tick (driven_tick false c history later players now e round runs had.driven more tick) sound (round-hosted earlier c history later players now false round runs had))
+    history lap.later players lap.now lap.full lap.tick is.played.round is.ticks is.sound runs had)
 
 -- ## what no call of a driver changes
 
@@ -426,10 +331,7 @@ module _ (plans : Bool) (c : Configuration) where
 -- ## where the entries stand
 
 get_more : (seen rest : List Entry) (x : ℕ) (e : Entry) → slice_get seen x ≡ Some e → slice_get (seen ++ rest) x ≡ Some e
-get_more [] rest x e is = absurd (none_some is)
-  where
-    none_some : slice_get [] x ≡ Some e → ⊥
-    none_some h = cc
+get_more [] rest x e is = absurd cc
 get_more (d ∷ seen) rest zero e is = is
 get_more (d ∷ seen) rest (suc x) e is = get_more seen rest x e is
 
@@ -437,18 +339,16 @@ stand_more : (journal seen : List Entry) → StartsWith journal seen → (xs : L
 stand_more journal seen starts [] [] h = tt
 stand_more journal seen starts (x ∷ xs) (e ∷ es) h =
     (subst (λ (l : List Entry). slice_get l x ≡ Some e) (sym starts.1) (get_more seen starts.0 x e h.0), stand_more journal seen starts xs es h.1)
-stand_more journal seen starts [] (e ∷ es) h = absurd h
-stand_more journal seen starts (x ∷ xs) [] h = absurd h
+stand_more journal seen starts _ _ h = absurd h
 
 module _ (plans : Bool) (c : Configuration) where
   entries_stand : (journal later history : List Entry) → StartsWith journal later → (players : List Player) (ends : List PlayerEnd) (each : EachAtBoard plans c history players ends) → All (λ (end : PlayerEnd). StartsWith later end.sight.seen) ends → EntriesStand plans c journal history players ends each
   entries_stand journal later history starts [] [] each seen = tt
-  entries_stand journal later history starts [] (end ∷ ends) each seen = absurd each
-  entries_stand journal later history starts (player ∷ players) [] each seen = absurd each
   entries_stand journal later history starts (player ∷ players) (end ∷ ends) each seen = (
     stand_more journal end.sight.seen (starts_on journal later end.sight.seen starts (All-head (λ (x : PlayerEnd). StartsWith later x.sight.seen) end ends seen)) end.sight.mine _ each.0.1.stand,
     entries_stand journal later history starts players ends each.1 (All-tail (λ (x : PlayerEnd). StartsWith later x.sight.seen) end ends seen),
   )
+  entries_stand journal later history starts _ _ each seen = absurd each
 
   pub laps_stand : (whole : List Entry) (laps : List Lap) (history : List Entry) (players : List Player) (journal : List Entry) (now : List Player) (h : Laps plans c laps history players journal now) → StartsWith whole journal → LapsStand plans c whole laps history players journal now h
   laps_stand whole [] history players journal now h starts = tt
@@ -461,18 +361,6 @@ module _ (plans : Bool) (c : Configuration) where
 
 pub ended_runs : (c d : Configuration) (journal : List Entry) (s : State) → d ≡ c → Runs d journal s → Runs c journal (after c journal)
 ended_runs c d journal s same runs = legal-Runs c journal (Runs-legal c journal s (subst (λ (x : Configuration). Runs x journal s) same runs))
-
-pub was_played : (plans : Bool) (c : Configuration) (players now : List Player) (before left : List Driving) (journal : List Entry) (full : Bool)
-    → AreNumbered 0 players → drivings_of players ≡ before → left ≡ drivings_of now → HasLaps plans c [] players journal now full → WasPlayed plans c before left journal full
-was_played plans c players now before left journal full numbered had has laps = record {
-  players = players;
-  now = now;
-  numbered = numbered;
-  drivings = had;
-  drivings_now = sym has;
-  laps = laps;
-  stand = laps_stand plans c journal laps.laps [] players journal now laps.played (starts_same journal);
-}
 
 -- # What workers and their drivers leave that began at a board without entries.
 
@@ -497,46 +385,54 @@ module _ {D : Type 0} (facts : D → DriverFacts) (plan : D → Plan) (sound : D
   kept = laps_terms plans c [] players journal now full laps ∙ (ap (map terms_of) drivings ∙ terms_of_drivers facts plan sound room ds)
 
   pub ended_plans : map plan es ≡ map plan ds
-  ended_plans = kept_term facts plan sound room (λ (t : Terms). t.plan) plan (λ x. refl) now es ds back kept
+  ended_plans = kept_term facts plan sound room (λ (t : Terms). t.plan) now es ds back kept
 
   pub ended_sounds : map sound es ≡ map sound ds
-  ended_sounds = kept_term facts plan sound room (λ (t : Terms). t.sound) sound (λ x. refl) now es ds back kept
+  ended_sounds = kept_term facts plan sound room (λ (t : Terms). t.sound) now es ds back kept
 
   pub ended_rooms : map room es ≡ map room ds
-  ended_rooms = kept_term facts plan sound room (λ (t : Terms). t.room) room (λ x. refl) now es ds back kept
+  ended_rooms = kept_term facts plan sound room (λ (t : Terms). t.room) now es ds back kept
 
   pub ended_count : length es ≡ length ds
-  ended_count = as_many facts plan sound room room es ds ended_rooms
+  ended_count = sym (length-map room es) ∙ (ap length ended_rooms ∙ length-map room ds)
 
   -- ## the journal
 
   module _ (numbered : AreNumbered 0 (players_of facts plan sound room workers)) where
     pub ended_played : WasPlayed plans c (map (driving facts plan sound room) ds) (map (driving facts plan sound room) es) journal full
-    ended_played = was_played plans c players now (map (driving facts plan sound room) ds) (map (driving facts plan sound room) es) journal full numbered drivings back laps
+    ended_played = record {
+      players = players;
+      now = now;
+      numbered = numbered;
+      drivings = drivings;
+      drivings_now = sym back;
+      laps = laps;
+      stand = laps_stand plans c journal laps.laps [] players journal now laps.played (starts_same journal);
+    }
 
     module _ (runs : Runs c journal (after c journal)) where
-      driven_as : All (λ (x : D). (facts x).servers ≡ Some []) ds → DrivenAs (WasAnswered (map (driving facts plan sound room) es)) plans c journal
-      driven_as empty = driven_end plans facts plan sound room c full journal now es back
-          (laps_driven plans c [] players journal now full runs laps (driven_start plans facts plan sound room c players ds numbered drivings empty))
-
       -- with planned events, or without
       pub ended_driven : (b : Bool) → plans ≡ b → All (λ (x : D). (facts x).servers ≡ Some []) ds → DrivenAs (WasAnswered (map (driving facts plan sound room) es)) b c journal
-      ended_driven b is empty = subst (λ (x : Bool). DrivenAs (WasAnswered (map (driving facts plan sound room) es)) x c journal) is (driven_as empty)
+      ended_driven b is empty = subst (λ (x : Bool). DrivenAs (WasAnswered (map (driving facts plan sound room) es)) x c journal) is
+          (driven_end plans facts plan sound room c full journal now es back (laps_driven plans c [] players journal now full runs laps (driven_start plans facts plan sound room c players ds numbered drivings empty)))
+
+      hosted : (earlier : Earlier) → plans ≡ false → All (λ (x : D). (facts x).servers ≡ Some []) ds → BeginAfter earlier (map (driving facts plan sound room) ds) → IsHosted earlier c full journal now
+      hosted earlier off empty begin = laps_hosted earlier c [] players journal now full runs (subst (λ (b : Bool). HasLaps b c [] players journal now full) off laps)
+          (begin-hosted earlier c players (driven_start false facts plan sound room c players ds numbered drivings empty) (subst (BeginAfter earlier) (sym drivings) begin))
 
       -- what drivers host is known where nothing was planned
       pub ended_carried : plans ≡ false → All (λ (x : D). BeginsEmpty (facts x)) ds → AreCarried c journal (map (driving facts plan sound room) es)
       ended_carried off empty =
           let earlier : Earlier = counted (map (driving facts plan sound room) ds) in
-          carried_end facts plan sound room earlier c full journal now es back
-          (laps_hosted earlier c [] players journal now full runs (subst (λ (b : Bool). HasLaps b c [] players journal now full) off laps)
-          (hosted_start facts plan sound room earlier c players ds numbered drivings (empty_servers facts plan sound room ds empty) (empty_begin facts plan sound room ds empty)))
+          subst (AreCarried c journal) (sym back) (are-carried earlier c full journal now
+          (hosted earlier off (All-weaker (λ (x : D). BeginsEmpty (facts x)) (λ (x : D). (facts x).servers ≡ Some []) (λ x b. b.servers) ds empty)
+          (begin-counted (map (driving facts plan sound room) ds) (All-map (λ (x : Driving). BeginsEmpty x.facts) (driving facts plan sound room) ds empty))))
 
       pub ended_failed : plans ≡ false → All (λ (x : D). BeginsNew (facts x)) ds → FailOnlyFull c journal (map (driving facts plan sound room) es)
       ended_failed off new =
-          let earlier : Earlier = λ p. 0 in
-          failed_end facts plan sound room c full journal now es back
-          (laps_hosted earlier c [] players journal now full runs (subst (λ (b : Bool). HasLaps b c [] players journal now full) off laps)
-          (hosted_start facts plan sound room earlier c players ds numbered drivings (new_servers facts plan sound room ds new) (new_begin facts plan sound room ds new)))
+          subst (FailOnlyFull c journal) (sym back) (fail-only-full c full journal now
+          (hosted (λ p. 0) off (All-weaker (λ (x : D). BeginsNew (facts x)) (λ (x : D). (facts x).servers ≡ Some []) (λ x b. b.servers) ds new)
+          (begin-new (map (driving facts plan sound room) ds) (All-map (λ (x : Driving). BeginsNew x.facts) (driving facts plan sound room) ds new))))
 
 -- # A site that has not begun is not settled.
 
@@ -555,16 +451,10 @@ no_strikes (p ∷ pools) = refl
 may_begin : (c : Configuration) → may_open c first (start c) ≡ true
 may_begin c = rw (no_strikes c.pools) refl
 
-accepted : (c : Configuration) (s : State) → is_role c first ≡ true → is_ok (judge c s (Event.OpenSession first)) ≡ true
-accepted c s is = rw is refl
-
-row : (c : Configuration) → row_holds c (start c) first (Event.OpenSession first) ≡ true
-row c = rw (may_begin c) refl
-
 pub start_unsettled : (c : Configuration) → IsSound c → IsSettled c (start c) → ⊥
 start_unsettled c sound settled =
     let is : is_role c first ≡ true = some_pool _ c.pools (sound.supply.each_has_one 0 sound.some_provider) in
-    settled first (Event.OpenSession first) is (record { accepted = accepted c (start c) is; maker = refl; row = row c })
+    settled first (Event.OpenSession first) is (record { accepted = rw is refl; maker = refl; row = rw (may_begin c) refl })
 
 -- a settled site has begun
 pub settled_tick : (c : Configuration) (journal : List Entry) (s : State) → IsSound c → Runs c journal s → IsSettled c s → IsRested journal → EndsWithTick journal

@@ -3,5 +3,4 @@ pub mod Crews
 pub mod Plays
 pub mod Backs
 pub mod Played
-pub mod Plain
 pub mod Laps

@@ -1,8 +1,9 @@
 -- what rounds of all workers leave
-use Rattle.std.specs.Prelude.{◌≡◌, ◌⊎◌, ◌||◌, nat_lt, List, [], ◌∷◌, ◌++◌, map, Bool, true, false, Result, Ok, Err}
+use Rattle.std.specs.Prelude.{◌≡◌, ◌⊎◌, ◌||◌, nat_lt, List, [], ◌∷◌, ◌++◌, map, Bool, true, false, Result, Ok, Err, Option, Some, None}
 use Rattle.np_rounds.specs.declared.round.Together.{Together}
 use Rattle.np_rounds.specs.Crews.{Terms, terms_of}
-use Rattle.np_rounds.specs.Lower.{AreNumbered, Configuration, DrivenAs, Entry, Event, HaveDrivenAs, IsFull, NoMemory, Player, RoundEnd, Turn, WasAnswered, drivings_of}
+use Rattle.np_rounds.specs.declared.plain.PlainSeries.{PlainSeries}
+use Rattle.np_rounds.specs.Lower.{AreNumbered, Ask, Configuration, DrivenAs, Entry, Event, HaveDrivenAs, IsFull, NoMemory, PlanAsk, PlanTurn, Player, RoundEnd, Turn, WasAnswered, drivings_of}
 
 -- with what one more worker's round came to; if one ran out of memory, all did (own)
 abbrev pub with_end : Together → Result RoundEnd NoMemory → Result Together NoMemory
@@ -51,3 +52,25 @@ pub record WereDriven (plans : Bool) (c : Configuration) (journal : List Entry) 
 abbrev pub IsDriven : Bool → Configuration → Bool → List Entry → List Player → Type 0
 IsDriven plans c true journal players = WereDriven plans c journal players
 IsDriven plans c false journal players = HaveDrivenAs plans c journal players
+
+-- what is asked without a plan
+
+-- the plain turn found no room in the journal (own)
+abbrev pub is_plain_full : PlanTurn → Bool
+is_plain_full (PlanTurn.Plain t) = is_full t
+is_plain_full _ = false
+
+-- ## a series
+
+-- what it asks next, if it asks this without a plan
+abbrev pub plain_ask : Option Ask → Option PlanAsk
+plain_ask None = None
+plain_ask (Some a) = Some (PlanAsk.Plain a)
+
+abbrev pub asks_plain : {S : Type 0} → (S → Option Ask) → PlainSeries S → Option PlanAsk
+asks_plain asks p = plain_ask (asks p.series)
+
+-- it hears the answers to that, and no others
+abbrev pub HearsPlain : {S : Type 0} → (S → Turn → S → Type 0) → PlainSeries S → PlanTurn → PlainSeries S → Type 0
+HearsPlain hears p (PlanTurn.Plain t) q = hears p.series t q.series
+HearsPlain hears p _ q = q ≡ p

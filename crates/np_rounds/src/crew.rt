@@ -1,8 +1,7 @@
 //! Workers with their passes.
 
 ghost use Rattle.std.specs.Prelude.{◌≡◌, true, false, length, map, IfOk};
-ghost use Rattle.np_worker.specs.Prelude.{IsOf, driving};
-ghost use Rattle.np_worker.specs.Players.{drivings_of, AreNumbered};
+ghost use Rattle.np_rounds.specs.Lower.{AreNumbered, IsOf, driving, drivings_of};
 ghost use Rattle.np_rounds.specs.Crews.{players_of};
 ghost use Rattle.np_rounds.specs.Plays.{CrewPlays};
 

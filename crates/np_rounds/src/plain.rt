@@ -1,14 +1,14 @@
 //! Turns at the desk of a board, of those who plan nothing.
 
 ghost use Rattle.std.specs.Prelude.{Some};
-ghost use Rattle.np_worker.specs.Prelude.{IsOf, answers, recorded, sight_of};
-ghost use Rattle.np_rounds.specs.Plain.{HearsPlain, asks_plain};
+ghost use Rattle.np_rounds.specs.Lower.{IsOf, answers, recorded, sight_of};
+ghost use Rattle.np_rounds.specs.Played.{HearsPlain, asks_plain};
 
 use np_board::{Board, PlanAsk, PlanTurn};
 use np_config::Config;
 use np_desk::{Desk, Pass, Series, Turns};
 use np_event::Entry;
-use np_text::NoMemory;
+use np_text::{Ample, NoMemory};
 use np_worker::{Ask, Turn};
 use std::sync::Wait;
 
@@ -80,11 +80,7 @@ impl<'a, R: Wait> Turns for PlainTurns<'a, R> {
         }
     }
 
-    fn turns<S: Series<Ask = Ask, Turn = Turn>>(
-        &mut self,
-        series: &mut S,
-        most: u32,
-    ) -> Result<(), NoMemory> {
+    fn turns<S: Series<Ask = Ask, Turn = Turn>>(&mut self, series: &mut S, most: u32) -> Ample {
         let mut plain = PlainSeries { series: *series };
         let end = self.pass.turns(self.rt, self.desk, &mut plain, most);
         *series = plain.series;

@@ -1,7 +1,7 @@
 //! One round of all workers.
 
 ghost use Rattle.std.specs.Prelude.{◌≡◌, ◌<◌, ◌++◌, All, IfOk, [], ◌∷◌, length, true, false};
-ghost use Rattle.np_worker.specs.Prelude.{IsFull, IsOf, IsWhole, is_legal};
+ghost use Rattle.np_rounds.specs.Lower.{IsFull, IsOf, IsWhole, is_legal};
 ghost use Rattle.np_rounds.specs.Crews.{zeros, split_pass, AreGiven, players_of, crew_players};
 ghost use Rattle.np_rounds.specs.Laps.{IsPlayedRound};
 ghost use Rattle.np_rounds.specs.Plays.{CrewPlays, Pairwise};

@@ -1,14 +1,10 @@
 //! A site, played to its end.
 
 ghost use Rattle.std.specs.Prelude.{◌≡◌, [], length, map, All, IfOk, Some, true, false};
-ghost use Rattle.np_worker.specs.Prelude.{DrivenBy, IsOf, IsSettled, IsWhole, driving};
-ghost use Rattle.np_worker.specs.Planned.{PlannedBy};
-ghost use Rattle.np_worker.specs.Players.{WasAnswered};
-ghost use Rattle.np_worker.specs.Carried.{AreCarried, BeginsEmpty, BeginsNew, FailOnlyFull};
+ghost use Rattle.np_rounds.specs.Lower.{AreCarried, BeginsEmpty, BeginsNew, DrivenBy, FailOnlyFull, IsOf, IsSettled, IsWhole, PlannedBy, WasAnswered, driving};
 ghost use Rattle.np_rounds.specs.Crews.{players_of};
 ghost use Rattle.np_rounds.specs.Laps.{HasLaps, IsTick, WasPlayed};
-ghost use Rattle.np_rounds.specs.Plain.{is_plain_full};
-ghost use Rattle.np_rounds.specs.Played.{EndsWithTick, IsRested, Stops};
+ghost use Rattle.np_rounds.specs.Played.{is_plain_full, EndsWithTick, IsRested, Stops};
 
 use crate::crew::{drivers_of, workers_of};
 use crate::round::play_round;

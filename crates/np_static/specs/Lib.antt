@@ -1,9 +1,6 @@
+pub mod Lower
 pub mod Loads
 pub mod Counts
-pub mod SoundLemmas
-pub mod Hosting
 pub mod Site
 pub mod Line
 pub mod Read
-pub mod Hosted
-pub mod Worked

@@ -1,12 +1,9 @@
 -- the line of a host (own; Nodepool's static driver lists nodes with their `max-parallel-jobs`)
 use Rattle.std.specs.Prelude.{ℕ, nat_lt, if◌then◌else◌, List, [], ◌∷◌, codes, Option, Some, None, Result, Ok, Err}
 use Rattle.std.specs.Str.{bytes_eq}
-use Rattle.np_machine.specs.Prelude.{PoolId, number_of}
-use Rattle.np_event.specs.Kind.{number_behind}
-use Rattle.np_event.specs.declared.fault.LineFault.{LineFault}
-use Rattle.np_event.specs.declared.fault.LineFault.TheVariants.{UnknownEvent, WrongCount, BadArgument}
 use Rattle.np_static.specs.declared.limit.TheConstants.{HOST_SERVERS}
 use Rattle.np_static.specs.declared.line.HostLine.{HostLine}
+use Rattle.np_static.specs.Lower.{BadArgument, LineFault, PoolId, UnknownEvent, WrongCount, number_behind, number_of}
 
 -- the pool of this number, if there are so many
 abbrev pub pool_among : ℕ → Option ℕ → Option PoolId
@@ -34,10 +31,8 @@ line_with (Some pool) (Some servers) = Ok (record { pool = pool; servers = serve
 
 -- the words after `host`: their count comes before them
 abbrev pub host_with : ℕ → List (List ℕ) → Result HostLine LineFault
-host_with pools [] = Err WrongCount
-host_with pools (pool ∷ []) = Err WrongCount
 host_with pools (pool ∷ servers ∷ []) = line_with (pool_in pools pool) (servers_in servers)
-host_with pools (pool ∷ servers ∷ more ∷ rest) = Err WrongCount
+host_with pools words = Err WrongCount
 
 -- the host of a line's words, or their first fault, where there are so many pools (own)
 abbrev pub host_in : ℕ → List (List ℕ) → Result HostLine LineFault

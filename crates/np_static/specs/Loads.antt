@@ -1,8 +1,7 @@
 -- the servers of each host, told by their numbers
 use Rattle.std.specs.Prelude.{◌≡◌, ◌<◌, ◌≤◌, ◌==◌, ◌&&◌, ◌%◌, ◌/◌, ◌*◌, ◌+◌, ◌^◌, ℕ, suc, nat_lt, nat_le, Bool, true, if◌then◌else◌, List, [], ◌∷◌, length, filter, slice_get, slice_index, Option, Some, None}
-use Rattle.np_machine.specs.Prelude.{Outcome, list_all}
-use Rattle.np_cloud.specs.declared.driver.Launch.{Launch}
 use Rattle.np_static.specs.declared.limit.TheConstants.{HOSTS}
+use Rattle.np_static.specs.Lower.{Launch, Outcome, list_all}
 
 -- the number of a server: the number of its launch, counted from 1 with those that failed, and its host (own)
 abbrev pub server_number : ℕ → ℕ → ℕ

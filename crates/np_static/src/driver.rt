@@ -1,7 +1,7 @@
 //! The driver of a pool's hosts.
 
 ghost use Rattle.std.specs.Prelude.{◌≡◌, ◌≤◌, ◌<◌, suc, true, length, slice_get, IfOk, IsOk};
-ghost use Rattle.np_cloud.specs.Sound.{numbers_of};
+ghost use Rattle.np_static.specs.Lower.{numbers_of};
 ghost use Rattle.np_static.specs.Loads.{IsFirstFree, KeepsLoads, are_numbered, server_number};
 
 use crate::limit::HOSTS;
@@ -51,7 +51,7 @@ fn server_number(launches: usize, host: usize) -> u64
 }
 
 impl HostDriver {
-    ghost use Rattle.np_static.specs.Hosting.{hosting, hosting_of};
+    ghost use Rattle.np_static.specs.Site.{hosting, hosting_of};
 
     /// The driver of these hosts, before the first launch: each number says how many servers a host
     /// carries at once. The cost grows with the hosts.
@@ -72,10 +72,8 @@ impl HostDriver {
 
 impl Driver for HostDriver {
     ghost use Rattle.std.specs.Prelude.{None};
-    ghost use Rattle.np_cloud.specs.Calls.{KeepsCounts};
-    ghost use Rattle.np_cloud.specs.Inventory.{after_removal, HasOutcome};
-    ghost use Rattle.np_cloud.specs.Sound.{FailsOnlyFull};
-    ghost use Rattle.np_static.specs.Hosting.{hosting, hosted_outcome, host_facts, host_sound, host_soundness, host_room};
+    ghost use Rattle.np_static.specs.Lower.{FailsOnlyFull, HasOutcome, KeepsCounts, after_removal};
+    ghost use Rattle.np_static.specs.Site.{hosting, hosted_outcome, host_facts, host_sound, host_soundness, host_room};
 
     ghost facts = { host_facts };
 

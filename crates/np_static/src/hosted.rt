@@ -1,7 +1,7 @@
 //! A site with hosts: a configuration, a line `%%`, and host lines.
 
 ghost use Rattle.std.specs.Prelude.{◌≡◌, IfOk};
-ghost use Rattle.np_static.specs.Hosted.{hosted_of, hosted_read};
+ghost use Rattle.np_static.specs.Read.{hosted_of, hosted_read};
 
 use crate::fault::{HostedFault, HostsRead};
 use crate::read::read_hosts;
@@ -22,7 +22,7 @@ pub struct HostedSite {
 /// host lines after it, as `read_hosts` does. The first fault comes in this order: the
 /// configuration's (if no line is `%%`, the whole text's); then the missing separator; then that of
 /// the host lines. The cost grows with the text, and with the pools times the lines.
-#[tactic(auto, unfolding(crate::specs::Hosted::hosted_of))]
+#[tactic(auto, unfolding(crate::specs::Read::hosted_of))]
 pub fn read_hosted(alloc: Global, bytes: &[u8]) -> Result<Result<HostedSite, HostedFault>, NoMemory>
     ensures { IfOk result (λ read. hosted_read read ≡ hosted_of bytes.now) }
 {

@@ -2,21 +2,13 @@
 //! the law.
 
 ghost use Rattle.std.specs.Prelude.{◌≡◌, ◌⊎◌, ◌≤◌, ◌<◌, ℕ, suc, List, [], ◌∷◌, All, IfSome, IsTrue, length, slice_get, sum, None, Some, Ok, Err};
-ghost use Rattle.np_machine.specs.Prelude.{Configuration, Pool, PoolId};
-ghost use Rattle.np_event.specs.declared.event.Outcome.TheVariants.{Launched, Failed};
-ghost use Rattle.np_cloud.specs.declared.driver.Tag.{Tag};
-ghost use Rattle.np_cloud.specs.declared.driver.RemoveFailed.{RemoveFailed};
-ghost use Rattle.np_cloud.specs.Calls.{Removes};
-ghost use Rattle.np_cloud.specs.Inventory.{facts_of, told_nothing};
-ghost use Rattle.np_cloud.specs.Sound.{DistinctNumbers, is_number, numbers_of};
+ghost use Rattle.np_static.specs.Lower.{Configuration, DistinctNumbers, Failed, Launched, Pool, PoolId, RemoveFailed, Removes, Tag, facts_of, is_number, numbers_of, told_nothing};
 ghost use Rattle.np_static.specs.declared.driver.HostDriver.{HostDriver as TheHosts};
 ghost use Rattle.np_static.specs.declared.line.HostLine.{HostLine as TheLine};
 ghost use Rattle.np_static.specs.declared.site.SiteDriver.{SiteDriver as TheDriver};
 ghost use Rattle.np_static.specs.Loads.{AreFull, IsFirstHost, host_of, is_sound, launched_numbers, load_of, server_number};
-ghost use Rattle.np_static.specs.Hosting.{Hosting, hosted_outcome, hosting_of};
+ghost use Rattle.np_static.specs.Site.{Hosting, hosted_outcome, hosting_of, Site, hosted, room_at, site_of, site_planned, sound_at, told_of, launched, removed};
 ghost use Rattle.np_static.specs.Read.{hosts_in, hosts_of, hosts_read, site_with};
-ghost use Rattle.np_static.specs.Site.{Site, hosted, room_at, site_of, site_planned, sound_at, told_of};
-ghost use Rattle.np_static.specs.Worked.{launched, removed};
 
 use crate::driver::HostDriver;
 use crate::site::SiteDriver;

@@ -2,11 +2,11 @@
 //!
 //! Each host carries at most so many servers at once (Nodepool's static driver, and its
 //! `max-parallel-jobs`). `HostDriver` drives the hosts of one pool: `specs/Loads` says on lists of
-//! server numbers which host is next and which lists are sound, and `specs/Hosting` what a launch
+//! server numbers which host is next and which lists are sound, and `specs/Site` what a launch
 //! comes to. `SiteDriver` is the driver of a pool that may have hosts or not. `read_hosts` makes
 //! the drivers of all pools from host lines; `specs/Read` says of all bytes which these are, or
 //! which fault comes first. `read_hosted` reads a configuration with its host lines
-//! (`specs/Hosted`).
+//! (`specs/Read`).
 #![tactic(auto)]
 
 mod driver;

@@ -2,7 +2,7 @@
 
 ghost use Rattle.std.specs.Prelude.{◌≡◌, ◌≤◌, ◌==◌, ◌∷◌, IfOk, IfSome, length, position};
 ghost use Rattle.std.specs.Option.{option_copied, option_map};
-ghost use Rattle.np_event.specs.Words.{is_space, left_of, words_of};
+ghost use Rattle.np_static.specs.Lower.{is_space, left_of, words_of};
 ghost use Rattle.np_static.specs.Line.{host_in, host_with, line_with, pool_in, servers_in};
 
 use crate::limit::HOST_SERVERS;

@@ -1,9 +1,7 @@
 //! The driver of a pool, with hosts or without.
 
 ghost use Rattle.std.specs.Prelude.{◌≡◌, IsOk, slice_get};
-ghost use Rattle.np_cloud.specs.Calls.{Launches, IsAsPlanned, Removes, KeepsCounts};
-ghost use Rattle.np_cloud.specs.Inventory.{after_removal, HasOutcome};
-ghost use Rattle.np_cloud.specs.Sound.{FailsOnlyFull};
+ghost use Rattle.np_static.specs.Lower.{FailsOnlyFull, HasOutcome, IsAsPlanned, KeepsCounts, Launches, Removes, after_removal};
 ghost use Rattle.np_static.specs.Site.{site_of, told_of, with_told, site_outcome, site_facts, site_plan, site_sound, site_soundness, site_room};
 
 use crate::driver::HostDriver;

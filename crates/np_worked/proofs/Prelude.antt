@@ -1,19 +1,12 @@
 -- The names from elsewhere that the proofs cite, passed on from one place. Declares nothing.
-pub use Rattle.np_event.specs.declared.event.Event.{Event}
-pub use Rattle.np_event.specs.declared.event.Outcome.{Outcome}
 pub use Rattle.np_layout.proofs.Rows.{refute}
 unfoldable pub use Rattle.np_layout.specs.Place.{path_of}
-pub use Rattle.np_machine.specs.Caused.{HasDeclined}
-pub use Rattle.np_machine.specs.Prelude.{Configuration, HasCause, Reaper, RequestId, RequestRecord, Role, Turn, judge, maker_of, turns}
 pub use Rattle.np_machine.specs.declared.state.Registration.{Registration}
 unfoldable pub use Rattle.np_text.specs.Number.{ten_digits_of}
 unfoldable pub use Rattle.np_text.specs.Request.{request_text_of}
-pub use Rattle.np_text.specs.declared.word.NodeState.{NodeState}
-pub use Rattle.np_tree.specs.Prelude.{Row, list_any}
-pub use Rattle.np_useful.specs.Driven.{IsDrivenTurn, Says}
-pub use Rattle.np_useful.specs.Useful.{is_maker_of, row_holds}
 pub use Rattle.np_worked.specs.Examples.{all_kinds, expiring_site}
-pub use Rattle.np_worked.specs.MadeUp.{held_node}
+pub use Rattle.np_worked.specs.Lower.{Configuration, Event, HasCause, HasDeclined, IsDrivenTurn, NodeState, Outcome, Reaper, RequestId, RequestRecord, Role, Row, Says, Turn, is_maker_of, judge, list_any, maker_of, row_holds, turns}
+pub use Rattle.np_worked.specs.WorkedTree.{held_node}
 pub use Rattle.np_worked.specs.Parts.{allocated, node, request, session}
 pub use Rattle.np_worked.specs.Site.{janitor, launcher, pool, requester}
 pub use Rattle.np_worked.specs.Turns.{of_request_1, was}

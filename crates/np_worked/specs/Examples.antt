@@ -1,6 +1,6 @@
 -- what the examples say, and the sites and journals that are made for them
-use Rattle.std.specs.Prelude.{◌≡◌, ℕ, List, [], ◌∷◌, ◌++◌, Option, Some, None, true, false, is_ok, codes, take}
-use Rattle.np_worked.specs.Site.{session, node, job, label, request, launcher, janitor, requester, at_most, offer, a_label, a_provider, a_pool, a_job, one_pool, plain_site, line}
+use Rattle.std.specs.Prelude.{[], ◌≡◌, ℕ, List, ◌∷◌, ◌++◌, Option, Some, None, true, false, is_ok, codes, take}
+use Rattle.np_worked.specs.Site.{a_job, a_label, a_pool, a_provider, asked, at_most, handed_over, janitor, job, label, launcher, line, node, offer, one_pool, plain_site, registered, request, requester, session, taken_up, tried}
 use Rattle.np_worked.specs.Jobs.{fail_declined, finished_by_the_janitor, min_ready_and_taken, plain_path, retries_spent}
 use Rattle.np_worked.specs.Nodes.{expiry_during_a_launch}
 use Rattle.np_worked.specs.Shares.{tenant_limit}
@@ -38,9 +38,8 @@ abbrev pub two_sessions : List Entry
 two_sessions =
     take 7 plain_path.journal
     ++ line (Event.OpenSession (launcher 0)) (Done.Session (session 3))
-    ∷ line (Event.UnlockNode (session 1) (node 0)) Done.Plain
-    ∷ line (Event.LockNode (session 3) (node 0)) Done.Held
-    ∷ line (Event.Crash (session 3)) Done.Plain
+    ∷ handed_over 1 3 0
+    ++ line (Event.Crash (session 3)) Done.Plain
     ∷ []
 
 -- ## a job whose labels the pool does not offer
@@ -75,14 +74,10 @@ abbrev pub failing : List Entry
 failing =
     take 10 min_ready_and_taken.journal
     ++ line (Event.OpenSession (requester 0)) (Done.Session (session 2))
-    ∷ line (Event.Submit (session 2) (job 0)) (Done.Request (request 200 1))
-    ∷ line (Event.LockRequest (session 1) (request 200 1)) Done.Held
-    ∷ line (Event.Accept (session 1) (request 200 1)) Done.Plain
-    ∷ line (Event.Create (session 1) (request 200 1)) (Done.Node (node 1))
+    ∷ asked 2 0 1 (request 200 1)
+    ++ line (Event.Create (session 1) (request 200 1)) (Done.Node (node 1))
     ∷ line (Event.Create (session 1) (request 200 1)) (Done.Node (node 2))
-    ∷ line (Event.Start (session 1) (node 1)) (Done.Started 1 2)
-    ∷ line (Event.Done (session 1) (node 1) 1 Outcome.Failed) Done.Plain
-    ∷ []
+    ∷ tried 1 1 1 2 Outcome.Failed
 
 -- ## two jobs, a window and a concurrency
 
@@ -100,9 +95,8 @@ abbrev pub two_jobs : List Entry
 two_jobs =
     take 4 plain_path.journal
     ++ line (Event.Submit (session 2) (job 1)) (Done.Request (request 200 1))
-    ∷ line (Event.LockRequest (session 1) (request 200 0)) Done.Held
-    ∷ line (Event.Accept (session 1) (request 200 0)) Done.Plain
-    ∷ line (Event.Create (session 1) (request 200 0)) (Done.Node (node 0))
+    ∷ taken_up 1 (request 200 0)
+    ++ line (Event.Create (session 1) (request 200 0)) (Done.Node (node 0))
     ∷ []
 
 -- a job is withdrawn, and the next moves into a window of one
@@ -145,9 +139,8 @@ struck_site what = record plain_site { faults = record { role = launcher 0; kind
 
 abbrev pub struck : List Entry
 struck =
-    line (Event.OpenSession (launcher 0)) (Done.Session (session 1))
-    ∷ line (Event.Register (session 1)) Done.Plain
-    ∷ line (Event.Crash (session 1)) Done.Plain
+    registered 1 0
+    ++ line (Event.Crash (session 1)) Done.Plain
     ∷ line (Event.Expire (session 1)) Done.Plain
     ∷ []
 

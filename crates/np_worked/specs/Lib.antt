@@ -3,7 +3,6 @@ pub mod Site
 pub mod Jobs
 pub mod Nodes
 pub mod Shares
-pub mod MadeUp
 pub mod Examples
 pub mod Parts
 pub mod Turns

@@ -1,6 +1,6 @@
 -- what worked journals are made of: ids, sites and lines
-use Rattle.std.specs.Prelude.{◌≡◌, ℕ, List, [], ◌∷◌, Some, None, false, codes}
-use Rattle.np_worked.specs.Lower.{Configuration, Done, EndAs, Entry, Event, Fate, Janitor, Job, JobId, Label, LabelId, Launcher, Limit, NodeId, Offer, Pool, PoolId, Provider, Refusal, Reply, RequestId, Requester, Role, Sem, SemId, SessionId, Tenant, TenantId, after, fates, no_limit, replayed, start}
+use Rattle.std.specs.Prelude.{◌≡◌, ℕ, List, [], ◌∷◌, ◌++◌, Some, None, false, codes}
+use Rattle.np_worked.specs.Lower.{Configuration, Done, EndAs, Entry, Event, Fate, Janitor, Job, JobId, Label, LabelId, Launcher, Limit, NodeId, Offer, Outcome, Pool, PoolId, Provider, Refusal, Reply, RequestId, Requester, Role, Sem, SemId, SessionId, Tenant, TenantId, after, fates, no_limit, replayed, start}
 
 -- the machine's replies are those of the journal, and the jobs end with these fates
 pub record Plays (c : Configuration) (journal : List Entry) (ends : List Fate) : Type 0 where
@@ -12,6 +12,10 @@ pub record Story : Type 0 where
   pub site : Configuration
   pub journal : List Entry
   pub ends : List Fate
+
+-- a story on this site, with these fates of its jobs
+abbrev pub story : Configuration → List Fate → List Entry → Story
+story site ends journal = record { site = site; journal = journal; ends = ends }
 
 -- ## ids
 
@@ -112,3 +116,33 @@ line e what = record { event = e; reply = Reply.Done what }
 
 abbrev pub refused : Event → Refusal → Entry
 refused e why = record { event = e; reply = Reply.Refused why }
+
+-- ## what sessions do one after another, as lines
+
+-- a session of the pool's launcher opens and registers
+abbrev pub registered : ℕ → ℕ → List Entry
+registered s p = line (Event.OpenSession (launcher p)) (Done.Session (session s)) ∷ line (Event.Register (session s)) Done.Plain ∷ []
+
+-- a launcher's session locks the request and accepts it
+abbrev pub taken_up : ℕ → RequestId → List Entry
+taken_up s r = line (Event.LockRequest (session s) r) Done.Held ∷ line (Event.Accept (session s) r) Done.Plain ∷ []
+
+-- a requester's session requests a job's nodes, and a launcher's takes the request up
+abbrev pub asked : ℕ → ℕ → ℕ → RequestId → List Entry
+asked q j s r = line (Event.Submit (session q) (job j)) (Done.Request r) ∷ taken_up s r
+
+-- a node is launched, by this attempt of its own and this start of its pool, and the outcome is reported
+abbrev pub tried : ℕ → ℕ → ℕ → ℕ → Outcome → List Entry
+tried s n attempt start o = line (Event.Start (session s) (node n)) (Done.Started attempt start) ∷ line (Event.Done (session s) (node n) attempt o) Done.Plain ∷ []
+
+-- a request's last node is made and launched, with a server of its start's number, and the request is fulfilled
+abbrev pub provided : ℕ → RequestId → ℕ → ℕ → List Entry
+provided s r n start = line (Event.Create (session s) r) (Done.Node (node n)) ∷ tried s n 1 start (Outcome.Launched start) ++ line (Event.Fulfil (session s) r) Done.Plain ∷ []
+
+-- a ready node is taken as a request's last, and the request is fulfilled
+abbrev pub reused : ℕ → RequestId → ℕ → List Entry
+reused s r n = line (Event.TakeReady (session s) r (node n)) Done.Held ∷ line (Event.Fulfil (session s) r) Done.Plain ∷ []
+
+-- a session lets go of a node, and another one gets it
+abbrev pub handed_over : ℕ → ℕ → ℕ → List Entry
+handed_over s t n = line (Event.UnlockNode (session s) (node n)) Done.Plain ∷ line (Event.LockNode (session t) (node n)) Done.Held ∷ []

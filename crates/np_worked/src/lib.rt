@@ -17,58 +17,15 @@
 //! `Fenced`, and `Runs` for `Safe` and `Driven`.
 #![tactic(auto)]
 
-mod property;
-mod refused;
-mod trees;
-mod useful;
+pub mod property;
+pub mod refused;
+pub mod trees;
+pub mod useful;
 
 ghost use Rattle.np_worked.specs.Site.{Plays};
 ghost use Rattle.np_worked.specs.Jobs.{crashed_requester, declined_but_taken_up, declined_by_all, ended_by_the_wrong_party, fail_declined, finished_by_the_janitor, min_ready_and_taken, never_fits, pinned_elsewhere, plain_path, priorities, refusals, reset_request, retries_spent, revise, served_job, spent_min_ready, withdrawn_early, withdrawn_request};
 ghost use Rattle.np_worked.specs.Nodes.{aged_node, deleted_during_a_launch, expiry_during_a_launch, freed_node, hold_age, kept_ready_by_all_pools, nodes_that_are_not_free, queue_after_an_expiry, ready_age, swept_servers, swept_while_building, wrong_attempt};
 ghost use Rattle.np_worked.specs.Shares.{half_built_requests, paused_by_a_kept_label, paused_pool, semaphores_all_or_none, short_quota, taken_with_its_handles, tenant_counts_by_pool, tenant_limit, tenant_of_a_node, two_handles};
-
-pub use property::{
-    a_failure_needs_its_decline, a_false_reason_is_no_cause, a_lost_node_is_not_kept,
-    a_lost_session_is_one_strike, a_nodes_age_counts_from_its_last_change, a_removed_node_is_gone,
-    a_request_is_held_until_its_launcher_expires, a_request_that_was_given_up_has_no_pool,
-    a_reset_may_not_delete_a_node, a_tick_may_not_change_a_node, an_expiry_may_not_lose_a_request,
-    planned_starts_fail, the_next_in_the_queue_is_the_live_holder, two_holders_are_not_safe,
-};
-pub use refused::{
-    a_count_rose_if_it_is_higher, a_journal_is_kept_in_three_ways, a_node_is_changed_by_its_holder,
-    a_node_is_taken_back_by_its_requests_holder, a_node_that_was_made_may_not_be_lost,
-    a_request_that_was_made_may_not_be_lost, a_semaphore_has_at_most_its_handles,
-    a_session_may_end, a_tick_follows_no_tick, no_number_may_be_given_again,
-    no_record_may_be_another, no_record_may_be_lost, two_holders_of_a_request_are_not_safe,
-    what_ends_a_request, what_ends_no_request, what_is_no_report_of_a_launch, what_is_no_sweep,
-    what_removes_no_node,
-};
-pub use trees::{a_worked_tree_lays_out_its_state, other_trees_do_not};
-pub use useful::{
-    a_first_tick_was_not_driven, a_janitor_deletes_a_node_of_its_pool,
-    a_janitor_fails_what_all_declined, a_janitor_finishes_for_who_stopped, a_janitor_frees_a_node,
-    a_janitor_locks_a_node_to_clean_up, a_janitor_locks_a_pending_request_of_its_pool,
-    a_janitor_opens_one_session, a_janitor_releases, a_janitor_removes_a_node_of_its_pool,
-    a_janitor_resets_a_request_of_its_pool, a_janitor_unlocks_a_node_that_is_clean,
-    a_janitor_unlocks_a_request_that_it_gave_back, a_janitors_sweep_has_no_row,
-    a_journal_of_all_kinds_was_driven, a_launcher_accepts, a_launcher_creates_a_node,
-    a_launcher_declines_for_its_first_reason, a_launcher_fulfils, a_launcher_keeps_nodes_ready,
-    a_launcher_opens_one_session, a_launcher_registers, a_launcher_registers_first,
-    a_launcher_reports_what_was_planned, a_launcher_starts_a_node, a_launcher_takes_a_ready_node,
-    a_launcher_takes_up_one_request_after_another, a_launcher_unlocks_a_node_that_it_has_done_with,
-    a_launcher_unlocks_what_it_has_done_with, a_requester_acquires, a_requester_finishes,
-    a_requester_leaves_a_node_as_its_job_says, a_requester_locks_its_nodes,
-    a_requester_never_revises, a_requester_never_withdraws, a_requester_opens_one_session,
-    a_requester_releases, a_requester_submits_in_its_window, a_requester_takes,
-    a_requester_unlocks_a_node_that_it_has_done_with, a_requester_without_jobs_is_settled,
-    a_role_stops_for_good, a_site_that_has_not_begun_is_not_settled,
-    a_site_without_parties_is_settled, a_withdrawn_job_was_not_driven,
-    driven_journals_are_the_machines, janitors_journals_are_the_machines,
-    launchers_journals_are_the_machines, reapers_journal_is_the_machines,
-    requesters_journal_is_the_machines, the_newest_session_is_current, the_plain_path_was_driven,
-    the_reaper_crashes_what_is_due, the_reaper_expires_what_is_due,
-    the_reaper_expires_what_is_mute,
-};
 
 /// From a job's request to its fulfilled node.
 pub fn plain_path()

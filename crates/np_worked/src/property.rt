@@ -3,15 +3,11 @@
 
 ghost use Rattle.std.specs.Prelude.{◌≡◌, None, Some, [], ◌∷◌, take};
 ghost use Rattle.np_event.specs.declared.event.Outcome.TheVariants as outcome;
-ghost use Rattle.np_machine.specs.Caused.{Caused, CausedFrom};
-ghost use Rattle.np_machine.specs.Fenced.{Fenced, IsFenced};
-ghost use Rattle.np_machine.specs.Prelude.{Kept, LosesNothing, RemovesNode, outcome_of};
-ghost use Rattle.np_machine.specs.LiveHolder.{IsLiveHolder, IsLiveRequestHolder};
-ghost use Rattle.np_machine.specs.Safe.{OneHolder, Safe};
+ghost use Rattle.np_worked.specs.Lower.{Caused, CausedFrom, Fenced, IsFenced, IsLiveHolder, IsLiveRequestHolder, Kept, LosesNothing, OneHolder, RemovesNode, Safe, outcome_of};
 ghost use Rattle.np_worked.specs.Jobs.{crashed_requester, never_fits, plain_path, reset_request, retries_spent};
 ghost use Rattle.np_worked.specs.Nodes.{aged_node, queue_after_an_expiry};
 ghost use Rattle.np_worked.specs.Examples.{pool_after, since_after, strikes_after};
-ghost use Rattle.np_worked.specs.MadeUp.{deleting_reset, deleting_tick, false_decline, losing_expiry, lost_node, standing_gone, two_holders, unsaid_decline};
+ghost use Rattle.np_worked.specs.WorkedTree.{deleting_reset, deleting_tick, false_decline, losing_expiry, lost_node, standing_gone, two_holders, unsaid_decline};
 ghost use Rattle.np_worked.specs.Site.{janitor, launcher, node, pool, request, requester, session};
 
 /// When the first in a node's queue expires, the next is its live holder, and the third is not.

@@ -1,13 +1,8 @@
 //! What each definition refuses. Nothing here runs: each function states a theorem.
 
 ghost use Rattle.std.specs.Prelude.{◌≤◌, ◌<◌, ◌-◌, ◌^◌, ℕ, List, [], ◌∷◌};
-ghost use Rattle.np_machine.specs.Prelude.{Configuration, EachTurn, Entry, after, start, turns};
+ghost use Rattle.np_worked.specs.Lower.{ByHolder, Configuration, Driven, DrivenBy, EachTurn, EndsRequest, Entry, Fenced, IsFenced, IsReportOfLaunch, IsSweepOfServer, Kept, LosesNothing, NodesKept, RemovesNode, RequestsKept, Rose, Safe, TakenBack, WithinMax, after, start, turns};
 ghost use Rattle.np_event.specs.declared.reply.Done.TheVariants as done;
-ghost use Rattle.np_io.specs.Counts.{Rose};
-ghost use Rattle.np_machine.specs.Fenced.{ByHolder, Fenced, IsFenced, TakenBack};
-ghost use Rattle.np_machine.specs.Kept.{EndsRequest, Kept, LosesNothing, NodesKept, RemovesNode, RequestsKept};
-ghost use Rattle.np_machine.specs.Safe.{Safe, WithinMax};
-ghost use Rattle.np_useful.specs.Driven.{Driven, DrivenBy, IsReportOfLaunch, IsSweepOfServer};
 ghost use Rattle.np_worked.specs.Turns.{MayNotBeLeft, crash_to, crashing, creating, declining, deleted, deleting_expiry, deletion_by, expiring, expiry_to, free, fulfilment, of_another, other_fulfilment, other_gone, other_take, other_withdrawal, pinned_fulfilment, refused_gone, refused_withdrawal, removal, removal_by, resetting, standing_gone, standing_withdrawal, stocking, submitting, taking, ticking, unmade_node, unmade_request, was, with_deleting_node, with_failed_request, with_new_job, with_node_again, with_other_handle, with_other_node, with_other_request, with_request_again, with_session_again, withdrawal, without_handle, without_job, without_node, without_request, without_session, without_swept};
 ghost use Rattle.np_worked.specs.Runs.{answers_elsewhere, any_answer, first_tick, naming, one_tick, refused_start, reporting, roomy_site, same_handle_twice, starting, sweeping, two_handles, two_holders, two_ticks, with_janitor, with_mute_janitor, with_swept_server};
 ghost use Rattle.np_worked.specs.Parts.{node, request, session, site};

@@ -1,6 +1,6 @@
 //! A worked tree, which lays its state out, and others, which don't.
 
-ghost use Rattle.np_layout.specs.Layout.{LaysOut};
+ghost use Rattle.np_worked.specs.Lower.{LaysOut};
 ghost use Rattle.np_worked.specs.WorkedTree.{another_holder, another_tick, lock_of_no_request, node_below_a_pair, queued_tree, worked, worked_tree};
 
 /// A worked tree lays out its state, in which ids and names are in different orders.

@@ -1,7 +1,7 @@
 -- what is known of a pool's nodes after a journal, and what each turn of the pool's worker leaves of it
-use Rattle.np_worker.proofs.Prelude.{AreAloneSound, ArePresent, Ask, Bool, Configuration, Contains, DistinctNumbers, Done, Entry, Event, FailAfter, Invariant, IsAskOf, IsCutOff, IsOfServer, IsReplied, IsServerOf, IsSoundAlone, IsUseful, Janitor, Launch, Launcher, List, MayAsk, NodeEntry, NodeId, NodeRecord, None, Ok, Option, Outcome, Phase, PoolId, Role, Server, SessionId, Some, Start, State, Turn, WasLaunchedFor, WereLaunched, acting, acts, after, after_entry, after_start, after_turn, all-push, answers, answers_sweep, ap, append-nil, append_assoc, arith, by_bool, cond, ended, eq-eqb, false, false≢true, inl, inr, is_deleting, is_ok, is_remove, is_wanted, judge, judge_done, judge_start, launcher, launcher-role, length, length-append, looks, maker_of, nat_tests, next, next-keeps, node_in, none-some, number_in, numbers_in, of_pool, ok-is, owes_due, owes_launch, owes_report, owes_swept, recorded, refl, report_of, reported, reports_of, role_of, same_pool, start, start_made, start_of, subst, suc, sweeps, sym, true, turns, ℕ, [], ⊎_elim, ◌++◌, ◌+◌, ◌∙◌, ◌∷◌, ◌≡◌, ◌≤◌, ◌⊎◌}
-use Rattle.np_worker.proofs.Records.{MayReport, current-role, holds-after, if-accepted, quiet-report, reports-next, state_after-append, useful-done, useful-start_role, was-of}
-use Rattle.np_worker.proofs.Reports.{IsOfStart, IsPolite, IsReportedBy, KeptServer, NoLauncherWaits, chosen-start, may-before, may-before_done, may-before_lock, may-before_start, may-report, report-accepted, server-before}
+use Rattle.np_worker.proofs.Prelude.{AreAloneSound, ArePresent, Ask, Bool, Configuration, Contains, DistinctNumbers, Done, Entry, Event, FailAfter, Invariant, IsAskOf, IsCutOff, IsOfServer, IsReplied, IsServerOf, IsSoundAlone, IsUseful, Janitor, Launch, Launcher, List, MayAsk, NodeEntry, NodeId, NodeRecord, None, Ok, Option, Outcome, Phase, PoolId, Role, Server, SessionId, Some, Start, State, Turn, WasLaunchedFor, WereLaunched, acting, acts, after, after_entry, after_start, after_turn, all-push, answers, answers_sweep, ap, append-nil, append_assoc, arith, by_bool, cond, ended, eq-eqb, false, false≢true, inl, inr, is_deleting, is_ok, is_remove, is_wanted, judge_done, judge_start, launcher, launcher-role, length, length-append, looks, maker_of, nat_tests, next, next-keeps, node_in, none-some, number_in, numbers_in, of_pool, ok-is, owes_due, owes_launch, owes_report, owes_swept, recorded, refl, report_of, reported, reports_of, role_of, same_pool, start, start_made, start_of, subst, suc, sweeps, sym, true, turns, ℕ, [], ⊎_elim, ◌++◌, ◌+◌, ◌∙◌, ◌∷◌, ◌≡◌, ◌≤◌, ◌⊎◌}
+use Rattle.np_worker.proofs.Records.{MayReport, current-role, holds-after, if-accepted, is_start, quiet-report, reports-next, state_after-append, useful-done, useful-start_role, was-of}
+use Rattle.np_worker.proofs.Reports.{IsOfStart, IsPolite, IsReportedBy, KeptServer, NoLauncherWaits, chosen-start, done-landed, may-before, may-before_start, may-report, report-accepted, server-before}
 use Rattle.np_worker.proofs.Journals.{SomePlace, numbers-append, outcomes, place-more, start-parts}
 use Rattle.np_worker.proofs.Steps.{goes_on}
 
@@ -23,18 +23,12 @@ module _ (c : Configuration) (s : State) (whole : Invariant c s) (waits : NoLaun
   of-start : (by : SessionId) (m : NodeId) (what : Done) (ok : judge_start s by m ≡ Ok what) → IsOfStart c s by m what ok p session n k → Begun s (Event.Start by m) p session n k
   of-start by m what ok is = grind (arith, nat_tests)
 
-  -- where the event is refused, a report that may be made after it might be before
-  accepted-next : (f : Event) → (is_ok (judge c s f) ≡ true → MayReport (next c s f) p session n k → Was f) → MayReport (next c s f) p session n k → Was f
-  accepted-next f = if-accepted (λ t. MayReport t p session n k → Was f) c s f (λ may. inl may)
-
   -- a report that may be made after an event might be before, or the event began its launch
   pub may-next : (e : Event) → IsPolite s e → MayReport (next c s e) p session n k → Was e
-  may-next (Event.Start by m) polite may = accepted-next (Event.Start by m) (λ ok may.
+  may-next (Event.Start by m) polite = if-accepted (λ t. MayReport t p session n k → Was (Event.Start by m)) c s (Event.Start by m) (λ may. inl may) (λ ok may.
       let was : (what : Done) × (judge_start s by m ≡ Ok what) = ok-is (judge_start s by m) ok in
-      ⊎_elim (λ old. inl old) (λ new. inr (of-start by m was.0 was.1 new)) (may-before_start c s by m was.0 was.1 p session n k may)) may
-  may-next (Event.Done by m a o) polite may = accepted-next (Event.Done by m a o) (λ ok may. inl (may-before_done c s by m a o ok p session n k may).0) may
-  may-next (Event.LockNode by m) polite may = inl (may-before_lock c s by m (polite.locks by m refl) p session n k may)
-  may-next e polite may = inl (may-before c s e whole waits refl p session n k may)
+      ⊎_elim (λ old. inl old) (λ new. inr (of-start by m was.0 was.1 new)) (may-before_start c s by m was.0 was.1 p session n k may))
+  may-next e polite = λ may. inl (may-before c s e whole waits polite refl p session n k may)
 
 -- ## one entry more
 
@@ -383,19 +377,17 @@ module _ (c : Configuration) (p : PoolId) (sound : List ℕ → Bool) (room earl
     -- it is not acceptable any more, and no other was
     done-idle : (session : SessionId) (n : NodeId) (k : ℕ) → MayReport (after c (before ++ e ∷ [])) p session n k → ⊥
     done-idle session n k may = by_bool (λ _. ⊥) (is_ok (judge_done s st.session st.tag.node st.tag.attempt))
-        (λ ok.
-        let was = may-before_done c s st.session st.tag.node st.tag.attempt o ok p session n k now in
-        let report = r.held.at.idle session n k was.0 in
-        false≢true (sym was.1 ∙ eq-eqb st.tag.node.0 n.0 (ap (λ (m : NodeId). m.0) (sym report.node))))
-        (λ out.
-        let same : next c s (report_of st o) ≡ s = rw out refl in
-        let was : MayReport s p session n k = subst (λ (t : State). MayReport t p session n k) same now in
-        let report = r.held.at.idle session n k was in
-        let accepted : is_ok (judge_done s session n k) ≡ true = report-accepted s p session n k was in
-        cc (accepted, out, report.by, report.node, report.attempt))
+        (λ ok. false≢true (sym (done-landed c s st.session st.tag.node st.tag.attempt o ok n now.node (subst (λ (f : Event). node_in n (next c s f).nodes ≡ Some now.node) is now.stands) now.flies) ∙ eq-eqb st.tag.node.0 n.0 (ap (λ (m : NodeId). m.0) (sym report.node))))
+        (λ out. let accepted : is_ok (judge_done s session n k) ≡ true = report-accepted s p session n k was in cc (accepted, out, report.by, report.node, report.attempt))
       where
-        now : MayReport (next c s (report_of st o)) p session n k
-        now = subst (λ (f : Event). MayReport (next c s f) p session n k) is (subst (λ (t : State). MayReport t p session n k) (after-next c p never before e) may)
+        now : MayReport (next c s e.event) p session n k
+        now = subst (λ (t : State). MayReport t p session n k) (after-next c p never before e) may
+
+        was : MayReport s p session n k
+        was = may-before c s e.event (holds-after c before) waits polite (ap is_start is) p session n k now
+
+        report : IsReportOf st session n k
+        report = r.held.at.idle session n k was
 
     covers : (n : NodeId) (k : NodeRecord) (x : ℕ) → IsReportedBy s e.event n k x → k.pool.0 ≡ p.0 → WasLaunchedFor launches n x × (never → IsServerOf servers n x)
     covers n k x new mine =

@@ -1,7 +1,7 @@
 -- a round at a board: a server that no record wants any more is gone after it
-use Rattle.np_worker.proofs.Prelude.{All, All-contains, AnswersAsBoard, AreAsksOf, AreKept, AreSweptSo, Ask, BeginsLaunch, Bool, CameFar, CameToEnd, Configuration, Contains, DrivenAs, Driving, EndsAs, Entry, Err, Event, HadNothing, HasRoundAtBoard, HasServers, IfOk, IfSome, IsAskOf, IsDrivenTurn, IsKept, IsOfUse, IsPastJanitor, IsPastLauncher, IsReportOfLaunch, IsRoundAtBoard, IsSweepOfServer, IsSweptSo, IsTickBetween, IsTurnAs, IsUseful, Janitor, KeepsJanitor, Launcher, List, MatchBool, Move, NamesServer, NoMemory, NodeId, NodeRecord, None, Ok, Option, Outcome, OwesRemoval, Part, Phase, Player, PlayerEnd, PlaysFrom, PoolId, Reaper, Records, RemovalFailed, Requester, Rests, Result, Role, RolesCameFar, RolesTook, RoundEnd, Says, Server, ServersGo, ServersLeave, ServersStay, Sight, Some, StandAt, StartsWith, StaysKept, TookAll, Turn, Walk, WasAnswered, WasIdle, WasKept, WasNamed, WasOfUse, WasUnwanted, Work, acts_as, after, answers_of, ap, append-nil, append_assoc, arith, asked, ended, entries_of, false, false≢true, first_phase, inl, inr, is_building, is_idle, is_ok, is_server, is_wanted, judge, length, length-append, nat_tests, node_in, node_in-below, not-second, of_pool, of_reaper, of_requester, option_map_or, recorded, refl, start, starts_on, starts_same, subst, sym, true, turns, ℕ, [], ⊎_elim, ◌++◌, ◌+◌, ◌<◌, ◌||◌, ◌∙◌, ◌∷◌, ◌≡◌, ◌≤◌}
+use Rattle.np_worker.proofs.Prelude.{All, All-contains, AnswersAsBoard, AreAsksOf, AreKept, AreSweptSo, Ask, BeginsLaunch, Bool, CameFar, CameToEnd, Configuration, Contains, DrivenAs, Driving, EndsAs, Entry, Err, Event, HadNothing, HasRoundAtBoard, HasServers, IfOk, IfSome, IsAskOf, IsKept, IsPastJanitor, IsPastLauncher, IsReportOfLaunch, IsRoundAtBoard, IsSweptSo, IsUseful, Janitor, KeepsJanitor, Launcher, List, MatchBool, Move, NamesServer, NoMemory, NodeId, NodeRecord, None, Ok, Option, Outcome, OwesRemoval, Part, Phase, Player, PlayerEnd, PlaysFrom, PoolId, Reaper, Records, RemovalFailed, Requester, Rests, Result, Role, RolesCameFar, RolesTook, RoundEnd, Says, Server, ServersGo, ServersLeave, ServersStay, Sight, Some, StandAt, StartsWith, StaysKept, TookAll, Turn, Walk, WasAnswered, WasIdle, WasKept, WasNamed, WasUnwanted, Work, acts_as, after, answers_of, ap, append-nil, append_assoc, arith, asked, ended, entries_of, false, false≢true, first_phase, inl, inr, is_building, is_idle, is_ok, is_server, is_wanted, judge, length, length-append, nat_tests, node_in, node_in-below, not-second, of_pool, of_reaper, of_requester, option_map_or, recorded, refl, start, starts_on, starts_same, subst, sym, true, turns, ℕ, [], ⊎_elim, ◌++◌, ◌+◌, ◌<◌, ◌||◌, ◌∙◌, ◌∷◌, ◌≡◌, ◌≤◌}
 use Rattle.np_worker.proofs.Records.{IsSteady, IsGiven, attempts-steady, given-stays, holds-after, done-spends}
-use Rattle.np_worker.proofs.Journals.{turn_after, some-place, driven-at}
+use Rattle.np_worker.proofs.Journals.{turn_after, some-place, driven-at, done-turn}
 use Rattle.np_worker.proofs.Reports.{walk_as}
 use Rattle.np_worker.proofs.Leaving.{kept_stay, left_with_cause, own_node, own_pair, sweep_removes}
 use Rattle.np_worker.proofs.Walks.{orderly, turn_seen, walk_gains, walk_seen}
@@ -16,13 +16,13 @@ use Rattle.np_worker.proofs.Steps.{ends_full, is_at_end}
 abbrev Leaves : ℕ → NodeRecord → Type 0
 Leaves x node = (is_building node.state || is_server x node.server) ≡ false
 
+none_of : (a b : Bool) → (a || b) ≡ false → a ≡ false
+none_of a b none = grind (arith, nat_tests)
+
 leaves-steady : (x : ℕ) → IsSteady (Leaves x)
-leaves-steady x = record {
-  allocated = λ r tenant node old. old;
-  given_back = λ node old. old;
-  taken_over = λ tick node old. not-second (is_building node.state) (is_server x node.server) old;
-  put = λ c s ch n node kept runs way old. grind (arith, nat_tests);
-}
+leaves-steady x e old k comes was =
+    let over = comes.over (none_of (is_building old.state) (is_server x old.server) was) in
+    rw (over.0, over.1) (not-second (is_building old.state) (is_server x old.server) was)
 
 -- ## numbers that were given
 
@@ -30,14 +30,14 @@ module _ (c : Configuration) where
   given-later : (n : NodeId) (journal more : List Entry) → n.0 < (after c journal).next_node → n.0 < (after c (journal ++ more)).next_node
   given-later n journal more given = (given-stays n (λ (node : NodeRecord). 0 ≤ node.attempts) (attempts-steady 0) c journal more (record { given = given; holds = λ node is. omega arith })).given
 
-  module _ (says : Says) (n : NodeId) (x : ℕ) (b : List Entry) (u : Entry) (names : NamesServer n x (turn_after c b u)) where
+  module _ (n : NodeId) (x : ℕ) (b : List Entry) (u : Entry) (names : NamesServer n x (turn_after c b u)) where
     accepted-given : is_ok (judge c (after c b) u.event) ≡ true → n.0 < (after c b).next_node
     accepted-given accepted =
         (done-spends c (after c b) names.session n names.attempt (Outcome.Launched x) (holds-after c b).numbered
         (subst (λ (e : Event). is_ok (judge c (after c b) e) ≡ true) names.event accepted)).given
 
-    reported-given : IsReportOfLaunch says (turns c b) (turn_after c b u) → n.0 < (after c b).next_node
-    reported-given r =
+    reported-given : (says : Says) → IsReportOfLaunch says (turns c b) (turn_after c b u) → n.0 < (after c b).next_node
+    reported-given says r =
         let same : Event.Done r.session r.number r.attempt r.outcome ≡ Event.Done names.session n names.attempt (Outcome.Launched x) = sym r.event ∙ names.event in
         let number : r.number ≡ n = cc in
         let found = some-place c (BeginsLaunch r.session r.number r.attempt r.start r.pool) (start c) b r.begun in
@@ -45,22 +45,14 @@ module _ (c : Configuration) where
         subst (λ (j : List Entry). n.0 < (after c j).next_node) (sym found.stands)
         (given-later n found.before (found.entry ∷ found.rest) (node_in-below n (after c found.before).next_node found.holds.node (after c found.before).nodes (holds-after c found.before).numbered.nodes_below stood))
 
-    named-turn_given : IsDrivenTurn says c (turns c b) (turn_after c b u) → n.0 < (after c b).next_node
-    named-turn_given h = ⊎_elim (λ (t : IsOfUse c (turn_after c b u)). accepted-given t.useful.accepted)
-        (λ g. ⊎_elim (λ (t : IsTickBetween (turns c b) (turn_after c b u)). absurd (cc (t.event, names.event)))
-        (λ f. ⊎_elim (λ (t : IsSweepOfServer (turns c b) (turn_after c b u)). absurd (cc (t.event, names.event))) reported-given f) g) h
-
-    named-turn_given_as : (plans : Bool) → IsTurnAs says plans c (turns c b) (turn_after c b u) → n.0 < (after c b).next_node
-    named-turn_given_as false h = named-turn_given h
-    named-turn_given_as true h = ⊎_elim named-turn_given (λ (was : WasOfUse c (turns c b) (turn_after c b u)). accepted-given was.accepted) h
-
   -- the number of a node whose server was named was given
   named-given : (plans : Bool) (says : Says) (journal before rest : List Entry) (server : Server) → DrivenAs says plans c journal → journal ≡ before ++ rest → WasNamed c before server → server.tag.node.0 < (after c before).next_node
   named-given plans says journal before rest server driven is named =
       let found = some-place c (NamesServer server.tag.node server.number) (start c) before named in
       let outer : journal ≡ found.before ++ found.entry ∷ (found.rest ++ rest) = is ∙ (ap (λ (l : List Entry). l ++ rest) found.stands ∙ append_assoc found.before (found.entry ∷ found.rest) rest) in
       let turn = driven-at c says plans journal found.before found.entry (found.rest ++ rest) driven outer in
-      let given = named-turn_given_as says server.tag.node server.number found.before found.entry found.holds plans turn in
+      let given : server.tag.node.0 < (after c found.before).next_node = ⊎_elim (accepted-given server.tag.node server.number found.before found.entry found.holds)
+      (reported-given server.tag.node server.number found.before found.entry found.holds says) (done-turn c says (turns c found.before) (turn_after c found.before found.entry) found.holds.session server.tag.node found.holds.attempt (Outcome.Launched server.number) found.holds.event plans turn) in
       subst (λ (j : List Entry). server.tag.node.0 < (after c j).next_node) (sym found.stands)
       (given-later server.tag.node found.before (found.entry ∷ found.rest) given)
 

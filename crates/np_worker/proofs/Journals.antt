@@ -1,5 +1,5 @@
 -- journals that are driven, place by place: what their entries and replies say, and the numbers of servers in them
-use Rattle.np_worker.proofs.Prelude.{All, All-contains, All-from_recursion, All-nil, All-push, All-weaker, AllByRecursion, AreNamed, AreNumbered, ArePlanned, Ask, Bool, Configuration, Contains, DistinctNumbers, Done, Driven, DrivenAs, DrivenBy, DrivenFrom, Driving, EachAfter, EachAfter-push, EachAfter-weaker, EachTurn, Entry, Event, HaveDrivenAs, IfSome, IsAskOf, IsDrivenTurn, IsPlannedTurn, IsReplied, IsReportOfLaunch, IsServerOf, IsTrue, IsTurnAs, Launch, List, NamesServer, NodeEntry, NodeId, NodeRecord, None, Option, Outcome, PlannedBy, PlannedDriven, Player, PoolId, Reply, Rises, Role, Runs, Runs-next, Runs-prefix, Says, Server, SessionId, Some, SomeTurn, Start, StartsWith, State, Tag, WasAnswered, WasLaunchedFor, WasNamed, Work, after, and_from, and_parts, ap, append-nil, append_assoc, arith, as_planned, bytes_eq-Decides, cond, drivings_of, drop, drop-there, eq-eqb, eqb-true, equal-numbers, false, false_from_ne_true, false≢true, has_replies, head-reply, inl, inr, is-at_most, is_legal, is_node, is_number, is_report_of, is_same_reply, is_session, is_tick, is_up, judge, launch_of, length, length-append, listed, map, nat_le, nat_lt, nat_tests, next, node_in, number_in, numbers_in, numbers_of, of_pool, or_left, or_right, outcome_of, refl, replayed, replied-at, reply_numbers, reply_of, report_of, server_up, servers_up, session-equal, slice_get, start, start_in, state_after, subst, suc, sym, tail-replies, take, true, turns, turns_from, with_launched, zero, ℕ, [], ⊎_elim, ◌&&◌, ◌++◌, ◌+◌, ◌==◌, ◌∙◌, ◌∷◌, ◌≡◌, ◌≤◌, ◌⊎◌}
+use Rattle.np_worker.proofs.Prelude.{WasOfUse, All, All-contains, All-from_recursion, All-nil, All-push, All-weaker, AllByRecursion, AreNamed, AreNumbered, ArePlanned, Ask, Bool, Configuration, Contains, DistinctNumbers, Done, Driven, DrivenAs, DrivenBy, DrivenFrom, Driving, EachAfter, EachAfter-push, EachAfter-weaker, EachTurn, Entry, Event, HaveDrivenAs, IfSome, IsAskOf, IsDrivenTurn, IsPlannedTurn, IsReplied, IsReportOfLaunch, IsServerOf, IsTrue, IsTurnAs, Launch, List, NamesServer, NodeEntry, NodeId, NodeRecord, None, Option, Outcome, PlannedBy, PlannedDriven, Player, PoolId, Reply, Rises, Role, Runs, Runs-next, Runs-prefix, Says, Server, SessionId, Some, SomeTurn, Start, StartsWith, State, Tag, WasAnswered, WasLaunchedFor, WasNamed, Work, after, and_from, and_parts, ap, append-nil, append_assoc, arith, as_planned, bytes_eq-Decides, cond, drivings_of, drop, drop-there, eq-eqb, eqb-true, equal-numbers, false, false_from_ne_true, false≢true, has_replies, head-reply, inl, inr, is-at_most, is_legal, is_node, is_number, is_ok, is_report_of, is_same_reply, is_session, is_tick, is_up, judge, launch_of, length, length-append, listed, map, nat_le, nat_lt, nat_tests, next, node_in, number_in, numbers_in, numbers_of, of_pool, or_left, or_right, outcome_of, refl, replayed, replied-at, reply_numbers, reply_of, report_of, server_up, servers_up, session-equal, slice_get, start, start_in, state_after, subst, suc, sym, tail-replies, take, true, turns, turns_from, with_launched, zero, ℕ, [], ⊎_elim, ◌&&◌, ◌++◌, ◌+◌, ◌==◌, ◌∙◌, ◌∷◌, ◌≡◌, ◌≤◌, ◌⊎◌}
 use Rattle.np_changes.specs.Prelude.{Turn}
 use Rattle.std.proofs.lemmas.List.{take-append-drop}
 use Rattle.np_worker.proofs.Walks.{member-cases, no-member}
@@ -104,6 +104,18 @@ module _ (c : Configuration) where
     pub turn-as : (plans : Bool) (past : List Turn) (t : Turn) → IsDrivenTurn says c past t → IsTurnAs says plans c past t
     turn-as false past t h = h
     turn-as true past t h = inl h
+
+  -- a report was accepted, or it is that of a launch
+  module _ (says : Says) (past : List Turn) (t : Turn) (session : SessionId) (n : NodeId) (k : ℕ) (o : Outcome) (event : t.entry.event ≡ Event.Done session n k o) where
+    done-driven : IsDrivenTurn says c past t → (is_ok (judge c t.before t.entry.event) ≡ true) ⊎ IsReportOfLaunch says past t
+    done-driven (inl u) = inl u.useful.accepted
+    done-driven (inr (inl u)) = absurd (cc (u.event, event))
+    done-driven (inr (inr (inl u))) = absurd (cc (u.event, event))
+    done-driven (inr (inr (inr r))) = inr r
+
+    pub done-turn : (plans : Bool) → IsTurnAs says plans c past t → (is_ok (judge c t.before t.entry.event) ≡ true) ⊎ IsReportOfLaunch says past t
+    done-turn false h = done-driven h
+    done-turn true h = ⊎_elim done-driven (λ (was : WasOfUse c past t). inl was.accepted) h
 
   -- ## by more answers
 

@@ -1,7 +1,9 @@
 -- which reports of a pool's launcher the machine would accept, that no launcher waits, and what a chosen event says
-use Rattle.np_worker.proofs.Prelude.{AllByRecursion, Ask, Bool, Changes, Configuration, Done, DrivenBy, DrivenFrom, Entry, Event, Invariant, IsChosen, IsDrivenTurn, IsLive, IsLiveQueue, IsOfRole, IsOfUse, IsReportOfLaunch, IsSweepOfServer, IsTickBetween, IsTurnAs, IsUseful, Launcher, List, Move, NodeEntry, NodeId, NodeRecord, None, Ok, Option, Outcome, PoolId, Refusal, Result, Role, Says, SessionFacts, SessionId, SessionsChange, Sight, Some, SomeTurn, State, Walk, WasOfUse, WasUseful, after, after_found-keeps, after_given-keeps, all-filter, all-find, all-push, all-weaker, and_parts, answers, answers_of, ap, arith, as_launcher, asked, by_bool, change_session, cond, drop, effect, effect_lock_node, eqb-true, facts-grown, facts_in, false, false≢true, found, grown, holder, inl, inr, invariant-next, invariant-start, is_by_registrant, is_first, is_maker_of, is_ok, is_planned, is_session, is_session_of, is_up, joined, judge, judge_done, judge_start, launcher, launcher-role, left, length, list_any, muted, nat_tests, need, next, next-keeps, node_holder, node_in, node_in-put, node_in-queue, node_queue, node_queue-nowhere, node_queue-put, node_queue-queue, not, ok-is, one-named, plan, plan-next, put_node, refl, retries_of, role_of, same_Some, same_node-is, session-equal, sessions_changed, slice_get-change_at, slice_get-change_at_other, start, start_by, started, starts_of, state_after, subst, suc, sym, take, take-append-drop, true, turns, turns_from, with_act, zero, ℕ, [], ⊎_elim, ◌++◌, ◌+◌, ◌==◌, ◌>>=◌, ◌>>◌, ◌∙◌, ◌∷◌, ◌≡◌, ◌≤◌, ◌⊎◌, AnswersAsBoard}
+use Rattle.np_worker.proofs.Prelude.{AllByRecursion, AnswersAsBoard, Ask, Bool, Changes, Configuration, Done, DrivenBy, DrivenFrom, Entry, Event, Growth, Invariant, IsChosen, IsDrivenTurn, IsLive, IsLiveQueue, IsOfRole, IsOfUse, IsReportOfLaunch, IsSweepOfServer, IsTickBetween, IsTurnAs, IsUseful, Launcher, List, Maker, Move, NodeEntry, NodeId, NodeRecord, NodesChange, None, Ok, Option, Outcome, PoolId, Premises, Refusal, RequestId, Result, Rises, Role, RunsWhileBuilding, Says, SessionFacts, SessionId, SessionsChange, Sight, Some, SomeTurn, State, TenantId, Walk, WasOfUse, WasUseful, after, all-filter, all-find, all-push, all-weaker, and_parts, answers, answers_of, ap, arith, as_launcher, asked, by_bool, change_session, cond, drop, eqb-true, facts-grown, facts_in, false, false≢true, found, grown, grown-numbered, holder, inl, inr, invariant-next, invariant-start, is_by_registrant, is_first, is_maker_of, is_ok, is_planned, is_ready, is_session, is_session_of, is_up, joined, judge, judge_done, judge_start, launcher, launcher-role, left, length, list_any, muted, nat_lt, nat_tests, need, next, node_holder, node_in, node_in-allocated, node_in-later, node_in-put, node_in-queue, node_queue, node_queue-allocated, node_queue-freed, node_queue-in_use, node_queue-left, node_queue-new, node_queue-nowhere, node_queue-other, node_queue-put, node_queue-queue, node_queue-remove, node_queue-removed, nodes_changed, nodes_left, none-some, not, ok-is, one-named, option_map, plan, plan-next, premises, put_node, put_node_queue, refl, remove_node, retries_of, role_of, same_Some, same_node-is, session-equal, sessions_changed, slice_get-change_at, slice_get-change_at_other, start, started, starts_of, state_after, subst, suc, sym, take, take-append-drop, true, turns, turns_from, with_act, zero, ℕ, [], ⊎_elim, ◌++◌, ◌+◌, ◌<◌, ◌==◌, ◌>>=◌, ◌>>◌, ◌∙◌, ◌∷◌, ◌≡◌, ◌≤◌, ◌⊎◌}
+use Rattle.np_changes.specs.Changes.{by_maker}
 use Rattle.np_changes.specs.Prelude.{acting, ended, launched, reported, Turn}
-use Rattle.np_worker.proofs.Records.{Back, Had, IsLess, IsStarting, MayReport, back-next, behind, current-role, if-accepted, is_plain, reporting, role-over, role-stays, same_launcher, same_role-is, start-leads, start-of_pool, starting, useful-done, useful-tickless}
+use Rattle.np_changes.specs.Premises.{Gains, GrowthPremise}
+use Rattle.np_worker.proofs.Records.{Had, IsNew, IsStarting, MayReport, came, current-role, if-accepted, is_start, reporting, role-next, role-stays, same_launcher, same_role-is, start-leads, start-of_pool, starting, useful-done, useful-tickless}
 use Rattle.np_worker.proofs.Journals.{turn_of, driven-at, turn_after, some-from, turns-append}
 use Rattle.np_worker.specs.declared.ask.Turn.{Turn as Answer}
 
@@ -41,24 +43,126 @@ heard-before c s e session p live = if-accepted (λ t. launcher t session ≡ Ok
 queue-all : (Q : List SessionId → Type 0) → Q [] → (n : NodeId) (rows : List NodeEntry) → AllByRecursion (λ e. Q e.queue) rows → Q (node_queue n rows)
 queue-all Q x1 n rows x2 = let found = all-find (λ (x : NodeEntry). Q x.queue) (λ x. x.id.0 == n.0) rows in grind (arith, nat_tests)
 
+abbrev pub behind : List SessionId → List SessionId
+behind queue = drop 1 queue
+
 -- the first of a queue is one of it
-first-all : (P : SessionId → Type 0) (session : SessionId) (queue : List SessionId) → is_first session queue ≡ true → AllByRecursion P queue → P session
+pub first-all : (P : SessionId → Type 0) (session : SessionId) (queue : List SessionId) → is_first session queue ≡ true → AllByRecursion P queue → P session
 first-all P session [] first all = absurd cc
 first-all P session (other ∷ queue) first all = subst P (session-equal other session first) all.0
 
-less-all : (P : SessionId → Type 0) (now before : List SessionId) → IsLess now before → AllByRecursion P before → AllByRecursion P now
-less-all P now before (inl same) all = subst (AllByRecursion P) (sym same) all
-less-all P now before (inr less) all = subst (AllByRecursion P) (sym less.1) (all-filter P (λ other. not (is_session other less.0)) before all)
+behind-all : (P : SessionId → Type 0) (queue : List SessionId) → AllByRecursion P queue → AllByRecursion P (behind queue)
+behind-all P queue x1 = grind (arith, nat_tests)
 
--- who is first after others left was first, or stood behind the first
-left-first : (P : SessionId → Type 0) (session gone : SessionId) (queue : List SessionId) → is_first session (left gone queue) ≡ true → AllByRecursion P (behind queue) → (is_first session queue ≡ true) ⊎ P session
-left-first P session gone [] first all = absurd cc
-left-first P session gone (other ∷ queue) first all = by_bool (λ b. is_first session (cond (not b) (other ∷ left gone queue) (left gone queue)) ≡ true → (is_first session (other ∷ queue) ≡ true) ⊎ P session) (is_session other gone)
-    (λ _ there. inr (first-all P session (left gone queue) there (all-filter P (λ x. not (is_session x gone)) queue all))) (λ _ there. inl there) first
+module _ (P : SessionId → Type 0) (n : NodeId) (Idle : Type 0) (before : List SessionId) where
+  -- who is first was so before, or is such, or no launch runs; and so are all that stand behind the first
+  pub record IsLine (queue : List SessionId) : Type 0 where
+    pub first : (session : SessionId) → is_first session queue ≡ true → (is_first session before ≡ true) ⊎ (P session ⊎ Idle)
+    pub rest : AllByRecursion P (behind queue)
 
-less-first : (P : SessionId → Type 0) (session : SessionId) (now before : List SessionId) → IsLess now before → is_first session now ≡ true → AllByRecursion P (behind before) → (is_first session before ≡ true) ⊎ P session
-less-first P session now before (inl same) first all = inl (subst (λ (queue : List SessionId). is_first session queue ≡ true) same first)
-less-first P session now before (inr less) first all = left-first P session less.0 before (subst (λ (queue : List SessionId). is_first session queue ≡ true) less.1 first) all
+  line-alone : (session : SessionId) → Idle → IsLine (session ∷ [])
+  line-alone session idle = record { first = λ x is. inr (inr idle); rest = tt }
+
+  line-none : IsLine []
+  line-none = record { first = λ x is. absurd cc; rest = tt }
+
+  line-left : (gone : SessionId) (queue : List SessionId) → IsLine queue → IsLine (left gone queue)
+  line-left gone [] line = line
+  line-left gone (other ∷ queue) line =
+      let rest : AllByRecursion P (left gone queue) = all-filter P (λ x. not (is_session x gone)) queue line.rest in
+      by_bool (λ b. IsLine (cond (not b) (other ∷ left gone queue) (left gone queue))) (is_session other gone)
+      (λ _. record { first = λ x is. inr (inl (first-all P x (left gone queue) is rest)); rest = behind-all P (left gone queue) rest }) (λ _. record { first = line.first; rest = rest })
+
+  line-joined : (by : SessionId) (queue : List SessionId) → P by → IsLine queue → IsLine (joined by queue)
+  line-joined by [] such line = record { first = λ x is. inr (inl (subst P (session-equal by x is) such)); rest = tt }
+  line-joined by (other ∷ queue) such line =
+      by_bool (λ b. IsLine (cond b (other ∷ queue) (other ∷ queue ++ by ∷ []))) (list_any (λ x. is_session x by) (other ∷ queue)) (λ _. line) (λ _. record { first = line.first; rest = all-push P queue by line.rest such })
+
+  abbrev L : List NodeEntry → Type 0
+  L rows = IsLine (node_queue n rows)
+
+  line-same : (rows later : List NodeEntry) → node_queue n later ≡ node_queue n rows → L rows → L later
+  line-same rows later same line = subst IsLine (sym same) line
+
+  -- one queue is another from now on
+  line-one : (rows later : List NodeEntry) (b : Bool) (queue : List SessionId) → (node_in n rows ≡ None → node_in n later ≡ None) → ((k : NodeRecord) → node_in n rows ≡ Some k → node_queue n later ≡ cond b queue (node_queue n rows)) → (b ≡ true → IsLine queue) → L rows → L later
+  line-one rows later b queue nowhere looks new old = by (node_in n rows) refl where
+    by : (o : Option NodeRecord) → node_in n rows ≡ o → L later
+    by None none = subst IsLine (sym (node_queue-nowhere n later (nowhere none))) line-none
+    by (Some k) is = subst IsLine (sym (looks k is)) (by_bool (λ x. IsLine (cond x queue (node_queue n rows))) b new (λ _. old))
+
+  line-put : (rows : List NodeEntry) (m : NodeId) (f : List SessionId → List SessionId) → ((m.0 == n.0) ≡ true → IsLine (f (node_queue n rows))) → L rows → L (put_node_queue m (f (node_queue m rows)) rows)
+  line-put rows m f new old = line-one rows _ (m.0 == n.0) (f (node_queue m rows)) (λ none. node_in-queue m n (f (node_queue m rows)) rows ∙ none) (λ k is. node_queue-queue m n (f (node_queue m rows)) k rows is)
+      (λ here. subst (λ (x : NodeId). IsLine (f (node_queue x rows))) (sym (same_node-is m n here)) (new here)) old
+
+  line-settled : (maker : Option Maker) (tick : ℕ) (change : NodesChange) (rows : List NodeEntry) → Rises (λ a b. nat_lt a.id.0 b.id.0) rows → L rows → L (nodes_changed maker tick change rows)
+  line-settled maker tick (NodesChange.Put m kept) rows rises old = line-same rows _ (node_queue-put m n kept rows) old
+  line-settled maker tick (NodesChange.Remove m) rows rises old =
+      by_bool (λ _. L (remove_node m rows)) (m.0 == n.0) (λ same. subst IsLine (sym (node_queue-removed m n rows rises same)) line-none) (λ other. line-same rows _ (node_queue-remove m n rows other) old)
+  line-settled (Some maker) tick (NodesChange.Leave m) rows rises old = line-put rows m (left maker.session) (λ _. line-left maker.session (node_queue n rows) old) old
+  line-settled maker tick (NodesChange.FreeAll r) rows rises old = line-same rows _ (node_queue-freed r n rows) old
+  line-settled maker tick (NodesChange.TakeOver numbers) rows rises old = line-same rows _ (node_queue-in_use tick numbers n rows) old
+  line-settled _ tick _ rows rises old = old
+
+  line-after_end : (over : SessionsChange) (rows : List NodeEntry) → L rows → L (nodes_left over rows)
+  line-after_end (SessionsChange.End over) rows old = subst IsLine (sym (node_queue-left over n rows)) (line-left over (node_queue n rows) old)
+  line-after_end _ rows old = old
+
+  module _ (c : Configuration) (s : State) (numbered : AllByRecursion (λ e. e.id.0 < s.next_node) s.nodes) where
+    -- what grows: a new node and one that is allocated have no launch, and nobody else joins who is no such
+    line-grown : (maker : Option Maker) (growth : Growth) → ((m : NodeId) (by : Maker) → maker ≡ Some by → growth ≡ Growth.JoinNode m → P by.session) → ((k : NodeRecord) → growth ≡ Growth.Node k → n.0 ≡ s.next_node → Idle)
+        → ((r : RequestId) (tenant : Option TenantId) → growth ≡ Growth.Allocate n r tenant → (node_queue n s.nodes ≡ []) × Idle) → L s.nodes → L (grown c maker growth s).nodes
+    line-grown (Some maker) (Growth.Registration p) joins made taken old = old
+    line-grown maker (Growth.Node kept) joins made taken old = by_bool (λ _. L (grown c maker (Growth.Node kept) s).nodes) (s.next_node == n.0)
+        (λ same.
+        let number : n.0 ≡ s.next_node = grind (arith, nat_tests) in
+        let none : node_in n s.nodes ≡ None = node_in-later n s.next_node s.nodes numbered (omega arith) in
+        subst IsLine (sym (node_queue-new _ n s.nodes same none)) (alone maker (made kept refl number)))
+        (λ other. line-same s.nodes _ (node_queue-other _ n s.nodes other) old)
+      where
+        alone : (maker : Option Maker) → Idle → IsLine (by_maker maker (λ session queue. queue ++ session ∷ []) [])
+        alone None idle = line-none
+        alone (Some maker) idle = line-alone maker.session idle
+    line-grown (Some maker) (Growth.JoinNode m) joins made taken old = line-put s.nodes m (joined maker.session) (λ _. line-joined maker.session (node_queue n s.nodes) (joins m maker refl refl) old) old
+    line-grown (Some maker) (Growth.Allocate m r tenant) joins made taken old =
+        line-one s.nodes _ (m.0 == n.0) (joined maker.session (node_queue n s.nodes)) (λ none. node_in-allocated m n r tenant maker.session s.nodes ∙ ap (option_map _) none) (λ k is. node_queue-allocated m n r tenant maker.session k s.nodes is)
+        (λ here. let it = taken r tenant (ap (λ (x : NodeId). Growth.Allocate x r tenant) (same_node-is m n here)) in subst (λ (queue : List SessionId). IsLine (joined maker.session queue)) (sym it.0) (line-alone maker.session it.1)) old
+    line-grown _ _ joins made taken old = old
+
+joins-by : (c : Configuration) (s : State) (e : Event) (m : NodeId) (by : Maker) → (plan c s e).maker ≡ Some by → (plan c s e).grows ≡ Growth.JoinNode m → e ≡ Event.LockNode by.session m
+joins-by c s e m by maker grows = grind (arith, nat_tests)
+
+none-held : (queue : List SessionId) → holder queue ≡ None → queue ≡ []
+none-held [] none = refl
+none-held (first ∷ queue) none = absurd cc
+
+allocated-free : (c : Configuration) (s : State) (ch : Changes) (n : NodeId) (r : RequestId) (tenant : Option TenantId) (gains : Gains c s ch r n) → ch.grows ≡ Growth.Allocate n r tenant → RunsWhileBuilding s → (node_queue n s.nodes ≡ []) × ((k : NodeRecord) → node_in n s.nodes ≡ Some k → k.in_flight ≡ false)
+allocated-free c s ch n r tenant gains grows runs = elim gains.from [
+  | inl it ↦ (none-held (node_queue n s.nodes) it.unlocked, λ k is. let ready : is_ready k.state ≡ true = subst (λ (x : NodeRecord). is_ready x.state ≡ true) (same_Some it.node k (sym it.stands ∙ is)) it.ready in let right = runs n k is in grind (arith, nat_tests))
+  | inr it ↦ absurd (cc (it.grows, grows))
+]
+
+-- no launch of the node runs
+abbrev IsIdle : NodeId → State → Type 0
+IsIdle n t = (k : NodeRecord) → node_in n t.nodes ≡ Some k → k.in_flight ≡ false
+
+-- who stands in the line of a node after an event that no others lock nodes by
+pub line-next : (P : SessionId → Type 0) (c : Configuration) (s : State) (e : Event) → Invariant c s → ((by : SessionId) (m : NodeId) → e ≡ Event.LockNode by m → P by) → (n : NodeId) → AllByRecursion P (behind (node_queue n s.nodes)) → IsLine P n (IsIdle n (next c s e)) (node_queue n s.nodes) (node_queue n (next c s e).nodes)
+line-next P c s e whole locks n all = if-accepted (λ t. IsLine P n (IsIdle n (next c s e)) (node_queue n s.nodes) (node_queue n t.nodes)) c s e old (λ ok.
+    let ch : Changes = plan c s e in
+    let pre : Premises c s ch = premises c s e ok in
+    let t : State = grown c ch.maker ch.grows s in
+    subst (λ (t : State). IsLine P n (IsIdle n (next c s e)) (node_queue n s.nodes) (node_queue n t.nodes)) (plan-next c s e ok)
+    (line-after_end P n _ _ ch.sessions (nodes_changed ch.maker t.tick ch.nodes t.nodes) (line-settled P n _ _ ch.maker t.tick ch.nodes t.nodes (grown-numbered c s ch.maker ch.grows whole.numbered).nodes_rise
+    (line-grown P n _ _ c s whole.numbered.nodes_below ch.maker ch.grows (λ m by maker grows. locks by.session m (joins-by c s e m by maker grows))
+    (λ k grows number j is. ⊎_elim (λ had. absurd (none-some had.old (sym (node_in-later n s.next_node s.nodes whole.numbered.nodes_below (omega arith)) ∙ had.stood))) (λ new. new.idle) (came c s e whole n j is))
+    (λ r tenant grows.
+    let free = allocated-free c s ch n r tenant (subst (λ (g : Growth). GrowthPremise c s ch g) grows pre.grows) grows whole.owned.launches in
+    (free.0, λ k is. ⊎_elim (λ had. grind (arith, nat_tests, free.1 had.old had.stood, had.comes.flies)) (λ new. new.idle) (came c s e whole n k is)))
+    old))))
+  where
+    old : IsLine P n (IsIdle n (next c s e)) (node_queue n s.nodes) (node_queue n s.nodes)
+    old = record { first = λ x is. inl is; rest = all }
 
 -- ## who stands behind a holder
 
@@ -75,9 +179,16 @@ pub record IsNoLauncher (s : State) (session : SessionId) : Type 0 where
 no-launcher : (s : State) (session : SessionId) (p : PoolId) → IsNoLauncher s session → launcher s session ≡ Ok p → ⊥
 no-launcher s session p x1 x2 = grind (arith, nat_tests)
 
+no-launcher-later : (c : Configuration) (s : State) (e : Event) (session : SessionId) → IsNoLauncher s session → IsNoLauncher (next c s e) session
+no-launcher-later c s e session is = record { role = is.role; begun = role-next c s e session is.role is.begun; other = is.other }
+
 -- no launcher stands behind the holder of a node
 pub record NoLauncherWaits (s : State) : Type 0 where
   pub at : (n : NodeId) → AllByRecursion (IsNoLauncher s) (behind (node_queue n s.nodes))
+
+-- if the event locks a node, no launcher makes it
+pub record IsPolite (s : State) (e : Event) : Type 0 where
+  pub locks : (by : SessionId) (m : NodeId) → e ≡ Event.LockNode by m → IsNoLauncher s by
 
 -- ## reports that the machine would accept
 
@@ -91,98 +202,35 @@ report-accepted s p session n k may = rw (may.who, may.stands, may.of_pool, may.
 
 -- ## over one event
 
--- a plain event makes no report acceptable
-pub may-before : (c : Configuration) (s : State) (e : Event) → Invariant c s → NoLauncherWaits s → is_plain e ≡ true → (p : PoolId) (session : SessionId) (n : NodeId) (k : ℕ) → MayReport (next c s e) p session n k → MayReport s p session n k
-may-before c s e whole waits plain p session n k may =
-    let t : State = next c s e in
-    let back : Back (IsNoLauncher s) s t = back-next (IsNoLauncher s) c s whole e plain in
-    let came : Had s n may.node × IsLess (node_queue n t.nodes) (node_queue n s.nodes) = back.launches n may.node may.stands may.flies in
-    let live : IsLive s session = first-all (IsLive s) session (node_queue n t.nodes) may.holds (less-all (IsLive s) (node_queue n t.nodes) (node_queue n s.nodes) came.1 ((queue-all (IsLiveQueue s) (record { live = tt; once = tt }) n s.nodes whole.queued.at_nodes).live)) in
-    let who : launcher s session ≡ Ok p = heard-before c s e session p live may.who in
+-- an event that is no start makes no report acceptable
+pub may-before : (c : Configuration) (s : State) (e : Event) → Invariant c s → NoLauncherWaits s → IsPolite s e → is_start e ≡ false → (p : PoolId) (session : SessionId) (n : NodeId) (k : ℕ) → MayReport (next c s e) p session n k → MayReport s p session n k
+may-before c s e whole waits polite no_start p session n k may = ⊎_elim
+    (λ (had : Had s e n may.node).
+    let who : launcher s session ≡ Ok p = heard-before c s e session p (first-all (IsLive s) session (node_queue n s.nodes) held (queue-all (IsLiveQueue s) (record { live = tt; once = tt }) n s.nodes whole.queued.at_nodes).live) may.who in
     record {
       who = who;
-      node = came.0.old;
-      stands = came.0.stood;
-      of_pool = subst (λ (m : ℕ). (m == p.0) ≡ true) came.0.comes.of_pool may.of_pool;
-      holds = held (less-first (IsNoLauncher s) session (node_queue n t.nodes) (node_queue n s.nodes) came.1 may.holds (waits.at n)) who;
-      flies = came.0.comes.flies may.flies;
-      attempt = subst (λ (m : ℕ). (m == k) ≡ true) came.0.comes.attempts may.attempt;
-    }
+      node = had.old;
+      stands = had.stood;
+      of_pool = subst (λ (m : ℕ). (m == p.0) ≡ true) had.comes.of_pool may.of_pool;
+      holds = held;
+      flies = had.comes.flies no_start may.flies;
+      attempt = subst (λ (m : ℕ). (m == k) ≡ true) (had.comes.attempts no_start) may.attempt;
+    })
+    (λ (new : IsNew s n may.node). absurd (false≢true (sym new.idle ∙ may.flies)))
+    (came c s e whole n may.node may.stands)
   where
-    held : (is_first session (node_queue n s.nodes) ≡ true) ⊎ IsNoLauncher s session → launcher s session ≡ Ok p → is_first session (node_queue n s.nodes) ≡ true
-    held (inl first) who = first
-    held (inr none) who = absurd (no-launcher s session p none who)
-
--- the same if nodes are the same
-pub may-same : (s t : State) (p : PoolId) (session : SessionId) (n : NodeId) (k : ℕ) (may : MayReport t p session n k) → t.sessions ≡ s.sessions → node_in n s.nodes ≡ Some may.node → is_session_of session (node_holder n s.nodes) ≡ true → MayReport s p session n k
-may-same s t p session n k may same stands holds = record {
-  who = ap (λ (rows : List SessionFacts). heard (facts_in session rows)) (sym same) ∙ may.who;
-  node = may.node;
-  stands = stands;
-  of_pool = may.of_pool;
-  holds = holds;
-  flies = may.flies;
-  attempt = may.attempt;
-}
-
--- ## a lock of a node
-
-joined-first : (P : SessionId → Type 0) (session by : SessionId) (queue : List SessionId) → is_first session (joined by queue) ≡ true → P by → (is_first session queue ≡ true) ⊎ P session
-joined-first P session by [] first such = inr (subst P (session-equal by session first) such)
-joined-first P session by (other ∷ queue) first such = inl (grind (arith, nat_tests))
-
-behind-joined : (P : SessionId → Type 0) (by : SessionId) (queue : List SessionId) → P by → AllByRecursion P (behind queue) → AllByRecursion P (behind (joined by queue))
-behind-joined P by [] such all = tt
-behind-joined P by (other ∷ queue) such all = by_bool (λ b. AllByRecursion P (behind (cond b (other ∷ queue) (other ∷ queue ++ by ∷ [])))) (list_any (λ x. is_session x by) (other ∷ queue)) (λ _. all) (λ _. all-push P queue by all such)
-
-module _ (c : Configuration) (s : State) (by : SessionId) (m : NodeId) (such : IsNoLauncher s by) where
-  abbrev locking : State
-  locking = with_act (acting s (Event.LockNode by m)) (effect_lock_node s by m)
-
-  lock-stood : (n : NodeId) (o : Option NodeRecord) → node_in n (locking).nodes ≡ o → node_in n s.nodes ≡ o
-  lock-stood n o is = sym (node_in-queue m n (joined by (node_queue m s.nodes)) s.nodes) ∙ is
-
-  lock-queue : (n : NodeId) (k : NodeRecord) → node_in n (locking).nodes ≡ Some k → node_queue n (locking).nodes ≡ cond (m.0 == n.0) (joined by (node_queue m s.nodes)) (node_queue n s.nodes)
-  lock-queue n k is = node_queue-queue m n (joined by (node_queue m s.nodes)) k s.nodes (lock-stood n (Some k) is)
-
-  lock-held : (p : PoolId) (session : SessionId) (n : NodeId) → launcher s session ≡ Ok p → (b : Bool) → (m.0 == n.0) ≡ b → is_first session (cond b (joined by (node_queue m s.nodes)) (node_queue n s.nodes)) ≡ true → is_first session (node_queue n s.nodes) ≡ true
-  lock-held p session n who false other first = first
-  lock-held p session n who true here first = ⊎_elim
-      (λ (there : is_first session (node_queue m s.nodes) ≡ true). subst (λ (x : NodeId). is_first session (node_queue x s.nodes) ≡ true) (same_node-is m n here) there)
-      (λ (none : IsNoLauncher s session). absurd (no-launcher s session p none who))
-      (joined-first (IsNoLauncher s) session by (node_queue m s.nodes) first such)
-
-  pub may-before_lock : (p : PoolId) (session : SessionId) (n : NodeId) (k : ℕ) → MayReport (next c s (Event.LockNode by m)) p session n k → MayReport s p session n k
-  may-before_lock p session n k = next-keeps (λ t. MayReport t p session n k → MayReport s p session n k) c s (Event.LockNode by m) (λ may. may) (λ what _ may.
-      may-same s locking p session n k may refl (lock-stood n (Some may.node) may.stands)
-      (lock-held p session n may.who (m.0 == n.0) refl (subst (λ (queue : List SessionId). is_first session queue ≡ true) (lock-queue n may.node may.stands) may.holds)))
-
-  waits-locked_by : (n : NodeId) (o : Option NodeRecord) → node_in n (locking).nodes ≡ o → NoLauncherWaits s → AllByRecursion (IsNoLauncher s) (behind (node_queue n (locking).nodes))
-  waits-locked_by n None is waits = subst (λ (queue : List SessionId). AllByRecursion (IsNoLauncher s) (behind queue)) (sym (node_queue-nowhere n (locking).nodes is)) tt
-  waits-locked_by n (Some k) is waits = subst (λ (queue : List SessionId). AllByRecursion (IsNoLauncher s) (behind queue)) (sym (lock-queue n k is)) (at_node (m.0 == n.0)) where
-    at_node : (b : Bool) → AllByRecursion (IsNoLauncher s) (behind (cond b (joined by (node_queue m s.nodes)) (node_queue n s.nodes)))
-    at_node true = behind-joined (IsNoLauncher s) by (node_queue m s.nodes) such (waits.at m)
-    at_node false = waits.at n
-
-  pub waits-locked : NoLauncherWaits s → (n : NodeId) → AllByRecursion (IsNoLauncher s) (behind (node_queue n (next c s (Event.LockNode by m)).nodes))
-  waits-locked waits n = next-keeps (λ t. AllByRecursion (IsNoLauncher s) (behind (node_queue n t.nodes))) c s (Event.LockNode by m) (waits.at n) (λ what _. waits-locked_by n (node_in n (locking).nodes) refl waits)
+    held : is_first session (node_queue n s.nodes) ≡ true
+    held = elim ((line-next (IsNoLauncher s) c s e whole polite.locks n (waits.at n)).first session may.holds) [
+      | inl first ↦ first
+      | inr (inl none) ↦ absurd (no-launcher (next c s e) session p (no-launcher-later c s e session none) may.who)
+      | inr (inr idle) ↦ absurd (false≢true (sym (idle may.node may.stands) ∙ may.flies))
+    ]
 
 -- ## what a start and a report change: which reports the machine would accept, and which servers nodes have
 
-module _ (s t : State) (m : NodeId) (kept : NodeRecord) (same : t.nodes ≡ put_node m kept s.nodes) where
-  -- another node's record is as it was
-  put-is : (n : NodeId) (k : NodeRecord) → node_in n t.nodes ≡ Some k → (((m.0 == n.0) ≡ false) × (node_in n s.nodes ≡ Some k)) ⊎ (((m.0 == n.0) ≡ true) × (kept ≡ k))
-  put-is n k x1 = let put = node_in-put m n kept s.nodes in grind (arith, nat_tests)
-
-  queue-is : (n : NodeId) → node_queue n t.nodes ≡ node_queue n s.nodes
-  queue-is n = ap (node_queue n) same ∙ node_queue-put m n kept s.nodes
-
-  -- a report that is acceptable was so, or it is of the node that was put
-  may-put : t.sessions ≡ s.sessions → (p : PoolId) (session : SessionId) (n : NodeId) (k : ℕ) (may : MayReport t p session n k) → (MayReport s p session n k × ((m.0 == n.0) ≡ false)) ⊎ (((m.0 == n.0) ≡ true) × (kept ≡ may.node))
-  may-put sessions p session n k may = ⊎_elim
-      (λ other. inl (may-same s t p session n k may sessions other.1 (subst (λ (queue : List SessionId). is_session_of session (holder queue) ≡ true) (queue-is n) may.holds), other.0))
-      (λ here. inr here)
-      (put-is n may.node may.stands)
+-- another node's record is as it was
+put-is : (s t : State) (m n : NodeId) (kept k : NodeRecord) → t.nodes ≡ put_node m kept s.nodes → node_in n t.nodes ≡ Some k → (((m.0 == n.0) ≡ false) × (node_in n s.nodes ≡ Some k)) ⊎ (((m.0 == n.0) ≡ true) × (kept ≡ k))
+put-is s t m n kept k same x1 = let put = node_in-put m n kept s.nodes in grind (arith, nat_tests)
 
 -- ## a report
 
@@ -193,16 +241,12 @@ module _ (c : Configuration) (s : State) (by : SessionId) (m : NodeId) (a : ℕ)
   done-leads : (q : PoolId) (r : MayReport s q by m a) → is_ok (judge_done s by m a) ≡ true → next c s (Event.Done by m a o) ≡ with_act (acting s (Event.Done by m a o)) (reported c s m o r.node)
   done-leads q r x1 = grind (arith, nat_tests)
 
-  -- after an accepted report none is acceptable on its node, and no other that was not
-  pub may-before_done : is_ok (judge_done s by m a) ≡ true → (p : PoolId) (session : SessionId) (n : NodeId) (k : ℕ) → MayReport (next c s (Event.Done by m a o)) p session n k → MayReport s p session n k × ((m.0 == n.0) ≡ false)
-  may-before_done accepted p session n k may =
+  -- after an accepted report no launch of its node runs
+  pub done-landed : is_ok (judge_done s by m a) ≡ true → (n : NodeId) (k : NodeRecord) → node_in n (next c s (Event.Done by m a o)).nodes ≡ Some k → k.in_flight ≡ true → (m.0 == n.0) ≡ false
+  done-landed accepted n k is flies =
       let was = reporting s by m a accepted in
-      let r = was.1 in
-      let t : State = with_act (acting s (Event.Done by m a o)) (reported c s m o r.node) in
-      let now : MayReport t p session n k = subst (λ (x : State). MayReport x p session n k) (done-leads was.0 r accepted) may in
-      ⊎_elim (λ old. old)
-      (λ (here : ((m.0 == n.0) ≡ true) × (later r.node ≡ now.node)). absurd (false≢true (ap (λ (x : NodeRecord). x.in_flight) here.1 ∙ now.flies)))
-      (may-put s t m (later r.node) refl refl p session n k now)
+      ⊎_elim (λ other. other.0) (λ (here : ((m.0 == n.0) ≡ true) × (later was.1.node ≡ k)). absurd (false≢true (ap (λ (x : NodeRecord). x.in_flight) here.1 ∙ flies)))
+      (put-is s (with_act (acting s (Event.Done by m a o)) (reported c s m o was.1.node)) m n (later was.1.node) k refl (subst (λ (z : State). node_in n z.nodes ≡ Some k) (done-leads was.0 was.1 accepted) is))
 
 -- ## a start
 
@@ -224,20 +268,23 @@ module _ (c : Configuration) (s : State) (by : SessionId) (m : NodeId) (what : D
       let r = starting s by m what ok in
       let t : State = with_act (acting s (Event.Start by m)) (started s m r.pool r.node) in
       let now : MayReport t p session n k = subst (λ (x : State). MayReport x p session n k) (start-leads c s by m what r ok) may in
-      ⊎_elim (λ old. inl old.0)
+      ⊎_elim
+      (λ (other : ((m.0 == n.0) ≡ false) × (node_in n s.nodes ≡ Some now.node)).
+      inl (record { who = now.who; node = now.node; stands = other.1; of_pool = now.of_pool; holds = held now; flies = now.flies; attempt = now.attempt }))
       (λ (here : ((m.0 == n.0) ≡ true) × (as-begun r ≡ now.node)).
       let node : m ≡ n = same_node-is m n here.0 in
-      let held : is_session_of session (node_holder m s.nodes) ≡ true = subst (λ (x : NodeId). is_session_of session (node_holder x s.nodes) ≡ true) (sym node)
-      (subst (λ (queue : List SessionId). is_session_of session (holder queue) ≡ true) (queue-is s t m (as-begun r) refl n) now.holds) in
       let attempts : r.node.attempts + 1 ≡ k = ap (λ (x : NodeRecord). x.attempts) here.1 ∙ eqb-true now.node.attempts k now.attempt in
       inr (record {
-        by_maker = ap (λ (x : ℕ). let it : SessionId = record { 0 = x } in it) (one-named session by (node_holder m s.nodes) held r.holds);
+        by_maker = ap (λ (x : ℕ). let it : SessionId = record { 0 = x } in it) (one-named session by (node_holder m s.nodes) (subst (λ (x : NodeId). is_session_of session (node_holder x s.nodes) ≡ true) (sym node) (held now)) r.holds);
         of_node = sym node;
         first = starts_of r.pool s + 1;
         attempt = r.says ∙ ap (λ (x : ℕ). Done.Started x (starts_of r.pool s + 1)) attempts;
         who = now.who;
       }))
-      (may-put s t m (as-begun r) refl refl p session n k now)
+      (put-is s t m n (as-begun r) now.node refl now.stands)
+    where
+      held : (now : MayReport (with_act (acting s (Event.Start by m)) (started s m (starting s by m what ok).pool (starting s by m what ok).node)) p session n k) → is_session_of session (node_holder n s.nodes) ≡ true
+      held now = subst (λ (queue : List SessionId). is_session_of session (holder queue) ≡ true) (node_queue-put m n (as-begun (starting s by m what ok)) s.nodes) now.holds
 
 -- ## servers
 
@@ -272,80 +319,22 @@ module _ (c : Configuration) (s : State) (by : SessionId) (m : NodeId) (a : ℕ)
       let t : State = with_act (acting s (Event.Done by m a o)) (reported c s m o r.node) in
       ⊎_elim (λ old. inl (kept-same s n k old.1))
       (λ (here : ((m.0 == n.0) ≡ true) × (later c s by m a o r.node ≡ k)). done-server o was.0 r n k x (same_node-is m n here.0) here.1 has)
-      (put-is s t m (later c s by m a o r.node) refl n k (subst (λ (z : State). node_in n z.nodes ≡ Some k) (done-leads c s by m a o was.0 r accepted) is))
-
-module _ (c : Configuration) (s : State) (by : SessionId) (m : NodeId) (what : Done) (ok : judge_start s by m ≡ Ok what) where
-  start-server : (r : IsStarting s by m what) (n : NodeId) (k : NodeRecord) → m ≡ n → as-begun c s by m what ok r ≡ k → KeptServer s n k
-  start-server r n k x1 x2 = grind (arith, nat_tests)
-
-  pub server-before_start : (n : NodeId) (k : NodeRecord) → node_in n (next c s (Event.Start by m)).nodes ≡ Some k → KeptServer s n k
-  server-before_start n k is =
-      let r = starting s by m what ok in
-      let t : State = with_act (acting s (Event.Start by m)) (started s m r.pool r.node) in
-      ⊎_elim (λ old. kept-same s n k old.1)
-      (λ (here : ((m.0 == n.0) ≡ true) × (as-begun c s by m what ok r ≡ k)). start-server r n k (same_node-is m n here.0) here.1)
-      (put-is s t m (as-begun c s by m what ok r) refl n k (subst (λ (z : State). node_in n z.nodes ≡ Some k) (start-leads c s by m what r ok) is))
+      (put-is s t m n (later c s by m a o r.node) k refl (subst (λ (z : State). node_in n z.nodes ≡ Some k) (done-leads c s by m a o was.0 r accepted) is))
 
 -- a node that has a server had it before, or the event is the report of the server
 pub server-before : (c : Configuration) (s : State) (e : Event) → Invariant c s → (n : NodeId) (k : NodeRecord) (x : ℕ) → node_in n (next c s e).nodes ≡ Some k → k.server ≡ Some x → KeptServer s n k ⊎ IsReportedBy s e n k x
 server-before c s e whole n k x is has = of_event e is where
-  -- the node stands where the event is refused, or what it comes from is known where it is accepted
-  accepted : (f : Event) → (is_ok (judge c s f) ≡ true → node_in n (next c s f).nodes ≡ Some k → KeptServer s n k ⊎ IsReportedBy s f n k x) → node_in n (next c s f).nodes ≡ Some k → KeptServer s n k ⊎ IsReportedBy s f n k x
-  accepted f = if-accepted (λ t. node_in n t.nodes ≡ Some k → KeptServer s n k ⊎ IsReportedBy s f n k x) c s f (λ stood. inl (kept-same s n k stood))
-
-  plain : (f : Event) → is_plain f ≡ true → node_in n (next c s f).nodes ≡ Some k → KeptServer s n k
-  plain f such is =
-      let back : Back (IsNoLauncher s) s (next c s f) = back-next (IsNoLauncher s) c s whole f such in
-      let had : Had s n k = back.servers n k x is has in
-      record { old = had.old; stood = had.stood; of_pool = had.comes.of_pool; server = had.comes.server; up = had.comes.up }
-
   of_event : (f : Event) → node_in n (next c s f).nodes ≡ Some k → KeptServer s n k ⊎ IsReportedBy s f n k x
-  of_event (Event.Start by m) is = accepted (Event.Start by m) (λ ok is. let was : (what : Done) × (judge_start s by m ≡ Ok what) = ok-is (judge_start s by m) ok in inl (server-before_start c s by m was.0 was.1 n k is)) is
-  of_event (Event.Done by m a o) is = accepted (Event.Done by m a o) (λ ok is. server-before_done c s by m a ok o n k x is has) is
-  of_event (Event.LockNode by m) is = inl (kept-same s n k (next-keeps (λ t. node_in n t.nodes ≡ Some k → node_in n s.nodes ≡ Some k) c s (Event.LockNode by m) (λ h. h) (λ what _ h. sym (node_in-queue m n (joined by (node_queue m s.nodes)) s.nodes) ∙ h) is))
-  of_event f is = inl (plain f refl is)
-
--- ## who waits
-
--- it is a start or a report
-abbrev pub is_put : Event → Bool
-is_put (Event.Start session n) = true
-is_put (Event.Done session n attempt o) = true
-is_put _ = false
-
--- a start and a report leave each queue as it is
-pub queue-put : (c : Configuration) (s : State) (e : Event) → is_put e ≡ true → (n : NodeId) → node_queue n (next c s e).nodes ≡ node_queue n s.nodes
-queue-put c s e put n = next-keeps Same c s e refl (λ what _. of_event e put) where
-  Same : State → Type 0
-  Same t = node_queue n t.nodes ≡ node_queue n s.nodes
-
-  of_event : (f : Event) → is_put f ≡ true → Same (with_act (acting s f) (effect c s f))
-  of_event (Event.Start by m) is =
-      after_given-keeps Same (launcher s by) s (start_by s m) refl (λ p _.
-      after_found-keeps Same (node_in m s.nodes) s (started s m p) refl (λ k _. node_queue-put m n (record k { attempts = k.attempts + 1; in_flight = true; start = starts_of p s + 1 }) s.nodes))
-  of_event (Event.Done by m a o) is = after_found-keeps Same (node_in m s.nodes) s (reported c s m o) refl (λ k _. node_queue-put m n (launched (retries_of c k.pool) s.tick o k) s.nodes)
-  of_event _ is = absurd (false≢true is)
+  of_event (Event.Done by m a o) = if-accepted (λ t. node_in n t.nodes ≡ Some k → KeptServer s n k ⊎ IsReportedBy s (Event.Done by m a o) n k x) c s (Event.Done by m a o) (λ stood. inl (kept-same s n k stood)) (λ ok is. server-before_done c s by m a ok o n k x is has)
+  of_event f = λ is. ⊎_elim (λ (had : Had s f n k). inl (record { old = had.old; stood = had.stood; of_pool = had.comes.of_pool; server = had.comes.server refl; up = had.comes.up refl }))
+      (λ (new : IsNew s n k). absurd (none-some x (sym new.serverless ∙ has))) (came c s f whole n k is)
 
 -- # no launcher stands behind the holder of a node, at each place of a driven journal
 
--- if the event locks a node, no launcher makes it
-pub record IsPolite (s : State) (e : Event) : Type 0 where
-  pub locks : (by : SessionId) (m : NodeId) → e ≡ Event.LockNode by m → IsNoLauncher s by
-
--- ## one event
-
-module _ (c : Configuration) (s : State) (e : Entry) where
-  waits-next : Invariant c s → IsPolite s e.event → NoLauncherWaits s → NoLauncherWaits (next c s e.event)
-  waits-next whole polite waits = record {
-    at = λ n. all-weaker (IsNoLauncher s) (IsNoLauncher (next c s e.event)) (λ session is. record { role = is.role; begun = role-over c s (e ∷ []) session is.role is.begun; other = is.other }) (behind (node_queue n (next c s e.event).nodes)) (of_event n e.event polite);
-  } where
-    of_event : (n : NodeId) (f : Event) → IsPolite s f → AllByRecursion (IsNoLauncher s) (behind (node_queue n (next c s f).nodes))
-    of_event n (Event.Start by m) is = subst (λ (queue : List SessionId). AllByRecursion (IsNoLauncher s) (behind queue)) (sym (queue-put c s (Event.Start by m) refl n)) (waits.at n)
-    of_event n (Event.Done by m a o) is = subst (λ (queue : List SessionId). AllByRecursion (IsNoLauncher s) (behind queue)) (sym (queue-put c s (Event.Done by m a o) refl n)) (waits.at n)
-    of_event n (Event.LockNode by m) is = waits-locked c s by m (is.locks by m refl) waits n
-    of_event n f is =
-        let back : Back (IsNoLauncher s) s (next c s f) = back-next (IsNoLauncher s) c s whole f refl in
-        back.waiting n (waits.at n)
+waits-next : (c : Configuration) (s : State) (e : Event) → Invariant c s → IsPolite s e → NoLauncherWaits s → NoLauncherWaits (next c s e)
+waits-next c s e whole polite waits = record {
+  at = λ n. all-weaker (IsNoLauncher s) (IsNoLauncher (next c s e)) (no-launcher-later c s e) (behind (node_queue n (next c s e).nodes)) (line-next (IsNoLauncher s) c s e whole polite.locks n (waits.at n)).rest;
+}
 
 -- ## a driven journal
 
@@ -366,7 +355,7 @@ waits-over : (says : Says) (c : Configuration) (past : List Turn) (s : State) (b
 waits-over says c past s [] rest whole waits driven = waits
 waits-over says c past s (e ∷ before) rest whole waits driven =
     waits-over says c (past ++ turn_of c s e ∷ []) (next c s e.event) before rest (invariant-next c s e.event whole)
-    (waits-next c s e whole (polite-turn says c past s e driven.0) waits) driven.1
+    (waits-next c s e.event whole (polite-turn says c past s e driven.0) waits) driven.1
 
 pub waits-after : (says : Says) (c : Configuration) (journal before rest : List Entry) → DrivenBy says c journal → journal ≡ before ++ rest → NoLauncherWaits (after c before)
 waits-after says c journal before rest driven is =

@@ -1,9 +1,9 @@
 -- whole rounds of all players: each launch is reported once, and what other workers do
-use Rattle.np_worker.proofs.Prelude.{All, All-append, All-contains, All-nil, All-weaker, AreNamed, AreNumbered, AreRising, Ask, BeginsLaunch, Bool, Configuration, Contains, Contains-append_right, Done, DrivenAs, DrivenBy, DriverFacts, Driving, EachTurn, EndsAs, Entry, Event, HaveDriven, HaveDrivenAs, IsChosen, IsCutOff, IsDrivenTurn, IsOfUse, IsReportOfLaunch, IsRound, IsSweepOfServer, IsTickBetween, IsTurnAs, Launch, Launcher, List, NoMemory, NodeId, NodeRecord, Option, Outcome, Part, Player, PlayerEnd, PlaysFrom, PoolId, Reply, Result, RoundEnd, Runs, Says, SessionId, Sight, Some, SomeTurn, StartsWith, Tag, Turn, WasAnswered, WasOfUse, Work, Worker, after, ap, append-nil, append_assoc, arith, cases_lt, driving_in, driving_of, drivings_of, eq-eqb, eqb-true, false, false_from_ne_true, first_phase, inl, inr, is_ok, is_report_of, is_tick, judge, launch_of, launches_of, length, length-append, maker_of, map, node_in, of_pool, refl, reported, role_of, same_Some, same_pool, start_state, subst, subst₂, suc, sym, true, turns, was_node_of, work_of, ℕ, [], ⊎_elim, ◌++◌, ◌<◌, ◌∙◌, ◌∷◌, ◌≡◌, ◌≢◌, ◌≤◌}
+use Rattle.np_worker.proofs.Prelude.{All, All-append, All-contains, All-nil, All-weaker, AreNamed, AreNumbered, AreRising, Ask, BeginsLaunch, Bool, Configuration, Contains, Contains-append_right, Done, DrivenAs, DrivenBy, DriverFacts, Driving, EachTurn, EndsAs, Entry, Event, HaveDriven, HaveDrivenAs, IsChosen, IsCutOff, IsReportOfLaunch, IsRound, IsSweepOfServer, IsTurnAs, Launch, Launcher, List, NoMemory, NodeId, NodeRecord, Option, Outcome, Part, Player, PlayerEnd, PlaysFrom, PoolId, Reply, Result, RoundEnd, Runs, Says, SessionId, Sight, Some, SomeTurn, StartsWith, Tag, Turn, WasAnswered, Work, Worker, after, ap, append-nil, append_assoc, arith, cases_lt, driving_in, driving_of, drivings_of, eq-eqb, eqb-true, false, false_from_ne_true, first_phase, inl, inr, is_ok, is_report_of, is_tick, judge, launch_of, launches_of, length, length-append, maker_of, map, node_in, of_pool, refl, reported, role_of, same_Some, same_pool, start_state, subst, subst₂, suc, sym, true, turns, was_node_of, work_of, ℕ, [], ⊎_elim, ◌++◌, ◌<◌, ◌∙◌, ◌∷◌, ◌≡◌, ◌≢◌, ◌≤◌}
 use Rattle.np_worker.proofs.Reports.{chosen-accepted, chosen-done, chosen-start, chosen-tickless, chosen-turn, may-report, polite-at, waits-after}
 use Rattle.np_worker.proofs.Made.{Cause, HasReported, IsActed, IsReported, IsSwept, answer-kept, answer-new, each_made, numbered-now, of-cause, one-end, player-there, player_of, round-of, servers_named, rises}
 use Rattle.np_worker.proofs.Walks.{split-outer, split-within, length-split, same-split, none-between, rising_least, rising_lower}
-use Rattle.np_worker.proofs.Journals.{act-work, driven-at, each-from, names-later, report-event, some-from, some-place, start-parts, tick-event, turn-as, turn-more_as, turn_after, each-as, each-passes}
+use Rattle.np_worker.proofs.Journals.{act-work, done-turn, driven-at, each-from, names-later, report-event, some-from, some-place, start-parts, tick-event, turn-as, turn-more_as, turn_after, each-as, each-passes}
 use Rattle.np_worker.proofs.Records.{never-of, once, quiet-report, report-later, role-stays}
 use Rattle.np_worker.proofs.Leaving.{sweep_removes}
 use Rattle.np_worker.proofs.Acts.{IsForeign}
@@ -73,14 +73,8 @@ module _ (c : Configuration) (later : List Entry) (runs : Runs c later (after c 
           let found = some-place c (BeginsLaunch r.session r.number r.attempt r.start r.pool) (start_state c) b r.begun in
           (after-begun found.before found.rest found.entry found.stands r.session r.start (cc (found.holds.event, two)) (cc (found.holds.started, three))).1
 
-      turn-after : IsDrivenTurn says c (turns c b) (turn_after c b u) → length earlier < length b
-      turn-after h = ⊎_elim (λ (t : IsOfUse c (turn_after c b u)). after-accepted t.useful.accepted)
-          (λ g. ⊎_elim (λ (t : IsTickBetween (turns c b) (turn_after c b u)). absurd (cc (t.event, event)))
-          (λ f. ⊎_elim (λ (t : IsSweepOfServer (turns c b) (turn_after c b u)). absurd (cc (t.event, event))) begun-before f) g) h
-
       pub driven-after : (plans : Bool) → IsTurnAs says plans c (turns c b) (turn_after c b u) → length earlier < length b
-      driven-after false h = turn-after h
-      driven-after true h = ⊎_elim turn-after (λ (was : WasOfUse c (turns c b) (turn_after c b u)). after-accepted was.accepted) h
+      driven-after plans h = ⊎_elim after-accepted begun-before (done-turn c says (turns c b) (turn_after c b u) session n k o event plans h)
 
     -- made in the round: by a worker of the same pool
     acted-after : (plans : Bool) (work : Work) → IsActed plans c b u work → (work ≡ of_pool pool) × (length earlier < length b)

@@ -1,5 +1,5 @@
 -- what follows a phase of a round, case by case: what a turn may begin, name or remove, and how a round ends
-use Rattle.np_worker.proofs.Prelude.{AreAsksOf, AreInOrder, AreReported, Ask, Bool, EndsWhereFull, Event, IfSome, IsAskOf, IsLone, IsOfServer, IsOfWork, IsPastJanitor, IsPastLauncher, IsPlayed, IsReported, Launch, Leads, List, MayAsk, MayLaunch, MayRemove, Move, NodeId, Outcome, OwesRemoval, Phase, PoolId, Reports, RequesterId, Role, Server, Some, Stage, Start, Tag, TookAll, Turn, WasFull, WasIdle, WentFar, Work, acting, acts, after_launch, after_removal, after_turn, ap, append-nil, append_assoc, arith, ask_of, asked, cond, did_count, ended, false, first_phase, inl, inr, is_did, is_idle, is_janitor_act, is_launcher_act, is_lone_act, launched, launches_of, looks, map, nat_tests, of_pool, of_reaper, of_requester, owed_tags, owes_due, owes_launch, owes_report, owes_swept, phase_of, player, refl, removed, rests, stage_of, start_made, steps_left, subst, suc, sweeps, sym, tags_launched, tags_of, true, zero, ℕ, [], ◌&&◌, ◌++◌, ◌+◌, ◌<◌, ◌∙◌, ◌∷◌, ◌≡◌, ◌≤◌, ◌⊎◌}
+use Rattle.np_worker.proofs.Prelude.{AreAsksOf, AreInOrder, AreReported, Ask, Bool, EndsWhereFull, Event, IfSome, IsAskOf, IsLone, IsOfServer, IsOfWork, IsPastJanitor, IsPastLauncher, IsPlayed, IsReported, Launch, Leads, List, MayAsk, MayRemove, Move, NodeId, Outcome, OwesRemoval, Phase, PoolId, Reports, RequesterId, Role, Server, Some, Stage, Start, Tag, TookAll, Turn, WasFull, WasIdle, WentFar, Work, acting, acts, after_removal, after_turn, ap, append-nil, append_assoc, arith, ask_of, asked, cond, did_count, ended, false, first_phase, inl, inr, is_did, is_idle, is_janitor_act, is_launcher_act, is_lone_act, launched, launches_of, looks, map, nat_tests, of_pool, of_reaper, of_requester, owed_tags, owes_due, owes_launch, owes_report, owes_swept, phase_of, player, refl, removed, rests, stage_of, start_made, steps_left, subst, suc, sweeps, sym, tags_launched, tags_of, true, zero, ℕ, [], ◌&&◌, ◌++◌, ◌+◌, ◌<◌, ◌∙◌, ◌∷◌, ◌≡◌, ◌≤◌, ◌⊎◌}
 use Rattle.np_worker.specs.Trace.{starts_of, NamesServer, AreNamed}
 
 -- # What follows a phase, case by case.
@@ -18,12 +18,19 @@ goes_on P act look sweep rest r zero = rest
 goes_on P act look sweep rest (Role.Janitor pool) (suc n) = look pool n
 goes_on P act look sweep rest r (suc n) = act r n
 
--- what holds of a launch, when one may come, and of the phase after it
-pub of_launch : (P : Phase → Tag → Phase → Type 0) → ((pool : PoolId) (n : ℕ) (s : Start) (o : Outcome) → P (owes_launch pool n s) s.tag (owes_report pool n s o)) → (p : Phase) (tag : Tag) (o : Outcome) → MayLaunch p tag → P p tag (after_launch p o)
-of_launch P f (owes_launch pool n s) tag o h = subst (λ (x : Tag). P (owes_launch pool n s) x (owes_report pool n s o)) (sym h) (f pool n s o)
-of_launch P f p tag o h = absurd h
+-- what holds at the end of a trace, and before each move if it does after it, holds where the trace begins
+module _ (T : Phase → List Move → Type 0) (q : Phase) (end : T q []) (turn : (p : Phase) (a : Ask) (t : Turn) (ms : List Move) → MayAsk p a → Leads (after_turn p a t) ms q → T (after_turn p a t) ms → T p (asked a t ∷ ms))
+    (launch : (pool : PoolId) (n : ℕ) (s : Start) (o : Outcome) (ms : List Move) → T (owes_report pool n s o) ms → T (owes_launch pool n s) (launched s.tag o ∷ ms))
+    (due : (pool : PoolId) (n x : ℕ) (ms : List Move) → T (acts (Role.Janitor pool) n) ms → T (owes_due pool n x) (removed x ∷ ms)) (swept : (pool : PoolId) (x : ℕ) (ms : List Move) → T (sweeps pool) ms → T (owes_swept pool x) (removed x ∷ ms)) where
+  along : (p : Phase) (ms : List Move) → Leads p ms q → T p ms
+  along p [] h = subst (λ (s : Phase). T s []) (sym h) end
+  along p (asked a t ∷ ms) h = turn p a t ms h.0 h.1 (along (after_turn p a t) ms h.1)
+  along (owes_launch pool n s) (launched tag o ∷ ms) h = subst (λ (x : Tag). T (owes_launch pool n s) (launched x o ∷ ms)) (sym h.0) (launch pool n s o ms (along (owes_report pool n s o) ms h.1))
+  along (owes_due pool n x) (removed y ∷ ms) h = subst (λ (z : ℕ). T (owes_due pool n x) (removed z ∷ ms)) (sym h.0) (due pool n x ms (along (acts (Role.Janitor pool) n) ms h.1))
+  along (owes_swept pool x) (removed y ∷ ms) h = subst (λ (z : ℕ). T (owes_swept pool x) (removed z ∷ ms)) (sym h.0) (swept pool x ms (along (sweeps pool) ms h.1))
+  along _ _ h = absurd h.0
 
--- the same for removals
+-- what holds of a removal, when one may come, and of the phase after it
 pub of_removal : (P : Phase → Phase → Type 0) → ((pool : PoolId) (n x : ℕ) → P (owes_due pool n x) (acts (Role.Janitor pool) n)) → ((pool : PoolId) (x : ℕ) → P (owes_swept pool x) (sweeps pool)) → (p : Phase) (y : ℕ) → MayRemove p y → P p (after_removal p)
 of_removal P f g (owes_due pool n x) y h = f pool n x
 of_removal P f g (owes_swept pool x) y h = g pool x
@@ -39,10 +46,8 @@ turn_owes p a t x1 = grind (arith, nat_tests)
 
 -- the accepted starts are the launches, in this order, except one whose launch is still owed
 pub starts_launched : (p q : Phase) (ms : List Move) → Leads p ms q → owed_tags p ++ starts_of ms ≡ tags_launched ms ++ owed_tags q
-starts_launched p q [] h = append-nil (owed_tags p) ∙ ap owed_tags h
-starts_launched p q (asked a t ∷ ms) h = sym (append_assoc (owed_tags p) (tags_of (start_made a t)) (starts_of ms)) ∙ (ap (λ (l : List Tag). l ++ starts_of ms) (turn_owes p a t h.0) ∙ starts_launched (after_turn p a t) q ms h.1)
-starts_launched p q (launched tag o ∷ ms) h = of_launch (λ u x s. owed_tags u ++ starts_of ms ≡ x ∷ (owed_tags s ++ starts_of ms)) (λ pool n s x. refl) p tag o h.0 ∙ ap (λ (l : List Tag). tag ∷ l) (starts_launched (after_launch p o) q ms h.1)
-starts_launched p q (removed y ∷ ms) h = of_removal (λ u s. owed_tags u ++ starts_of ms ≡ owed_tags s ++ starts_of ms) (λ pool n x. refl) (λ pool x. refl) p y h.0 ∙ starts_launched (after_removal p) q ms h.1
+starts_launched p q ms = along (λ s ns. owed_tags s ++ starts_of ns ≡ tags_launched ns ++ owed_tags q) q (append-nil (owed_tags q))
+    (λ s a t ns may _ k. sym (append_assoc (owed_tags s) (tags_of (start_made a t)) (starts_of ns)) ∙ (ap (λ (l : List Tag). l ++ starts_of ns) (turn_owes s a t may) ∙ k)) (λ pool n s o ns k. ap (λ (l : List Tag). s.tag ∷ l) k) (λ pool n x ns k. k) (λ pool x ns k. k) p ms
 
 -- ## reports
 
@@ -57,9 +62,7 @@ turn_reported : (p q : Phase) (a : Ask) (t : Turn) (ms : List Move) → MayAsk p
 turn_reported p q a t ms x1 x2 = grind (arith, nat_tests, is_reported)
 
 pub are_reported : (p q : Phase) (ms : List Move) → Leads p ms q → AreReported ms q
-are_reported p q [] h = tt
-are_reported p q (asked a t ∷ ms) h = (turn_reported p q a t ms h.0 h.1, are_reported (after_turn p a t) q ms h.1)
-are_reported p q (move ∷ ms) h = are_reported _ q ms h.1
+are_reported p q ms = along (λ s ns. AreReported ns q) q tt (λ s a t ns may leads k. (turn_reported s q a t ns may leads, k)) (λ pool n s o ns k. k) (λ pool n x ns k. k) (λ pool x ns k. k) p ms
 
 pub tags_of_launches : (ms : List Move) → tags_launched ms ≡ map (λ (l : Launch). l.tag) (launches_of ms)
 tags_of_launches [] = refl
@@ -86,14 +89,12 @@ ask_stage p a x1 = grind (arith, nat_tests)
 turn_later : (p : Phase) (a : Ask) (t : Turn) → MayAsk p a → stage_at p ≤ stage_at (after_turn p a t)
 turn_later p a t x1 = grind (arith, nat_tests)
 
-in_order_from : (p q : Phase) (ms : List Move) (stage : ℕ) → stage ≤ stage_at p → Leads p ms q → AreInOrder stage ms
-in_order_from p q [] stage l h = tt
-in_order_from p q (asked a t ∷ ms) stage l h = (omega (arith, ask_stage p a h.0), in_order_from (after_turn p a t) q ms (stage_of a) (omega (arith, ask_stage p a h.0, turn_later p a t h.0)) h.1)
-in_order_from p q (launched tag o ∷ ms) stage l h = in_order_from (after_launch p o) q ms stage (of_launch (λ u x s. stage ≤ stage_at u → stage ≤ stage_at s) (λ pool n s x k. k) p tag o h.0 l) h.1
-in_order_from p q (removed x ∷ ms) stage l h = in_order_from (after_removal p) q ms stage (of_removal (λ u s. stage ≤ stage_at u → stage ≤ stage_at s) (λ pool n y k. k) (λ pool y k. k) p x h.0 l) h.1
+in_order_from : (p q : Phase) (ms : List Move) → Leads p ms q → (stage : ℕ) → stage ≤ stage_at p → AreInOrder stage ms
+in_order_from p q ms = along (λ s ns. (stage : ℕ) → stage ≤ stage_at s → AreInOrder stage ns) q (λ stage less. tt)
+    (λ s a t ns may _ k stage less. (omega (arith, ask_stage s a may), k (stage_of a) (omega (arith, ask_stage s a may, turn_later s a t may)))) (λ pool n s o ns k. k) (λ pool n x ns k. k) (λ pool x ns k. k) p ms
 
 pub in_order : (p q : Phase) (ms : List Move) → Leads p ms q → AreInOrder 0 ms
-in_order p q ms h = in_order_from p q ms 0 (omega arith) h
+in_order p q ms h = in_order_from p q ms h 0 (omega arith)
 
 -- # Removals, and the turns that named them.
 
@@ -115,10 +116,8 @@ named_after : (a : Ask) (t : Turn) (s : Phase) (ms : List Move) → ((x : ℕ) �
 named_after a t s ms x1 x2 = grind (arith, nat_tests)
 
 named_but : (p q : Phase) (ms : List Move) → Leads p ms q → NamedBut p ms
-named_but p q [] h = tt
-named_but p q (asked a t ∷ ms) h = named_after a t (after_turn p a t) ms (turn_names p a t h.0) (named_but (after_turn p a t) q ms h.1)
-named_but p q (launched tag o ∷ ms) h = all_named (after_launch p o) ms (of_launch (λ u v s. (x : ℕ) → MayRemove s x → ⊥) (λ pool n s y x m. m) p tag o h.0) (named_but (after_launch p o) q ms h.1)
-named_but p q (removed x ∷ ms) h = (h.0, all_named (after_removal p) ms (of_removal (λ u s. (y : ℕ) → MayRemove s y → ⊥) (λ pool n z y m. m) (λ pool z y m. m) p x h.0) (named_but (after_removal p) q ms h.1))
+named_but p q ms = along NamedBut q tt (λ s a t ns may _ k. named_after a t (after_turn s a t) ns (turn_names s a t may) k)
+    (λ pool n s o ns k. all_named (owes_report pool n s o) ns (λ x m. m) k) (λ pool n x ns k. (refl, all_named (acts (Role.Janitor pool) n) ns (λ y m. m) k)) (λ pool x ns k. (refl, all_named (sweeps pool) ns (λ y m. m) k)) p ms
 
 pub are_named : (p q : Phase) (ms : List Move) → ¬ (OwesRemoval p) → Leads p ms q → AreNamed ms
 are_named p q ms free h = all_named p ms (λ x m. free (of_removal (λ u s. OwesRemoval u) (λ pool n y. tt) (λ pool y. tt) p x m)) (named_but p q ms h)
@@ -130,24 +129,18 @@ turn_ends : (p : Phase) (a : Ask) (t : Turn) → MayAsk p a → (t ≡ Turn.Full
 turn_ends p a t x1 = grind (arith, nat_tests)
 
 pub ends_full : (p q : Phase) (ms : List Move) → (p ≡ ended → ⊥) → Leads p ms q → q ≡ ended → WasFull ms
-ends_full p q [] free h k = absurd (free (h ∙ k))
-ends_full p q (asked a t ∷ ms) free h k = elim (turn_ends p a t h.0) [ inl e ↦ inl e | inr f ↦ inr (ends_full (after_turn p a t) q ms f h.1 k) ]
-ends_full p q (launched tag o ∷ ms) free h k = ends_full (after_launch p o) q ms (of_launch (λ u x s. s ≡ ended → ⊥) (λ pool n s x e. cc) p tag o h.0) h.1 k
-ends_full p q (removed x ∷ ms) free h k = ends_full (after_removal p) q ms (of_removal (λ u s. s ≡ ended → ⊥) (λ pool n y e. cc) (λ pool y e. cc) p x h.0) h.1 k
+ends_full p q ms free h k = along (λ s ns. (s ≡ ended → ⊥) → WasFull ns) q (λ none. absurd (none k)) (λ s a t ns may _ later _. elim (turn_ends s a t may) [ inl e ↦ inl e | inr f ↦ inr (later f) ])
+    (λ pool n s o ns later _. later (λ e. cc)) (λ pool n x ns later _. later (λ e. cc)) (λ pool x ns later _. later (λ e. cc)) p ms h free
 
 -- nothing comes after such a turn
 full_stops : (p q : Phase) (a : Ask) (t : Turn) (ms : List Move) → MayAsk p a → Leads (after_turn p a t) ms q → t ≡ Turn.Full → (ms ≡ []) × (q ≡ ended)
 full_stops p q a t ms m h e = nothing_more q ms (subst (λ (s : Phase). Leads s ms q) (let ends : after_turn p a Turn.Full ≡ ended = grind (arith, nat_tests) in ap (after_turn p a) e ∙ ends) h)
 
 pub is_at_end : (p q : Phase) (ms : List Move) → Leads p ms q → WasFull ms → q ≡ ended
-is_at_end p q [] h w = absurd w
-is_at_end p q (asked a t ∷ ms) h w = elim w [ inl e ↦ (full_stops p q a t ms h.0 h.1 e).1 | inr v ↦ is_at_end (after_turn p a t) q ms h.1 v ]
-is_at_end p q (move ∷ ms) h w = is_at_end _ q ms h.1 w
+is_at_end p q ms = along (λ s ns. WasFull ns → q ≡ ended) q (λ w. absurd w) (λ s a t ns may leads k w. elim w [ inl e ↦ (full_stops s q a t ns may leads e).1 | inr v ↦ k v ]) (λ pool n s o ns k. k) (λ pool n x ns k. k) (λ pool x ns k. k) p ms
 
 pub ends_where_full : (p q : Phase) (ms : List Move) → Leads p ms q → EndsWhereFull ms
-ends_where_full p q [] h = tt
-ends_where_full p q (asked a t ∷ ms) h = ((λ e. (full_stops p q a t ms h.0 h.1 e).0), ends_where_full (after_turn p a t) q ms h.1)
-ends_where_full p q (move ∷ ms) h = ends_where_full _ q ms h.1
+ends_where_full p q ms = along (λ s ns. EndsWhereFull ns) q tt (λ s a t ns may leads k. ((λ e. (full_stops s q a t ns may leads e).0), k)) (λ pool n s o ns k. k) (λ pool n x ns k. k) (λ pool x ns k. k) p ms
 
 -- # How many turns the roles took.
 
@@ -187,10 +180,8 @@ module _ (test : Ask → Bool) (no_report : (e : Event) → test (Ask.Do e) ≡ 
   taken_turn p s q a t ms (inr (inr f)) h free i = absurd (free (nothing_more q ms (subst (λ (u : Phase). Leads u ms q) f h)).1)
 
   turns_taken : (p q : Phase) (ms : List Move) → Leads p ms q → left test q ≡ 0 → (q ≡ ended → ⊥) → (did_count test ms ≡ left test p) ⊎ WasIdle test ms
-  turns_taken p q [] h z free = inl (sym (ap (left test) h ∙ z))
-  turns_taken p q (asked a t ∷ ms) h z free = taken_turn p (after_turn p a t) q a t ms (turn_leaves p a t h.0) h.1 free (turns_taken (after_turn p a t) q ms h.1 z free)
-  turns_taken p q (launched tag o ∷ ms) h z free = subst (λ (n : ℕ). (did_count test ms ≡ n) ⊎ WasIdle test ms) (of_launch (λ u x s. left test s ≡ left test u) (λ pool n s x. refl) p tag o h.0) (turns_taken (after_launch p o) q ms h.1 z free)
-  turns_taken p q (removed x ∷ ms) h z free = subst (λ (n : ℕ). (did_count test ms ≡ n) ⊎ WasIdle test ms) (of_removal (λ u s. left test s ≡ left test u) (λ pool n y. refl) (λ pool y. refl) p x h.0) (turns_taken (after_removal p) q ms h.1 z free)
+  turns_taken p q ms h z free = along (λ s ns. (did_count test ns ≡ left test s) ⊎ WasIdle test ns) q (inl (sym z)) (λ s a t ns may leads k. taken_turn s (after_turn s a t) q a t ns (turn_leaves s a t may) leads free k)
+      (λ pool n s o ns k. k) (λ pool n x ns k. k) (λ pool x ns k. k) p ms h
 
 -- none is left where the role is done
 none_left : (q : Phase) → (IsPastLauncher q → left is_launcher_act q ≡ 0) × (IsPastJanitor q → left is_janitor_act q ≡ 0)
@@ -225,10 +216,7 @@ module _ (w : Work) where
   work_after p a t x1 x2 = grind (arith, nat_tests)
 
   asks_from : (p q : Phase) (ms : List Move) → IsOfWork w p → Leads p ms q → AreAsksOf w ms
-  asks_from p q [] h l = tt
-  asks_from p q (asked a t ∷ ms) h l = (ask_on p a l.0 h, asks_from (after_turn p a t) q ms (work_after p a t l.0 h) l.1)
-  asks_from p q (launched tag o ∷ ms) h l = asks_from (after_launch p o) q ms (of_launch (λ u x s. IsOfWork w u → IsOfWork w s) (λ pool n s x k. k) p tag o l.0 h) l.1
-  asks_from p q (removed x ∷ ms) h l = asks_from (after_removal p) q ms (of_removal (λ u s. IsOfWork w u → IsOfWork w s) (λ pool n y k. k) (λ pool y k. k) p x l.0 h) l.1
+  asks_from p q ms h l = along (λ s ns. IsOfWork w s → AreAsksOf w ns) q (λ k. tt) (λ s a t ns may _ later k. (ask_on s a may k, later (work_after s a t may k))) (λ pool n s o ns k. k) (λ pool n x ns k. k) (λ pool x ns k. k) p ms l h
 
 pub asks_of : (w : Work) (q : Phase) (ms : List Move) → Leads (first_phase w) ms q → AreAsksOf w ms
 asks_of w q ms l = asks_from w (first_phase w) q ms (grind (arith, nat_tests)) l

@@ -3,7 +3,7 @@ use Rattle.np_worker.proofs.Prelude.{All, All-contains, All-contains_itself, All
 use Rattle.std.proofs.lemmas.Option.{IfSome_then}
 use Rattle.np_cloud.specs.Sound.{IsFull}
 use Rattle.np_worker.proofs.Steps.{are_named, are_reported, asks_no_server, asks_of, ends_where_full, in_order, is_at_end, janitor_took, launcher_took, may_ask, pool_swept, reaper_took, requester_took, starts_launched, steps_after, tags_of_launches, work_after}
-use Rattle.np_desk.specs.Turned as turned
+use Rattle.np_desk.specs.Series as turned
 
 -- # Histories that go on, and the places of one's own, which rise in them
 

@@ -1,10 +1,8 @@
 -- which answers an ask may have, after a journal of the machine
 use Rattle.std.specs.Prelude.{◌≡◌, ◌<◌, ◌≤◌, ◌⊎◌, ℕ, true, false, List, length, Option, Some}
-use Rattle.np_changes.specs.Prelude.{Configuration, Entry, Event, Janitor, NodeId, NodeRecord, PoolId, Role, SessionId, State, after, is_deleting, is_swept, is_wanted, judge, node_holder, node_in, reply_of}
-use Rattle.np_useful.specs.Sessions.{is_current, has_current}
-use Rattle.np_useful.specs.Useful.{IsUseful}
 use Rattle.np_worker.specs.declared.ask.Ask.{Ask}
 use Rattle.np_worker.specs.declared.ask.Turn.{Turn}
+use Rattle.np_worker.specs.Lower.{Configuration, Entry, Event, IsUseful, Janitor, NodeId, NodeRecord, PoolId, Role, SessionId, State, after, has_current, is_current, is_deleting, is_swept, is_wanted, judge, node_holder, node_in, reply_of}
 
 -- ## what is recorded
 

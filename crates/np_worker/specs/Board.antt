@@ -1,21 +1,87 @@
--- a worker's round at a board: where its entries stand, of which role they are, how far its roles came, and what became of its servers
-use Rattle.std.specs.Prelude.{◌≡◌, ◌⊎◌, ◌++◌, ℕ, length, List, [], ◌∷◌, Bool, true, false, Contains, All, IfOk, Option, Result}
-use Rattle.np_changes.specs.Prelude.{Configuration, Entry, Event, Janitor, Launcher, NoMemory, PoolId, Reaper, Requester, Role, after}
-use Rattle.np_worker.specs.Prelude.{AreRising, Driving, IsUseful, Move, Phase, Server, Sight, StartsWith, Work, asked, of_pool, of_reaper, of_requester}
+-- which role the entries of a round are of
+use Rattle.std.specs.Prelude.{◌≡◌, ◌++◌, ◌∷◌, [], ℕ, List, length, Some, ◌<◌, ◌≤◌, map, All, Contains, Bool, false, ◌⊎◌, true, IfOk, Option, Result}
+use Rattle.np_worker.specs.Prelude.{IsAskOf, StartsWith, Work, Drove, Leads, Move, Phase, Sight, Walk, ended, first_phase, owes_launch, owes_report, AreRising, Driving, IsUseful, Server, asked, of_pool, of_reaper, of_requester}
 use Rattle.np_worker.specs.declared.ask.Ask.{Ask}
+use Rattle.np_worker.specs.Servers.{answers_of, DrivenAs, Player, WasAnswered, HasServers, IsOfRound, IsOnlyNodeOfItsNumber, IsOnlyOfItsNumber, IsSweptAfter, KeepsJanitor, LeftWithCause, StaysKept, WasDue, WasUnwanted}
 use Rattle.np_worker.specs.declared.ask.Turn.{Turn}
 use Rattle.np_worker.specs.Move.{entries_of}
 use Rattle.np_worker.specs.Trace.{StandAt, WasFull, did_count, is_launcher_act, is_janitor_act, is_lone_act}
-use Rattle.np_worker.specs.Makers.{IsOfWorker}
-use Rattle.np_worker.specs.Planned.{DrivenAs, answers_of}
-use Rattle.np_worker.specs.Players.{Player, WasAnswered}
-use Rattle.np_worker.specs.Played.{PlayerEnd, PlaysFrom}
-use Rattle.np_worker.specs.Servers.{HasServers, IsOfRound, IsOnlyNodeOfItsNumber, IsOnlyOfItsNumber, IsSweptAfter, KeepsJanitor, LeftWithCause, StaysKept, WasDue, WasUnwanted}
 use Rattle.np_worker.specs.declared.worker.RoundEnd.{RoundEnd}
 use Rattle.np_worker.specs.Moves.{AreOrderly}
-use Rattle.np_worker.specs.Part.{RemovalFailed}
-use Rattle.np_event.specs.declared.reply.Reply.{Reply}
-use Rattle.np_event.specs.declared.reply.Done.{Done}
+use Rattle.np_worker.specs.Stage.{RemovalFailed}
+use Rattle.np_worker.specs.Lower.{Configuration, Done, Entry, Event, Janitor, Launcher, NoMemory, PoolId, Reaper, Reply, Requester, Role, SessionId, State, after, maker_of, role_of}
+
+-- the event is the role's: the session that makes it is of the role, a session that it opens is of the role, and sessions are crashed and expired by the reaper alone (own)
+pub record IsOfRole (role : Role) (s : State) (e : Event) : Type 0 where
+  pub maker : (session : SessionId) → maker_of e ≡ Some session → role_of session s ≡ Some role
+  pub opens : (r : Role) → e ≡ Event.OpenSession r → r ≡ role
+  pub crashes : (session : SessionId) → e ≡ Event.Crash session → role ≡ Reaper
+  pub expires : (session : SessionId) → e ≡ Event.Expire session → role ≡ Reaper
+
+-- the entry at the place is of a role that the worker acts for (own)
+pub record IsOfWorker (c : Configuration) (seen : List Entry) (work : Work) (x : ℕ) : Type 0 where
+  pub before : List Entry
+  pub entry : Entry
+  pub place : length before ≡ x
+  pub stands : StartsWith seen (before ++ entry ∷ [])
+  pub role : Role
+  pub own : IsAskOf work (Ask.Act role)
+  pub of_role : IsOfRole role (after c before) entry.event
+
+-- a round of all players, as each of them took its turns at one history
+
+-- a player after its round: what it saw and made of the history, and the phase that its moves led
+-- to (own)
+pub record PlayerEnd : Type 0 where
+  pub player : Player
+  pub sight : Sight Entry
+  pub phase : Phase
+
+-- nothing of one's own was made of this history yet (own)
+abbrev pub fresh_sight : List Entry → Sight Entry
+fresh_sight history = record { seen = history; mine = [] }
+
+-- the player took the turns of its round, after this history, and its driver did what the moves say;
+-- its events may be planned, or not (own)
+pub record PlaysFrom (plans : Bool) (c : Configuration) (history : List Entry) (player : Player) (end : PlayerEnd) : Type 0 where
+  pub trace : List Move
+  pub walked : Walk (answers_of plans) c trace (fresh_sight history) end.sight
+  pub drove : Drove trace player.driving end.player.driving
+  pub led : Leads (first_phase player.work) trace end.phase
+  pub work : end.player.work ≡ player.work
+
+-- so did each of them (own)
+abbrev pub EachPlaysFrom : Bool → Configuration → List Entry → List Player → List PlayerEnd → Type 0
+EachPlaysFrom plans c history [] [] = Unit {0}
+EachPlaysFrom plans c history (player ∷ players) (end ∷ ends) = PlaysFrom plans c history player end × EachPlaysFrom plans c history players ends
+EachPlaysFrom plans c history _ _ = ⊥
+
+-- some player made the entry at the place (own)
+pub record IsMade (ends : List PlayerEnd) (x : ℕ) : Type 0 where
+  pub end : PlayerEnd
+  pub there : Contains ends end
+  pub made : Contains end.sight.mine x
+
+-- the round was cut off: the launch of a start or its report is still to come, or a turn found no
+-- room in the journal (own)
+abbrev pub IsCutOff : Phase → Type 0
+IsCutOff (owes_launch pool n s) = Unit {0}
+IsCutOff (owes_report pool n s o) = Unit {0}
+IsCutOff ended = Unit {0}
+IsCutOff _ = ⊥
+
+-- the players played a round, and only their entries were added to the history. If the round of all
+-- was not cut off, none of theirs was (own)
+pub record IsRound (plans : Bool) (c : Configuration) (history later : List Entry) (players now : List Player) (is_cut : Bool) : Type 0 where
+  pub ends : List PlayerEnd
+  pub plays : EachPlaysFrom plans c history players ends
+  pub players_now : map (λ (end : PlayerEnd). end.player) ends ≡ now
+  pub goes_on : StartsWith later history
+  pub seen : All (λ (end : PlayerEnd). StartsWith later end.sight.seen) ends
+  pub made : (x : ℕ) → length history ≤ x → x < length later → IsMade ends x
+  pub uncut : is_cut ≡ false → All (λ (end : PlayerEnd). IsCutOff end.phase → ⊥) ends
+
+-- a worker's round at a board: where its entries stand, of which role they are, how far its roles came, and what became of its servers
 
 -- ## how far the roles came
 

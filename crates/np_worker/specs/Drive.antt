@@ -1,14 +1,8 @@
 -- what a round did with its driver
-use Rattle.std.specs.Prelude.{◌≡◌, ◌⊎◌, ◌≤◌, ℕ, List, [], ◌∷◌, ◌++◌, length, Bool, Contains, IsTrue, Option, Some, None, IfSome}
-use Rattle.np_changes.specs.Prelude.{Outcome, option_map}
-use Rattle.np_cloud.specs.declared.driver.Tag.{Tag}
-use Rattle.np_cloud.specs.declared.driver.Launch.{Launch}
-use Rattle.np_cloud.specs.declared.driver.Server.{Server}
-use Rattle.np_cloud.specs.declared.driver.TheConstants.{MOST_LAUNCHES}
-use Rattle.np_cloud.specs.Facts.{DriverFacts}
-use Rattle.np_cloud.specs.Calls.{with_launch, with_launched, without_number, KeepsCounts}
+use Rattle.std.specs.Prelude.{◌≡◌, ◌⊎◌, ◌≤◌, ℕ, List, [], ◌∷◌, ◌++◌, length, Bool, Contains, IsTrue, Option, Some, None, IfSome, suc, false, ◌==◌, if◌then◌else◌}
 use Rattle.np_worker.specs.declared.ask.Ask.{Ask}
 use Rattle.np_worker.specs.Move.{Move, asked, launched, removed, launches_of}
+use Rattle.np_worker.specs.Lower.{AllByRecursion, Configuration, DriverFacts, Entry, Event, KeepsCounts, Launch, MOST_LAUNCHES, NodeId, Outcome, PoolId, Server, State, Tag, Turn, list_any, node_in, option_map, option_map_or, turns, with_launch, with_launched, without_number}
 
 -- what contracts know of a driver, with its plan, which lists of server numbers are sound for it,
 -- and for how many servers it has room (own)
@@ -94,3 +88,51 @@ abbrev pub Drove : List Move → Option Driving → Option Driving → Type 0
 Drove moves None None = Unit {0}
 Drove moves (Some before) (Some now) = Drives moves before now
 Drove moves _ _ = ⊥
+
+-- what a journal reports of the launches of a pool
+
+-- ## of which pool a report is
+
+-- the node is there, and of the pool (own)
+abbrev pub is_node_of : PoolId → NodeId → State → Bool
+is_node_of p n s = option_map_or (λ k. k.pool.0 == p.0) (node_in n s.nodes) false
+
+-- it was so before one of these turns; when its launch is reported, the node may be gone (own)
+abbrev pub was_node_of : PoolId → NodeId → List Turn → Bool
+was_node_of p n past = list_any (λ t. is_node_of p n t.before) past
+
+-- what the event reports of a launch of the pool, after these turns, if it does (own)
+abbrev pub reported : PoolId → List Turn → Event → List Outcome
+reported p past (Event.Done session n attempt o) = if was_node_of p n past then o ∷ [] else []
+reported p past _ = []
+
+abbrev pub reports_from : PoolId → List Turn → List Turn → List Outcome
+reports_from p past [] = []
+reports_from p past (t ∷ ts) = reported p past t.entry.event ++ reports_from p (past ++ t ∷ []) ts
+
+-- what the journal reports of the pool's launches, in order and whatever the replies (own)
+abbrev pub reports_of : Configuration → PoolId → List Entry → List Outcome
+reports_of c p journal = reports_from p [] (turns c journal)
+
+-- ## servers
+
+-- the number of the server, if one was launched (own)
+abbrev pub number_in : Outcome → List ℕ
+number_in (Outcome.Launched x) = x ∷ []
+number_in Outcome.Failed = []
+
+-- the numbers of the servers that were launched, in order (own)
+abbrev pub numbers_in : List Outcome → List ℕ
+numbers_in [] = []
+numbers_in (o ∷ outcomes) = number_in o ++ numbers_in outcomes
+
+-- each server that was launched is sound by itself (own)
+abbrev pub AreAloneSound : (List ℕ → Bool) → List Outcome → Type 0
+AreAloneSound sound outcomes = AllByRecursion (IsSoundAlone sound) outcomes
+
+-- each failure comes after at least this many launched servers, of which this many came before the
+-- list (own)
+abbrev pub FailAfter : ℕ → ℕ → List Outcome → Type 0
+FailAfter room n [] = Unit {0}
+FailAfter room n (Outcome.Launched x ∷ outcomes) = FailAfter room (suc n) outcomes
+FailAfter room n (Outcome.Failed ∷ outcomes) = (room ≤ n) × FailAfter room n outcomes

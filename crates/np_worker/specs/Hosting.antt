@@ -1,12 +1,68 @@
+-- which servers a pool's nodes have
+use Rattle.std.specs.Prelude.{ℕ, List, [], ◌∷◌, ◌++◌, Bool, true, false, ◌==◌, ◌&&◌, if◌then◌else◌, Option, Some, None, ◌≡◌, map, slice_get, IfSome, IsTrue, is_some, ◌≤◌, ◌+◌, length, All, Contains, is_ok, ◌⊎◌, MatchBool, Result, Ok, Err}
+use Rattle.np_worker.specs.Prelude.{DistinctNumbers, DriverFacts, Driving, Launch, Server, Soundness, Tag, Move, OwesRemoval, Phase, Work, driving, ended, of_pool, of_reaper, of_requester, rests, sweeps}
+use Rattle.np_worker.specs.Drive.{reports_of, numbers_in, AreAloneSound, FailAfter}
+use Rattle.np_worker.specs.Servers.{Player, drivings_of, HaveDriven}
+use Rattle.np_worker.specs.declared.worker.RoundEnd.{RoundEnd}
+use Rattle.np_worker.specs.declared.worker.Worker.{Worker}
+use Rattle.np_worker.specs.Stage.{RemovalFailed, AreKept}
+use Rattle.np_worker.specs.Lower.{Configuration, Entry, Event, Launcher, NoMemory, NodeEntry, NodeId, NodeRecord, NodeState, Outcome, PoolId, SessionId, State, after, judge, node_in, role_of}
+
+-- launched, and not given up: ready, in use, used or on hold (Nodepool)
+abbrev pub is_up : NodeState → Bool
+is_up NodeState.Building = false
+is_up NodeState.Deleting = false
+is_up NodeState.Failed = false
+is_up _ = true
+
+abbrev pub listed : Option ℕ → List ℕ
+listed None = []
+listed (Some x) = x ∷ []
+
+-- the server of the node, if the node is of the pool and up (own)
+abbrev pub server_up : PoolId → NodeRecord → List ℕ
+server_up p k = if (k.pool.0 == p.0) && is_up k.state then listed k.server else []
+
+-- the servers of the pool's nodes that are up, in the order of the nodes (own)
+abbrev pub servers_up : PoolId → List NodeEntry → List ℕ
+servers_up p [] = []
+servers_up p (e ∷ nodes) = server_up p e.kept ++ servers_up p nodes
+
+-- what holds of a journal that drivers carried
+
+-- ## drivers
+
+-- the driver reports its answers and its servers, and has no servers (own)
+pub record BeginsEmpty (facts : DriverFacts) : Type 0 where
+  pub answered : is_some facts.answered ≡ true
+  pub servers : facts.servers ≡ Some []
+
+-- the same, and it has answered no launch (own)
+pub record BeginsNew (facts : DriverFacts) : Type 0 where
+  pub answered : facts.answered ≡ Some []
+  pub servers : facts.servers ≡ Some []
+
+-- the driver answered no two launches with the same server number, if it reports its answers (own)
+abbrev pub NeverRepeats : Driving → Type 0
+NeverRepeats d = IfSome d.facts.answered (λ launches. DistinctNumbers (numbers_in (map (λ launch. launch.outcome) launches)))
+
+-- ## journals
+
+-- the drivers, in the order of the pools, carried the journal: after each part that ends with a
+-- tick, the servers of a pool's nodes that are up are sound for its driver, if that never repeats a
+-- number; and each server that a report names is sound by itself (own)
+pub record AreCarried (c : Configuration) (journal : List Entry) (drivings : List Driving) : Type 0 where
+  pub nodes : (p : PoolId) (d : Driving) → slice_get drivings p.0 ≡ Some d → NeverRepeats d
+      → (before rest : List Entry) (e : Entry) → journal ≡ before ++ e ∷ rest → e.event ≡ Event.Tick
+      → IsTrue (d.sound (servers_up p (after c (before ++ e ∷ [])).nodes))
+  pub reports : (p : PoolId) (d : Driving) → slice_get drivings p.0 ≡ Some d → AreAloneSound d.sound (reports_of c p journal)
+
+-- the journal reports a failed launch of a pool only after as many launched servers as the pool's
+-- driver has room for (own)
+pub record FailOnlyFull (c : Configuration) (journal : List Entry) (drivings : List Driving) : Type 0 where
+  pub failed : (p : PoolId) (d : Driving) → slice_get drivings p.0 ≡ Some d → FailAfter d.room 0 (reports_of c p journal)
+
 -- what is kept from round to round of a pool, its driver and the journal
-use Rattle.std.specs.Prelude.{◌≡◌, ◌≤◌, ◌+◌, ℕ, List, [], ◌∷◌, ◌++◌, length, All, slice_get, Bool, true, false, Contains, IfSome, IsTrue, is_ok, Some}
-use Rattle.np_changes.specs.Prelude.{Configuration, Entry, Launcher, NodeId, NodeRecord, Outcome, PoolId, SessionId, State, after, judge, node_in, role_of}
-use Rattle.np_worker.specs.Prelude.{Driving, Launch, Server, Soundness, Tag}
-use Rattle.np_worker.specs.Players.{Player, drivings_of, HaveDriven}
-use Rattle.np_worker.specs.Nodes.{is_up, servers_up}
-use Rattle.np_worker.specs.Reports.{reports_of, numbers_in, AreAloneSound, FailAfter}
-use Rattle.np_worker.specs.Carried.{NeverRepeats, BeginsEmpty}
-use Rattle.np_event.specs.declared.event.Event.{Event}
 
 -- ## nodes and servers
 
@@ -83,3 +139,29 @@ pub record HaveHosted (earlier : Earlier) (c : Configuration) (journal : List En
 abbrev pub IsHosted : Earlier → Configuration → Bool → List Entry → List Player → Type 0
 IsHosted earlier c true journal players = (p : PoolId) (d : Driving) → slice_get (drivings_of players) p.0 ≡ Some d → Carries (earlier p) c journal p d
 IsHosted earlier c false journal players = HaveHosted earlier c journal players
+
+-- what a round came to
+
+-- a round that was not cut off: all servers were asked about, or a removal failed (own)
+abbrev pub Rests : Work → Option Driving → Option Driving → List Move → Phase → Type 0
+Rests (of_pool pool) before now trace to =
+    ((to ≡ sweeps pool) × AreKept pool trace now) ⊎ (OwesRemoval to × RemovalFailed before now)
+Rests _ before now trace to = to ≡ rests
+
+-- a round ends when a turn found the journal full, or with its work done; if memory ran out,
+-- anywhere (own)
+abbrev pub EndsAs : Work → Option Driving → Option Driving → Result RoundEnd NoMemory → List Move → Phase → Type 0
+EndsAs work before now (Ok end) trace to =
+    MatchBool end.full (to ≡ ended) (Rests work before now trace to)
+EndsAs work before now (Err _) trace to = Unit {0}
+
+-- whose worker it is (own)
+abbrev pub work_of : {D : Type 0} → Worker D → Work
+work_of (Worker.Pool pool driver) = of_pool pool
+work_of (Worker.Requester q) = of_requester q
+work_of Worker.Reaper = of_reaper
+
+-- what it drives (own)
+abbrev pub driving_of : {D : Type 0} → (D → DriverFacts) → (D → Tag → Option Outcome) → (D → List ℕ → Bool) → (D → ℕ) → Worker D → Option Driving
+driving_of facts plan sound room (Worker.Pool pool driver) = Some (driving facts plan sound room driver)
+driving_of facts plan sound room _ = None

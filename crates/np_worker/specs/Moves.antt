@@ -1,11 +1,11 @@
 -- what holds of the moves of every round
 use Rattle.std.specs.Prelude.{◌≡◌, List, ◌++◌, map, Option}
 use Rattle.np_worker.specs.Prelude.{Driving, Drove, Phase, Sight, Walk, Work, ended, of_pool, rests}
-use Rattle.np_event.specs.declared.entry.Entry.{Entry}
 use Rattle.np_worker.specs.declared.ask.Ask.{Ask}
 use Rattle.np_worker.specs.declared.ask.Turn.{Turn}
 use Rattle.np_worker.specs.Move.{Move, entries_of, launches_of}
 use Rattle.np_worker.specs.Trace.{starts_of, owed_tags, AreReported, AreAsksOf, AreInOrder, AreNamed, Gains, TookAll, is_launcher_act, is_janitor_act, is_lone_act, IsPastLauncher, IsPastJanitor, WasFull, EndsWhereFull}
+use Rattle.np_worker.specs.Lower.{Entry}
 
 -- a role that the round came past took 16 turns with an entry, or one in which it had nothing to do (own)
 abbrev pub RolesTook : Work → List Move → Phase → Type 0

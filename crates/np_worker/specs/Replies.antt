@@ -1,8 +1,7 @@
 -- replies as lists of numbers, so that a test can compare them
-use Rattle.std.specs.Prelude.{ℕ, List, [], ◌∷◌, Bool}
+use Rattle.std.specs.Prelude.{ℕ, List, [], ◌∷◌, Bool, true, ◌&&◌, nat_le, length}
 use Rattle.std.specs.Str.{bytes_eq}
-use Rattle.np_changes.specs.Prelude.{Done, Ending, NodeState, Phase, Refusal, Reply, RequestState}
-use Rattle.np_event.specs.declared.reply.Found.{Found}
+use Rattle.np_worker.specs.Lower.{Configuration, Done, Ending, Entry, Found, NodeState, Phase, Refusal, Reply, RequestState, State, judge, next, reply_of, start}
 
 -- ## the words, in order (own)
 
@@ -91,3 +90,14 @@ reply_numbers (Reply.Refused why) = 1 ∷ refusal_numbers why
 -- the replies are the same: so are their numbers (own)
 abbrev pub is_same_reply : Reply → Reply → Bool
 is_same_reply a b = bytes_eq (reply_numbers a) (reply_numbers b)
+
+-- which journals are the machine's, as a test
+
+-- from this state on, the machine gives the journal's replies, one by one (own)
+abbrev pub has_replies : Configuration → State → List Entry → Bool
+has_replies c s [] = true
+has_replies c s (e ∷ journal) = is_same_reply e.reply (reply_of (judge c s e.event)) && has_replies c (next c s e.event) journal
+
+-- it gives them from the start, and the journal is not longer than it may be: the journal runs (own)
+unfoldable pub is_legal : Configuration → List Entry → Bool
+is_legal c journal = has_replies c (start c) journal && nat_le (length journal) 262144

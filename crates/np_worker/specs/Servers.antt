@@ -1,12 +1,124 @@
+-- journals of parties that may commit what they chose on an older state
+use Rattle.std.specs.Prelude.{◌⊎◌, Bool, true, false, List, [], ◌≡◌, ℕ, suc, ◌∷◌, ◌++◌, All, Contains, slice_get, Option, Some, None, IfSome, ◌≤◌, length}
+use Rattle.np_worker.specs.Prelude.{IsUseful, WasOfUse, WasUseful, Driving, Launch, NamesServer, Server, Work, of_pool, Move, Sight, StartsWith, launches_of}
+use Rattle.np_worker.specs.declared.ask.Ask.{Ask}
+use Rattle.np_worker.specs.declared.ask.Turn.{Turn as Answer}
+use Rattle.np_worker.specs.Answers.{Also, nothing_else, answers_also, IsDue, IsKept}
+use Rattle.np_worker.specs.Lower.{Configuration, DrivenBy, EachAfter, Entry, Event, IsDrivenTurn, Janitor, NodeId, NodeRecord, Outcome, PoolId, Role, Says, SessionId, SomeTurn, Turn, after, as_planned, has_current, is_swept, is_wanted, node_in, turns}
+
+-- ## what a role chooses
+
+-- what may be recorded for a role beside what is useful now: nothing, or, if events are planned, what was useful before (own)
+abbrev pub also_of : Bool → Also
+also_of false = nothing_else
+also_of true = WasUseful
+
+abbrev pub answers_of : Bool → Configuration → List Entry → Ask → Answer → Type 0
+answers_of plans = answers_also (also_of plans)
+
+-- useful for the role now, or one of those (own)
+abbrev pub IsChosen : Bool → Configuration → List Entry → Role → Event → Type 0
+IsChosen plans c journal role e = IsUseful c (after c journal) role e ⊎ also_of plans c journal role e
+
+-- ## the journal
+
+module _ (says : Says) where
+  -- the turn is one of a driven journal, or commits an event that was useful before (own)
+  abbrev pub IsPlannedTurn : Configuration → List Turn → Turn → Type 0
+  IsPlannedTurn c past t = IsDrivenTurn says c past t ⊎ WasOfUse c past t
+
+  -- each entry is one of these, at its place (own)
+  abbrev pub PlannedBy : Configuration → List Entry → Type 0
+  PlannedBy c journal = EachAfter (IsPlannedTurn c) [] (turns c journal)
+
+  -- ## either
+
+  abbrev pub IsTurnAs : Bool → Configuration → List Turn → Turn → Type 0
+  IsTurnAs false c past t = IsDrivenTurn says c past t
+  IsTurnAs true c past t = IsPlannedTurn c past t
+
+  abbrev pub DrivenAs : Bool → Configuration → List Entry → Type 0
+  DrivenAs false c journal = DrivenBy says c journal
+  DrivenAs true c journal = PlannedBy c journal
+
+-- each launch was answered as it is planned in the configuration (own)
+abbrev pub PlannedDriven : Configuration → List Entry → Type 0
+PlannedDriven c journal = PlannedBy (as_planned c) c journal
+
+-- who plays a site: workers as contracts see them, and what is known of what they drive
+
+-- a worker: whose it is, and what it drives (own)
+pub record Player : Type 0 where
+  pub work : Work
+  pub driving : Option Driving
+
+-- ## drivers
+
+-- what these players drive, in order (own)
+abbrev pub driving_in : Option Driving → List Driving
+driving_in None = []
+driving_in (Some driving) = driving ∷ []
+
+abbrev pub drivings_of : List Player → List Driving
+drivings_of [] = []
+drivings_of (player ∷ players) = driving_in player.driving ++ drivings_of players
+
+-- a pool's worker is that of the pool of this number and has a driver; any other has none (own)
+abbrev pub IsNumbered : ℕ → Work → Option Driving → Type 0
+IsNumbered n (of_pool pool) (Some driving) = pool.0 ≡ n
+IsNumbered n (of_pool pool) None = ⊥
+IsNumbered n _ None = Unit {0}
+IsNumbered n _ (Some driving) = ⊥
+
+abbrev pub next_number : ℕ → Work → ℕ
+next_number n (of_pool pool) = suc n
+next_number n _ = n
+
+-- the pools' workers are in the order of the pools, the first of them that of the pool of this
+-- number (own)
+abbrev pub AreNumbered : ℕ → List Player → Type 0
+AreNumbered n [] = Unit {0}
+AreNumbered n (player ∷ players) = IsNumbered n player.work player.driving × AreNumbered (next_number n player.work) players
+
+-- ## launches
+
+abbrev pub launch_of : PoolId → NodeId → ℕ → ℕ → Outcome → Launch
+launch_of pool n attempt start o = record { tag = record { pool = pool; node = n; attempt = attempt; start = start }; outcome = o }
+
+-- the pool's driver answered this to the launch, if it reports its answers, and as it planned to,
+-- if it plans (own)
+pub record WasAnswered (drivings : List Driving) (pool : PoolId) (n : NodeId) (attempt start : ℕ) (o : Outcome) : Type 0 where
+  pub driving : Driving
+  pub of_pool : slice_get drivings pool.0 ≡ Some driving
+  pub answered : IfSome driving.facts.answered (λ launches. Contains launches (launch_of pool n attempt start o))
+  pub planned : IfSome (driving.plan (launch_of pool n attempt start o).tag) (λ planned. planned ≡ o)
+
+-- ## servers
+
+-- some report named the server for its node, whatever its reply (own)
+abbrev pub WasNamed : Configuration → List Entry → Server → Type 0
+WasNamed c journal server = SomeTurn (NamesServer server.tag.node server.number) (turns c journal)
+
+-- the driver reports its servers, and each of them was named (own)
+pub record AreNamed (c : Configuration) (journal : List Entry) (driving : Driving) : Type 0 where
+  pub servers : List Server
+  pub told : driving.facts.servers ≡ Some servers
+  pub named : All (WasNamed c journal) servers
+
+-- ## journals
+
+-- the players drove the journal, with planned events or without, and each server that they have was
+-- named in it (own)
+pub record HaveDrivenAs (plans : Bool) (c : Configuration) (journal : List Entry) (players : List Player) : Type 0 where
+  pub driven : DrivenAs (WasAnswered (drivings_of players)) plans c journal
+  pub named : All (AreNamed c journal) (drivings_of players)
+  pub numbered : AreNumbered 0 players
+
+-- without: each entry was useful now, or a tick, a sweep or a report (own)
+abbrev pub HaveDriven : Configuration → List Entry → List Player → Type 0
+HaveDriven c journal players = HaveDrivenAs false c journal players
+
 -- what became of a driver's servers in a round
-use Rattle.std.specs.Prelude.{◌≡◌, ◌⊎◌, ◌≤◌, ℕ, true, false, List, length, slice_get, Contains, Some}
-use Rattle.np_changes.specs.Prelude.{Configuration, Entry, Janitor, NodeId, NodeRecord, PoolId, SessionId, after, is_swept, is_wanted, node_in}
-use Rattle.np_worker.specs.Prelude.{Driving, Move, Server, Sight, StartsWith, launches_of}
-use Rattle.np_useful.specs.Sessions.{has_current}
-use Rattle.np_worker.specs.Answers.{IsDue, IsKept}
-use Rattle.np_worker.specs.Players.{Player, WasNamed}
-use Rattle.np_event.specs.declared.event.Event.{Event}
-use Rattle.np_event.specs.declared.event.Outcome.{Outcome}
 
 -- ## which servers
 

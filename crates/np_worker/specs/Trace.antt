@@ -1,15 +1,10 @@
 -- what holds of the moves of every round
 use Rattle.std.specs.Prelude.{◌≡◌, ◌⊎◌, ◌≤◌, ℕ, ◌+◌, List, [], ◌∷◌, ◌++◌, slice_get, Bool, true, false, cond, ◌&&◌, Contains, Option, Some, None, IfSome}
-use Rattle.np_changes.specs.Prelude.{Entry, Outcome, PoolId}
-use Rattle.np_desk.specs.Pass.{Sight}
-use Rattle.np_cloud.specs.declared.driver.Tag.{Tag}
-use Rattle.np_cloud.specs.declared.driver.Server.{Server}
 use Rattle.np_worker.specs.declared.ask.Ask.{Ask}
 use Rattle.np_worker.specs.declared.ask.Turn.{Turn}
 use Rattle.np_worker.specs.declared.start.Start.{Start}
-use Rattle.np_worker.specs.Move.{Move, asked, launched, removed}
-use Rattle.np_worker.specs.Phase.{Work, of_pool, of_requester, of_reaper, Phase, acts, owes_launch, owes_report, looks, owes_due, sweeps, owes_swept, report_of, start_of, is_unwanted}
-use Rattle.np_text.specs.declared.id.Role.{Role}
+use Rattle.np_worker.specs.Move.{Move, asked, launched, removed, Work, of_pool, of_requester, of_reaper, Phase, acts, owes_launch, owes_report, looks, owes_due, sweeps, owes_swept, report_of, start_of, is_unwanted}
+use Rattle.np_worker.specs.Lower.{Entry, Outcome, PoolId, Role, Server, Sight, Tag}
 
 -- ## starts
 

@@ -1,10 +1,9 @@
 //! The turns of a round.
 
 ghost use Rattle.std.specs.Prelude.{◌≡◌, ◌+◌, IfOk, Option};
-ghost use Rattle.np_event.specs.declared.entry.Entry.{Entry};
+ghost use Rattle.np_worker.specs.Lower.{Entry};
 ghost use Rattle.np_worker.specs.Prelude.{Driving, MayAsk, Phase, Work, acting, recorded, rests};
-ghost use Rattle.np_worker.specs.Part.{Counts, entry_count, Part, Came, Goes, IsOfDriver};
-ghost use Rattle.np_worker.specs.Stage.{IsLone, IsOfWork, Reaches, WentFar, phase_of, player};
+ghost use Rattle.np_worker.specs.Stage.{Counts, entry_count, Part, Came, Goes, IsOfDriver, IsLone, IsOfWork, Reaches, WentFar, phase_of, player};
 
 use crate::next::Next;
 use crate::playing::Playing;

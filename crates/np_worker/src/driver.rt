@@ -2,7 +2,7 @@
 
 ghost use Rattle.std.specs.Prelude.{◌≡◌, [], ◌∷◌, MatchResult};
 ghost use Rattle.np_worker.specs.Prelude.{Drives, driving, launched};
-ghost use Rattle.np_worker.specs.Part.{RemovalEnds};
+ghost use Rattle.np_worker.specs.Stage.{RemovalEnds};
 
 use crate::next::Next;
 use np_cloud::{Driver, LaunchFault, Tag};

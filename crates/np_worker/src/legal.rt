@@ -1,17 +1,16 @@
 //! Laws on legal journals and on answers. Each function does nothing: its contract is the law.
 
 ghost use Rattle.std.specs.Prelude.{◌≡◌, ℕ, List, [], ◌∷◌, ◌++◌, Some, Ok, true, take, slice_get, if◌then◌else◌};
-ghost use Rattle.np_changes.specs.Prelude.{Configuration, Entry, Janitor, NodeId, PoolId, Runs, SessionId, State, after, is_wanted, judge};
+ghost use Rattle.np_worker.specs.Lower.{Configuration, Entry, Janitor, NodeId, PoolId, Runs, SessionId, State, after, is_current, is_wanted, judge};
 ghost use Rattle.np_event.specs.declared.event.Event.TheVariants as ev;
 ghost use Rattle.np_event.specs.declared.reply.Done.TheVariants as done;
 ghost use Rattle.np_event.specs.declared.reply.Reply.TheVariants as reply;
-ghost use Rattle.np_useful.specs.Sessions.{is_current};
 ghost use Rattle.np_worker.specs.declared.ask.Ask.{Ask};
 ghost use Rattle.np_worker.specs.declared.ask.Turn.{Turn};
 ghost use Rattle.np_worker.specs.declared.ask.Turn.TheVariants as turn;
 ghost use Rattle.np_worker.specs.Answers.{IsReplied, answers, answers_sweep};
-ghost use Rattle.np_worker.specs.Asks.{recorded};
-ghost use Rattle.np_worker.specs.Legal.{is_legal};
+ghost use Rattle.np_worker.specs.Move.{recorded};
+ghost use Rattle.np_worker.specs.Replies.{is_legal};
 
 /// A legal journal is one that the machine makes.
 #[tactic(auto, using(crate::proofs::Journals::legal_laws))]

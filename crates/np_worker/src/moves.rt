@@ -1,15 +1,10 @@
 //! Laws on the moves of a round. Nothing here runs: each function states a theorem.
 
 ghost use Rattle.std.specs.Prelude.{◌≡◌, ◌⊎◌, ◌+◌, ◌++◌, List, map, length, Contains};
-ghost use Rattle.np_desk.specs.Pass.{Sight};
-ghost use Rattle.np_changes.specs.Prelude.{Entry, PoolId, RequesterId};
-ghost use Rattle.np_cloud.specs.declared.driver.Server.{Server};
-ghost use Rattle.np_cloud.specs.declared.driver.Launch.{Launch};
+ghost use Rattle.np_worker.specs.Lower.{Entry, Launch, PoolId, RequesterId, Server, Sight};
 ghost use Rattle.np_worker.specs.Drive.{servers_after};
-ghost use Rattle.np_worker.specs.Move.{Move, entries_of, launches_of};
-ghost use Rattle.np_worker.specs.Phase.{Phase, Work, Leads, OwesRemoval, ended, first_phase, of_pool, of_requester, of_reaper, rests};
+ghost use Rattle.np_worker.specs.Move.{Move, entries_of, launches_of, Phase, Work, Leads, OwesRemoval, ended, first_phase, of_pool, of_requester, of_reaper, rests, Walk};
 ghost use Rattle.np_worker.specs.Trace.{AreAsksOf, AreInOrder, AreNamed, AreReported, EndsWhereFull, Gains, IsPastJanitor, IsPastLauncher, TookAll, WasFull, WasRemoved, is_janitor_act, is_launcher_act, is_lone_act, owed_tags, starts_of, tags_launched};
-ghost use Rattle.np_worker.specs.Walk.{Walk};
 
 use crate::{Ask, Turn};
 use np_desk::Turns;

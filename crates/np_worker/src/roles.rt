@@ -1,10 +1,9 @@
 //! The launcher and the janitor of a pool.
 
 ghost use Rattle.std.specs.Prelude.{◌≡◌, IfOk, Some};
-ghost use Rattle.np_text.specs.declared.id.Role.TheVariants.{Launcher};
+ghost use Rattle.np_worker.specs.Lower.{Launcher};
 ghost use Rattle.np_worker.specs.Prelude.{Work, acting, driving, recorded, sweeps};
-ghost use Rattle.np_worker.specs.Part.{Counts, Part, Comes};
-ghost use Rattle.np_worker.specs.Stage.{IsOfWork, WentOn, phase_of};
+ghost use Rattle.np_worker.specs.Stage.{Counts, Part, Comes, IsOfWork, WentOn, phase_of};
 
 use crate::act::{ACTS, take_turns};
 use crate::driver::{launch_server, remove_server};

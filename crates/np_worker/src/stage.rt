@@ -2,7 +2,7 @@
 
 ghost use Rattle.std.specs.Prelude.{◌≡◌, Some};
 ghost use Rattle.np_worker.specs.declared.ask.Ask.{Ask};
-ghost use Rattle.np_worker.specs.Phase.{acting, after_act, after_entry, after_look, after_report, after_role, after_turn, start_of};
+ghost use Rattle.np_worker.specs.Move.{acting, after_act, after_entry, after_look, after_report, after_role, after_turn, start_of};
 ghost use Rattle.np_worker.specs.Stage.{phase_of, ask_of};
 
 use crate::{Ask, Start, Turn};

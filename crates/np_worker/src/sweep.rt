@@ -2,7 +2,7 @@
 
 ghost use Rattle.std.specs.Prelude.{◌≡◌, ◌≤◌, length, Contains, IfOk, IfSome, Some};
 ghost use Rattle.np_worker.specs.Prelude.{driving, is_unwanted, recorded, sweeps};
-ghost use Rattle.np_worker.specs.Part.{Counts, Part, SweepsOne, SweepsAll};
+ghost use Rattle.np_worker.specs.Stage.{Counts, Part, SweepsOne, SweepsAll};
 
 use crate::act::take_turn;
 use crate::driver::remove_server;

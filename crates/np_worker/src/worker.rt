@@ -1,13 +1,12 @@
 //! Workers, and their rounds.
 
 ghost use Rattle.std.specs.Prelude.{◌≡◌, ℕ, ◌+◌, length, Bool, IfOk, Some};
-ghost use Rattle.np_changes.specs.Prelude.{Configuration};
-ghost use Rattle.np_text.specs.declared.id.Role.TheVariants.{Launcher};
+ghost use Rattle.np_worker.specs.Lower.{Configuration, Launcher};
 ghost use Rattle.np_worker.specs.Prelude.{acting, driving, first_phase, recorded};
 ghost use Rattle.np_worker.specs.Board.{AnswersAsBoard, HasRoundAtBoard};
-ghost use Rattle.np_worker.specs.Part.{Counts, Part, SweepsAll, is_full};
+ghost use Rattle.np_worker.specs.Stage.{Counts, Part, SweepsAll, is_full};
 ghost use Rattle.np_worker.specs.Moves.{HasMoves};
-ghost use Rattle.np_worker.specs.Round.{EndsAs, work_of, driving_of};
+ghost use Rattle.np_worker.specs.Hosting.{EndsAs, work_of, driving_of};
 
 use crate::act::act_often;
 use crate::next::Next;

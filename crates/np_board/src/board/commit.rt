@@ -1,13 +1,9 @@
 //! What a commit tests.
 
 ghost use Rattle.std.specs.Prelude.{◌≡◌, ◌≤◌, ◌<◌, true, length, IfSome, MatchOption, None, find, option_and_then, slice_get, if◌then◌else◌};
-ghost use Rattle.np_changes.specs.Prelude.{is_some, remove_first};
-ghost use Rattle.np_watch.specs.Fresh.{AreFreshPaths};
-ghost use Rattle.np_watch.specs.Watching.{is_fired};
-ghost use Rattle.np_planned.specs.Spots.{paths_at};
-ghost use Rattle.np_planned.specs.Stale.{StaleHasParent};
+ghost use Rattle.np_board.specs.Lower.{AreFreshPaths, StaleHasParent, is_fired, is_some, paths_at, remove_first};
 ghost use Rattle.np_board.specs.Outstanding.{AreOfSpots};
-ghost use Rattle.np_board.specs.PlanTested.{IsStaleSpot, fired_spot, told_by};
+ghost use Rattle.np_board.specs.Batch.{IsStaleSpot, fired_spot, told_by};
 
 use crate::board::plan::{PlanTurn, Watched};
 use np_path::Path;

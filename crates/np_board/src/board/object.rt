@@ -8,8 +8,8 @@ use np_event::Entry;
 use np_text::NoMemory;
 
 impl SeqObject for Board {
-    ghost use Rattle.np_worker.specs.Legal.{is_legal};
-    ghost use Rattle.np_board.specs.PlanAnswers.{plan_answers, plan_recorded};
+    ghost use Rattle.np_board.specs.Lower.{is_legal};
+    ghost use Rattle.np_board.specs.Batch.{plan_answers, plan_recorded};
 
     type Ask = PlanAsk;
 

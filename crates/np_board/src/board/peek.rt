@@ -1,8 +1,8 @@
 //! Choosing an event, and watching its spots.
+#![tactic(auto, using(crate::proofs::BoardTurns::turned))]
 
 ghost use Rattle.std.specs.Prelude.{◌≡◌, ◌≤◌, true, IfOk, MatchOption, length};
-ghost use Rattle.np_text.specs.declared.id.Role.TheVariants.{Launcher};
-ghost use Rattle.np_worker.specs.Prelude.{IsUseful, is_planned};
+ghost use Rattle.np_board.specs.Lower.{IsUseful, Launcher, is_planned};
 ghost use Rattle.np_board.specs.Outstanding.{IsNewPlan, watches_of};
 
 use crate::board::plan::{Plan, Watched};

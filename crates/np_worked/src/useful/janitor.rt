@@ -2,7 +2,7 @@
 
 ghost use Rattle.np_config.specs.declared.row.FaultKind.TheVariants as kind;
 ghost use Rattle.np_event.specs.declared.event.Event.TheVariants as ev;
-ghost use Rattle.np_useful.specs.Useful.{IsUseful};
+ghost use Rattle.np_worked.specs.Lower.{IsUseful};
 ghost use Rattle.np_worked.specs.Examples.{IsUseless, HasReplies, after_first, other_pool, left_alone_site};
 ghost use Rattle.np_worked.specs.Jobs.{crashed_requester, declined_by_all, finished_by_the_janitor, plain_path, retries_spent, withdrawn_request};
 ghost use Rattle.np_worked.specs.Nodes.{expiry_during_a_launch, freed_node, hold_age, ready_age, swept_servers};

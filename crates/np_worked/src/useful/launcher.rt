@@ -4,7 +4,7 @@ ghost use Rattle.std.specs.Prelude.{◌≡◌, Some, true, false};
 ghost use Rattle.np_text.specs.declared.word.Reason.TheVariants as reason;
 ghost use Rattle.np_event.specs.declared.event.Event.TheVariants as ev;
 ghost use Rattle.np_event.specs.declared.event.Outcome.TheVariants as outcome;
-ghost use Rattle.np_useful.specs.Useful.{IsUseful, is_maker_of};
+ghost use Rattle.np_worked.specs.Lower.{IsUseful, is_maker_of};
 ghost use Rattle.np_worked.specs.Examples.{IsUseless, HasReplies, after_first, two_sessions, unoffered_site, unoffered, small_site, small, failing_site, failing, window_site, concurrency_site, two_jobs, waiting_site, waiting};
 ghost use Rattle.np_worked.specs.Jobs.{fail_declined, plain_path, withdrawn_request};
 ghost use Rattle.np_worked.specs.Shares.{half_built_requests, tenant_limit};

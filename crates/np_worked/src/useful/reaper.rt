@@ -1,9 +1,8 @@
 //! The reaper's rows, and who stopped for good.
 
-ghost use Rattle.np_text.specs.declared.id.Role.TheVariants.{Reaper};
+ghost use Rattle.np_worked.specs.Lower.{IsUseful, Reaper};
 ghost use Rattle.np_config.specs.declared.row.FaultKind.TheVariants as kind;
 ghost use Rattle.np_event.specs.declared.event.Event.TheVariants as ev;
-ghost use Rattle.np_useful.specs.Useful.{IsUseful};
 ghost use Rattle.np_worked.specs.Examples.{IsUseless, HasReplies, after_first, struck_site, struck};
 ghost use Rattle.np_worked.specs.Site.{session, launcher};
 

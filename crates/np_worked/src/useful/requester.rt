@@ -2,7 +2,7 @@
 
 ghost use Rattle.np_text.specs.declared.word.EndAs.TheVariants as end;
 ghost use Rattle.np_event.specs.declared.event.Event.TheVariants as ev;
-ghost use Rattle.np_useful.specs.Useful.{IsUseful};
+ghost use Rattle.np_worked.specs.Lower.{IsUseful};
 ghost use Rattle.np_worked.specs.Examples.{IsUseless, HasReplies, after_first, window_site, moved_window};
 ghost use Rattle.np_worked.specs.Jobs.{plain_path, served_job};
 ghost use Rattle.np_worked.specs.Shares.{semaphores_all_or_none, short_quota};

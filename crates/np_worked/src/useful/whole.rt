@@ -1,8 +1,6 @@
 //! Whole states and journals: settled or not, driven or not.
 
-ghost use Rattle.np_machine.specs.Prelude.{after, start};
-ghost use Rattle.np_useful.specs.Settled.{IsSettled};
-ghost use Rattle.np_useful.specs.Driven.{Driven};
+ghost use Rattle.np_worked.specs.Lower.{Driven, IsSettled, after, start};
 ghost use Rattle.np_worked.specs.Examples.{HasReplies, expiring_site, all_kinds, first_tick, empty_site, quiet_site, quiet, moved_window, window_site};
 ghost use Rattle.np_worked.specs.Jobs.{plain_path};
 

@@ -1,14 +1,12 @@
 //! What a journal and its drivers say of one another.
 
 ghost use Rattle.std.specs.Prelude.{◌≡◌, ℕ, List, [], ◌∷◌, ◌++◌, Bool, true, false};
-ghost use Rattle.np_changes.specs.Prelude.{Configuration, Entry, NodeId, PoolId, Runs, SessionId, SomeTurn, after, turns};
+ghost use Rattle.np_worker.specs.Lower.{BeginsLaunch, Configuration, Entry, NodeId, PoolId, Runs, SessionId, SomeTurn, after, turns};
 ghost use Rattle.np_event.specs.declared.event.Event.TheVariants as ev;
-ghost use Rattle.np_useful.specs.Driven.{BeginsLaunch};
-ghost use Rattle.np_worker.specs.Players.{HaveDriven, Player, drivings_of};
-ghost use Rattle.np_worker.specs.Played.{IsRound};
-ghost use Rattle.np_worker.specs.Carried.{AreCarried, FailOnlyFull};
-ghost use Rattle.np_worker.specs.Reports.{was_node_of};
-ghost use Rattle.np_worker.specs.Hosting.{BeginAfter, Earlier, HaveHosted, HaveSoundness, IsHosted};
+ghost use Rattle.np_worker.specs.Servers.{HaveDriven, Player, drivings_of};
+ghost use Rattle.np_worker.specs.Board.{IsRound};
+ghost use Rattle.np_worker.specs.Hosting.{AreCarried, FailOnlyFull, BeginAfter, Earlier, HaveHosted, HaveSoundness, IsHosted};
+ghost use Rattle.np_worker.specs.Drive.{was_node_of};
 
 /// A node whose launch was begun for a pool, as a driven journal has it, was of the pool: a report on
 /// it is one of the pool's.

@@ -1,13 +1,11 @@
 //! Driven journals.
 
 ghost use Rattle.std.specs.Prelude.{◌≡◌, ◌≤◌, List, [], ◌∷◌, ◌++◌, map, length, All, Bool, Some, false};
-ghost use Rattle.np_changes.specs.Prelude.{Configuration, Entry, Runs, after};
+ghost use Rattle.np_worker.specs.Lower.{ArePlanned, Configuration, Entry, Runs, after};
 ghost use Rattle.np_event.specs.declared.event.Event.TheVariants as ev;
-ghost use Rattle.np_cloud.specs.Clouds.{ArePlanned};
 ghost use Rattle.np_worker.specs.Prelude.{Driven, DrivenBy, Driving, is_tick};
-ghost use Rattle.np_worker.specs.Planned.{DrivenAs, PlannedBy, PlannedDriven};
-ghost use Rattle.np_worker.specs.Players.{AreNumbered, HaveDrivenAs, Player, WasAnswered, drivings_of};
-ghost use Rattle.np_worker.specs.Played.{IsRound};
+ghost use Rattle.np_worker.specs.Servers.{DrivenAs, PlannedBy, PlannedDriven, AreNumbered, HaveDrivenAs, Player, WasAnswered, drivings_of};
+ghost use Rattle.np_worker.specs.Board.{IsRound};
 
 /// Before the first entry nothing was driven, and players without servers have none that was not
 /// named.

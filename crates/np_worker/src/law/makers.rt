@@ -1,10 +1,9 @@
 //! Of which role entries are.
 
 ghost use Rattle.std.specs.Prelude.{List, ℕ, Bool, Contains};
-ghost use Rattle.np_changes.specs.Prelude.{Configuration, Entry};
-ghost use Rattle.np_worker.specs.Makers.{IsOfWorker};
-ghost use Rattle.np_worker.specs.Players.{Player};
-ghost use Rattle.np_worker.specs.Played.{IsRound, PlayerEnd, PlaysFrom};
+ghost use Rattle.np_worker.specs.Lower.{Configuration, Entry};
+ghost use Rattle.np_worker.specs.Board.{IsOfWorker, IsRound, PlayerEnd, PlaysFrom};
+ghost use Rattle.np_worker.specs.Servers.{Player};
 
 /// Each entry that a worker's round makes is of a role that the worker acts for: the session that
 /// makes it is of the role, a session that it opens is of the role, and only the reaper crashes and

@@ -1,12 +1,10 @@
 //! The servers of a pool's driver.
 
 ghost use Rattle.std.specs.Prelude.{Bool, ◌≡◌, ◌⊎◌, List, All, Contains};
-ghost use Rattle.np_changes.specs.Prelude.{Configuration, Entry, PoolId};
+ghost use Rattle.np_worker.specs.Lower.{Configuration, Entry, PoolId};
 ghost use Rattle.np_worker.specs.Prelude.{Driving, Move, Server, WasKept, ended, of_pool};
-ghost use Rattle.np_worker.specs.Planned.{DrivenAs};
-ghost use Rattle.np_worker.specs.Players.{Player, WasAnswered};
-ghost use Rattle.np_worker.specs.Played.{PlayerEnd, PlaysFrom};
-ghost use Rattle.np_worker.specs.Servers.{HasServers, IsOfRound, IsOnlyNodeOfItsNumber, IsOnlyOfItsNumber, IsSweptAfter, KeepsJanitor, LeftWithCause, StaysKept, WasDue, WasUnwanted};
+ghost use Rattle.np_worker.specs.Servers.{DrivenAs, Player, WasAnswered, HasServers, IsOfRound, IsOnlyNodeOfItsNumber, IsOnlyOfItsNumber, IsSweptAfter, KeepsJanitor, LeftWithCause, StaysKept, WasDue, WasUnwanted};
+ghost use Rattle.np_worker.specs.Board.{PlayerEnd, PlaysFrom};
 
 /// A server that a pool's driver had before the round or launched in it, and that it no longer has,
 /// left with a cause. Either a node of the pool was due with a server of its number at some time of

@@ -1,11 +1,6 @@
-use Rattle.np_board.proofs.Prelude.{IfOk-weaker, Runs-first, RunsOn-fits, RunsOn-reached, later-than-itself, ran_of}
+use Rattle.np_board.proofs.Prelude.{IfOk-weaker, Runs-first, RunsOn-fits, ran_of}
 use Rattle.np_board.proofs.BoardTurns.{act-taken, idle-taken}
 use Rattle.np_board.proofs.turns.act.Goals as goal
-
--- the event that was chosen is useful
-
-pub choose-requires-clause-reached : goal.choose-requires-clause-reached
-choose-requires-clause-reached c = RunsOn-reached _ _ _ _ c.know_soundness.ensures.runs
 
 pub choose-requires-clause-fits : goal.choose-requires-clause-fits
 choose-requires-clause-fits c = RunsOn-fits _ _ _ _ c.know_soundness.ensures.site c.know_soundness.ensures.runs
@@ -16,6 +11,3 @@ returns-in-None-clause-turn c = idle-taken (ran_of c.args.machine.now) c.args.ro
 pub returns-in-Some-clause-turn : goal.returns-in-Some-clause-turn
 returns-in-Some-clause-turn c =
     IfOk-weaker c.record.result _ _ (λ t taken. act-taken (ran_of c.args.machine.now) (ran_of c.record.new.machine) c.args.role c.in-Some.event t (Runs-first _ _ _ _ c.requires c.know_soundness.ensures.runs) c.in-Some.ensures taken) c.record.ensures.turn
-
-pub returns-in-None-clause-later : goal.returns-in-None-clause-later
-returns-in-None-clause-later c = later-than-itself c.args.machine.now.store

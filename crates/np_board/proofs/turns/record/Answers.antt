@@ -1,4 +1,4 @@
-use Rattle.np_board.proofs.Prelude.{Entry, List, Runs-first, answer-first, applied-first, arith, later-than-itself, length, ran_of, subst, ◌<◌, ◌∙◌}
+use Rattle.np_board.proofs.Prelude.{Entry, List, Runs-first, answer-first, applied-first, arith, length, ran_of, subst, ◌<◌, ◌∙◌}
 use Rattle.np_board.proofs.BoardTurns.{do-taken}
 use Rattle.np_board.proofs.turns.record.Goals as goal
 
@@ -8,6 +8,3 @@ returns-clause-turn c =
     let room : length c.args.machine.now.journal < 262144 = subst (λ (xs : List Entry). length xs < 262144) c.journal.ensures told in
     do-taken (ran_of c.args.machine.now) (ran_of c.apply.new.self) c.args.event c.in_ok-reply.reply (Runs-first _ _ _ _ c.requires c.know_soundness.ensures.runs) room
     (c.in_ok-reply.ensures.reply ∙ answer-first c.args.machine.now.earlier (ran_of c.args.machine.now) c.args.event c.requires) (c.in_ok-reply.ensures.ok ∙ applied-first c.args.machine.now.earlier (ran_of c.args.machine.now) c.args.event c.requires)
-
-pub returns-then-journal-ge-JOURNAL_ENTRIES-clause-later : goal.returns-then-journal-ge-JOURNAL_ENTRIES-clause-later
-returns-then-journal-ge-JOURNAL_ENTRIES-clause-later c = later-than-itself c.args.machine.now.store

@@ -1,4 +1,4 @@
-use Rattle.np_board.proofs.Prelude.{IfOk-weaker, IsNotKept, Janitor, Runs-first, current-has, inl, inr, later-than-itself, ran_of, sym}
+use Rattle.np_board.proofs.Prelude.{IfOk-weaker, IsNotKept, Janitor, Runs-first, current-has, inl, inr, ran_of, sym}
 use Rattle.np_board.proofs.BoardTurns.{kept-taken, swept-taken, sweep-taken}
 use Rattle.np_board.proofs.turns.sweep.Goals as goal
 
@@ -19,12 +19,3 @@ pub returns-clause-turn : goal.returns-clause-turn
 returns-clause-turn c =
     let lost : IsNotKept c.args.pool c.args.node c.args.server c.args.machine.now.state = record { current = current-has (Janitor c.args.pool) c.args.machine.now.state c.in-Some.session c.in-Some.ensures; unwanted = sym c.if-is_wanted.ensures } in
     IfOk-weaker c.record.result _ _ (λ t taken. sweep-taken (ran_of c.args.machine.now) (ran_of c.record.new.machine) c.args.pool c.in-Some.session c.args.node c.args.server t (Runs-first _ _ _ _ c.requires c.know_soundness.ensures.runs) lost (sym c.if-was_swept.ensures) c.in-Some.ensures taken) c.record.ensures.turn
-
-pub returns-in_default-clause-later : goal.returns-in_default-clause-later
-returns-in_default-clause-later c = later-than-itself c.args.machine.now.store
-
-pub returns-then-is_wanted-clause-later : goal.returns-then-is_wanted-clause-later
-returns-then-is_wanted-clause-later c = later-than-itself c.args.machine.now.store
-
-pub returns-then-was_swept-clause-later : goal.returns-then-was_swept-clause-later
-returns-then-was_swept-clause-later c = later-than-itself c.args.machine.now.store

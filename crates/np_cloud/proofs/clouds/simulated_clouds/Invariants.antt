@@ -1,5 +1,5 @@
 use Rattle.std.proofs.Common.{◌≡◌, ◌≤◌, ◌-◌, length}
-use Rattle.np_cloud.specs.Clouds.{simulations}
+use Rattle.np_cloud.specs.Inventory.{simulations}
 use Rattle.np_cloud.proofs.clouds.simulated_clouds.Given as goal
 
 abbrev pub invariant-loop-alloc : goal.invariant-loop-alloc

@@ -13,19 +13,11 @@ slot = Option.the_type watched.the_row
 pub crosses-requires-2-send-T : goal.crosses-requires-2-send-T
 crosses-requires-2-send-T c κs = record {
   owned = λ x vs inside. (
-    (λ parts. (
-      tt,
-      (
-        search rules,
-        (
-          c.tables_cross.ensures.send.owned inside.0.tables parts.1.0,
-          (
-            c.index_crosses.ensures.send.owned inside.0.index parts.1.1.0,
-            (search rules, (c.crosses.ensures.send.owned inside.0.journal parts.1.1.1.1.0, (c.store_crosses.ensures.send.owned inside.0.store parts.1.1.1.1.1.0, tt))),
-          ),
-        ),
-      ),
-    )),
+    (λ parts.
+        let tables = c.tables_cross.ensures.send.owned inside.0.tables parts.1.0 in
+        let index = c.index_crosses.ensures.send.owned inside.0.index parts.1.1.0 in
+        let journal = c.crosses.ensures.send.owned inside.0.journal parts.1.1.1.1.0 in
+        (tt, (search rules, (tables, (index, (search rules, (journal, (c.store_crosses.ensures.send.owned inside.0.store parts.1.1.1.1.1.0, tt)))))))),
     tt,
   );
   leaving = λ k. Quiet-if (k (of_param 0)) unseen unseen (λ x w. tt) (λ x w. tt);
@@ -33,22 +25,11 @@ crosses-requires-2-send-T c κs = record {
 
 pub crosses-requires-2-sync-T : goal.crosses-requires-2-sync-T
 crosses-requires-2-sync-T c κs = record {
-  shared = λ x b o κ inside. (
-    (
-      (
-        search rules,
-        (
-          c.tables_cross.ensures.sync.shared inside.0.tables b (o + 0) κ,
-          (
-            c.index_crosses.ensures.sync.shared inside.0.index b (o + 528) κ,
-            (search rules, (c.crosses.ensures.sync.shared inside.0.journal b (o + 920) κ, (c.store_crosses.ensures.sync.shared inside.0.store b (o + 944) κ, tt))),
-          ),
-        ),
-      ),
-      λ q. tt,
-    ),
-    tt,
-  );
+  shared = λ x b o κ inside.
+      let tables = c.tables_cross.ensures.sync.shared inside.0.tables b (o + 0) κ in
+      let index = c.index_crosses.ensures.sync.shared inside.0.index b (o + 528) κ in
+      let journal = c.crosses.ensures.sync.shared inside.0.journal b (o + 920) κ in
+      (((search rules, (tables, (index, (search rules, (journal, (c.store_crosses.ensures.sync.shared inside.0.store b (o + 944) κ, tt)))))), λ q. tt), tt);
 }
 
 pub crosses-requires-6-send-T : goal.crosses-requires-6-send-T

@@ -44,5 +44,5 @@ returns c =
     let tree : c.tree.result.now ≡ c.self.inside.machine.store = c.tree.ensures ∙ c.store.ensures.same in
     let there : plan_of c.args.pool c.self.inside.plans ≡ Some x = sym c.in-Some.ensures.plan in
     let fired : c.take_news-news.result ≡ fired_spot m.tree x = subst (λ (t : TreeState). c.take_news-news.result ≡ fired_spot t x) tree c.take_news-news.ensures.spot in
-    let taken : TakenNews m c.args.pool (told_by c.take_news-news.result) new = news-taken m new c.args.pool x c.take_news-news.result there (plan-out m c.args.pool x c.self.invariant.1 there).watches fired (ap (λ (plans : List (Option Outstanding)). planning_of c.self.inside.machine c.self.inside.commits plans) (less c)) in
+    let taken : TakenNews m c.args.pool (told_by c.take_news-news.result) new = news-taken m c.args.pool x there c.take_news-news.result new (plan-out m c.args.pool x c.self.invariant.1 there).watches fired (ap (λ (plans : List (Option Outstanding)). planning_of c.self.inside.machine c.self.inside.commits plans) (less c)) in
     rw c.told_by.ensures (subst (λ (k : Planning). TakenNews k c.args.pool (told_by c.take_news-news.result) new) c.self.view_is taken)

@@ -4,10 +4,7 @@ use Rattle.np_board.proofs.board.Board.test.Goals as goal
 
 pub stale_spot-requires-clause-few : goal.stale_spot-requires-clause-few
 stale_spot-requires-clause-few c =
-    let m = c.self.inside.machine in
-    let runs : Runs m.configuration m.journal m.state = subst (λ (k : Planning). Runs k.configuration k.journal k.state) (sym c.self.view_is) c.know_soundness.ensures.runs in
-    let holds : Holds m.configuration m.state m.store = subst (λ (t : TreeState). Holds m.configuration m.state t) c.store.ensures.same c.store.ensures.held in
-    plan-few (planning_of m c.self.inside.commits c.self.inside.plans) c.args.pool c.in-Some.watched.now c.self.invariant.1 (sym c.in-Some.ensures) c.spots_have_paths.ensures.paths runs holds
+    plan-few (planning_of c.self.inside.machine c.self.inside.commits c.self.inside.plans) c.args.pool c.in-Some.watched.now c.self.invariant.1 (sym c.in-Some.ensures) c.spots_have_paths.ensures.paths
 
 pub stale_spot-requires-clause-paths : goal.stale_spot-requires-clause-paths
 stale_spot-requires-clause-paths c =
@@ -19,7 +16,7 @@ stale_spot-requires-clause-parent c =
     let runs : Runs m.configuration m.journal m.state = subst (λ (k : Planning). Runs k.configuration k.journal k.state) (sym c.self.view_is) c.know_soundness.ensures.runs in
     let holds : Holds m.configuration m.state m.store = subst (λ (t : TreeState). Holds m.configuration m.state t) c.store.ensures.same c.store.ensures.held in
     subst (λ (t : TreeState). StaleHasParent t c.in-Some.watched.now.plan.at c.in-Some.watched.now.paths) (sym (c.tree-tree.ensures ∙ c.store.ensures.same))
-    (plan-parent (planning_of m c.self.inside.commits c.self.inside.plans) c.args.pool c.in-Some.watched.now c.self.invariant.1 (sym c.in-Some.ensures) c.spots_have_paths.ensures.parents runs holds)
+    (plan-parent (planning_of m c.self.inside.commits c.self.inside.plans) c.args.pool c.in-Some.watched.now c.self.invariant.1 (sym c.in-Some.ensures) runs holds c.spots_have_paths.ensures.parents)
 
 pub returns-then-journal-ge-JOURNAL_ENTRIES : goal.returns-then-journal-ge-JOURNAL_ENTRIES
 returns-then-journal-ge-JOURNAL_ENTRIES c =

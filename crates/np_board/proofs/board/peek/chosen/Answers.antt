@@ -1,9 +1,6 @@
 use Rattle.np_board.proofs.Prelude.{Launcher, RunsOn-fits, RunsOn-reached, false, outside-idle, takes_part, ◌≡◌}
 use Rattle.np_board.proofs.board.peek.chosen.Goals as goal
 
-pub choose_planned-requires-clause-reached : goal.choose_planned-requires-clause-reached
-choose_planned-requires-clause-reached c = RunsOn-reached _ _ _ _ c.know_soundness.ensures.runs
-
 pub choose_planned-requires-clause-fits : goal.choose_planned-requires-clause-fits
 choose_planned-requires-clause-fits c = RunsOn-fits _ _ _ _ c.know_soundness.ensures.site c.know_soundness.ensures.runs
 

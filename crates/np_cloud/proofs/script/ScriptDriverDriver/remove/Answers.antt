@@ -1,6 +1,6 @@
 use Rattle.std.proofs.Common.{◌≡◌, ◌∙◌, refl, ap, subst, true, ℕ, List, Contains}
-use Rattle.np_io.specs.Counts.{counted}
-use Rattle.np_cloud.specs.Script.{Script}
+use Rattle.np_io.specs.Memory.{counted}
+use Rattle.np_cloud.specs.Inventory.{Script}
 use Rattle.np_cloud.proofs.script.ScriptDriverDriver.remove.Goals as goal
 
 -- what is planned of the fields is planned of the script
