@@ -1,5 +1,5 @@
 -- a list of facts that grows
-use Rattle.np_causes.proofs.Prelude.{All-nil, All-push, Configuration, EachAfter-push, Explains, Fact, Follows, Grows, IfNamed, IfTold, IsNamed, IsSound, IsTold, IsTrueOf, JobId, List, NamesTold, None, Option, Some, State, Tells, Thing, about_of, arith, cases_lt, get_or, inl, inr, length, named_by, past-end, refl, slice_get, slice_get-get_or, slice_get-left, slice_get-middle, slice_get_within, subst, sym, true, ℕ, [], ◌++◌, ◌+◌, ◌<◌, ◌∙◌, ◌∷◌, ◌≡◌, ◌≤◌, ◌⊎◌}
+use Rattle.np_causes.proofs.Prelude.{All-nil, All-push, Configuration, EachAfter-push, Explains, Fact, Follows, Grows, IfNamed, IfTold, IsNamed, IsSound, IsTold, IsTrueOf, JobId, List, NamesTold, None, Option, Some, State, Tells, Thing, about_of, arith, cases_lt, get_or, inl, inr, length, named_by, past-end, refl, slice_get, slice_get-get_or, slice_get-left, slice_get-middle, slice_get_within, subst, sym, ℕ, [], ◌++◌, ◌+◌, ◌<◌, ◌∙◌, ◌∷◌, ◌≡◌, ◌≤◌}
 
 -- ## one fact more
 
@@ -74,9 +74,6 @@ module _ (c : Configuration) (s : State) where
         | inl low ↦ told_later xs ys it grows (before k low it names)
         | inr high ↦ (let here : k ≡ end = omega arith in let same : found ≡ Some it = cc in rw same at told)
       ]
-
-pub grows_on : (xs ys zs : List Fact) → Grows xs ys → Grows ys zs → Grows xs zs
-grows_on xs ys zs first second at f is = second at f (first at f is)
 
 pub told_there : (xs : List Fact) (at : ℕ) (it seen : Thing) (d : Fact) → at < length xs → seen ≡ about_of (get_or xs at d) → seen ≡ it → IsTold xs it
 told_there xs at it seen d within reads same = record { at = at; fact = get_or xs at d; stands = slice_get-get_or xs at d within; about = sym reads ∙ same }

@@ -1,5 +1,5 @@
 -- the places of what a fact names
-use Rattle.np_causes.proofs.Prelude.{Asked, Configuration, List, NodeId, None, Option, Pool, RequestId, RequestRecord, Role, Some, State, Thing, a_node, ap, arith, asked_of, get_or-map-range_with_len, if_live, length, length-map-range_with_len, map, nodes_in, offers_for, option_map, option_map_or, range_with_len, refl, request_in, sessions_for, slice_get, slice_get-get_or, slice_get-map, slice_get_past, slice_get_within, suc, sym, zero, ℕ, [], ◌++◌, ◌+◌, ◌-◌, ◌<◌, ◌∙◌, ◌∷◌, ◌≡◌, ◌≤◌}
+use Rattle.np_causes.proofs.Prelude.{Asked, Configuration, List, NodeId, None, Option, Pool, RequestId, Role, Some, State, Thing, a_node, ap, arith, asked_of, get_or-map-range_with_len, if_live, length, length-map-range_with_len, map, nodes_in, offers_for, option_map, range_with_len, refl, request_in, sessions_for, slice_get, slice_get-get_or, slice_get-map, slice_get_past, slice_get_within, suc, zero, ℕ, [], ◌++◌, ◌+◌, ◌-◌, ◌<◌, ◌∙◌, ◌∷◌, ◌≡◌, ◌≤◌}
 
 -- ## one list and then another
 
@@ -17,12 +17,7 @@ in_second (x ∷ xs) ys (suc at) past = in_second xs ys at (omega arith) ∙ ap 
 
 pub seen_at : {A B C : Type 0} (view : A → B) (f : A → C) (g : B → C) → ((e : A) → f e ≡ g (view e)) → (xs : List A) (at : ℕ) (o : Option B)
     → o ≡ option_map view (slice_get xs at) → slice_get (map f xs) at ≡ option_map g o
-seen_at view f g same [] at o is = ap (option_map g) (sym is)
-seen_at view f g same (x ∷ xs) zero o is = ap Some (same x) ∙ ap (option_map g) (sym is)
-seen_at view f g same (x ∷ xs) (suc at) o is = seen_at view f g same xs at o is
-
-pub mapped_at : {A C : Type 0} (f : A → C) (xs : List A) (at : ℕ) (o : Option A) → o ≡ slice_get xs at → slice_get (map f xs) at ≡ option_map f o
-mapped_at f xs at o is = slice_get-map f xs at ∙ ap (option_map f) (sym is)
+seen_at view f g same xs at o is = grind (arith, slice_get-map f xs at, same)
 
 -- ## numbers from one on
 
@@ -57,12 +52,4 @@ no_session role s at past = range_past (λ (k : ℕ). if_live role s (record { 0
 
 pub node_there : (r : RequestId) (s : State) (at : ℕ) (a : Asked) (n : NodeId) → Some a ≡ option_map asked_of (request_in r s.requests) → Some n ≡ slice_get a.nodes at
     → Some (Some (Thing.Node n)) ≡ slice_get (map a_node (nodes_in r s)) at
-node_there r s at a n asked there = by (request_in r s.requests) asked
-  where
-    by : (o : Option RequestRecord) → Some a ≡ option_map asked_of o → Some (Some (Thing.Node n)) ≡ slice_get (map a_node (option_map_or (λ request. request.nodes) o [])) at
-    by None is = absurd cc
-    by (Some k) is =
-        let whole : a ≡ asked_of k = cc in
-        let same : a.nodes ≡ k.nodes = ap (λ (x : Asked). x.nodes) whole in
-        let here : Some n ≡ slice_get k.nodes at = there ∙ ap (λ (ns : List NodeId). slice_get ns at) same in
-        sym (mapped_at a_node k.nodes at (Some n) here)
+node_there r s at a n asked there = grind (arith, slice_get-map a_node (nodes_in r s) at)

@@ -1,13 +1,8 @@
 -- what each fact is about, and what it says of a state
 use Rattle.std.specs.Prelude.{◌≡◌, ◌==◌, ◌-◌, true, false, Some, None, Option, find, length, nat_lt, slice_get, option_and_then}
-use Rattle.np_changes.specs.Prelude.{Configuration, JobId, LabelId, NodeId, NodeState, Phase, PoolId, Reason, RequestId, RequestState, RequesterId, SemId, SessionId, State, TenantId, blocking, count_of, count_of_tenant, first_full, first_of, handles_of, has_handle, is_request, next_label, node_holder, node_in, option_map, option_map_or, owner_of, registered, request_holder, request_in, same_request, session_of}
-use Rattle.np_machine.specs.Reasons.{is_stuck_at}
-use Rattle.np_look.specs.Readers.{current_of, has_request_under_way, unfinished_of}
-use Rattle.np_useful.specs.Launcher.{concurrency_of, has_turn_left}
-use Rattle.np_useful.specs.Sessions.{is_stopped}
-use Rattle.np_useful.specs.Window.{window_of}
 use Rattle.np_causes.specs.declared.fact.Thing.{Thing}
 use Rattle.np_causes.specs.declared.fact.Fact.{Fact}
+use Rattle.np_causes.specs.Lower.{Configuration, JobId, LabelId, NodeId, NodeState, Phase, PoolId, Reason, RequestId, RequestState, RequesterId, SemId, SessionId, State, TenantId, blocking, concurrency_of, count_of, count_of_tenant, current_of, first_full, first_of, handles_of, has_handle, has_request_under_way, has_turn_left, is_request, is_stopped, is_stuck_at, next_label, node_holder, node_in, option_map, option_map_or, owner_of, registered, request_holder, request_in, same_request, session_of, unfinished_of, window_of}
 
 abbrev pub about_of : Fact → Thing
 about_of (Fact.InPhase j phase) = Thing.Job j

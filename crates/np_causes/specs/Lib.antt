@@ -1,4 +1,4 @@
+pub mod Lower
 pub mod Fact
-pub mod Names
 pub mod Explains
 pub mod Worked

@@ -1,13 +1,8 @@
 -- worked cases: the facts that explain a wait, in states of worked journals
 use Rattle.std.specs.Prelude.{ℕ, List, [], ◌∷◌, true, false}
-use Rattle.np_changes.specs.Prelude.{AllByRecursion, Amount, Configuration, Entry, Role, SessionFacts}
-use Rattle.np_worked.specs.Examples.{after_first}
-use Rattle.np_worked.specs.Site.{job, janitor, label, launcher, node, pool, request, requester, semaphore, session, tenant}
 use Rattle.np_causes.specs.Fact.{IsTrueOf}
 use Rattle.np_causes.specs.declared.fact.Fact.{Fact}
-use Rattle.np_text.specs.declared.word.NodeState.{NodeState}
-use Rattle.np_text.specs.declared.word.Phase.{Phase}
-use Rattle.np_text.specs.declared.word.Reason.{Reason}
+use Rattle.np_causes.specs.Lower.{AllByRecursion, Amount, Configuration, Entry, NodeState, Phase, Reason, Role, SessionFacts, after_first, janitor, job, label, launcher, node, pool, request, requester, semaphore, session, tenant}
 
 -- in the state after so many entries of a journal each of these facts is true
 abbrev pub TrueAfter : ℕ → Configuration → List Entry → List Fact → Type 0

@@ -1,7 +1,7 @@
 //! The facts that explain why a job waits.
 
 ghost use Rattle.std.specs.Prelude.{◌≡◌, [], true, false, IfOk, OnOk, Some, slice_get};
-ghost use Rattle.np_changes.specs.Prelude.{Fits};
+ghost use Rattle.np_causes.specs.Lower.{Fits};
 ghost use Rattle.np_causes.specs.Explains.{Explains, Grows, IfNamed, IfTold, IsSound, IsTold, NamesTold, waits};
 ghost use Rattle.np_causes.specs.declared.fact.Thing.TheVariants as thing;
 
@@ -10,7 +10,7 @@ use crate::names::{Place, named};
 use crate::same::is_same;
 use crate::tell::fact_of;
 use np_look::{Look, Rows};
-use np_text::{JobId, NoMemory, Phase};
+use np_text::{Ample, JobId, NoMemory, Phase};
 use std::alloc::Global;
 
 /// Whether the job exists and is not over.
@@ -37,7 +37,7 @@ fn is_told(facts: &[Fact], thing: Thing) -> bool
 
 /// Adds a fact about the thing at the place, which one of the facts names, unless there is one.
 #[tactic(auto, using(crate::proofs::Growing::push_grows, crate::proofs::Growing::push_told))]
-fn tell<L: Look>(look: &L, job: JobId, place: Place, facts: &mut Vec<Fact>) -> Result<(), NoMemory>
+fn tell<L: Look>(look: &L, job: JobId, place: Place, facts: &mut Vec<Fact>) -> Ample
     requires fits { Fits (L.site look.now) (L.state look.now) }
     requires sound { IsSound (L.site look.now) (L.state look.now) job facts.old.items }
     requires named { IfNamed (L.site look.now) (L.state look.now) facts.old.items place }
@@ -57,13 +57,7 @@ fn tell<L: Look>(look: &L, job: JobId, place: Place, facts: &mut Vec<Fact>) -> R
 }
 
 /// Adds a fact about each thing that this one names, unless there is one.
-fn tell_named<L: Look>(
-    look: &L,
-    job: JobId,
-    at: usize,
-    fact: &Fact,
-    facts: &mut Vec<Fact>,
-) -> Result<(), NoMemory>
+fn tell_named<L: Look>(look: &L, job: JobId, at: usize, fact: &Fact, facts: &mut Vec<Fact>) -> Ample
     requires fits { Fits (L.site look.now) (L.state look.now) }
     requires sound { IsSound (L.site look.now) (L.state look.now) job facts.old.items }
     requires stands { slice_get facts.old.items at ≡ Some fact.now }
@@ -88,7 +82,7 @@ fn fact_at(facts: &[Fact], at: usize) -> Option<Fact>
 }
 
 /// Adds a fact about each thing that one of the facts names, those that it adds too.
-fn tell_all<L: Look>(look: &L, job: JobId, facts: &mut Vec<Fact>) -> Result<(), NoMemory>
+fn tell_all<L: Look>(look: &L, job: JobId, facts: &mut Vec<Fact>) -> Ample
     requires fits { Fits (L.site look.now) (L.state look.now) }
     requires sound { IsSound (L.site look.now) (L.state look.now) job facts.old.items }
     requires begun { IsTold facts.old.items (thing.Job job) }

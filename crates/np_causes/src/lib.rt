@@ -5,8 +5,8 @@
 //! list leads from the job down to what it waits for: a session that is gone, a pool that is full, a
 //! launch that is under way. It ends with facts that name nothing that has not been told.
 //!
-//! `specs/Fact` says what each fact means, in the definitions of the machine, `specs/Names` which
-//! things it names, and `specs/Explains` what a list of facts has to be to explain a job.
+//! `specs/Fact` says what each fact means, in the definitions of the machine, `specs/Explains`
+//! which things it names, and what a list of facts has to be to explain a job.
 #![tactic(auto)]
 
 mod explain;

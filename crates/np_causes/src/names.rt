@@ -1,11 +1,9 @@
 //! Which things a fact names.
 
 ghost use Rattle.std.specs.Prelude.{◌≡◌, ◌∷◌, [], Some, map, slice_get};
-ghost use Rattle.np_changes.specs.Prelude.{Janitor, handles_of, is_pending_of, is_tenant, option_map, request_of_job};
-ghost use Rattle.np_look.specs.Readers.{is_under_way_by};
-ghost use Rattle.np_look.specs.Views.{request_seen};
+ghost use Rattle.np_causes.specs.Lower.{Janitor, handles_of, is_pending_of, is_tenant, is_under_way_by, option_map, request_of_job, request_seen};
 ghost use Rattle.np_causes.specs.Fact.{pool_of};
-ghost use Rattle.np_causes.specs.Names.{a_node, if_live, if_of_pool, if_of_tenant, if_pending_of, if_under_way, job_of, named_by, named_in, nodes_in, offers_for, parts_of, sessions_for, supply_of};
+ghost use Rattle.np_causes.specs.Explains.{a_node, if_live, if_of_pool, if_of_tenant, if_pending_of, if_under_way, job_of, named_by, named_in, nodes_in, offers_for, parts_of, sessions_for, supply_of};
 ghost use Rattle.np_causes.specs.declared.fact.Thing.TheVariants as thing;
 
 use crate::fact::{Fact, Thing};

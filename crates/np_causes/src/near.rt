@@ -1,10 +1,9 @@
 //! What is said of the requests that the launchers of a provider work on.
 
 ghost use Rattle.std.specs.Prelude.{◌≡◌, ◌||◌, ◌≤◌, cond, Some, slice_get, map};
-ghost use Rattle.np_useful.specs.Launcher.{concurrency_of, has_turn_left, is_held_near, is_served_near, is_sister, is_sister_launcher, provider_of, requests_near};
-ghost use Rattle.np_look.specs.Views.{request_seen};
+ghost use Rattle.np_causes.specs.Lower.{concurrency_of, has_turn_left, is_held_near, is_served_near, is_sister, is_sister_launcher, provider_of, request_seen, requests_near};
 ghost use Rattle.np_causes.specs.Fact.{Tells};
-ghost use Rattle.np_causes.specs.Names.{if_near, is_near};
+ghost use Rattle.np_causes.specs.Explains.{if_near, is_near};
 ghost use Rattle.np_causes.specs.declared.fact.Thing.TheVariants as thing;
 
 use crate::fact::{Fact, Thing};

@@ -1,7 +1,7 @@
 //! What is said of a pool and of its nodes.
 
 ghost use Rattle.std.specs.Prelude.{◌≡◌};
-ghost use Rattle.np_changes.specs.Prelude.{Fits};
+ghost use Rattle.np_causes.specs.Lower.{Fits};
 ghost use Rattle.np_causes.specs.Fact.{Tells, allocation_of};
 ghost use Rattle.np_causes.specs.declared.fact.Thing.TheVariants as thing;
 

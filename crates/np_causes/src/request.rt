@@ -1,8 +1,7 @@
 //! What is said of a request, and of the tenant that it waits for.
 
 ghost use Rattle.std.specs.Prelude.{◌≡◌, ◌==◌, find};
-ghost use Rattle.np_changes.specs.Prelude.{Fits, same_request};
-ghost use Rattle.np_machine.specs.Reasons.{is_stuck_at};
+ghost use Rattle.np_causes.specs.Lower.{Fits, is_stuck_at, same_request};
 ghost use Rattle.np_causes.specs.Fact.{Tells};
 ghost use Rattle.np_causes.specs.declared.fact.Thing.TheVariants as thing;
 

@@ -1,7 +1,7 @@
 //! What is said of sessions and of those who act by them.
 
 ghost use Rattle.std.specs.Prelude.{◌≡◌};
-ghost use Rattle.np_look.specs.Readers.{current_of};
+ghost use Rattle.np_causes.specs.Lower.{current_of};
 ghost use Rattle.np_causes.specs.Fact.{Tells};
 ghost use Rattle.np_causes.specs.declared.fact.Thing.TheVariants as thing;
 

@@ -1,7 +1,7 @@
 //! What is said of a thing.
 
 ghost use Rattle.std.specs.Prelude.{◌≡◌};
-ghost use Rattle.np_changes.specs.Prelude.{Fits};
+ghost use Rattle.np_causes.specs.Lower.{Fits};
 ghost use Rattle.np_causes.specs.Fact.{Tells};
 
 use crate::fact::{Fact, Thing};

@@ -4,11 +4,7 @@
 ghost use Rattle.np_text.specs.declared.word.NodeState.TheVariants as node_state;
 ghost use Rattle.np_text.specs.declared.word.Reason.TheVariants as reason;
 ghost use Rattle.np_config.specs.declared.row.FaultKind.TheVariants as kind;
-ghost use Rattle.np_worked.specs.Examples.{after_first, struck, struck_site, two_jobs, window_site};
-ghost use Rattle.np_worked.specs.Jobs.{crashed_requester, fail_declined, plain_path, retries_spent};
-ghost use Rattle.np_worked.specs.Nodes.{expiry_during_a_launch};
-ghost use Rattle.np_worked.specs.Shares.{paused_pool, semaphores_all_or_none, tenant_limit};
-ghost use Rattle.np_worked.specs.Site.{job, label, launcher, node, pool, request, requester, semaphore, session, tenant};
+ghost use Rattle.np_causes.specs.Lower.{after_first, crashed_requester, expiry_during_a_launch, fail_declined, job, label, launcher, node, paused_pool, plain_path, pool, request, requester, retries_spent, semaphore, semaphores_all_or_none, session, struck, struck_site, tenant, tenant_limit, two_jobs, window_site};
 ghost use Rattle.np_causes.specs.Fact.{IsTrueOf};
 ghost use Rattle.np_causes.specs.Worked.{FalseAfter, TrueAfter, behind_another, first_request, full_pool, full_semaphore, full_tenant, full_window, lost_launcher, nobody_registered, not_taken, second_launch, silent_requester, taken_up, used};
 ghost use Rattle.np_causes.specs.declared.fact.Fact.TheVariants as fact;

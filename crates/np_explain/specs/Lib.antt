@@ -1,6 +1,3 @@
-pub mod Run
-pub mod Text
-pub mod Failed
+pub mod Lower
 pub mod Explained
 pub mod Answers
-pub mod Explains

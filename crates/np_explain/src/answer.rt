@@ -2,7 +2,7 @@
 
 ghost use Rattle.std.specs.Prelude.{◌≡◌, [], ◌+◌, ◌≤◌, ◌<◌, length, IfOk};
 ghost use Rattle.np_explain.specs.Answers.{Answered, AreTables, few_line};
-ghost use Rattle.np_explain.specs.Run.{IsPlayed};
+ghost use Rattle.np_explain.specs.Explained.{IsPlayed};
 ghost use Rattle.np_explain.specs.declared.command.Asked.TheVariants as the;
 ghost use Rattle.np_explain.specs.declared.command.Query.TheVariants as query;
 
@@ -37,14 +37,12 @@ fn explain_run<P: Progress>(
     ensures { IfOk result (Answered (the.Text query.Explanation) bytes.now) }
 {
     play(run, events, progress)?;
-    match fault_of(alloc, bytes, &run.machine)? {
-        Some(line) => Ok(Ending::Says { line, status: 3 }),
-        None => {
-            let text = explanation(alloc, run)?;
-            let status = status_of(run.machine.rows());
-            Ok(Ending::Prints { text, status })
-        }
+    if let Some(line) = fault_of(alloc, bytes, &run.machine)? {
+        return Ok(Ending::Says { line, status: 3 });
     }
+    let text = explanation(alloc, run)?;
+    let status = status_of(run.machine.rows());
+    Ok(Ending::Prints { text, status })
 }
 
 /// The message that the Text has fewer entries.

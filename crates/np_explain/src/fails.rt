@@ -1,25 +1,20 @@
 //! Why requests failed.
 
 ghost use Rattle.std.specs.Prelude.{◌≡◌, ◌++◌, slice_get, IfOk, OnOk};
-ghost use Rattle.np_changes.specs.Prelude.{flat_map};
-ghost use Rattle.np_explain.specs.Failed.{declined_line, declined_lines, failed_lines, failure_lines, lines_of_job};
+ghost use Rattle.np_explain.specs.Lower.{flat_map};
+ghost use Rattle.np_explain.specs.Explained.{declined_line, declined_lines, failed_lines, failure_lines, lines_of_job};
 
 use crate::status::is_failed;
 use np_config::Config;
 use np_explain_lines::{put, put_job, put_pool, put_reason_words, put_request};
 use np_look::Rows;
 use np_record::{Declined, JobRecord};
-use np_text::{JobId, NoMemory, RequestId};
+use np_text::{Ample, JobId, NoMemory, RequestId};
 use std::alloc::Global;
 
 /// Appends a pool's decline.
-#[tactic(auto, unfolding(crate::specs::Failed::declined_line))]
-fn put_decline(
-    out: &mut Vec<u8>,
-    config: &Config,
-    request: RequestId,
-    declined: Declined,
-) -> Result<(), NoMemory>
+#[tactic(auto, unfolding(crate::specs::Explained::declined_line))]
+fn put_decline(out: &mut Vec<u8>, config: &Config, request: RequestId, declined: Declined) -> Ample
     ensures { OnOk result (out.new.items
         ≡ out.old.items ++ declined_line config.now request declined) }
 {
@@ -38,7 +33,7 @@ fn put_record(
     config: &Config,
     request: RequestId,
     declines: &[Declined],
-) -> Result<(), NoMemory>
+) -> Ample
     ensures { OnOk result (out.new.items
         ≡ out.old.items ++ flat_map (declined_line config.now request) declines.now) }
 {
@@ -49,11 +44,7 @@ fn put_record(
 }
 
 /// Appends each decline of the job's request.
-fn put_declines<R: Rows>(
-    out: &mut Vec<u8>,
-    rows: &R,
-    request: Option<RequestId>,
-) -> Result<(), NoMemory>
+fn put_declines<R: Rows>(out: &mut Vec<u8>, rows: &R, request: Option<RequestId>) -> Ample
     ensures { OnOk result (out.new.items
         ≡ out.old.items ++ declined_lines (R.site rows.now) (R.state rows.now) request) }
 {
@@ -66,13 +57,8 @@ fn put_declines<R: Rows>(
     }
 }
 
-#[tactic(auto, unfolding(crate::specs::Failed::failed_lines))]
-fn put_failed<R: Rows>(
-    out: &mut Vec<u8>,
-    rows: &R,
-    job: JobId,
-    kept: &JobRecord,
-) -> Result<(), NoMemory>
+#[tactic(auto, unfolding(crate::specs::Explained::failed_lines))]
+fn put_failed<R: Rows>(out: &mut Vec<u8>, rows: &R, job: JobId, kept: &JobRecord) -> Ample
     ensures { OnOk result (out.new.items
         ≡ out.old.items ++ failed_lines (R.site rows.now) (R.state rows.now) job kept.now) }
 {
@@ -82,7 +68,7 @@ fn put_failed<R: Rows>(
 }
 
 /// Appends the lines of the job, if its request failed.
-fn put_job_lines<R: Rows>(out: &mut Vec<u8>, rows: &R, job: JobId) -> Result<(), NoMemory>
+fn put_job_lines<R: Rows>(out: &mut Vec<u8>, rows: &R, job: JobId) -> Ample
     ensures { OnOk result (out.new.items
         ≡ out.old.items ++ lines_of_job (R.site rows.now) (R.state rows.now) job.0
         (slice_get (R.state rows.now).jobs job.0)) }

@@ -1,20 +1,20 @@
 //! What is no Text, and where.
 
 ghost use Rattle.std.specs.Prelude.{◌≡◌, ◌++◌, IfOk};
-ghost use Rattle.np_explain.specs.Text.{fault_head};
+ghost use Rattle.np_explain.specs.Answers.{fault_head};
 
 use crate::entries::numbered_line;
 use np_explain_lines::put;
 use np_json::ConfigFault;
 use np_replay::line_of_config;
-use np_text::{NoMemory, put_number};
+use np_text::{Ample, NoMemory, put_number};
 use std::alloc::Global;
 
 /// The most bytes of a line that are shown.
 const SHOWN: usize = 160;
 
 /// Appends a line's beginning, or that there is none.
-fn put_shown(out: &mut Vec<u8>, line: Option<&[u8]>) -> Result<(), NoMemory> {
+fn put_shown(out: &mut Vec<u8>, line: Option<&[u8]>) -> Ample {
     let Some(line) = line else {
         return put(out, b"  nothing\n");
     };
@@ -58,7 +58,7 @@ pub(crate) fn shown_fault(
 }
 
 /// The line that says that the input is no Text, and at which line, with more lines after it.
-#[tactic(auto, unfolding(crate::specs::Text::fault_head))]
+#[tactic(auto, unfolding(crate::specs::Answers::fault_head))]
 pub(crate) fn fault_text(alloc: Global, number: u32, rest: &[u8]) -> Result<Vec<u8>, NoMemory>
     ensures { IfOk result (λ text. text.items ≡ fault_head number ++ rest.now) }
 {

@@ -5,7 +5,7 @@
 //! requests of other jobs failed (`fails`), and what the run took (np_listing); or the tables of the
 //! state after some entries (np_listing). A configuration alone is checked by np_check.
 //!
-//! `specs/Answers` says what is printed and which status belongs to it, and `specs/Explains` what
+//! `specs/Answers` says what is printed and which status belongs to it, and what
 //! the streams and the status show. `explain` is the top call.
 #![tactic(auto)]
 

@@ -1,14 +1,14 @@
 //! A run, played event by event.
 
 ghost use Rattle.std.specs.Prelude.{◌≡◌, ◌+◌, ◌<◌, ◌≤◌, [], length, IfOk, OnOk};
-ghost use Rattle.np_explain.specs.Run.{GoesOn, IsPlayed};
+ghost use Rattle.np_explain.specs.Explained.{GoesOn, IsPlayed};
 
 use crate::progress::Progress;
 use np_config::Config;
 use np_event::{Entry, Event};
 use np_listing::Tally;
 use np_rules::{Plain, new_plain};
-use np_text::NoMemory;
+use np_text::{Ample, NoMemory};
 use std::alloc::Global;
 
 /// A machine that has played events, and what they took. `close` gives it up.
@@ -35,7 +35,7 @@ pub(crate) fn begin(alloc: Global, config: Config) -> Result<Run, NoMemory>
 }
 
 /// Plays one event, and counts it.
-fn step(run: &mut Run, event: Event) -> Result<(), NoMemory>
+fn step(run: &mut Run, event: Event) -> Ample
     requires played { IsPlayed run.old.machine run.old.tally }
     requires room { length run.old.machine.journal < 262144 }
     ensures played { OnOk result (IsPlayed run.new.machine run.new.tally) }
@@ -48,11 +48,7 @@ fn step(run: &mut Run, event: Event) -> Result<(), NoMemory>
 }
 
 /// Plays the events. The cost is that of the events, by `Machine::apply` and `Tally::note`.
-pub(crate) fn play<P: Progress>(
-    run: &mut Run,
-    events: &[Event],
-    progress: &mut P,
-) -> Result<(), NoMemory>
+pub(crate) fn play<P: Progress>(run: &mut Run, events: &[Event], progress: &mut P) -> Ample
     requires played { IsPlayed run.old.machine run.old.tally }
     requires room { length run.old.machine.journal + length events.now ≤ 262144 }
     ensures played { OnOk result (IsPlayed run.new.machine run.new.tally) }

@@ -1,9 +1,8 @@
 //! The status of an explanation.
 
 ghost use Rattle.std.specs.Prelude.{◌≡◌};
-ghost use Rattle.np_changes.specs.Prelude.{list_any};
-ghost use Rattle.np_explain.specs.Explained.{is_open, status_of};
-ghost use Rattle.np_explain.specs.Failed.{is_failed};
+ghost use Rattle.np_explain.specs.Lower.{list_any};
+ghost use Rattle.np_explain.specs.Explained.{is_open, status_of, is_failed};
 
 use np_look::Rows;
 use np_record::JobRecord;

@@ -2,8 +2,8 @@
 
 ghost use Rattle.std.specs.Prelude.{◌≡◌, IfOk, MatchOption, true};
 ghost use Rattle.std.specs.List.{AllByRecursion};
-ghost use Rattle.np_event.specs.Line.{HasEventLine};
-ghost use Rattle.np_explain.specs.Text.{IsFaultOf, IsTextOf};
+ghost use Rattle.np_explain.specs.Lower.{HasEventLine};
+ghost use Rattle.np_explain.specs.Answers.{IsFaultOf, IsTextOf};
 
 use crate::fault::{fault_text, shown_fault, shown_lines};
 use np_event::{Entry, event_has_line};

@@ -1,7 +1,7 @@
 //! The top call.
 
 ghost use Rattle.std.specs.Prelude.{IfErr, IfOk};
-ghost use Rattle.np_explain.specs.Explains.{Ends, Explains};
+ghost use Rattle.np_explain.specs.Answers.{Ends, Explains};
 
 use crate::answer::answer;
 use crate::command::Asked;

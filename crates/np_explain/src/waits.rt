@@ -5,13 +5,13 @@ ghost use Rattle.np_explain.specs.Explained.{indent, link_line, link_lines, mark
 
 use np_config::Config;
 use np_explain_lines::{Link, put, put_line};
-use np_text::NoMemory;
+use np_text::Ample;
 
 /// The most spaces before a line.
 const SPACES: &[u8; 60] = b"                                                            ";
 
 /// Two spaces for each step from the job, and at most sixty.
-fn put_indent(out: &mut Vec<u8>, depth: u32) -> Result<(), NoMemory>
+fn put_indent(out: &mut Vec<u8>, depth: u32) -> Ample
     ensures { OnOk result (out.new.items ≡ out.old.items ++ indent depth) }
 {
     let steps = depth.min(30);
@@ -19,7 +19,7 @@ fn put_indent(out: &mut Vec<u8>, depth: u32) -> Result<(), NoMemory>
     put(out, spaces)
 }
 
-fn put_mark(out: &mut Vec<u8>, again: bool) -> Result<(), NoMemory>
+fn put_mark(out: &mut Vec<u8>, again: bool) -> Ample
     ensures { OnOk result (out.new.items ≡ out.old.items ++ mark again) }
 {
     if again {
@@ -29,7 +29,7 @@ fn put_mark(out: &mut Vec<u8>, again: bool) -> Result<(), NoMemory>
 }
 
 #[tactic(auto, unfolding(crate::specs::Explained::link_line))]
-fn put_link(out: &mut Vec<u8>, config: &Config, link: &Link) -> Result<(), NoMemory>
+fn put_link(out: &mut Vec<u8>, config: &Config, link: &Link) -> Ample
     ensures { OnOk result (out.new.items ≡ out.old.items ++ link_line config.now link.now) }
 {
     put_indent(out, link.depth)?;
@@ -39,7 +39,7 @@ fn put_link(out: &mut Vec<u8>, config: &Config, link: &Link) -> Result<(), NoMem
 }
 
 /// Appends the line of each link.
-pub(crate) fn put_links(out: &mut Vec<u8>, config: &Config, links: &[Link]) -> Result<(), NoMemory>
+pub(crate) fn put_links(out: &mut Vec<u8>, config: &Config, links: &[Link]) -> Ample
     ensures { OnOk result (out.new.items ≡ out.old.items ++ link_lines config.now links.now) }
 {
     for link in links {

@@ -1,9 +1,8 @@
 //! The explanation of a run.
 
 ghost use Rattle.std.specs.Prelude.{◌≡◌, ◌++◌, IfOk, OnOk};
-ghost use Rattle.np_listing.specs.Summary.{summary_of};
-ghost use Rattle.np_explain.specs.Explained.{AreChains, IsExplanation, part};
-ghost use Rattle.np_explain.specs.Run.{IsPlayed};
+ghost use Rattle.np_explain.specs.Lower.{summary_of};
+ghost use Rattle.np_explain.specs.Explained.{AreChains, IsExplanation, part, IsPlayed};
 
 use crate::fails::failures;
 use crate::run::Run;
@@ -11,7 +10,7 @@ use crate::waits::put_links;
 use np_explain_lines::{chains, put};
 use np_look::{Look, Rows};
 use np_rules::Plain;
-use np_text::NoMemory;
+use np_text::{Ample, NoMemory};
 use std::alloc::Global;
 
 /// The lines of the chains.
@@ -27,7 +26,7 @@ fn waits(alloc: Global, machine: &Plain) -> Result<Vec<u8>, NoMemory>
 }
 
 /// Appends lines and an empty line after them, or nothing if there are none.
-fn put_part(out: &mut Vec<u8>, lines: &[u8]) -> Result<(), NoMemory>
+fn put_part(out: &mut Vec<u8>, lines: &[u8]) -> Ample
     ensures { OnOk result (out.new.items ≡ out.old.items ++ part lines.now) }
 {
     if lines.is_empty() {

@@ -6,6 +6,5 @@ pub then_more : {A E : Type 0} (r : Result A E) (old mid new first more : List �
 then_more (Ok done) old mid new first more begun put = put ∙ ap (λ (text : List ℕ). text ++ more) begun ∙ append_assoc old first more
 then_more (Err fault) old mid new first more begun put = tt
 
-pub three_parts : (old one two three a b c : List ℕ) → one ≡ old ++ a → two ≡ one ++ b → three ≡ two ++ c → three ≡ old ++ ((a ++ b) ++ c)
-three_parts old one two three a b c first second third =
-    third ∙ ap (λ (text : List ℕ). text ++ c) (second ∙ ap (λ (text : List ℕ). text ++ b) first ∙ append_assoc old a b) ∙ append_assoc old (a ++ b) c
+pub then_two : {A E : Type 0} (r : Result A E) (old one two new a b more : List ℕ) → one ≡ old ++ a → two ≡ one ++ b → OnOk r (new ≡ two ++ more) → OnOk r (new ≡ old ++ ((a ++ b) ++ more))
+then_two r old one two new a b more first second put = then_more r old two new (a ++ b) more (second ∙ ap (λ (text : List ℕ). text ++ b) first ∙ append_assoc old a b) put

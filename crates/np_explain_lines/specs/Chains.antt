@@ -1,13 +1,8 @@
 -- which lists of facts lead from the jobs that wait to what they wait for
 use Rattle.std.specs.Prelude.{◌≡◌, ◌⊎◌, ℕ, List, [], true, Some, map, slice_get, All}
-use Rattle.np_changes.specs.Prelude.{Configuration, EachAfter, JobId, State}
-use Rattle.np_causes.specs.Fact.{about_of, IsTrueOf}
-use Rattle.np_causes.specs.Names.{named_by}
-use Rattle.np_causes.specs.Explains.{IsNamed, IsTold, waits}
-use Rattle.np_causes.specs.declared.fact.Thing.{Thing}
-use Rattle.np_causes.specs.declared.fact.Fact.{Fact}
 use Rattle.np_explain_lines.specs.declared.chain.Link.{Link}
 use Rattle.np_explain_lines.specs.declared.chain.Next.{Next}
+use Rattle.np_explain_lines.specs.Lower.{Configuration, EachAfter, Fact, IsNamed, IsTold, IsTrueOf, JobId, State, Thing, about_of, named_by, waits}
 
 -- the thing is a job that waits
 abbrev pub IsWaiting : State → Thing → Type 0

@@ -1,3 +1,3 @@
-pub mod Words
+pub mod Lower
 pub mod Line
 pub mod Chains

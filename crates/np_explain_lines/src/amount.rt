@@ -1,17 +1,17 @@
 //! What is used, and how much may be.
 
 ghost use Rattle.std.specs.Prelude.{◌≡◌, ◌++◌, codes, OnOk};
-ghost use Rattle.np_changes.specs.Prelude.{limit_of, limit_of_tenant};
+ghost use Rattle.np_explain_lines.specs.Lower.{limit_of, limit_of_tenant};
 ghost use Rattle.np_explain_lines.specs.Line.{amount_words, most_handles, of_limit, part_words, said};
 ghost use Rattle.np_causes.specs.declared.fact.Fact.TheVariants as fact;
 
 use crate::words::put;
 use np_amount::{Amount, Limit};
 use np_config::Config;
-use np_text::{NoMemory, PoolId, SemId, TenantId, put_number};
+use np_text::{Ample, PoolId, SemId, TenantId, put_number};
 
 /// Appends a number, and the most that it may be.
-pub(crate) fn put_of_limit(out: &mut Vec<u8>, n: u64, limit: Option<u64>) -> Result<(), NoMemory>
+pub(crate) fn put_of_limit(out: &mut Vec<u8>, n: u64, limit: Option<u64>) -> Ample
     ensures { OnOk result (out.new.items ≡ out.old.items ++ of_limit n limit) }
 {
     put_number(out, n)?;
@@ -23,7 +23,7 @@ pub(crate) fn put_of_limit(out: &mut Vec<u8>, n: u64, limit: Option<u64>) -> Res
 }
 
 /// Appends a number, the most that it may be, and what there are so many of.
-fn put_part(out: &mut Vec<u8>, n: u64, limit: Option<u64>, word: &[u8]) -> Result<(), NoMemory>
+fn put_part(out: &mut Vec<u8>, n: u64, limit: Option<u64>, word: &[u8]) -> Ample
     ensures { OnOk result (out.new.items ≡ out.old.items ++ part_words n limit word.now) }
 {
     put_of_limit(out, n, limit)?;
@@ -32,7 +32,7 @@ fn put_part(out: &mut Vec<u8>, n: u64, limit: Option<u64>, word: &[u8]) -> Resul
 }
 
 /// Appends what is used, each part beside its limit.
-pub fn put_amount(out: &mut Vec<u8>, used: Amount, limit: Limit) -> Result<(), NoMemory>
+pub fn put_amount(out: &mut Vec<u8>, used: Amount, limit: Limit) -> Ample
     ensures { OnOk result (out.new.items ≡ out.old.items ++ amount_words used limit) }
 {
     put_part(out, used.instances, limit.instances, b" servers, ")?;
@@ -42,70 +42,30 @@ pub fn put_amount(out: &mut Vec<u8>, used: Amount, limit: Limit) -> Result<(), N
 }
 
 /// The pool's limit: none, if there is no such pool.
-fn limit_of_pool(config: &Config, pool: PoolId) -> Limit
+pub fn limit_of_pool(config: &Config, pool: PoolId) -> Limit
     ensures { result ≡ limit_of config.now pool }
 {
-    match config.pool(pool) {
-        None => Limit::NO_LIMIT,
-        Some(row) => row.limit,
-    }
+    config.pool(pool).map_or(Limit::NO_LIMIT, |row| row.limit)
 }
 
 /// The tenant's limit: none, if there is no such tenant.
-fn limit_of_tenant(config: &Config, tenant: TenantId) -> Limit
+pub fn limit_of_tenant(config: &Config, tenant: TenantId) -> Limit
     ensures { result ≡ limit_of_tenant config.now tenant }
 {
-    match config.tenant(tenant) {
-        None => Limit::NO_LIMIT,
-        Some(row) => row.limit,
-    }
-}
-
-/// Appends what a pool's nodes take.
-pub(crate) fn put_room(
-    out: &mut Vec<u8>,
-    config: &Config,
-    pool: PoolId,
-    used: Amount,
-) -> Result<(), NoMemory>
-    ensures { OnOk result (out.new.items
-        ≡ out.old.items ++ said config.now (fact.PoolUses pool used)) }
-{
-    put(out, b"its nodes take ")?;
-    put_amount(out, used, limit_of_pool(config, pool))
-}
-
-/// Appends what a tenant takes.
-pub(crate) fn put_share(
-    out: &mut Vec<u8>,
-    config: &Config,
-    tenant: TenantId,
-    used: Amount,
-) -> Result<(), NoMemory>
-    ensures { OnOk result (out.new.items
-        ≡ out.old.items ++ said config.now (fact.TenantUses tenant used)) }
-{
-    put(out, b"its nodes and pending requests take ")?;
-    put_amount(out, used, limit_of_tenant(config, tenant))
+    config
+        .tenant(tenant)
+        .map_or(Limit::NO_LIMIT, |row| row.limit)
 }
 
 /// How many jobs may have a handle of the semaphore.
 fn most_handles(config: &Config, semaphore: SemId) -> Option<u64>
     ensures { result ≡ most_handles config.now semaphore }
 {
-    match config.semaphore(semaphore) {
-        None => None,
-        Some(row) => Some(u64::from(row.max)),
-    }
+    config.semaphore(semaphore).map(|row| u64::from(row.max))
 }
 
 /// Appends how many handles of a semaphore are taken.
-pub(crate) fn put_handles(
-    out: &mut Vec<u8>,
-    config: &Config,
-    semaphore: SemId,
-    count: u32,
-) -> Result<(), NoMemory>
+pub(crate) fn put_handles(out: &mut Vec<u8>, config: &Config, semaphore: SemId, count: u32) -> Ample
     ensures { OnOk result (out.new.items
         ≡ out.old.items ++ said config.now (fact.Handles semaphore count)) }
 {

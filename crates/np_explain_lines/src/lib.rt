@@ -1,7 +1,7 @@
 //! Facts in their order, and the line of each, for people: why jobs wait, each thing told once.
 //!
-//! A line has each id with the configuration's own name beside it. `specs/Words` says how a thing
-//! is called, and `specs/Line` which line each fact has. A function that appends a text promises that
+//! A line has each id with the configuration's own name beside it. `specs/Line` says how a thing
+//! is called, and which line each fact has. A function that appends a text promises that
 //! it is the definition's.
 //!
 //! `causes` of np_causes explains one job. `chains` explains all that wait, in one list: it begins
@@ -14,20 +14,17 @@
 
 mod amount;
 mod chain;
-mod job;
 mod line;
-mod node;
-mod pool;
-mod request;
+mod part;
 mod subject;
 mod told;
 mod walk;
 mod words;
 
-pub use amount::put_amount;
+pub use amount::{limit_of_pool, limit_of_tenant, put_amount};
 pub use chain::{Link, Next};
 pub use line::put_line;
-pub use request::put_reason_words;
+pub use part::put_reason_words;
 pub use walk::chains;
 pub use words::{
     put, put_job, put_label, put_node, put_pool, put_request, put_requester, put_role,

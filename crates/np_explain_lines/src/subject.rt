@@ -1,33 +1,17 @@
 //! What a fact is about.
 
-ghost use Rattle.std.specs.Prelude.{◌≡◌, ◌++◌, codes, OnOk};
+ghost use Rattle.std.specs.Prelude.{◌≡◌, ◌++◌, OnOk};
 ghost use Rattle.np_explain_lines.specs.Line.{subject};
-ghost use Rattle.np_explain_lines.specs.Words.{pool_words, request_words};
 
 use crate::words::{
     put, put_job, put_node, put_pool, put_request, put_role, put_semaphore, put_session, put_tenant,
 };
 use np_causes::Thing;
 use np_config::Config;
-use np_text::{NoMemory, PoolId, RequestId};
-
-/// Appends a request, and the pool that makes something of it.
-fn put_offer(
-    out: &mut Vec<u8>,
-    config: &Config,
-    request: RequestId,
-    pool: PoolId,
-) -> Result<(), NoMemory>
-    ensures { OnOk result (out.new.items
-        ≡ out.old.items ++ (request_words request ++ codes " at " ++ pool_words config.now pool)) }
-{
-    put_request(out, request)?;
-    put(out, b" at ")?;
-    put_pool(out, config, pool)
-}
+use np_text::Ample;
 
 /// Appends what a fact about this thing begins with.
-pub(crate) fn put_subject(out: &mut Vec<u8>, config: &Config, thing: Thing) -> Result<(), NoMemory>
+pub(crate) fn put_subject(out: &mut Vec<u8>, config: &Config, thing: Thing) -> Ample
     ensures { OnOk result (out.new.items ≡ out.old.items ++ subject config.now thing) }
 {
     match thing {
@@ -38,7 +22,11 @@ pub(crate) fn put_subject(out: &mut Vec<u8>, config: &Config, thing: Thing) -> R
             put_semaphore(out, config, semaphore)
         }
         Thing::Request(request) | Thing::Next(request) => put_request(out, request),
-        Thing::Offer(request, pool) => put_offer(out, config, request, pool),
+        Thing::Offer(request, pool) => {
+            put_request(out, request)?;
+            put(out, b" at ")?;
+            put_pool(out, config, pool)
+        }
         Thing::Pool(pool) | Thing::Work(pool) | Thing::Concurrency(pool) | Thing::Room(pool) =>
             put_pool(out, config, pool),
         Thing::Tenant(tenant) => put_tenant(out, config, tenant),

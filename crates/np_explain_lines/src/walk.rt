@@ -1,10 +1,7 @@
 //! The walk from the jobs that wait down to what they wait for.
 
 ghost use Rattle.std.specs.Prelude.{◌≡◌, ◌⊎◌, ◌∷◌, ◌++◌, [], IfOk, IfSome, OnOk, Some, None, slice_get, true};
-ghost use Rattle.np_changes.specs.Prelude.{Fits, JobId};
-ghost use Rattle.np_causes.specs.Explains.{waits};
-ghost use Rattle.np_causes.specs.Names.{named_by};
-ghost use Rattle.np_causes.specs.declared.fact.Thing.{Thing};
+ghost use Rattle.np_explain_lines.specs.Lower.{Fits, JobId, Thing, named_by, waits};
 ghost use Rattle.np_causes.specs.declared.fact.Thing.TheVariants as thing;
 ghost use Rattle.np_explain_lines.specs.Chains.{ExplainsAll, IsOnItsWay, IsPending, IsWaiting, Names, facts_of};
 
@@ -12,11 +9,11 @@ use crate::chain::{Link, Next};
 use crate::told::Places;
 use np_causes::{Fact, Place, Thing, fact_of, named, waits};
 use np_look::{Look, Rows};
-use np_text::{JobId, NoMemory};
+use np_text::{Ample, JobId, NoMemory};
 use std::alloc::Global;
 
 /// Adds the job, if it waits.
-fn push_waiting<R: Rows>(rows: &R, job: JobId, pending: &mut Vec<Next>) -> Result<(), NoMemory>
+fn push_waiting<R: Rows>(rows: &R, job: JobId, pending: &mut Vec<Next>) -> Ample
     ensures stay { OnOk result ((it : Thing) → IsPending pending.old.items it
         → IsPending pending.new.items it) }
     ensures told { OnOk result (waits (R.state rows.now) job ≡ true
@@ -27,11 +24,8 @@ fn push_waiting<R: Rows>(rows: &R, job: JobId, pending: &mut Vec<Next>) -> Resul
     if !waits(rows, job) {
         return Ok(());
     }
-    let next = Next {
-        thing: Thing::Job(job),
-        depth: 0,
-    };
-    pending.push(next)?;
+    let thing = Thing::Job(job);
+    pending.push(Next { thing, depth: 0 })?;
     Ok(())
 }
 
@@ -65,7 +59,7 @@ fn count_places<L: Look>(look: &L, fact: &Fact) -> Result<u32, NoMemory>
 }
 
 /// Adds what a place names, if it names something.
-fn push_place(place: Option<Place>, depth: u32, pending: &mut Vec<Next>) -> Result<(), NoMemory>
+fn push_place(place: Option<Place>, depth: u32, pending: &mut Vec<Next>) -> Ample
     ensures stay { OnOk result ((it : Thing) → IsPending pending.old.items it
         → IsPending pending.new.items it) }
     ensures told { OnOk result ((it : Thing) → place ≡ Some (Some it)
@@ -84,12 +78,7 @@ fn push_place(place: Option<Place>, depth: u32, pending: &mut Vec<Next>) -> Resu
 }
 
 /// Adds what the fact names, the last first.
-fn push_named<L: Look>(
-    look: &L,
-    fact: &Fact,
-    depth: u32,
-    pending: &mut Vec<Next>,
-) -> Result<(), NoMemory>
+fn push_named<L: Look>(look: &L, fact: &Fact, depth: u32, pending: &mut Vec<Next>) -> Ample
     ensures stay { OnOk result ((it : Thing) → IsPending pending.old.items it
         → IsPending pending.new.items it) }
     ensures all { OnOk result ((it : Thing) → Names (L.site look.now) (L.state look.now) fact.now it
@@ -107,11 +96,11 @@ fn push_named<L: Look>(
 }
 
 /// Adds a link.
-fn push_link(links: &mut Vec<Link>, link: Link) -> Result<(), NoMemory>
+fn push_link(links: &mut Vec<Link>, fact: Fact, depth: u32, again: bool) -> Ample
     ensures { OnOk result (facts_of links.new.items
-        ≡ facts_of links.old.items ++ link.fact ∷ []) }
+        ≡ facts_of links.old.items ++ fact ∷ []) }
 {
-    links.push(link)?;
+    links.push(Link { fact, depth, again })?;
     Ok(())
 }
 
@@ -122,7 +111,7 @@ fn tell<L: Look>(
     places: &mut Places,
     links: &mut Vec<Link>,
     pending: &mut Vec<Next>,
-) -> Result<(), NoMemory>
+) -> Ample
     requires fits { Fits (L.site look.now) (L.state look.now) }
     requires way { IsOnItsWay (L.site look.now) (L.state look.now) (facts_of links.old.items)
         (pending.old.items ++ next ∷ []) }
@@ -130,22 +119,12 @@ fn tell<L: Look>(
         (facts_of links.new.items) pending.new.items) }
 {
     if let Some(fact) = places.find(links.as_slice(), next.thing) {
-        let link = Link {
-            fact,
-            depth: next.depth,
-            again: true,
-        };
-        push_link(links, link)?;
+        push_link(links, fact, next.depth, true)?;
         return Ok(());
     }
     let fact = fact_of(look, next.thing);
     places.put(next.thing, links.len())?;
-    let link = Link {
-        fact,
-        depth: next.depth,
-        again: false,
-    };
-    push_link(links, link)?;
+    push_link(links, fact, next.depth, false)?;
     push_named(look, &fact, next.depth.saturating_add(1), pending)?;
     Ok(())
 }
@@ -164,7 +143,7 @@ fn tell_all<L: Look>(
     places: &mut Places,
     links: &mut Vec<Link>,
     pending: &mut Vec<Next>,
-) -> Result<(), NoMemory>
+) -> Ample
     requires fits { Fits (L.site look.now) (L.state look.now) }
     requires way { IsOnItsWay (L.site look.now) (L.state look.now) (facts_of links.old.items)
         pending.old.items }

@@ -1,5 +1,5 @@
 -- the drill site: it is a configuration that a text can have, and what its jobs are
-use Rattle.np_gen.proofs.Prelude.{Bool, Job, LabelId, List, [], after_draws, after_job, ap, append-nil, append_assoc, arith, cond, draw, drawn_jobs, drawn_labels, drill_job, false, jobs_from, jobs_of, label_at, next_state, refl, suc, sym, true, zero, ℕ, ◌%◌, ◌++◌, ◌+◌, ◌-◌, ◌<◌, ◌==◌, ◌∙◌, ◌∷◌, ◌≡◌, ◌≤◌, All, All-append, All-filter_number, by_bool, All-nil, All-weaker, EachAfter, EachAfter-append, StandsByOwner, after_earlier, filter, length, length-append, nat_tests, subst, AllByRecursion, all_ascii_digits, bytes_eq, bytes_eq-apart, decimal, decimal_injective, digits_decimal, drop, is_name_byte, is_name_text, job_name, length-decimal-le, list_all, list_any, model, nat_le, All-cons, All-push, All-replicate, AreProviders, AreRequesters, Fault, IsFault, IsJob, IsLabel, IsOffer, IsPool, IsPriority, IsProvider, IsRequester, IsSem, IsSound, IsTaken, IsWanted, Label, Pool, Provider, Requester, Sem, SemId, Tenant, all-push, all-weaker, codes, configuration, deploy, drill_jobs, drill_labels, drill_offer, drill_pool, drill_pools, drill_providers, drill_requesters, drill_semaphores, drill_site, is_large, job_labels, job_priority, job_semaphores, label_count, lit<, lit≤, replicate, rules, stage, All-filter, All-head, All-tail, asks_for_nine, filter-append, ◌/◌, ◌≢◌}
+use Rattle.np_gen.proofs.Prelude.{Bool, Job, LabelId, List, [], after_draws, after_job, ap, append-nil, append_assoc, arith, cond, draw, drawn_jobs, drawn_labels, drill_job, false, jobs_from, jobs_of, label_at, next_state, refl, suc, sym, true, zero, ℕ, ◌%◌, ◌++◌, ◌+◌, ◌-◌, ◌<◌, ◌==◌, ◌∙◌, ◌∷◌, ◌≡◌, ◌≤◌, All, All-append, All-filter_number, by_bool, All-nil, All-weaker, EachAfter, EachAfter-append, StandsByOwner, after_earlier, filter, length, length-append, nat_tests, subst, AllByRecursion, all_ascii_digits, bytes_eq, bytes_eq-apart, decimal, decimal_injective, digits_decimal, drop, is_name_byte, is_name_text, job_name, length-decimal-le, list_all, list_any, model, nat_le, All-cons, All-replicate, AreProviders, AreRequesters, Fault, IsJob, IsLabel, IsOffer, IsPool, IsPriority, IsProvider, IsRequester, IsSem, IsSound, IsTaken, IsWanted, Label, Pool, Provider, Requester, Sem, SemId, Tenant, all-push, all-weaker, configuration, deploy, drill_jobs, drill_labels, drill_offer, drill_pools, drill_providers, drill_requesters, drill_semaphores, drill_site, is_large, job_labels, job_priority, job_semaphores, label_count, lit<, lit≤, replicate, rules, stage, All-filter, All-head, All-tail, asks_for_nine, filter-append, ◌/◌, ◌≢◌}
 
 -- # one draw more
 
@@ -49,12 +49,14 @@ module _ {T : Type 0} (owner : T → ℕ) where
       (All-weaker (λ (y : T). owner y < k) (λ (y : T). owner y < suc k) (λ y h. omega arith) (groups k xs) (groups_below k xs))
       (All-weaker (λ (y : T). owner y ≡ k) (λ (y : T). owner y < suc k) (λ y h. omega arith) (group k xs) (All-filter_number owner k xs))
 
-  length-groups : (xs : List T) → length (groups 4 xs) ≤ length xs
-  length-groups xs = simp length-append (omega (arith, sum xs))
-    where
-      sum : (ys : List T) → length (group 0 ys) + length (group 1 ys) + length (group 2 ys) + length (group 3 ys) ≤ length ys
-      sum [] = omega arith
-      sum (y ∷ ys) = grind (arith, nat_tests, sum ys)
+  all_grouped : (xs : List T) → All (λ y. owner y < 4) xs → length (group 0 xs) + length (group 1 xs) + length (group 2 xs) + length (group 3 xs) ≡ length xs
+  all_grouped [] owned = refl
+  all_grouped (x ∷ xs) owned =
+      let here : owner x < 4 = All-head (λ (y : T). owner y < 4) x xs owned in
+      grind (arith, nat_tests, all_grouped xs (All-tail (λ (y : T). owner y < 4) x xs owned))
+
+  length-groups : (xs : List T) → All (λ y. owner y < 4) xs → length (groups 4 xs) ≡ length xs
+  length-groups xs owned = simp length-append (omega (arith, all_grouped xs owned))
 
 module _ {T : Type 0} (owner : T → ℕ) (P : List T → T → Type 0) where
   groups_stand : (k : ℕ) (xs : List T) → ((k : ℕ) → EachAfter P [] (group owner k xs)) → EachAfter (StandsByOwner owner P) [] (groups owner k xs)
@@ -170,6 +172,12 @@ jobs_stand q (suc k) i s earlier small before =
     (λ _. (job_stands earlier i s (omega arith) before, jobs_stand q k (i + 1) (after_job i s) (earlier ++ drill_job i s ∷ []) (omega arith) (all-push (IsBefore (i + 1)) earlier (drill_job i s) later record { number = i; less = omega arith; named = refl })))
     (λ _. jobs_stand q k (i + 1) (after_job i s) earlier (omega arith) later)
 
+jobs_owned : (k i s : ℕ) → All (λ (job : Job). job.requester.0 < 4) (jobs_from k i s)
+jobs_owned zero i s = All-nil (λ (job : Job). job.requester.0 < 4)
+jobs_owned (suc k) i s =
+    let here : i % 4 < 4 = omega arith in
+    All-cons (λ (job : Job). job.requester.0 < 4) (drill_job i s) (jobs_from k (i + 1) (after_job i s)) here (jobs_owned k (i + 1) (after_job i s))
+
 length-jobs_from : (k i s : ℕ) → length (jobs_from k i s) ≡ k
 length-jobs_from zero i s = refl
 length-jobs_from (suc k) i s = omega (arith, length-jobs_from k (i + 1) (after_job i s))
@@ -187,32 +195,9 @@ providers_stand = search (rules, lit≤)
 offers_stand : EachAfter (IsOffer 4) [] (drill_offer 0 ∷ drill_offer 1 ∷ drill_offer 2 ∷ drill_offer 3 ∷ [])
 offers_stand = search (rules, lit≤, lit<)
 
-pool_stands : (earlier : List Pool) (provider : ℕ) (name : List ℕ) → All (λ (y : Pool). y.provider ≤ provider) earlier → is_name_text name ≡ true
-    → list_any (λ (row : Pool). bytes_eq name row.name) (filter (λ (y : Pool). y.provider == provider) earlier) ≡ false
-    → StandsByOwner (λ (p : Pool). p.provider) (IsPool 4) earlier (drill_pool provider name)
-pool_stands earlier provider name before named new = record {
-  in_order = before;
-  own = record {
-    name = record { named = named; new = new };
-    limit = record { servers = lit≤ tt; cores = tt; ram = tt };
-    offers = offers_stand;
-    few_offers = lit≤ tt;
-    starts = tt;
-    few_starts = lit≤ tt;
-  };
-}
-
 pools_stand : EachAfter (StandsByOwner (λ (p : Pool). p.provider) (IsPool 4)) [] drill_pools
 unfolding is_name_text
-pools_stand =
-    let P : ℕ → Pool → Type 0 = λ k y. y.provider ≤ k in
-    let p0 : Pool = drill_pool 0 (codes "m0") in
-    let p1 : Pool = drill_pool 0 (codes "m1") in
-    let p2 : Pool = drill_pool 1 (codes "m0") in
-    let one : (k : ℕ) → All (P k) (p0 ∷ []) = λ k. All-cons (P k) p0 [] (omega arith) (All-nil (P k)) in
-    let two : All (P 1) (p0 ∷ p1 ∷ []) = All-push (P 1) (p0 ∷ []) p1 (one 1) (lit≤ tt) in
-    let three : All (P 1) (p0 ∷ p1 ∷ p2 ∷ []) = All-push (P 1) (p0 ∷ p1 ∷ []) p2 two (lit≤ tt) in
-    (pool_stands _ 0 _ (All-nil (P 0)) refl refl, (pool_stands _ 0 _ (one 0) refl refl, (pool_stands _ 1 _ two refl refl, (pool_stands _ 1 _ three refl refl, tt))))
+pools_stand = search (rules, lit≤, offers_stand, All-cons {X = Pool}, All-nil {X = Pool})
 
 pools_owned : All (λ (p : Pool). p.provider < 2) drill_pools
 pools_owned = search (rules, All-cons {X = Pool}, All-nil {X = Pool}, lit<)
@@ -223,13 +208,7 @@ has_pool (suc zero) there = lit≤ tt
 has_pool (suc (suc k)) there = absurd (omega arith)
 
 supply_stands : AreProviders 4 drill_providers drill_pools
-supply_stands = record {
-  each_provider = providers_stand;
-  each_pool = pools_stand;
-  few_pools = lit≤ tt;
-  owned = pools_owned;
-  each_has_one = has_pool;
-}
+supply_stands = search (rules, lit≤, providers_stand, pools_stand, pools_owned, has_pool)
 
 semaphores_stand : EachAfter IsSem [] drill_semaphores
 unfolding is_name_text
@@ -244,7 +223,7 @@ requesters_stand = search (rules, lit≤)
 demand_stands : (n : ℕ) → n ≤ 4000 → AreRequesters 4 2 0 drill_requesters (drill_jobs n)
 demand_stands n small =
     let owner : Job → ℕ = λ job. job.requester.0 in
-    let few : length (drill_jobs n) ≤ length (drawn_jobs n) = length-groups owner (drawn_jobs n) in
+    let all : length (drill_jobs n) ≡ length (drawn_jobs n) = length-groups owner (drawn_jobs n) (jobs_owned n 0 n) in
     let count : length (drawn_jobs n) ≡ n = length-jobs_from n 0 n in
     let within : length (drill_jobs n) ≤ 4096 = omega arith in
     record {
@@ -258,22 +237,7 @@ demand_stands n small =
 
 pub drill_site-sound : (n : ℕ) → n ≤ 4000 → IsSound (drill_site n)
 unfolding drill_site
-drill_site-sound n small = record {
-  labels = labels_stand;
-  few_labels = lit≤ tt;
-  max_hold_age = lit≤ tt;
-  supply = supply_stands;
-  some_provider = lit≤ tt;
-  few_providers = lit≤ tt;
-  semaphores = semaphores_stand;
-  few_semaphores = lit≤ tt;
-  tenants = tt;
-  few_tenants = lit≤ tt;
-  demand = demand_stands n small;
-  few_requesters = lit≤ tt;
-  faults = All-nil (IsFault 4 4);
-  few_faults = lit≤ tt;
-}
+drill_site-sound n small = search (rules, lit≤, labels_stand, supply_stands, semaphores_stand, demand_stands n small, All-nil {X = Fault})
 
 -- the parts that the code makes are the site
 pub drill_site-made : (n : ℕ) (labels : List Label) (providers : List Provider) (pools : List Pool) (semaphores : List Sem) (tenants : List Tenant)
@@ -292,21 +256,13 @@ commute p q [] = refl
 commute p q (x ∷ xs) = grind (arith, commute p q xs)
 
 module _ {T : Type 0} (owner : T → ℕ) where
-  all_grouped : (xs : List T) → All (λ y. owner y < 4) xs → length (group owner 0 xs) + length (group owner 1 xs) + length (group owner 2 xs) + length (group owner 3 xs) ≡ length xs
-  all_grouped [] owned = refl
-  all_grouped (x ∷ xs) owned =
-      let here : owner x < 4 = All-head (λ (y : T). owner y < 4) x xs owned in
-      grind (arith, nat_tests, all_grouped xs (All-tail (λ (y : T). owner y < 4) x xs owned))
-
   filter-groups : (p : T → Bool) (k : ℕ) (xs : List T) → filter p (groups owner k xs) ≡ groups owner k (filter p xs)
   filter-groups p zero xs = refl
   filter-groups p (suc k) xs = filter-append p (groups owner k xs) (group owner k xs) ∙ (λ i. filter-groups p k xs i ++ commute p (λ y. owner y == k) xs i)
 
   -- as many rows pass a test in the groups as in all rows
   length-filter_groups : (p : T → Bool) (xs : List T) → All (λ y. owner y < 4) xs → length (filter p (groups owner 4 xs)) ≡ length (filter p xs)
-  length-filter_groups p xs owned =
-      let sum = all_grouped (filter p xs) (All-filter p (λ (y : T). owner y < 4) xs owned) in
-      ap length (filter-groups p 4 xs) ∙ simp length-append (omega (arith, sum))
+  length-filter_groups p xs owned = ap length (filter-groups p 4 xs) ∙ length-groups owner (filter p xs) (All-filter p (λ (y : T). owner y < 4) xs owned)
 
 -- ## the jobs
 
@@ -322,12 +278,6 @@ counted : (k i s : ℕ) → length (filter asks_for_nine (jobs_from k i s)) + i 
 counted zero i s = omega arith
 counted (suc k) i s =
     rw (asks_when_large i s) (one_more (i % 10 == 9) (drill_job i s) (filter asks_for_nine (jobs_from k (i + 1) (after_job i s))) i k refl (counted k (i + 1) (after_job i s)))
-
-jobs_owned : (k i s : ℕ) → All (λ (job : Job). job.requester.0 < 4) (jobs_from k i s)
-jobs_owned zero i s = All-nil (λ (job : Job). job.requester.0 < 4)
-jobs_owned (suc k) i s =
-    let here : i % 4 < 4 = omega arith in
-    All-cons (λ (job : Job). job.requester.0 < 4) (drill_job i s) (jobs_from k (i + 1) (after_job i s)) here (jobs_owned k (i + 1) (after_job i s))
 
 pub large_jobs : (n : ℕ) → length (filter asks_for_nine (drill_site n).jobs) ≡ n / 10
 unfolding drill_site

@@ -1,2 +1,2 @@
-pub mod Draw
+pub mod Lower
 pub mod Site

@@ -1,19 +1,22 @@
--- the drill site: a site of any size, made from its number of jobs alone (own)
-use Rattle.std.specs.Prelude.{ℕ, zero, suc, ◌+◌, ◌%◌, ◌==◌, Bool, false, if◌then◌else◌, List, [], ◌∷◌, ◌++◌, codes, length, filter, replicate, Some, None}
+-- numbers that are drawn one after another from a state (Knuth: the linear congruential generator of MMIX)
+use Rattle.std.specs.Prelude.{ℕ, zero, suc, ◌+◌, ◌*◌, ◌/◌, ◌%◌, ◌^◌, ◌==◌, Bool, false, if◌then◌else◌, List, [], ◌∷◌, ◌++◌, codes, length, filter, replicate, Some, None}
 use Rattle.std.specs.Fmt.{decimal}
-use Rattle.np_text.specs.declared.id.LabelId.{LabelId}
-use Rattle.np_text.specs.declared.id.SemId.{SemId}
-use Rattle.np_text.specs.declared.word.EndAs.TheVariants.{Used}
-use Rattle.np_amount.specs.declared.amount.Limit.{Limit}
-use Rattle.np_config.specs.declared.row.Label.{Label}
-use Rattle.np_config.specs.declared.row.Provider.{Provider}
-use Rattle.np_config.specs.declared.row.Pool.{Pool}
-use Rattle.np_config.specs.declared.row.Offer.{Offer}
-use Rattle.np_config.specs.declared.row.Sem.{Sem}
-use Rattle.np_config.specs.declared.row.Requester.{Requester}
-use Rattle.np_config.specs.declared.row.Job.{Job}
-use Rattle.np_config.specs.Configuration.{Configuration}
-use Rattle.np_gen.specs.Draw.{next_state, draw, after_draws}
+use Rattle.np_gen.specs.Lower.{Configuration, Job, Label, LabelId, Limit, Offer, Pool, Provider, Requester, Sem, SemId, Used}
+
+-- the state after a draw
+unfoldable pub next_state : ℕ → ℕ
+next_state s = (s * 6364136223846793005 + 1442695040888963407) % 2 ^ 64
+
+-- the number that is drawn at a state: the next state without its 33 low bits (own)
+unfoldable pub draw : ℕ → ℕ
+draw s = next_state s / 2 ^ 33
+
+-- the state after a number of draws
+abbrev pub after_draws : ℕ → ℕ → ℕ
+after_draws zero s = s
+after_draws (suc k) s = after_draws k (next_state s)
+
+-- the drill site: a site of any size, made from its number of jobs alone (own)
 
 -- ## the supply
 

@@ -1,7 +1,7 @@
 //! Numbers that are drawn one after another from a state.
 
 ghost use Rattle.std.specs.Prelude.{◌≡◌};
-ghost use Rattle.np_gen.specs.Draw.{next_state, draw, after_draws};
+ghost use Rattle.np_gen.specs.Site.{next_state, draw, after_draws};
 
 /// Knuth's multiplier for MMIX.
 const MULTIPLIER: u64 = 6_364_136_223_846_793_005;
@@ -9,7 +9,7 @@ const MULTIPLIER: u64 = 6_364_136_223_846_793_005;
 const INCREMENT: u64 = 1_442_695_040_888_963_407;
 
 /// The state after a draw.
-#[tactic(auto, unfolding(crate::specs::Draw::next_state))]
+#[tactic(auto, unfolding(crate::specs::Site::next_state))]
 pub(crate) fn next_state(state: u64) -> u64
     ensures { result ≡ next_state state }
 {
@@ -17,7 +17,7 @@ pub(crate) fn next_state(state: u64) -> u64
 }
 
 /// The number that is drawn at a state.
-#[tactic(auto, unfolding(crate::specs::Draw::draw))]
+#[tactic(auto, unfolding(crate::specs::Site::draw))]
 pub(crate) fn draw(state: u64) -> u64
     ensures { result ≡ draw state }
 {

@@ -5,7 +5,7 @@ ghost use Rattle.np_gen.specs.Site.{is_large, label_count, drawn_labels, job_lab
 
 use crate::draw::{after_draws, draw, next_state};
 use np_config::{Job, LabelList, Name, SemList};
-use np_text::{EndAs, LabelId, NoMemory, RequesterId, SemId, TenantId, put_number};
+use np_text::{Ample, EndAs, LabelId, NoMemory, RequesterId, SemId, TenantId, put_number};
 use std::alloc::Global;
 
 /// The semaphore `deploy`.
@@ -126,13 +126,7 @@ fn after_job(number: u32, state: u64) -> u64
 }
 
 /// Adds the job at the end if it belongs to this requester.
-fn put_job_of(
-    alloc: Global,
-    requester: u32,
-    number: u32,
-    state: u64,
-    rows: &mut Vec<Job>,
-) -> Result<(), NoMemory>
+fn put_job_of(alloc: Global, requester: u32, number: u32, state: u64, rows: &mut Vec<Job>) -> Ample
     ensures { OnOk result (rows.new.items ≡
         rows.old.items ++ jobs_of requester (drill_job number state ∷ [])) }
 {
@@ -145,12 +139,7 @@ fn put_job_of(
 
 /// Adds the jobs of one requester at the end. All jobs are drawn, and only these are made.
 #[tactic(auto, using(crate::proofs::DrillSite::jobs))]
-pub(crate) fn put_jobs_of(
-    alloc: Global,
-    requester: u32,
-    jobs: u32,
-    rows: &mut Vec<Job>,
-) -> Result<(), NoMemory>
+pub(crate) fn put_jobs_of(alloc: Global, requester: u32, jobs: u32, rows: &mut Vec<Job>) -> Ample
     ensures { OnOk result
         (rows.new.items ≡ rows.old.items ++ jobs_of requester (drawn_jobs jobs)) }
 {

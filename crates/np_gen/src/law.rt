@@ -1,8 +1,7 @@
 //! Laws on the definitions. Nothing here runs: each function states a theorem.
 
 ghost use Rattle.std.specs.Prelude.{◌≡◌, ◌/◌, ℕ, filter, length};
-ghost use Rattle.np_gen.specs.Draw.{next_state, draw};
-ghost use Rattle.np_gen.specs.Site.{asks_for_nine, drill_site};
+ghost use Rattle.np_gen.specs.Site.{next_state, draw, asks_for_nine, drill_site};
 
 /// The draw from state 1, and the state after it.
 pub fn a_worked_draw()

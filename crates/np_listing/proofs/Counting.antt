@@ -1,5 +1,5 @@
 -- what was counted in a journal, after one entry or one state more
-use Rattle.np_listing.proofs.Prelude.{Amount, Bool, Configuration, Entry, FullTime, KindCount, List, None, Option, PoolPeak, Runs, Some, State, TenantPeak, after, ap, append-nil, append_assoc, arith, cond, count_by, count_by-le-length, count_of, count_of_tenant, counted, false, full_in, is_failed, is_launched, is_of_kind, is_refused, kind_count, larger, largest, last_row, length, length-append, list_all, list_all-append, map, map-append, map-range_with_len_more, max, more_of_kind, most_ticks, next, noted, nothing, one_more, option_map, option_map_or, pool_row, raised_pool, raised_tenant, range_with_len, refl, semaphore_row, since, since_now, slice_get, start, state_after, states, suc, sum_by, sum_by-append, sym, tenant_row, ticks_in, true, turns_from, watched, zero, ℕ, [], ◌&&◌, ◌++◌, ◌+◌, ◌-◌, ◌<◌, ◌^◌, ◌∙◌, ◌∷◌, ◌≡◌, ◌≤◌}
+use Rattle.np_listing.proofs.Prelude.{Amount, Bool, Configuration, Entry, FullTime, KindCount, List, None, Option, PoolPeak, Runs, State, TenantPeak, after, and_false, ap, append-nil, append_assoc, arith, by_bool, cond, count_by, count_by-le-length, count_of, count_of_tenant, counted, false, full_in, is_failed, is_launched, is_of_kind, is_refused, kind_count, larger, largest, last_row, length, length-append, list_all, list_all-append, map, map-append, map-range_with_len_more, max, more_of_kind, most_ticks, next, noted, nothing, one_more, option_map, option_map_or, pool_row, raised_pool, raised_tenant, range_with_len, refl, semaphore_row, since, since_now, slice_get, start, state_after, states, suc, sum_by, sum_by-append, sym, tenant_row, ticks_in, true, turns_from, watched, zero, ℕ, [], ◌&&◌, ◌++◌, ◌+◌, ◌-◌, ◌<◌, ◌^◌, ◌∙◌, ◌∷◌, ◌≡◌, ◌≤◌}
 
 -- # rows by number
 
@@ -50,24 +50,14 @@ peak-push used c journal e s ends =
 
 module _ {X : Type 0} (p : X → Bool) where
   -- one more that passes
-  kept_by : (x : X) (xs : List X) (y : X) (all : Bool) → list_all p (x ∷ xs) ≡ all → p y ≡ true → last_row p (xs ++ y ∷ []) ≡ last_row p xs ++ y ∷ [] → last_row p (x ∷ xs ++ y ∷ []) ≡ last_row p (x ∷ xs) ++ y ∷ []
-  kept_by x xs y true is passes later =
-      let both : list_all p (x ∷ xs ++ y ∷ []) ≡ true = list_all-append p (x ∷ xs) (y ∷ []) ∙ rw (is, passes) refl in
-      rw (both, is) refl
-  kept_by x xs y false is passes later =
-      let both : list_all p (x ∷ xs ++ y ∷ []) ≡ false = list_all-append p (x ∷ xs) (y ∷ []) ∙ rw is refl in
-      rw (both, is) later
-
-  pub last_row-kept : (xs : List X) (y : X) → p y ≡ true → last_row p (xs ++ y ∷ []) ≡ last_row p xs ++ y ∷ []
+  last_row-kept : (xs : List X) (y : X) → p y ≡ true → last_row p (xs ++ y ∷ []) ≡ last_row p xs ++ y ∷ []
   last_row-kept [] y passes = rw passes refl
-  last_row-kept (x ∷ xs) y passes = kept_by x xs y (list_all p (x ∷ xs)) refl passes (last_row-kept xs y passes)
-
-  and_false : (b : Bool) → (b && (false && true)) ≡ false
-  and_false true = refl
-  and_false false = refl
+  last_row-kept (x ∷ xs) y passes =
+      let both : list_all p (x ∷ xs ++ y ∷ []) ≡ (list_all p (x ∷ xs) && (true && true)) = list_all-append p (x ∷ xs) (y ∷ []) ∙ rw passes refl in
+      rw both (by_bool (λ b. cond (b && (true && true)) (x ∷ xs ++ y ∷ []) (last_row p (xs ++ y ∷ [])) ≡ cond b (x ∷ xs) (last_row p xs) ++ y ∷ []) (list_all p (x ∷ xs)) (λ _. refl) (λ _. last_row-kept xs y passes))
 
   -- one more that does not
-  pub last_row-ended : (xs : List X) (y : X) → p y ≡ false → last_row p (xs ++ y ∷ []) ≡ []
+  last_row-ended : (xs : List X) (y : X) → p y ≡ false → last_row p (xs ++ y ∷ []) ≡ []
   last_row-ended [] y fails = rw fails refl
   last_row-ended (x ∷ xs) y fails =
       let not_all : list_all p (x ∷ xs ++ y ∷ []) ≡ false = list_all-append p (x ∷ xs) (y ∷ []) ∙ rw fails (and_false (list_all p (x ∷ xs))) in
@@ -77,28 +67,19 @@ first_tick : (row : List State) (s : State) → option_map (λ t. t.tick) (slice
 first_tick [] s = refl
 first_tick (first ∷ row) s = refl
 
-none_now : (tick : ℕ) (before : Option ℕ) → None ≡ since_now false tick before
-none_now tick None = refl
-none_now tick (Some since) = refl
-
-since_by : (p : State → Bool) (states : List State) (s : State) (now : Bool) → p s ≡ now → since p (states ++ s ∷ []) ≡ since_now now s.tick (since p states)
-since_by p states s true is = ap (λ (row : List State). option_map (λ t. t.tick) (slice_get row 0)) (last_row-kept p states s is) ∙ first_tick (last_row p states) s
-since_by p states s false is = ap (λ (row : List State). option_map (λ t. t.tick) (slice_get row 0)) (last_row-ended p states s is) ∙ none_now s.tick (since p states)
-
-pub since-push : (p : State → Bool) (states : List State) (s : State) → since p (states ++ s ∷ []) ≡ since_now (p s) s.tick (since p states)
-since-push p states s = since_by p states s (p s) refl
-
-ticks-max-assoc : (a b d : ℕ) → max a (max b d) ≡ max (max a b) d
-ticks-max-assoc a b d = omega arith
-
-max_first : (a : ℕ) → max a 0 ≡ max 0 a
-max_first a = omega arith
+since-push : (p : State → Bool) (states : List State) (s : State) → since p (states ++ s ∷ []) ≡ since_now (p s) s.tick (since p states)
+since-push p states s = by_bool (λ b. since p (states ++ s ∷ []) ≡ since_now b s.tick (since p states)) (p s)
+    (λ is. ap (λ (row : List State). option_map (λ t. t.tick) (slice_get row 0)) (last_row-kept p states s is) ∙ first_tick (last_row p states) s)
+    (λ is. ap (λ (row : List State). option_map (λ t. t.tick) (slice_get row 0)) (last_row-ended p states s is) ∙ none_now s.tick (since p states))
+  where
+    none_now : (tick : ℕ) (before : Option ℕ) → None ≡ since_now false tick before
+    none_now tick before = grind arith
 
 most_ticks-push : (p : State → Bool) (earlier states : List State) (s : State) → most_ticks p earlier (states ++ s ∷ []) ≡ max (most_ticks p earlier states) (ticks_in p (earlier ++ states) s)
-most_ticks-push p earlier [] s = max_first (ticks_in p earlier s) ∙ ap (λ (before : List State). max 0 (ticks_in p before s)) (sym (append-nil earlier))
+most_ticks-push p earlier [] s = max-comm (ticks_in p earlier s) 0 ∙ ap (λ (before : List State). max 0 (ticks_in p before s)) (sym (append-nil earlier))
 most_ticks-push p earlier (t ∷ states) s =
     ap (max (ticks_in p earlier t)) (most_ticks-push p (earlier ++ t ∷ []) states s)
-    ∙ ticks-max-assoc (ticks_in p earlier t) (most_ticks p (earlier ++ t ∷ []) states) (ticks_in p (earlier ++ t ∷ [] ++ states) s)
+    ∙ max-assoc (ticks_in p earlier t) (most_ticks p (earlier ++ t ∷ []) states) (ticks_in p (earlier ++ t ∷ [] ++ states) s)
     ∙ ap (λ (before : List State). max (most_ticks p earlier (t ∷ states)) (ticks_in p before s)) (append_assoc earlier (t ∷ []) states)
 
 -- the longest after one state more
@@ -109,15 +90,11 @@ longest-push p states s = most_ticks-push p [] states s ∙ ap (λ (o : Option �
 
 -- ## numbers of entries
 
-one_by : (count : ℕ) (b : Bool) → count < 2 ^ 32 - 1 → one_more count b ≡ count + cond b 1 0
-one_by count true few = omega arith
-one_by count false few = omega arith
-
 count-push : (p : Entry → Bool) (journal : List Entry) (e : Entry) → length (journal ++ e ∷ []) ≤ 262144 → one_more (count_by p journal) (p e) ≡ count_by p (journal ++ e ∷ [])
 count-push p journal e short =
     let few : count_by p journal < 2 ^ 32 - 1 = omega (arith, count_by-le-length p journal, length-append journal (e ∷ []), short) in
     let last : sum_by (λ x. cond (p x) 1 0) (e ∷ []) ≡ cond (p e) 1 0 = omega arith in
-    one_by (count_by p journal) (p e) few ∙ ap (λ (n : ℕ). count_by p journal + n) (sym last) ∙ sym (sum_by-append (λ x. cond (p x) 1 0) journal (e ∷ []))
+    by_bool (λ b. one_more (count_by p journal) b ≡ count_by p journal + cond b 1 0) (p e) (λ _. omega arith) (λ _. omega arith) ∙ ap (λ (n : ℕ). count_by p journal + n) (sym last) ∙ sym (sum_by-append (λ x. cond (p x) 1 0) journal (e ∷ []))
 
 -- ## rows
 

@@ -1,6 +1,4 @@
-pub mod Columns
+pub mod Lower
 pub mod Listing
-pub mod Kind
 pub mod Tally
-pub mod Noting
 pub mod Summary

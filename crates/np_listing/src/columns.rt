@@ -1,20 +1,17 @@
 //! Rows of cells, printed in columns.
 
 ghost use Rattle.std.specs.Prelude.{◌≡◌, ◌++◌, [], length, replicate, slice_get, unwrap_or, IfOk, OnOk};
-ghost use Rattle.np_listing.specs.Columns.{cell_len, cell_text, cells_text, gap, row_line, table_text, width, width_at, widths};
+ghost use Rattle.np_listing.specs.Listing.{cell_len, cell_text, cells_text, gap, row_line, table_text, width, width_at, widths};
 
 use crate::row::{Cell, Row};
-use np_text::NoMemory;
+use np_text::{Ample, NoMemory};
 use std::alloc::Global;
 
 /// How long the row's cell in the column is.
 fn cell_len(row: &Row, column: usize) -> usize
     ensures { result ≡ cell_len column row.now }
 {
-    match row.items().get(column) {
-        None => 0,
-        Some(cell) => cell.items().len(),
-    }
+    row.items().get(column).map_or(0, |cell| cell.items().len())
 }
 
 /// How wide the column is.
@@ -40,7 +37,7 @@ fn widths(alloc: Global, columns: usize, rows: &[Row]) -> Result<Vec<usize>, NoM
 }
 
 /// Appends spaces.
-fn put_spaces(out: &mut Vec<u8>, count: usize) -> Result<(), NoMemory>
+fn put_spaces(out: &mut Vec<u8>, count: usize) -> Ample
     ensures { OnOk result (out.new.items ≡ out.old.items ++ replicate count 32) }
 {
     for _at in 0..count {
@@ -50,7 +47,7 @@ fn put_spaces(out: &mut Vec<u8>, count: usize) -> Result<(), NoMemory>
 }
 
 /// Appends what stands between a cell and the next ones.
-fn put_gap(out: &mut Vec<u8>, missing: usize, next: &[Cell]) -> Result<(), NoMemory>
+fn put_gap(out: &mut Vec<u8>, missing: usize, next: &[Cell]) -> Ample
     ensures { OnOk result (out.new.items ≡ out.old.items ++ gap missing next.now) }
 {
     if next.is_empty() {
@@ -61,7 +58,7 @@ fn put_gap(out: &mut Vec<u8>, missing: usize, next: &[Cell]) -> Result<(), NoMem
 }
 
 /// Appends a cell in a column of this width.
-fn put_cell(out: &mut Vec<u8>, width: usize, cell: &Cell, next: &[Cell]) -> Result<(), NoMemory>
+fn put_cell(out: &mut Vec<u8>, width: usize, cell: &Cell, next: &[Cell]) -> Ample
     ensures { OnOk result (out.new.items ≡ out.old.items ++ cell_text width cell.now next.now) }
 {
     let text = cell.items();
@@ -77,7 +74,7 @@ fn width_at(widths: &[usize], column: usize) -> usize
 }
 
 /// Appends a row's cells, each in its column.
-fn put_cells(out: &mut Vec<u8>, widths: &[usize], row: &Row) -> Result<(), NoMemory>
+fn put_cells(out: &mut Vec<u8>, widths: &[usize], row: &Row) -> Ample
     ensures { OnOk result (out.new.items ≡ out.old.items ++ cells_text widths.now 0 row.now) }
 {
     let cells = row.items();
@@ -88,7 +85,7 @@ fn put_cells(out: &mut Vec<u8>, widths: &[usize], row: &Row) -> Result<(), NoMem
     Ok(())
 }
 
-fn put_row(out: &mut Vec<u8>, widths: &[usize], row: &Row) -> Result<(), NoMemory>
+fn put_row(out: &mut Vec<u8>, widths: &[usize], row: &Row) -> Ample
     ensures { OnOk result (out.new.items ≡ out.old.items ++ row_line widths.now row.now) }
 {
     put_cells(out, widths, row)?;
@@ -100,15 +97,12 @@ fn put_row(out: &mut Vec<u8>, widths: &[usize], row: &Row) -> Result<(), NoMemor
 fn columns(rows: &[Row]) -> usize
     ensures { result ≡ length (unwrap_or (slice_get rows.now 0) []) }
 {
-    match rows.first() {
-        None => 0,
-        Some(head) => head.items().len(),
-    }
+    rows.first().map_or(0, |head| head.items().len())
 }
 
 /// Appends a table, each row on a line.
-#[tactic(auto, unfolding(crate::specs::Columns::table_text))]
-pub(crate) fn put_table(alloc: Global, out: &mut Vec<u8>, rows: &[Row]) -> Result<(), NoMemory>
+#[tactic(auto, unfolding(crate::specs::Listing::table_text))]
+pub(crate) fn put_table(alloc: Global, out: &mut Vec<u8>, rows: &[Row]) -> Ample
     ensures { OnOk result (out.new.items ≡ out.old.items ++ table_text rows.now) }
 {
     let widths = widths(alloc, columns(rows), rows)?;

@@ -5,7 +5,7 @@ ghost use Rattle.np_listing.specs.Summary.{count_words, fate_count, fates_line, 
 
 use np_explain_lines::put;
 use np_look::Rows;
-use np_text::{Ending, JobId, NoMemory, put_number};
+use np_text::{Ample, Ending, JobId, put_number};
 
 /// What can become of a job.
 #[derive(Clone, Copy)]
@@ -53,7 +53,7 @@ fn fate_count<R: Rows>(rows: &R, fate: Fate) -> u32
 }
 
 /// Appends a number, and what there are so many of.
-pub(crate) fn put_count(out: &mut Vec<u8>, count: u32, words: &[u8]) -> Result<(), NoMemory>
+pub(crate) fn put_count(out: &mut Vec<u8>, count: u32, words: &[u8]) -> Ample
     ensures { OnOk result (out.new.items ≡ out.old.items ++ count_words count words.now) }
 {
     put_number(out, u64::from(count))?;
@@ -62,7 +62,7 @@ pub(crate) fn put_count(out: &mut Vec<u8>, count: u32, words: &[u8]) -> Result<(
 }
 
 /// Appends how many jobs have this fate.
-fn put_fate<R: Rows>(out: &mut Vec<u8>, rows: &R, fate: Fate, words: &[u8]) -> Result<(), NoMemory>
+fn put_fate<R: Rows>(out: &mut Vec<u8>, rows: &R, fate: Fate, words: &[u8]) -> Ample
     ensures { OnOk result (out.new.items
         ≡ out.old.items ++ count_words (fate_count (R.state rows.now) fate) words.now) }
 {
@@ -70,7 +70,7 @@ fn put_fate<R: Rows>(out: &mut Vec<u8>, rows: &R, fate: Fate, words: &[u8]) -> R
 }
 
 /// Appends how many jobs there are.
-fn put_all<R: Rows>(out: &mut Vec<u8>, rows: &R) -> Result<(), NoMemory>
+fn put_all<R: Rows>(out: &mut Vec<u8>, rows: &R) -> Ample
     ensures { OnOk result (out.new.items
         ≡ out.old.items ++ (codes "jobs: "
         ++ count_words (length (R.state rows.now).jobs) (codes "in all, "))) }
@@ -80,7 +80,7 @@ fn put_all<R: Rows>(out: &mut Vec<u8>, rows: &R) -> Result<(), NoMemory>
 }
 
 /// Appends what became of the jobs.
-pub(crate) fn put_fates<R: Rows>(out: &mut Vec<u8>, rows: &R) -> Result<(), NoMemory>
+pub(crate) fn put_fates<R: Rows>(out: &mut Vec<u8>, rows: &R) -> Ample
     ensures { OnOk result (out.new.items ≡ out.old.items ++ fates_line (R.state rows.now)) }
 {
     put_all(out, rows)?;
@@ -88,5 +88,6 @@ pub(crate) fn put_fates<R: Rows>(out: &mut Vec<u8>, rows: &R) -> Result<(), NoMe
     put_fate(out, rows, Fate::Failed, b"failed, ")?;
     put_fate(out, rows, Fate::Lost, b"lost, ")?;
     put_fate(out, rows, Fate::Withdrawn, b"withdrawn, ")?;
-    put_fate(out, rows, Fate::Open, b"not over\n")
+    put_fate(out, rows, Fate::Open, b"not over\n")?;
+    Ok(())
 }

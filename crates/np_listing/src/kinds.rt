@@ -1,8 +1,8 @@
 //! What is asked of an entry.
 
 ghost use Rattle.std.specs.Prelude.{◌≡◌, [], map, slice_get, unwrap_or};
-ghost use Rattle.np_changes.specs.Prelude.{is_done};
-ghost use Rattle.np_listing.specs.Kind.{is_failed, is_launched, is_of_kind, is_refused, kind_of, kind_word, reports_failure, reports_server};
+ghost use Rattle.np_listing.specs.Lower.{is_done};
+ghost use Rattle.np_listing.specs.Tally.{is_failed, is_launched, is_of_kind, is_refused, kind_of, kind_word, reports_failure, reports_server};
 
 use np_event::{Entry, Event, Outcome, Reply};
 
@@ -10,10 +10,7 @@ use np_event::{Entry, Event, Outcome, Reply};
 fn word_at(words: &[&'static str], at: u8) -> &'static str
     ensures { result.now ≡ unwrap_or (slice_get (map (λ word. word.now) words.now) at) [] }
 {
-    match words.get(usize::from(at)) {
-        None => "",
-        Some(word) => *word,
-    }
+    words.get(usize::from(at)).copied().unwrap_or("")
 }
 
 /// The kind's word, as the lines of its events begin.
@@ -118,25 +115,19 @@ pub(crate) fn is_of_kind(kind: u8, entry: &Entry) -> bool
 fn reports_server(event: Event) -> bool
     ensures { result ≡ reports_server event }
 {
-    matches!(
-        event,
-        Event::Done {
-            outcome: Outcome::Launched(_),
-            ..
-        }
-    )
+    match event {
+        Event::Done { outcome, .. } => matches!(outcome, Outcome::Launched(_)),
+        _ => false,
+    }
 }
 
 fn reports_failure(event: Event) -> bool
     ensures { result ≡ reports_failure event }
 {
-    matches!(
-        event,
-        Event::Done {
-            outcome: Outcome::Failed,
-            ..
-        }
-    )
+    match event {
+        Event::Done { outcome, .. } => matches!(outcome, Outcome::Failed),
+        _ => false,
+    }
 }
 
 /// Whether it was reported that a launch succeeded.

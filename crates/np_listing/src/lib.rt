@@ -1,7 +1,7 @@
 //! What people read of a run: the tables of one of its states, in columns (nodes, requests, handles
 //! and sessions), and the summary of what the whole run took.
 //!
-//! `specs/Listing` says which rows each table has, and `specs/Columns` how rows are printed. A `Tally`
+//! `specs/Listing` says which rows each table has, and how rows are printed. A `Tally`
 //! counts a run while it is played: its events, its launches, the most that pools and tenants used,
 //! and how long semaphores were full. `specs/Tally` says what is counted, in terms of the journal and
 //! of the states after its entries, and `specs/Summary` how it is printed.

@@ -1,8 +1,8 @@
 //! One entry more.
 
 ghost use Rattle.std.specs.Prelude.{◌≡◌, ◌-◌, map, max};
-ghost use Rattle.np_changes.specs.Prelude.{Fits, option_map_or};
-ghost use Rattle.np_listing.specs.Noting.{more_of_kind, one_more, raised_pool, raised_tenant, since_now, watched};
+ghost use Rattle.np_listing.specs.Lower.{Configuration, Entry, Fits, State, option_map_or};
+ghost use Rattle.np_listing.specs.Summary.{more_of_kind, one_more, raised_pool, raised_tenant, since_now, watched};
 ghost use Rattle.np_listing.specs.Tally.{larger};
 
 use crate::kinds::is_of_kind;
@@ -22,21 +22,33 @@ pub(crate) fn one_more(count: u32, is_counted: bool) -> u32
     }
 }
 
-fn more_of_kind(entry: &Entry, row: KindCount) -> KindCount
-    ensures { result ≡ more_of_kind entry.now row }
+/// A row of what is counted.
+pub(crate) trait Noted: Copy {
+    /// The row after one entry more, in the state after it.
+    ghost noted: { Configuration → State → Entry → Self → Self };
+
+    fn noted<L: Look>(self, look: &L, entry: &Entry) -> Self
+        requires { Fits (L.site look.now) (L.state look.now) }
+        ensures { result ≡ noted (L.site look.now) (L.state look.now) entry.now self };
+}
+
+/// Takes an entry into each row.
+pub(crate) fn note_all<T: Noted, L: Look>(rows: &mut Vec<T>, look: &L, entry: &Entry)
+    requires { Fits (L.site look.now) (L.state look.now) }
+    ensures { rows.new.items
+        ≡ map (T.noted (L.site look.now) (L.state look.now) entry.now) rows.old.items }
 {
-    KindCount {
-        kind: row.kind,
-        count: one_more(row.count, is_of_kind(row.kind, entry)),
+    for row in rows.iter_mut() {
+        *row = row.noted(look, entry);
     }
 }
 
-/// Counts the entry's kind.
-pub(crate) fn count_kinds(rows: &mut Vec<KindCount>, entry: &Entry)
-    ensures { rows.new.items ≡ map (more_of_kind entry.now) rows.old.items }
-{
-    for row in rows.iter_mut() {
-        *row = more_of_kind(entry, *row);
+impl Noted for KindCount {
+    ghost noted = { λ _ _ entry row. more_of_kind entry row };
+
+    fn noted<L: Look>(self, _look: &L, entry: &Entry) -> KindCount {
+        let count = one_more(self.count, is_of_kind(self.kind, entry));
+        KindCount { count, ..self }
     }
 }
 
@@ -51,45 +63,21 @@ fn larger(one: Amount, other: Amount) -> Amount
     }
 }
 
-fn raised_pool<L: Look>(look: &L, row: PoolPeak) -> PoolPeak
-    requires { Fits (L.site look.now) (L.state look.now) }
-    ensures { result ≡ raised_pool (L.site look.now) (L.state look.now) row }
-{
-    PoolPeak {
-        pool: row.pool,
-        most: larger(row.most, look.used(row.pool)),
+impl Noted for PoolPeak {
+    ghost noted = { λ c s _ row. raised_pool c s row };
+
+    fn noted<L: Look>(self, look: &L, _entry: &Entry) -> PoolPeak {
+        let most = larger(self.most, look.used(self.pool));
+        PoolPeak { most, ..self }
     }
 }
 
-/// Notes what each pool uses.
-pub(crate) fn raise_pools<L: Look>(rows: &mut Vec<PoolPeak>, look: &L)
-    requires { Fits (L.site look.now) (L.state look.now) }
-    ensures { rows.new.items
-        ≡ map (raised_pool (L.site look.now) (L.state look.now)) rows.old.items }
-{
-    for row in rows.iter_mut() {
-        *row = raised_pool(look, *row);
-    }
-}
+impl Noted for TenantPeak {
+    ghost noted = { λ c s _ row. raised_tenant c s row };
 
-fn raised_tenant<L: Look>(look: &L, row: TenantPeak) -> TenantPeak
-    requires { Fits (L.site look.now) (L.state look.now) }
-    ensures { result ≡ raised_tenant (L.site look.now) (L.state look.now) row }
-{
-    TenantPeak {
-        tenant: row.tenant,
-        most: larger(row.most, look.used_by(row.tenant)),
-    }
-}
-
-/// Notes what each tenant uses.
-pub(crate) fn raise_tenants<L: Look>(rows: &mut Vec<TenantPeak>, look: &L)
-    requires { Fits (L.site look.now) (L.state look.now) }
-    ensures { rows.new.items
-        ≡ map (raised_tenant (L.site look.now) (L.state look.now)) rows.old.items }
-{
-    for row in rows.iter_mut() {
-        *row = raised_tenant(look, *row);
+    fn noted<L: Look>(self, look: &L, _entry: &Entry) -> TenantPeak {
+        let most = larger(self.most, look.used_by(self.tenant));
+        TenantPeak { most, ..self }
     }
 }
 
@@ -107,10 +95,7 @@ fn since_now(full: bool, tick: u32, before: Option<u32>) -> Option<u32>
 fn ticks_since(tick: u32, since: Option<u32>) -> u32
     ensures { result ≡ option_map_or (λ before. tick - before) since 0 }
 {
-    match since {
-        None => 0,
-        Some(before) => tick.saturating_sub(before),
-    }
+    since.map_or(0, |before| tick.saturating_sub(before))
 }
 
 fn watched<R: Rows>(rows: &R, row: FullTime) -> FullTime
@@ -124,11 +109,10 @@ fn watched<R: Rows>(rows: &R, row: FullTime) -> FullTime
     }
 }
 
-/// Notes which semaphores are full.
-pub(crate) fn watch_semaphores<R: Rows>(times: &mut Vec<FullTime>, rows: &R)
-    ensures { times.new.items ≡ map (watched (R.site rows.now) (R.state rows.now)) times.old.items }
-{
-    for time in times.iter_mut() {
-        *time = watched(rows, *time);
+impl Noted for FullTime {
+    ghost noted = { λ c s _ row. watched c s row };
+
+    fn noted<L: Look>(self, look: &L, _entry: &Entry) -> FullTime {
+        watched(look.rows(), self)
     }
 }

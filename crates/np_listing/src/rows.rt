@@ -38,12 +38,6 @@ pub(crate) struct FullTime {
     pub(crate) longest: u32,
 }
 
-const NOTHING: Amount = Amount {
-    instances: 0,
-    cores: 0,
-    ram: 0,
-};
-
 /// A row for each kind of events.
 pub(crate) fn no_events(alloc: Global) -> Result<Vec<KindCount>, NoMemory>
     ensures { IfOk result (λ rows. rows.items ≡ map (kind_count []) (range_with_len 0 31)) }
@@ -69,11 +63,8 @@ pub(crate) fn no_pools(alloc: Global, config: &Config) -> Result<Vec<PoolPeak>, 
 {
     let mut rows = Vec::new(alloc);
     for at in 0..pools(config) {
-        let row = PoolPeak {
-            pool: PoolId(at),
-            most: NOTHING,
-        };
-        rows.push(row)?;
+        let (pool, most) = (PoolId(at), Amount::NOTHING);
+        rows.push(PoolPeak { pool, most })?;
     }
     Ok(rows)
 }
@@ -92,16 +83,13 @@ pub(crate) fn no_tenants(alloc: Global, config: &Config) -> Result<Vec<TenantPea
 {
     let mut rows = Vec::new(alloc);
     for at in 0..tenants(config) {
-        let row = TenantPeak {
-            tenant: TenantId(at),
-            most: NOTHING,
-        };
-        rows.push(row)?;
+        let (tenant, most) = (TenantId(at), Amount::NOTHING);
+        rows.push(TenantPeak { tenant, most })?;
     }
     Ok(rows)
 }
 
-fn semaphores(config: &Config) -> u16
+pub(crate) fn semaphores(config: &Config) -> u16
     ensures { result ≡ length config.now.semaphores }
 {
     config.know_soundness();
@@ -115,12 +103,11 @@ pub(crate) fn no_times(alloc: Global, config: &Config) -> Result<Vec<FullTime>, 
 {
     let mut rows = Vec::new(alloc);
     for at in 0..semaphores(config) {
-        let row = FullTime {
+        rows.push(FullTime {
             semaphore: SemId(at),
             since: None,
             longest: 0,
-        };
-        rows.push(row)?;
+        })?;
     }
     Ok(rows)
 }

@@ -1,8 +1,7 @@
 //! All tables of a state.
 
 ghost use Rattle.std.specs.Prelude.{◌≡◌, ◌++◌, codes, decimal, IfOk, OnOk};
-ghost use Rattle.np_listing.specs.Columns.{table_text};
-ghost use Rattle.np_listing.specs.Listing.{handle_rows, listing_of, node_rows, request_rows, session_rows};
+ghost use Rattle.np_listing.specs.Listing.{table_text, handle_rows, listing_of, node_rows, request_rows, session_rows};
 
 use crate::columns::put_table;
 use crate::handles::handle_rows;
@@ -11,10 +10,10 @@ use crate::requests::request_rows;
 use crate::sessions::session_rows;
 use np_explain_lines::put;
 use np_look::Rows;
-use np_text::{NoMemory, put_number};
+use np_text::{Ample, NoMemory, put_number};
 use std::alloc::Global;
 
-fn put_tick(out: &mut Vec<u8>, tick: u32) -> Result<(), NoMemory>
+fn put_tick(out: &mut Vec<u8>, tick: u32) -> Ample
     ensures { OnOk result (out.new.items
         ≡ out.old.items ++ (codes "tick " ++ decimal tick ++ codes "\n\n")) }
 {

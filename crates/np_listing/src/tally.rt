@@ -1,15 +1,15 @@
 //! Counting what a run takes.
 
 ghost use Rattle.std.specs.Prelude.{◌≡◌, ◌++◌, ◌∷◌, [], List, IfOk};
-ghost use Rattle.np_changes.specs.Prelude.{Entry, Fits, Runs};
-ghost use Rattle.np_listing.specs.Noting.{noted};
-ghost use Rattle.np_listing.specs.Summary.{summary_of, text_of};
+ghost use Rattle.np_listing.specs.Lower.{Entry, Fits, Runs};
+ghost use Rattle.np_listing.specs.Summary.{noted, summary_of, text_of};
 ghost use Rattle.np_listing.specs.Tally.{counted};
 
 use crate::fates::put_fates;
 use crate::kinds::{is_failed, is_launched, is_refused};
-use crate::lines::{put_events, put_launches, put_pools, put_semaphores, put_tenants, put_ticks};
-use crate::notes::{count_kinds, one_more, raise_pools, raise_tenants, watch_semaphores};
+use crate::lines::{put_events, put_launches, put_ticks};
+use crate::notes::{note_all, one_more};
+use crate::row::put_each;
 use crate::rows::{
     FullTime, KindCount, PoolPeak, TenantPeak, no_events, no_pools, no_tenants, no_times,
 };
@@ -83,13 +83,13 @@ impl Tally {
         requires { Fits (L.site look.now) (L.state look.now) }
         ensures { self.new ≡ noted (L.site look.now) (L.state look.now) entry.now self.old }
     {
-        count_kinds(&mut self.kinds, entry);
+        note_all(&mut self.kinds, look, entry);
         self.refused = one_more(self.refused, is_refused(entry));
         self.launched = one_more(self.launched, is_launched(entry));
         self.failed = one_more(self.failed, is_failed(entry));
-        raise_pools(&mut self.pools, look);
-        raise_tenants(&mut self.tenants, look);
-        watch_semaphores(&mut self.semaphores, look.rows());
+        note_all(&mut self.pools, look, entry);
+        note_all(&mut self.tenants, look, entry);
+        note_all(&mut self.semaphores, look, entry);
     }
 
     /// Appends what was counted in the state at the end.
@@ -102,11 +102,11 @@ impl Tally {
         let mut out = Vec::new(alloc);
         put_fates(&mut out, rows)?;
         put_ticks(&mut out, rows.tick())?;
-        put_events(&mut out, self.kinds.as_slice(), self.refused)?;
+        put_events(&mut out, config, self.kinds.as_slice(), self.refused)?;
         put_launches(&mut out, self.launched, self.failed)?;
-        put_pools(&mut out, config, self.pools.as_slice())?;
-        put_tenants(&mut out, config, self.tenants.as_slice())?;
-        put_semaphores(&mut out, config, self.semaphores.as_slice())?;
+        put_each(&mut out, config, b"", self.pools.as_slice())?;
+        put_each(&mut out, config, b"", self.tenants.as_slice())?;
+        put_each(&mut out, config, b"", self.semaphores.as_slice())?;
         Ok(out)
     }
 

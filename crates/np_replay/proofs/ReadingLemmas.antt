@@ -1,5 +1,5 @@
 -- how clap walks over the words of the command line, and what it makes of them
-use Rattle.np_replay.proofs.Prelude.{AsWritten, Bool, CommandLine, Held, Kinds, List, None, Option, Row, Shape, Some, Step, Text, UnknownArgument, Walk, [], after_step, ap, application, ap₂, built, bytes_eq, chars, clap_on_literals, codes, eqb-true, false, idle, length, nat_eq, nothing_held, or_else, refl, step_fault, subst, sym, true, turn_fault, value, walked, word_fault, word_met, ℕ, ◌+◌, ◌==◌, ◌∷◌, ◌≡◌, App, ArgMatches, Command, Error, HasKind, HasMatchesOf, OutOfMemory, append-nil, arith, bare_command, check_fault, command, command_found, command_given, command_pair, defaults_fault, digits_within, drill_of, entered, entered_fault, fault_of, finished, first_of, first_value-rows, fold, found_of, if◌then◌else◌, inl, inr, is_simple, is_simple_and_free, is_some, kind_of, matches_of, number_of, rows_of, settle_fault, settled, walk_fault, without_dashes, ◌++◌, ◌∙◌, ◌≤◌}
+use Rattle.np_replay.proofs.Prelude.{App, ArgMatches, AsWritten, Bool, Command, CommandLine, Error, HasKind, HasMatchesOf, Held, Kinds, List, None, Option, OutOfMemory, Row, Shape, Some, Step, Text, UnknownArgument, Walk, after_step, ap, append-nil, application, ap₂, arith, bare_command, built, by_bool, bytes_eq, chars, check_fault, clap_on_literals, codes, command, command_found, command_given, command_pair, defaults_fault, digits_within, entered, entered_fault, eqb-true, false, fault_of, finished, first_of, first_value-rows, fold, found_of, idle, is_simple, is_simple_and_free, is_some, kind_of, length, matches_of, nat_eq, nothing_held, number_of, or_else, refl, rows_of, settle_fault, settled, step_fault, subst, sym, true, turn_fault, value, walk_fault, walked, without_dashes, word_fault, word_met, ℕ, [], ◌++◌, ◌+◌, ◌==◌, ◌∙◌, ◌∷◌, ◌≡◌, ◌≤◌}
 
 -- # How `clap` walks over the words of the command line: one word at a time.
 
@@ -78,21 +78,13 @@ long : (zs : Text) → Word (45 ∷ 45 ∷ zs)
 long [] = dashes refl
 long (z ∷ zs) = flag refl (45 ∷ z ∷ zs) refl (λ rows pending. refl)
 
-second : (y : ℕ) (ys : Text) (b : Bool) → (y == 45) ≡ b → Word (45 ∷ y ∷ ys)
-second y ys true e = subst (λ x. Word (45 ∷ x ∷ ys)) (sym (eqb-true y 45 e)) (long ys)
-second y ys false e = short y ys e (chars (y ∷ ys)) refl
-
 dash : (xs : Text) → Word (45 ∷ xs)
 dash [] = a_value refl (λ position rows pending. (refl, refl))
-dash (y ∷ ys) = second y ys (y == 45) refl
-
-first : (x : ℕ) (xs : Text) (b : Bool) → (x == 45) ≡ b → Word (x ∷ xs)
-first x xs true e = subst (λ y. Word (y ∷ xs)) (sym (eqb-true x 45 e)) (dash xs)
-first x xs false e = plain x xs e
+dash (y ∷ ys) = by_bool (λ _. Word (45 ∷ y ∷ ys)) (y == 45) (λ e. subst (λ x. Word (45 ∷ x ∷ ys)) (sym (eqb-true y 45 e)) (long ys)) (λ e. short y ys e (chars (y ∷ ys)) refl)
 
 pub word : (w : Text) → Word w
 word [] = a_value refl (λ position rows pending. (refl, refl))
-word (x ∷ xs) = first x xs (x == 45) refl
+word (x ∷ xs) = by_bool (λ _. Word (x ∷ xs)) (x == 45) (λ e. subst (λ y. Word (y ∷ xs)) (sym (eqb-true x 45 e)) (dash xs)) (plain x xs)
 
 -- ---- what the walk makes of a word
 
@@ -162,9 +154,7 @@ faults-step w x xs after is none = ap₂ (λ (f : Kinds) (v : Walk). or_else f (
 
 faults-stop : (w : Walk) (x : Text) (xs : List Text) → fault w x ≡ UnknownArgument ∷ [] → faults w (x ∷ xs) ≡ [] → ⊥
 unfolding clap_on_literals
-faults-stop w x xs is none =
-    let bad : UnknownArgument ∷ [] ≡ [] = sym (ap (λ (f : Kinds). or_else f (walk_fault shape [] (step w x) xs)) is) ∙ none in
-    cc
+faults-stop w x xs is none = let bad = rw is at none in cc
 
 next : (t u : Bool) (vs us : List Text) (w : Text) (ws : List Text) → step (at t vs) w ≡ at u us → fault (at t vs) w ≡ []
     → vs ++ left t (w ∷ ws) ≡ us ++ left u ws → Ends u us ws → Ends t vs (w ∷ ws)
@@ -184,14 +174,7 @@ number_of-dash [] = refl
 number_of-dash (d ∷ ds) = refl
 
 command_pair-dash : (x rest : Text) → command_pair x (45 ∷ rest) ≡ None
-command_pair-dash x rest = rw (number_of-dash rest) (go (bytes_eq x (codes "run")) (bytes_eq x (codes "drill")) (bytes_eq x (codes "keep")) (bytes_eq x (codes "resume")))
-  where
-    go : (r a b c : Bool) → (if r then None else if a then drill_of None else if b then None else if c then None else None) ≡ None
-    go true a b c = refl
-    go false true b c = refl
-    go false false true c = refl
-    go false false false true = refl
-    go false false false false = refl
+command_pair-dash x rest = rw (number_of-dash rest) (grind arith)
 
 bare_command-first_dash : (rest : Text) (ws : List Text) → bare_command ((45 ∷ rest) ∷ ws) ≡ None
 bare_command-first_dash rest [] = refl
@@ -254,16 +237,8 @@ fault_of-whole : (words : List Text) → fault_of application words ≡ whole (w
 unfolding clap_on_literals
 fault_of-whole words = refl
 
-whole-at : (t : Bool) (us : List Text) → length us ≤ 2 → whole (at t us) [] ≡ []
-unfolding clap_on_literals
-whole-at t [] few = refl
-whole-at t (x ∷ []) few = refl
-whole-at t (x ∷ y ∷ []) few = refl
-whole-at t (x ∷ y ∷ z ∷ us) few = absurd (omega arith)
-
 first_kinds : (a b : Kinds) → or_else a b ≡ [] → a ≡ []
-first_kinds [] b e = refl
-first_kinds (k ∷ ks) b e = e
+first_kinds a b e = grind arith
 
 abbrev given : List Row → Option Command
 given rows = command_given (first_of (codes "command") rows) (first_of (codes "argument") rows)
@@ -272,23 +247,24 @@ given-matches : (words : List Text) → given (matches_of application words) ≡
 unfolding clap_on_literals
 given-matches words = refl
 
-given-at : (t : Bool) (us : List Text) → length us ≤ 2 → given (finished shape.rules (at t us).held) ≡ bare_command us
+-- what is made of the values at the end
+at-end : (t : Bool) (us : List Text) → length us ≤ 2 → (whole (at t us) [] ≡ []) × (given (finished shape.rules (at t us).held) ≡ bare_command us)
 unfolding clap_on_literals
-given-at t [] few = refl
-given-at t (x ∷ []) few = refl
-given-at t (x ∷ y ∷ []) few = refl
-given-at t (x ∷ y ∷ z ∷ us) few = absurd (omega arith)
+at-end t [] few = (refl, refl)
+at-end t (x ∷ []) few = (refl, refl)
+at-end t (x ∷ y ∷ []) few = (refl, refl)
+at-end t (x ∷ y ∷ z ∷ us) few = absurd (omega arith)
 
 taken : (words : List Text) → fault_of application words ≡ [] → given (matches_of application words) ≡ command words
 taken words none = elim (ends words false [] (omega arith)) [
   | reaches last us few walk no_fault all ↦
-      given-matches words ∙ ap (λ (w : Walk). given (finished shape.rules w.held)) walk ∙ given-at last us few ∙ ap bare_command all
-  | fails bad nothing ↦ absurd (bad (first_kinds _ _ (sym (fault_of-whole words) ∙ none)))
+      given-matches words ∙ ap (λ (w : Walk). given (finished shape.rules w.held)) walk ∙ (at-end last us few).1 ∙ ap bare_command all
+  | fails bad nothing ↦ (let met : whole (walk_of words) (faults (at false []) words) ≡ [] = sym (fault_of-whole words) ∙ none in absurd (bad (first_kinds (faults (at false []) words) _ met)))
 ]
 
 refused : (words : List Text) → (fault_of application words ≡ [] → ⊥) → None ≡ command words
 refused words some = elim (ends words false [] (omega arith)) [
-  | reaches last us few walk no_fault all ↦ absurd (some (fault_of-whole words ∙ ap₂ whole walk no_fault ∙ whole-at last us few))
+  | reaches last us few walk no_fault all ↦ absurd (some (fault_of-whole words ∙ ap₂ whole walk no_fault ∙ (at-end last us few).0))
   | fails bad nothing ↦ sym nothing
 ]
 
@@ -309,9 +285,7 @@ command_found-matches app words m is has passes =
     ap₂ command_given (first_value-rows (found_of m) (codes "command")) (first_value-rows (found_of m) (codes "argument")) ∙ ap given rows ∙ taken words none
 
 HasKind-other : (kinds : Kinds) (e : Error) → HasKind kinds e → (kind_of e ≡ OutOfMemory → ⊥) → kinds ≡ [] → ⊥
-HasKind-other kinds e (inl memory) other none = other memory
-HasKind-other [] e (inr among) other none = among
-HasKind-other (k ∷ ks) e (inr among) other none = cc
+HasKind-other kinds e has other none = grind (arith, other)
 
 -- at an `Err` of any kind but want of memory
 pub command_found-error : (app : App) (words : List Text) (e : Error) → app ≡ application → (is_simple_and_free app ≡ true → HasKind (fault_of app words) e)

@@ -1,5 +1,5 @@
 -- what out, err and the status show of how a command ended, and of a replay and a keep
-use Rattle.np_replay.proofs.Prelude.{Bool, Ending, EndsSo, IfSome, IsCutShort, IsInput, IsSaid, IsTold, IsWritten, List, None, Option, Rose, SinkFacts, Some, SourceFacts, Vec, arith, false, full_line, inl, inr, length, long_line, memory_line, most, nat_lt, nat_tests, read_line, subst, sym, true, write_line, ℕ, ◌<◌, ◌≡◌, ◌≤◌, ◌⊎◌, EndsReplay, IsFaulty, IsReplayed, Replays, ScriptFault, ap, if◌then◌else◌, refl, script_of, script_status, status_by, ◌∙◌, DiskFacts, EndsKeep, EndsKeeping, HasCome, HasScript, IsBegun, IsBegunBy, IsBroken, IsKept, IsNotKept, IsOccupied, IsStatusBy, IsStatusIf, Keeps, KeepsWhole, LeavesOnly, LeavesOnly-weaker, Ok, Result, Script, WasNotEmpty, disk_line, not_empty_line, ◌≢◌}
+use Rattle.np_replay.proofs.Prelude.{Bool, DiskFacts, Ending, EndsKeep, EndsKeeping, EndsReplay, EndsSo, HasCome, HasScript, IfSome, IfSome_then, IsBegun, IsBegunBy, IsBroken, IsCutShort, IsFaulty, IsInput, IsNotKept, IsOccupied, IsSaid, IsStatusBy, IsStatusIf, IsTold, IsWritten, Keeps, KeepsWhole, LeavesOnly, LeavesOnly-weaker, List, None, Ok, Option, Replays, Result, Rose, Script, ScriptFault, SinkFacts, Some, SourceFacts, Vec, ap, arith, false, full_line, if◌then◌else◌, inl, inr, length, long_line, memory_line, most, nat_lt, nat_tests, read_line, refl, script_of, script_status, status_by, subst, sym, true, write_line, ℕ, ◌<◌, ◌∙◌, ◌≡◌, ◌≢◌, ◌≤◌, ◌⊎◌}
 
 -- # What out, err and the status show of how a command ended, for every command: the way in which it may end is a parameter, of which `HasOwn` says which statuses are the command's own. Begin with `Tells`; `tells` goes from the ending and what was written of it to that.
 
@@ -8,8 +8,7 @@ abbrev pub IsOwn : ℕ → Type 0
 IsOwn n = (n < 5) ⊎ (7 < n)
 
 no-failure : (status : ℕ) → IsOwn status → 5 ≤ status → status ≤ 7 → ⊥
-no-failure status (inl few) least most = absurd (omega arith)
-no-failure status (inr many) least most = absurd (omega arith)
+no-failure status own least most = grind arith
 
 -- in each way in which a command may end, its words were a command, and a text or a line that it
 -- chose has a status that no failure has
@@ -61,12 +60,10 @@ module _ {K E : Type 0} (Ends : Ending → Type 0) (k : K → SinkFacts) (e : E 
   -- ## an ending and what is shown of it
 
   said : (line : List ℕ) (wanted : ℕ) → IsSaid (e err) (e err_now) line wanted status → (status ≡ wanted → IsWritten (e err) (e err_now) line → Shows) → Shows
-  said line wanted (inl whole) shows = shows whole.0 whole.1
-  said line wanted (inr cut) shows = inr (inr (inr (inr (cut.0, inr cut.1.failed))))
+  said line wanted told shows = grind arith
 
   cut_out : (text : List ℕ) → IsCutShort (k out) (k out_now) text → IsSaid (e err) (e err_now) write_line 6 status → Shows
-  cut_out text cut (inl whole) = inr (inr (inr (inr (whole.0, inl cut.failed))))
-  cut_out text cut (inr both) = inr (inr (inr (inr (both.0, inl cut.failed))))
+  cut_out text cut told = let six : status ≡ 6 = grind arith in inr (inr (inr (inr (six, inl cut.failed))))
 
   shown : HasOwn Ends → (end : Ending) → Ends end → IsTold k e out out_now err err_now end status → Shows
   shown own (Ending.Prints text wanted) ends (inl whole) =
@@ -84,51 +81,25 @@ module _ {K E : Type 0} (Ends : Ending → Type 0) (k : K → SinkFacts) (e : E 
   shown own Ending.NoMemory ends told = said memory_line 7 told.1 (λ seven whole. inr (inr (inr (inl (seven, told.0, whole)))))
 
   own_status : HasOwn Ends → ShowsOwn → IsOwn status
-  own_status own (inl printed) = own.prints printed.text status printed.ends
-  own_status own (inr (inl filled)) = inr (omega (arith, filled.nine))
-  own_status own (inr (inr said)) = own.says said.chosen status said.ends
+  own_status own shows = grind (arith, own.prints, own.says)
 
-  -- ## status by status
+  -- a command that ended with a text, or with a line
+  pub printed-of : ShowsOwn → (status ≡ 9 → ⊥) → ((line : Vec ℕ) → Ends (Ending.Says line status) → ⊥) → Printed
+  printed-of (inl printed) full says = printed
+  printed-of (inr (inl filled)) full says = absurd (full filled.nine)
+  printed-of (inr (inr said)) full says = absurd (says said.chosen said.ends)
 
-  own-shown : Shows → IsOwn status → ShowsOwn
-  own-shown (inl own) is = own
-  own-shown (inr (inl read)) is = absurd (let five = read.1.0 in no-failure status is (omega arith) (omega arith))
-  own-shown (inr (inr (inl long))) is = absurd (let five = long.1.0 in no-failure status is (omega arith) (omega arith))
-  own-shown (inr (inr (inr (inl memory)))) is = absurd (let seven = memory.0 in no-failure status is (omega arith) (omega arith))
-  own-shown (inr (inr (inr (inr write)))) is = absurd (let six = write.0 in no-failure status is (omega arith) (omega arith))
-
-  read-shown : HasOwn Ends → Shows → status ≡ 5 →
-      (out_now ≡ out) × ((Ends Ending.ReadFault × IsWritten (e err) (e err_now) read_line) ⊎ (Ends Ending.TooLong × IsWritten (e err) (e err_now) long_line))
-  read-shown own (inl is) five = absurd (no-failure status (own_status own is) (omega arith) (omega arith))
-  read-shown own (inr (inl read)) five = (read.1.1, inl (read.0, read.1.2))
-  read-shown own (inr (inr (inl long))) five = (long.1.1, inr (long.0, long.1.2))
-  read-shown own (inr (inr (inr (inl memory)))) five = absurd (let seven = memory.0 in cc)
-  read-shown own (inr (inr (inr (inr write)))) five = absurd (let six = write.0 in cc)
-
-  write-shown : HasOwn Ends → Shows → status ≡ 6 → SinkFailed
-  write-shown own (inl is) six = absurd (no-failure status (own_status own is) (omega arith) (omega arith))
-  write-shown own (inr (inl read)) six = absurd (let five = read.1.0 in cc)
-  write-shown own (inr (inr (inl long))) six = absurd (let five = long.1.0 in cc)
-  write-shown own (inr (inr (inr (inl memory)))) six = absurd (let seven = memory.0 in cc)
-  write-shown own (inr (inr (inr (inr write)))) six = write.1
-
-  memory-shown : HasOwn Ends → Shows → status ≡ 7 → IsWritten (e err) (e err_now) memory_line × (out_now ≡ out)
-  memory-shown own (inl is) seven = absurd (no-failure status (own_status own is) (omega arith) (omega arith))
-  memory-shown own (inr (inl read)) seven = absurd (let five = read.1.0 in cc)
-  memory-shown own (inr (inr (inl long))) seven = absurd (let five = long.1.0 in cc)
-  memory-shown own (inr (inr (inr (inl memory)))) seven = (memory.2, memory.1)
-  memory-shown own (inr (inr (inr (inr write)))) seven = absurd (let six = write.0 in cc)
+  pub said-of : ShowsOwn → ((text : Vec ℕ) → Ends (Ending.Prints text status) → ⊥) → (status ≡ 9 → ⊥) → Said
+  said-of (inl printed) prints full = absurd (prints printed.text printed.ends)
+  said-of (inr (inl filled)) prints full = absurd (full filled.nine)
+  said-of (inr (inr said)) prints full = said
 
   -- ## completeness
 
   -- the status is the one that belongs to what came, or that of a failure
   pub complete-shown : (right source_failed : Type 0) → (ShowsOwn → right) → (Ends Ending.ReadFault → source_failed) → (Ends Ending.TooLong → status ≡ 5 → right) → Shows →
       EndsSo right status source_failed SinkFailed
-  complete-shown right source_failed own read long (inl is) = inl (own is)
-  complete-shown right source_failed own read long (inr (inl fault)) = inr (inr (inl (fault.1.0, read fault.0)))
-  complete-shown right source_failed own read long (inr (inr (inl many))) = inl (long many.0 many.1.0)
-  complete-shown right source_failed own read long (inr (inr (inr (inl memory)))) = inr (inl memory.0)
-  complete-shown right source_failed own read long (inr (inr (inr (inr write)))) = inr (inr (inr write))
+  complete-shown right source_failed own read long shows = grind arith
 
   -- ## together
 
@@ -142,12 +113,12 @@ module _ {K E : Type 0} (Ends : Ending → Type 0) (k : K → SinkFacts) (e : E 
     pub memory : status ≡ 7 → IsWritten (e err) (e err_now) memory_line × (out_now ≡ out)
 
   pub tells : HasOwn Ends → (end : Ending) → Ends end → IsTold k e out out_now err err_now end status → Tells
-  tells own end ends told = let shows = shown own end ends told in record {
+  tells own end ends told = let shows : Shows = shown own end ends told in record {
     shows = shows;
-    own = own-shown shows;
-    read = read-shown own shows;
-    write = write-shown own shows;
-    memory = memory-shown own shows;
+    own = λ is. grind arith;
+    read = λ five. grind (arith, own_status own);
+    write = λ six. grind (arith, own_status own);
+    memory = λ seven. grind (arith, own_status own);
   }
 
   -- the same of a command that reads; whether the input is too long decides which status belongs to it
@@ -178,17 +149,13 @@ module _ {K E : Type 0} (Ends : Ending → Type 0) (k : K → SinkFacts) (e : E 
 -- ## a fault's status
 
 fault-status : (f : ScriptFault) → (script_status f ≡ 3) ⊎ (script_status f ≡ 4)
-fault-status (ScriptFault.Config f) = inl refl
-fault-status ScriptFault.NoSeparator = inr refl
-fault-status (ScriptFault.Lines f) = inr refl
+fault-status f = grind arith
 
 pub few : (n : ℕ) → (n ≡ 3) ⊎ (n ≡ 4) → n < 5
-few n (inl three) = omega (arith, three)
-few n (inr four) = omega (arith, four)
+few n is = grind arith
 
 pub not-zero : (n : ℕ) → (n ≡ 3) ⊎ (n ≡ 4) → n ≡ 0 → ⊥
-not-zero n (inl three) zero = absurd cc
-not-zero n (inr four) zero = absurd cc
+not-zero n is zero = grind arith
 
 pub faulty-status : (source source_now : SourceFacts) (line : List ℕ) (status : ℕ) → IsFaulty source source_now line status → (status ≡ 3) ⊎ (status ≡ 4)
 faulty-status source source_now line status faulty = subst (λ (n : ℕ). (n ≡ 3) ⊎ (n ≡ 4)) (sym faulty.ends) (fault-status faulty.fault)
@@ -209,16 +176,6 @@ module _ {S K E : Type 0} (s : S → SourceFacts) (k : K → SinkFacts) (e : E �
   abbrev ReplayOwn : Type 0
   ReplayOwn = ShowsOwn (EndsReplay (s source) (s source_now)) k e out out_now err err_now status
 
-  replay-done-of : ReplayOwn → status ≡ 0 → (text : List ℕ) × IsReplayed (s source) (s source_now) text × IsWritten (k out) (k out_now) text × (err_now ≡ err)
-  replay-done-of (inl printed) zero = (printed.text.items, printed.ends.1, printed.whole, printed.quiet)
-  replay-done-of (inr (inl filled)) zero = absurd filled.ends
-  replay-done-of (inr (inr said)) zero = absurd (not-zero status (faulty-status (s source) (s source_now) said.chosen.items status said.ends) zero)
-
-  replay-fault-of : ReplayOwn → (status ≡ 3) ⊎ (status ≡ 4) → (line : List ℕ) × IsFaulty (s source) (s source_now) line status × IsWritten (e err) (e err_now) line × (out_now ≡ out)
-  replay-fault-of (inl printed) four = absurd (not-zero status four printed.ends.0)
-  replay-fault-of (inr (inl filled)) four = absurd filled.ends
-  replay-fault-of (inr (inr said)) four = (said.chosen.items, said.ends, said.whole, said.untouched)
-
   replay-by_input : ReplayOwn → (came : List ℕ) × IsInput (s source) (s source_now) came × IsReplayStatusIf status false came
   replay-by_input (inl printed) = (printed.ends.1.came, printed.ends.1.input, printed.ends.0 ∙ sym (ap status_by printed.ends.1.read))
   replay-by_input (inr (inl filled)) = absurd filled.ends
@@ -232,8 +189,13 @@ module _ {S K E : Type 0} (s : S → SourceFacts) (k : K → SinkFacts) (e : E �
         ending = end;
         ends = ends;
         told = told;
-        done = λ zero. replay-done-of (all.own (inl (omega (arith, zero)))) zero;
-        fault = λ four. replay-fault-of (all.own (inl (few status four))) four;
+        done = λ zero.
+            let it = printed-of (EndsReplay (s source) (s source_now)) k e out out_now err err_now status (all.own (inl (omega (arith, zero))))
+            (λ nine. omega (arith, nine, zero)) (λ line faulty. not-zero status (faulty-status (s source) (s source_now) line.items status faulty) zero) in
+            (it.text.items, it.ends.1, it.whole, it.quiet);
+        fault = λ four.
+            let it = said-of (EndsReplay (s source) (s source_now)) k e out out_now err err_now status (all.own (inl (few status four))) (λ text printed. not-zero status four printed.0) (λ nine. omega (arith, nine, few status four)) in
+            (it.chosen.items, it.ends, it.whole, it.untouched);
         failures = record { read = all.read; write = all.write; memory = all.memory };
         complete = complete-read (EndsReplay (s source) (s source_now)) k e out out_now err err_now status (s source) (s source_now) (IsReplayStatusIf status)
             replay-by_input (λ left five. five) (λ rose. rose) (λ long. long) all (s source).left refl;
@@ -253,24 +215,18 @@ module _ {D : Type 0} (d : D → DiskFacts) (source source_now : SourceFacts) (d
       holds = ends.1.holds;
     },
   )
-  ends-script script (Ending.Full text) come ends = ends
   ends-script script (Ending.Says line status) come ends = inr (record { came = come.came; script = script; input = come.input; read = come.reads }, ends)
-  ends-script script Ending.NoCommand come ends = ends
-  ends-script script Ending.ReadFault come ends = absurd ends
-  ends-script script Ending.TooLong come ends = absurd ends
   ends-script script Ending.NoMemory come ends = tt
+  ends-script script _ come ends = absurd ends
 
   begun : (script : Script) (came x : List ℕ) → script_of came ≡ Ok script → IsBegunBy (d disk).may_leave script x → IsBegun (d disk).may_leave came x
+  begun script came x read (inr (inr part)) = inr (inr (script, read, part))
   begun script came x read (inl left) = inl left
   begun script came x read (inr (inl lacks)) = inr (inl lacks)
-  begun script came x read (inr (inr part)) = inr (inr (script, read, part))
 
   pub whole-script : (script : Script) → HasCome source source_now (Ok script) → IfSome (d disk).now (λ _. LeavesOnly (d disk) (d disk_now) (IsBegunBy (d disk).may_leave script)) → KeepsWhole d source source_now disk disk_now
-  whole-script script come run = inr (come.came, come.input, by (d disk).now run)
-    where
-      by : (o : Option (List ℕ)) → IfSome o (λ _. LeavesOnly (d disk) (d disk_now) (IsBegunBy (d disk).may_leave script)) → IfSome o (λ _. LeavesOnly (d disk) (d disk_now) (IsBegun (d disk).may_leave come.came))
-      by None run = tt
-      by (Some file) run = LeavesOnly-weaker (d disk) (d disk_now) (IsBegunBy (d disk).may_leave script) (IsBegun (d disk).may_leave come.came) run (λ x is. begun script come.came x come.reads is)
+  whole-script script come run =
+      inr (come.came, come.input, IfSome_then (d disk).now run (λ file some. LeavesOnly-weaker (d disk) (d disk_now) (IsBegunBy (d disk).may_leave script) (IsBegun (d disk).may_leave come.came) some (λ x is. begun script come.came x come.reads is)))
 
   -- ## its own statuses
 
@@ -279,9 +235,7 @@ module _ {D : Type 0} (d : D → DiskFacts) (source source_now : SourceFacts) (d
   Chosen line status = (IsFaulty source source_now line status × (disk_now ≡ disk)) ⊎ (HasScript source source_now × IsNotKept (d disk) (d disk_now) line status)
 
   own-chosen : (line : List ℕ) (n : ℕ) → Chosen line n → IsOwn n
-  own-chosen line n (inl faulty) = inl (few n (faulty-status source source_now line n faulty.0))
-  own-chosen line n (inr (script, inl broken)) = inr (omega (arith, broken.0))
-  own-chosen line n (inr (script, inr occupied)) = inr (omega (arith, occupied.0))
+  own-chosen line n is = grind (arith, faulty-status source source_now line n)
 
   own : HasOwn (EndsKeep d source source_now disk disk_now)
   own = record {
@@ -293,16 +247,10 @@ module _ {D : Type 0} (d : D → DiskFacts) (source source_now : SourceFacts) (d
   -- the status of a chosen line is 3 or 4, 10 or 11
   reasons : (line : List ℕ) (n : ℕ) → Chosen line n →
       (n < 5 → IsFaulty source source_now line n × (disk_now ≡ disk)) × (n ≡ 10 → HasScript source source_now × IsBroken (d disk) (d disk_now) line) × (n ≡ 11 → HasScript source source_now × IsOccupied (d disk) (d disk_now) line)
-  reasons line n (inl faulty) =
-      let low = few n (faulty-status source source_now line n faulty.0) in
-      (λ _. faulty, λ ten. absurd (omega (arith, low, ten)), λ eleven. absurd (omega (arith, low, eleven)))
-  reasons line n (inr (script, inl broken)) = (λ low. absurd (omega (arith, broken.0, low)), λ _. (script, broken.1), λ eleven. absurd (omega (arith, broken.0, eleven)))
-  reasons line n (inr (script, inr occupied)) = (λ low. absurd (omega (arith, occupied.0, low)), λ ten. absurd (omega (arith, occupied.0, ten)), λ _. (script, occupied.1))
+  reasons line n is = grind (arith, faulty-status source source_now line n)
 
   not-zero-chosen : (line : List ℕ) (n : ℕ) → Chosen line n → n ≡ 0 → ⊥
-  not-zero-chosen line n (inl faulty) zero = not-zero n (faulty-status source source_now line n faulty.0) zero
-  not-zero-chosen line n (inr (script, inl broken)) zero = omega (arith, broken.0, zero)
-  not-zero-chosen line n (inr (script, inr occupied)) zero = omega (arith, occupied.0, zero)
+  not-zero-chosen line n is zero = grind (arith, faulty-status source source_now line n)
 
   status-chosen : (line : List ℕ) (n : ℕ) → Chosen line n → (came : List ℕ) × IsInput source source_now came × IsStatusIf (d disk) (d disk_now) false came n
   status-chosen line n (inl faulty) =
@@ -321,31 +269,8 @@ module _ {S K E D : Type 0} (s : S → SourceFacts) (k : K → SinkFacts) (e : E
   abbrev Own : Type 0
   Own = ShowsOwn Ends k e out out_now err err_now status
 
-  done-of : Own → status ≡ 0 → (text : List ℕ) × IsKept d (s source) (s source_now) disk disk_now text × IsWritten (k out) (k out_now) text × (err_now ≡ err)
-  done-of (inl printed) zero = (printed.text.items, printed.ends.1, printed.whole, printed.quiet)
-  done-of (inr (inl filled)) zero = absurd filled.ends
-  done-of (inr (inr said)) zero = absurd (not-zero-chosen d (s source) (s source_now) disk disk_now said.chosen.items status said.ends zero)
-
-  fault-of : Own → status < 5 → status ≢ 0 → (line : List ℕ) × IsFaulty (s source) (s source_now) line status × IsWritten (e err) (e err_now) line × (out_now ≡ out) × (disk_now ≡ disk)
-  fault-of (inl printed) few some = absurd (some printed.ends.0)
-  fault-of (inr (inl filled)) few some = absurd filled.ends
-  fault-of (inr (inr said)) few some =
-      let faulty = (reasons d (s source) (s source_now) disk disk_now said.chosen.items status said.ends).0 few in
-      (said.chosen.items, faulty.0, said.whole, said.untouched, faulty.1)
-
-  broken-of : Own → status ≡ 10 → HasScript (s source) (s source_now) × Rose (d disk).faults (d disk_now).faults × IsWritten (e err) (e err_now) disk_line × (out_now ≡ out)
-  broken-of (inl printed) ten = absurd (omega (arith, printed.ends.0, ten))
-  broken-of (inr (inl filled)) ten = absurd filled.ends
-  broken-of (inr (inr said)) ten =
-      let broken = (reasons d (s source) (s source_now) disk disk_now said.chosen.items status said.ends).1 ten in
-      (broken.0, broken.1.rose, subst (λ (l : List ℕ). IsWritten (e err) (e err_now) l) broken.1.told said.whole, said.untouched)
-
-  occupied-of : Own → status ≡ 11 → HasScript (s source) (s source_now) × WasNotEmpty (d disk) × ((d disk_now).now ≡ (d disk).now) × IsWritten (e err) (e err_now) not_empty_line × (out_now ≡ out)
-  occupied-of (inl printed) eleven = absurd (omega (arith, printed.ends.0, eleven))
-  occupied-of (inr (inl filled)) eleven = absurd filled.ends
-  occupied-of (inr (inr said)) eleven =
-      let occupied = (reasons d (s source) (s source_now) disk disk_now said.chosen.items status said.ends).2 eleven in
-      (occupied.0, occupied.1.not_empty, occupied.1.same, subst (λ (l : List ℕ). IsWritten (e err) (e err_now) l) occupied.1.told said.whole, said.untouched)
+  said-as : Own → status ≢ 0 → status ≢ 9 → Said Ends k e out out_now err err_now status
+  said-as own some other = said-of Ends k e out out_now err err_now status own (λ text printed. some printed.0) other
 
   by_input : Own → (came : List ℕ) × IsInput (s source) (s source_now) came × IsStatusIf (d disk) (d disk_now) false came status
   by_input (inl printed) =
@@ -353,11 +278,6 @@ module _ {S K E D : Type 0} (s : S → SourceFacts) (k : K → SinkFacts) (e : E
       (kept.replayed.came, kept.replayed.input, subst (λ (r : Result Script ScriptFault). IsStatusBy (d disk) (d disk_now) r status) (sym kept.replayed.read) (inl (printed.ends.0, kept.empty)))
   by_input (inr (inl filled)) = absurd filled.ends
   by_input (inr (inr said)) = status-chosen d (s source) (s source_now) disk disk_now said.chosen.items status said.ends
-
-  read-of : (out_now ≡ out) × ((Ends Ending.ReadFault × IsWritten (e err) (e err_now) read_line) ⊎ (Ends Ending.TooLong × IsWritten (e err) (e err_now) long_line))
-      → (out_now ≡ out) × ((Rose (s source).faults (s source_now).faults × IsWritten (e err) (e err_now) read_line) ⊎ (IfSome (s source).left (λ left. most < length left) × IsWritten (e err) (e err_now) long_line))
-  read-of (same, inl fault) = (same, inl (fault.0.0, fault.1))
-  read-of (same, inr long) = (same, inr (long.0.0, long.1))
 
   -- an ending that the streams show is a keep
   pub keeps : (end : Ending) → EndsKeep d (s source) (s source_now) disk disk_now end → KeepsWhole d (s source) (s source_now) disk disk_now → IsTold k e out out_now err err_now end status
@@ -368,12 +288,24 @@ module _ {S K E D : Type 0} (s : S → SourceFacts) (k : K → SinkFacts) (e : E
         ending = end;
         ends = ends;
         told = told;
-        done = λ zero. done-of (all.own (inl (omega (arith, zero)))) zero;
-        fault = λ four. fault-of (all.own (inl (few status four))) (few status four) (not-zero status four);
-        broken = λ ten. broken-of (all.own (inr (omega (arith, ten)))) ten;
-        occupied = λ eleven. occupied-of (all.own (inr (omega (arith, eleven)))) eleven;
+        done = λ zero.
+            let it = printed-of Ends k e out out_now err err_now status (all.own (inl (omega (arith, zero))))
+            (λ nine. omega (arith, nine, zero)) (λ line chosen. not-zero-chosen d (s source) (s source_now) disk disk_now line.items status chosen zero) in
+            (it.text.items, it.ends.1, it.whole, it.quiet);
+        fault = λ four.
+            let it = said-as (all.own (inl (few status four))) (not-zero status four) (λ nine. omega (arith, nine, few status four)) in
+            let faulty = (reasons d (s source) (s source_now) disk disk_now it.chosen.items status it.ends).0 (few status four) in
+            (it.chosen.items, faulty.0, it.whole, it.untouched, faulty.1);
+        broken = λ ten.
+            let it = said-as (all.own (inr (omega (arith, ten)))) (λ zero. omega (arith, zero, ten)) (λ nine. omega (arith, nine, ten)) in
+            let broken = (reasons d (s source) (s source_now) disk disk_now it.chosen.items status it.ends).1 ten in
+            (broken.0, broken.1.rose, subst (λ (l : List ℕ). IsWritten (e err) (e err_now) l) broken.1.told it.whole, it.untouched);
+        occupied = λ eleven.
+            let it = said-as (all.own (inr (omega (arith, eleven)))) (λ zero. omega (arith, zero, eleven)) (λ nine. omega (arith, nine, eleven)) in
+            let occupied = (reasons d (s source) (s source_now) disk disk_now it.chosen.items status it.ends).2 eleven in
+            (occupied.0, occupied.1.not_empty, occupied.1.same, subst (λ (l : List ℕ). IsWritten (e err) (e err_now) l) occupied.1.told it.whole, it.untouched);
         crash = whole;
-        failures = record { read = λ five. read-of (all.read five); write = all.write; memory = all.memory };
+        failures = record { read = λ five. let shown = all.read five in grind arith; write = all.write; memory = all.memory };
         complete = complete-read Ends k e out out_now err err_now status (s source) (s source_now) (λ long came. IsStatusIf (d disk) (d disk_now) long came status)
             by_input (λ left five. five) (λ ends. ends.0) (λ ends. ends.0) all (s source).left refl;
       }

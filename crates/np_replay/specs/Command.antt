@@ -42,10 +42,9 @@ command_pair w v =
 
 -- the command of words without dashes
 abbrev pub bare_command : List (List ℕ) → Option Command
-bare_command [] = None
 bare_command (w ∷ []) = command_word w
 bare_command (w ∷ v ∷ []) = command_pair w v
-bare_command (w ∷ v ∷ u ∷ ws) = None
+bare_command words = None
 
 -- the command of all words
 abbrev pub command : List (List ℕ) → Option Command
@@ -53,11 +52,5 @@ command words = bare_command (without_dashes words)
 
 -- a drill has from 1 to 4,000 jobs
 abbrev pub HasJobs : Command → Type 0
-HasJobs Command.Replay = Unit {0}
-HasJobs Command.Run = Unit {0}
-HasJobs Command.RunHosts = Unit {0}
-HasJobs Command.RunPlanned = Unit {0}
-HasJobs Command.Audit = Unit {0}
 HasJobs (Command.Drill jobs) = (1 ≤ jobs) × (jobs ≤ 4000)
-HasJobs (Command.Keep file) = Unit {0}
-HasJobs (Command.Resume file) = Unit {0}
+HasJobs _ = Unit {0}

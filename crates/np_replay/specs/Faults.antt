@@ -30,20 +30,12 @@ IsSaidOf LogFault.NoMemory line status = ⊥
 
 -- the ending says so, unless memory ran out
 abbrev pub TellsFault : LogFault → Ending → Type 0
-TellsFault fault (Ending.Prints text status) = ⊥
-TellsFault fault (Ending.Full text) = ⊥
 TellsFault fault (Ending.Says line status) = IsSaidOf fault line.items status
-TellsFault fault Ending.NoCommand = ⊥
-TellsFault fault Ending.ReadFault = ⊥
-TellsFault fault Ending.TooLong = ⊥
 TellsFault fault Ending.NoMemory = Unit {0}
+TellsFault fault _ = ⊥
 
 -- the ending says the script's fault, unless memory ran out
 abbrev pub TellsScript : ScriptFault → Ending → Type 0
-TellsScript fault (Ending.Prints text status) = ⊥
-TellsScript fault (Ending.Full text) = ⊥
 TellsScript fault (Ending.Says line status) = (line.items ≡ script_line fault) × (status ≡ script_status fault)
-TellsScript fault Ending.NoCommand = ⊥
-TellsScript fault Ending.ReadFault = ⊥
-TellsScript fault Ending.TooLong = ⊥
 TellsScript fault Ending.NoMemory = Unit {0}
+TellsScript fault _ = ⊥

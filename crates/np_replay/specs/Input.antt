@@ -17,10 +17,7 @@ pub record IsInput (source source_now : SourceFacts) (came : List ℕ) : Type 0 
 
 -- why there is no input
 abbrev pub Stops : SourceFacts → SourceFacts → Ending → Type 0
-Stops source source_now (Ending.Prints text status) = ⊥
-Stops source source_now (Ending.Full text) = ⊥
-Stops source source_now (Ending.Says line status) = ⊥
-Stops source source_now Ending.NoCommand = ⊥
 Stops source source_now Ending.ReadFault = Rose source.faults source_now.faults
 Stops source source_now Ending.TooLong = IfSome source.left (λ left. most < length left)
 Stops source source_now Ending.NoMemory = Unit {0}
+Stops source source_now _ = ⊥

@@ -53,14 +53,13 @@ IsNotKept disk disk_now line status =
 -- how a keep may end, by what came from the source and what the disk had
 abbrev pub EndsKeep : {D : Type 0} → (D → DiskFacts) → SourceFacts → SourceFacts → D → D → Ending → Type 0
 EndsKeep d source source_now disk disk_now (Ending.Prints text status) = (status ≡ 0) × IsKept d source source_now disk disk_now text.items
-EndsKeep d source source_now disk disk_now (Ending.Full text) = ⊥
 EndsKeep d source source_now disk disk_now (Ending.Says line status) =
     (IsFaulty source source_now line.items status × (disk_now ≡ disk))
     ⊎ (HasScript source source_now × IsNotKept (d disk) (d disk_now) line.items status)
-EndsKeep d source source_now disk disk_now Ending.NoCommand = ⊥
 EndsKeep d source source_now disk disk_now Ending.ReadFault = Stops source source_now Ending.ReadFault × (disk_now ≡ disk)
 EndsKeep d source source_now disk disk_now Ending.TooLong = Stops source source_now Ending.TooLong × (disk_now ≡ disk)
 EndsKeep d source source_now disk disk_now Ending.NoMemory = Unit {0}
+EndsKeep d source source_now disk disk_now _ = ⊥
 
 -- ## what a crash leaves
 

@@ -33,9 +33,6 @@ pub record IsKeptAs (disk disk_now : DiskFacts) (script : Script) (text : List �
 -- how keeping a script may end
 abbrev pub EndsKeeping : DiskFacts → DiskFacts → Script → Ending → Type 0
 EndsKeeping disk disk_now script (Ending.Prints text status) = (status ≡ 0) × IsKeptAs disk disk_now script text.items
-EndsKeeping disk disk_now script (Ending.Full text) = ⊥
 EndsKeeping disk disk_now script (Ending.Says line status) = IsNotKept disk disk_now line.items status
-EndsKeeping disk disk_now script Ending.NoCommand = ⊥
-EndsKeeping disk disk_now script Ending.ReadFault = ⊥
-EndsKeeping disk disk_now script Ending.TooLong = ⊥
 EndsKeeping disk disk_now script Ending.NoMemory = Unit {0}
+EndsKeeping disk disk_now script _ = ⊥

@@ -48,8 +48,7 @@ script_line (ScriptFault.Lines f) = lines_line f
 -- its status
 abbrev pub script_status : ScriptFault → ℕ
 script_status (ScriptFault.Config f) = 3
-script_status ScriptFault.NoSeparator = 4
-script_status (ScriptFault.Lines f) = 4
+script_status _ = 4
 
 -- ## hosts
 
@@ -76,5 +75,4 @@ hosted_line (HostedFault.Hosts f) = hosts_line f
 -- its status
 abbrev pub hosted_status : HostedFault → ℕ
 hosted_status (HostedFault.Config f) = 3
-hosted_status HostedFault.NoSeparator = 4
-hosted_status (HostedFault.Hosts f) = 4
+hosted_status _ = 4

@@ -29,12 +29,11 @@ pub record IsFaulty (source source_now : SourceFacts) (line : List ℕ) (status 
 -- how a replay may end, by what came from the source
 abbrev pub EndsReplay : SourceFacts → SourceFacts → Ending → Type 0
 EndsReplay source source_now (Ending.Prints text status) = (status ≡ 0) × IsReplayed source source_now text.items
-EndsReplay source source_now (Ending.Full text) = ⊥
 EndsReplay source source_now (Ending.Says line status) = IsFaulty source source_now line.items status
-EndsReplay source source_now Ending.NoCommand = ⊥
 EndsReplay source source_now Ending.ReadFault = Stops source source_now Ending.ReadFault
 EndsReplay source source_now Ending.TooLong = Stops source source_now Ending.TooLong
 EndsReplay source source_now Ending.NoMemory = Unit {0}
+EndsReplay source source_now _ = ⊥
 
 -- ## the status that belongs to an input
 

@@ -64,12 +64,11 @@ IsNotResumed source source_now disk disk_now line status =
 -- how a resume may end, by what came from the source and what the disk had
 abbrev pub EndsResume : {D : Type 0} → (D → DiskFacts) → SourceFacts → SourceFacts → D → D → Ending → Type 0
 EndsResume d source source_now disk disk_now (Ending.Prints text status) = (status ≡ 0) × IsResumed d source source_now disk disk_now text.items
-EndsResume d source source_now disk disk_now (Ending.Full text) = ⊥
 EndsResume d source source_now disk disk_now (Ending.Says line status) = IsNotResumed source source_now (d disk) (d disk_now) line.items status
-EndsResume d source source_now disk disk_now Ending.NoCommand = ⊥
 EndsResume d source source_now disk disk_now Ending.ReadFault = Stops source source_now Ending.ReadFault × (disk_now ≡ disk)
 EndsResume d source source_now disk disk_now Ending.TooLong = Stops source source_now Ending.TooLong × (disk_now ≡ disk)
 EndsResume d source source_now disk disk_now Ending.NoMemory = Unit {0}
+EndsResume d source source_now disk disk_now _ = ⊥
 
 -- ## what a crash leaves
 

@@ -38,9 +38,8 @@ WhyNotRead before came (ResumeFault.Lines fault) = more_of before came ≡ Err f
 -- the disk failed; or memory ran out
 abbrev pub WhyNotAppended : DiskFacts → DiskFacts → LogFault → Type 0
 WhyNotAppended disk disk_now LogFault.Disk = Rose disk.faults disk_now.faults
-WhyNotAppended disk disk_now LogFault.NotEmpty = ⊥
-WhyNotAppended disk disk_now (LogFault.Damaged number) = ⊥
 WhyNotAppended disk disk_now LogFault.NoMemory = Unit {0}
+WhyNotAppended disk disk_now _ = ⊥
 
 -- ## all steps
 
@@ -73,10 +72,6 @@ WhyNotResumed disk disk_now came (ResumeFault.Lines fault) = IsLinesFault disk d
 -- the ending says so, unless memory ran out
 abbrev pub TellsResumeFault : ResumeFault → Ending → Type 0
 TellsResumeFault (ResumeFault.Log fault) said = TellsFault fault said
-TellsResumeFault (ResumeFault.Lines fault) (Ending.Prints text status) = ⊥
-TellsResumeFault (ResumeFault.Lines fault) (Ending.Full text) = ⊥
 TellsResumeFault (ResumeFault.Lines fault) (Ending.Says line status) = (line.items ≡ lines_line fault) × (status ≡ 4)
-TellsResumeFault (ResumeFault.Lines fault) Ending.NoCommand = ⊥
-TellsResumeFault (ResumeFault.Lines fault) Ending.ReadFault = ⊥
-TellsResumeFault (ResumeFault.Lines fault) Ending.TooLong = ⊥
 TellsResumeFault (ResumeFault.Lines fault) Ending.NoMemory = Unit {0}
+TellsResumeFault (ResumeFault.Lines fault) _ = ⊥

@@ -1,7 +1,7 @@
 //! What the program is asked to do.
 
 ghost use Rattle.std.specs.Prelude.{◌≡◌, IfOk, IfSome};
-ghost use Rattle.np_text.specs.Number.{number_of};
+ghost use Rattle.np_replay.specs.Lower.{number_of};
 ghost use Rattle.np_replay.specs.Command.{command_pair, command_word, drill_of, run_of, HasJobs};
 
 use crate::file_name::FileName;

@@ -2,11 +2,7 @@
 
 ghost use Rattle.std.specs.Prelude.{◌≡◌, ◌≤◌, [], Ok, IfOk, IfErr, IfSome, OnOk};
 ghost use Rattle.std.specs.Option.{option_map};
-ghost use Rattle.np_config_text.specs.Canonical.{canonical};
-ghost use Rattle.np_io.specs.Disk.{LeavesOnly};
-ghost use Rattle.np_log.specs.Log.{content_of};
-ghost use Rattle.np_log.specs.Place.{IsSettled, SaysNewLog};
-ghost use Rattle.np_report.specs.Script.{IsPlayable};
+ghost use Rattle.np_replay.specs.Lower.{IsPlayable, IsSettled, LeavesOnly, SaysNewLog, canonical, content_of};
 ghost use Rattle.np_replay.specs.Keep.{EndsKeep, Keeps, KeepsWhole, WasEmpty};
 ghost use Rattle.np_replay.specs.Keeping.{EndsKeeping, IsBegunBy, WhyNotWritten};
 ghost use Rattle.np_replay.specs.Logged.{HoldsLog};

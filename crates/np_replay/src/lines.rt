@@ -6,7 +6,7 @@ ghost use Rattle.np_replay.specs.Lines.{kind_text, config_line, fault_text, numb
 use np_event::LineFault;
 use np_json::{ConfigFault, ConfigKind};
 use np_report::{LinesFault, ScriptFault};
-use np_text::{NoMemory, put_number};
+use np_text::{Ample, NoMemory, put_number};
 use std::alloc::Global;
 
 fn kind_name(kind: ConfigKind) -> &'static [u8]
@@ -38,7 +38,7 @@ pub fn line_of_config(alloc: Global, fault: &ConfigFault) -> Result<Vec<u8>, NoM
     Ok(line)
 }
 
-fn put_fault(line: &mut Vec<u8>, fault: LineFault) -> Result<(), NoMemory>
+fn put_fault(line: &mut Vec<u8>, fault: LineFault) -> Ample
     ensures { OnOk result (line.new.items ≡ line.old.items ++ fault_text fault) }
 {
     match fault {

@@ -2,8 +2,7 @@
 
 ghost use Rattle.std.specs.Prelude.{◌≡◌, ◌≤◌, ◌+◌, ◌++◌, length, IfOk, IfErr, IfSome, Ok};
 ghost use Rattle.std.specs.List.{AllByRecursion};
-ghost use Rattle.np_io.specs.Disk.{LeavesOnly};
-ghost use Rattle.np_event.specs.Line.{HasEventLine};
+ghost use Rattle.np_replay.specs.Lower.{HasEventLine, LeavesOnly};
 ghost use Rattle.np_replay.specs.Logged.{HoldsLog, IsPartOfLog, more_of};
 ghost use Rattle.np_replay.specs.Resume.{EndsResume, IsGoingOn, Resumes, ResumesWhole};
 ghost use Rattle.np_replay.specs.Resuming.{IsCanonical, IsPlayedOn, IsReady, TellsResumeFault, WhyNotAppended, WhyNotLoaded, WhyNotRead, WhyNotResumed};

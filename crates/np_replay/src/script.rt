@@ -2,7 +2,7 @@
 
 ghost use Rattle.std.specs.Prelude.{IfOk, IfErr};
 ghost use Rattle.np_replay.specs.Input.{Stops};
-ghost use Rattle.np_report.specs.Script.{IsPlayable};
+ghost use Rattle.np_replay.specs.Lower.{IsPlayable};
 ghost use Rattle.np_replay.specs.Faults.{TellsScript};
 ghost use Rattle.np_replay.specs.Keeping.{HasCome};
 

@@ -1,8 +1,8 @@
 -- the compact text of a sound configuration is one line that is read back as that configuration
-use Rattle.np_report.proofs.Prelude.{AllByRecursion, ArePrintable-json_tokens, Bool, Configuration, Data, EachAfter, EachAfter-from_all, EndAs, Entry, Fault, FaultKind, HasEntryLine, IfSome, IsAscii, IsAscii-decimal, IsAscii-name, IsFault, IsJob, IsLabel, IsNumber-decimal, IsOffer, IsPool, IsProvider, IsRequester, IsSem, IsSound, IsStart, IsTaken, IsTenant, IsUtf8, IsUtf8-append, IsUtf8-are_ascii, IsUtf8-from_ascii, IsUtf8-quoted, IsWanted, Items, Job, Label, LabelId, List, Members, None, Num, Offer, Ok, Option, Pool, PoolId, Provider, Requester, Role, Runs, Sem, SemId, Some, StandsByOwner, State, Tenant, TenantId, after, ap, append-nil, append_assoc, are_ascii, arith, array, bar, boolean, by_bool, bytes_eq, canonical, codes, comma_if, compact_text, cond, configuration-depth, configuration_data, count, decimal, depth, digit_glyph, digits, digits_onto, end_as_word, entry_line, entry_line-injective, entry_line-no_bar, entry_lines, escape, escape_byte, false, fate_lines, fates, fault_data, fault_kind_word, filter, flat_map, full_name, given, given_count, has_bar, is_line, is_line-entry, is_name_text, item, items_depth, items_of, items_outline, items_text, job_data, job_tenant, label-ascii, label_data, label_name, length, line, lines_of, lines_of-lines, list_all, list_all-append, list_data, list_if_any, map, max_depth, member, members_depth, members_outline, members_text, nat_tests, negative, negsuc, next, no_items, no_members, not, null, number, number_of-decimal, object, of_items, of_json, of_members, offer_data, option_map_or, outline, placed, pool_data, pool_name, pool_name-ascii, pools_of, pos, print-outline, priority_word, provider_data, put, quoted, read, reads, reads-again, refl, replayed, requester-ascii, requester_data, role_name, role_word, sections_of, sections_of-bar, semaphore-ascii, semaphore_data, semaphore_name, slice_get, start, string, suc, sym, tenant-ascii, tenant_data, tenant_name, tenant_of, text_of, tokens, tokens-print, true, unsigned, value-json_tokens, zero, ℕ, [], ◌%◌, ◌++◌, ◌+◌, ◌/◌, ◌<◌, ◌==◌, ◌^◌, ◌∙◌, ◌∷◌, ◌≡◌, ◌≤◌}
-use Rattle.json.specs.Tree as tree
+use Rattle.np_report.proofs.Prelude.{AllByRecursion, ArePrintable-json_tokens, Bool, Configuration, Data, EachAfter, EachAfter-from_all, Entry, Fault, HasEntryLine, IfSome, IsAscii, IsAscii-decimal, IsAscii-name, IsFault, IsJob, IsLabel, IsNumber-decimal, IsOffer, IsPool, IsProvider, IsRequester, IsSem, IsSound, IsStart, IsTaken, IsTenant, IsUtf8, IsUtf8-append, IsUtf8-are_ascii, IsUtf8-from_ascii, IsUtf8-quoted, IsWanted, Items, Job, Label, LabelId, List, Members, None, Num, Offer, Ok, Option, Pool, PoolId, Provider, Requester, Role, Runs, Sem, SemId, Some, StandsByOwner, State, Tenant, after, ap, append-nil, append_assoc, are_ascii, arith, array, bar, boolean, by_bool, bytes_eq, canonical, codes, comma_if, compact_text, cond, configuration-depth, configuration_data, count, decimal, depth, digit_glyph, digits, digits_onto, end_as_word, entry_line, entry_line-injective, entry_line-no_bar, entry_lines, escape, escape_byte, false, fate_lines, fates, fault_data, fault_kind_word, filter, flat_map, full_name, given, given_count, has_bar, is_line, is_line-entry, is_name_text, item, items_depth, items_of, items_outline, items_text, job_data, job_tenant, label-ascii, label_data, label_name, length, line, lines_of, lines_of-lines, list_all, list_all-append, list_data, list_if_any, map, max_depth, member, members_depth, members_outline, members_text, nat_tests, negative, negsuc, next, no_items, no_members, not, null, number, number_of-decimal, object, of_items, of_json, of_members, offer_data, option_map_or, outline, placed, pool_data, pool_name, pool_name-ascii, pools_of, pos, print-outline, priority_word, provider_data, put, quoted, read, reads, reads-again, refl, replayed, requester-ascii, requester_data, role_name, role_word, sections_of, sections_of-bar, semaphore-ascii, semaphore_data, semaphore_name, slice_get, start, string, suc, sym, tenant-ascii, tenant_data, tenant_name, tenant_of, text_of, tokens, tokens-print, true, unsigned, value-json_tokens, zero, ℕ, [], ◌%◌, ◌++◌, ◌+◌, ◌/◌, ◌<◌, ◌==◌, ◌^◌, ◌∙◌, ◌∷◌, ◌≡◌, ◌≤◌}
 use Rattle.np_config_text.proofs.Prelude.{Limit}
-use Rattle.np_config.specs.Sound.{IsLimit}
+use Rattle.np_config.specs.Configuration.{IsLimit}
+use Rattle.json.specs.Tree as tree
 
 -- # values of whole numbers, strings and ASCII keys in order, whose compact text is UTF-8
 

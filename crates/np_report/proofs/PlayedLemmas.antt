@@ -100,16 +100,6 @@ lines_of-split text some =
     (lines_of-walk text 0 0 (line_length text) (omega arith) here).1
     ∙ ap (λ (n : ℕ). take n text ∷ lines_of (drop (line_length text + 1) text)) long
 
-events_told-next : (text : List ℕ) (e : Event) → 0 < length text → event_told (first_line text) ≡ Some e → events_told (lines_of text) ≡ e ∷ events_told (lines_of (later_lines text))
-events_told-next text e some told =
-    ap events_told (lines_of-split text some)
-    ∙ ap (λ (o : Option Event). with_event o (events_told (lines_of (later_lines text)))) told
-
-events_told-stop : (text : List ℕ) → 0 < length text → event_told (first_line text) ≡ None → events_told (lines_of text) ≡ []
-events_told-stop text some told =
-    ap events_told (lines_of-split text some)
-    ∙ ap (λ (o : Option Event). with_event o (events_told (lines_of (later_lines text)))) told
-
 -- ## the loop: `events` were read, and `rest` is left of the text
 
 pub some_left : (rest : List ℕ) → false ≡ (length rest == 0) → 0 < length rest
@@ -125,11 +115,8 @@ few-next events more e room push = rw push (omega (arith, length_push events e, 
 pub told-next : (text rest line later : List ℕ) (events more : List Event) (e : Event) → 0 < length rest → line ≡ first_line rest → later ≡ later_lines rest → event_told line ≡ Some e → more ≡ events ++ e ∷ [] →
     events ++ events_told (lines_of rest) ≡ events_told (lines_of text) → more ++ events_told (lines_of later) ≡ events_told (lines_of text)
 told-next text rest line later events more e some first second told push so_far =
-    ap (λ (es : List Event). es ++ events_told (lines_of later)) push
-    ∙ append_assoc events (e ∷ []) (events_told (lines_of later))
-    ∙ ap (λ (t : List ℕ). events ++ e ∷ events_told (lines_of t)) second
-    ∙ ap (λ (es : List Event). events ++ es) (sym (events_told-next rest e some (ap event_told (sym first) ∙ told)))
-    ∙ so_far
+    let step : events_told (lines_of rest) ≡ with_event (event_told line) (events_told (lines_of later)) = rw (first, second) (ap events_told (lines_of-split rest some)) in
+    rw push (append_assoc events (e ∷ []) (events_told (lines_of later)) ∙ rw (step, told) at so_far)
 
 told-all : (text : List ℕ) (events : List Event) → length events ≤ 262144 → events ++ [] ≡ events_told (lines_of text) → events ≡ leading_events text
 told-all text events few so_far =
@@ -139,12 +126,12 @@ told-all text events few so_far =
 pub told-stop : (text rest line : List ℕ) (events : List Event) → 0 < length rest → line ≡ first_line rest → event_told line ≡ None → length events ≤ 262144 →
     events ++ events_told (lines_of rest) ≡ events_told (lines_of text) → events ≡ leading_events text
 told-stop text rest line events some first told few so_far =
-    told-all text events few (ap (λ (es : List Event). events ++ es) (sym (events_told-stop rest some (ap event_told (sym first) ∙ told))) ∙ so_far)
+    let step : events_told (lines_of rest) ≡ with_event (event_told line) (events_told (lines_of (later_lines rest))) = rw first (ap events_told (lines_of-split rest some)) in
+    told-all text events few (rw (step, told) at so_far)
 
 -- the text's end
 pub told-end : (text rest : List ℕ) (events : List Event) → length rest ≡ 0 → length events ≤ 262144 → events ++ events_told (lines_of rest) ≡ events_told (lines_of text) → events ≡ leading_events text
-told-end text rest events none few so_far =
-    told-all text events few (ap (λ (t : List ℕ). events ++ events_told (lines_of t)) (sym (nil_from_length rest none)) ∙ so_far)
+told-end text rest events none few so_far = told-all text events few (rw (nil_from_length rest none) at so_far)
 
 -- as many events as a journal holds
 pub told-full : (text rest : List ℕ) (events : List Event) → length events ≡ 262144 → events ++ events_told (lines_of rest) ≡ events_told (lines_of text) → events ≡ leading_events text

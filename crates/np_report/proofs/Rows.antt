@@ -1,9 +1,7 @@
 -- each entry of a run has a line: the rows of its answers and the lines of its jobs' ends
-use Rattle.np_report.proofs.Prelude.{AllByRecursion, Answer, Bool, Configuration, Entry, Event, HasEntryLine, HasEventLine, HasText, IsSound, IsToldEntry, Janitor, Job, JobId, JobRecord, Launcher, List, NodeId, NodeKept, NodeRecord, NodeState, None, Ok, Option, PoolId, RequestId, RequestRecord, Role, Runs, SessionId, Some, State, all-weaker, ap, append_assoc, arith, blocking, by_registrant, cond, count_by, count_by-le-length, count_of, count_of_tenant, drop, drop-past, fate_lines, fate_of, fate_text, first_of, found-some, if◌then◌else◌, in_requested, invariant-next, invariant-start, is_asked, is_finishable, is_pinned_away, is_told, janitor, job_at, job_text, judge, judge_free_node, judge_mark_deleting, judge_take_ready, launcher, length, line, list_all, lock_request_as, maker, map, may_delete, may_finish, nat_tests, need, next, node-found, node_at, not, not_blocked, not_declined, on-own_job, option_map_or, other_than, own_job, ready_age, record_of, refl, replayed, reply_of, request-found, request_at, request_holder, request_in, requester, requester_or_janitor, shape-Runs, shape-next, slice_get, sound_fits, standing, start, starts-few, state_after, subst, suc, sum_by-cons, sym, true, unlocked, vacant, wrong_job, zero, ℕ, [], ◌++◌, ◌+◌, ◌>>=◌, ◌∙◌, ◌∷◌, ◌≡◌, ◌≢◌, ◌≤◌}
-use Rattle.np_changes.specs.Prelude.{Requester}
+use Rattle.np_report.proofs.Prelude.{AllByRecursion, Answer, Bool, Configuration, Entry, Event, HasEntryLine, HasEventLine, HasText, IsSound, IsToldEntry, Janitor, Job, JobId, JobRecord, Launcher, List, NodeId, NodeKept, NodeRecord, NodeState, None, Ok, Option, PoolId, RequestId, RequestRecord, Role, Runs, SessionId, Some, State, all-weaker, ap, append_assoc, arith, blocking, by_registrant, cond, count_by, count_by-le-length, count_of, count_of_tenant, drop, drop-past, drop-there, fate_lines, fate_of, fate_text, first_of, found-some, if◌then◌else◌, in_requested, invariant-next, invariant-start, is_asked, is_finishable, is_pinned_away, is_told, janitor, job_at, job_text, judge, judge_free_node, judge_mark_deleting, judge_take_ready, launcher, length, line, list_all, lock_request_as, maker, map, may_delete, may_finish, nat_tests, need, next, node-found, node_at, not, not_blocked, not_declined, on-own_job, other_than, own_job, ready_age, record_of, refl, replayed, reply_of, request-found, request_at, request_holder, requester, requester_or_janitor, shape-Runs, shape-next, slice_get, sound_fits, standing, start, starts-few, state_after, subst, suc, sum_by-cons, sym, true, unlocked, vacant, wrong_job, ℕ, [], ◌++◌, ◌+◌, ◌>>=◌, ◌∙◌, ◌∷◌, ◌≡◌, ◌≢◌, ◌≤◌}
 use Rattle.np_report.proofs.Named.{DoneInRange, HasIds, HasIds-next, HasIds-start, IsWide, Reached, Refuses, Says, ahead-below, allocated-text, answer-line, due-below, first_of-text, full-below, job-digits, missing-below, next_label-below, next_node-below, next_request-text, next_session-below, node_holder-below, ready-below, refuses-found, refuses-need, refuses-vacant, registered-below, request_holder-below, says-found, says-then, unfilled-few, unoffered-below, wide-count, wide-tenant}
 use Rattle.np_text.specs.declared.word.Ending.{Ending}
-use Rattle.np_event.specs.declared.reply.Done.{Done}
 use Rattle.np_event.specs.declared.reply.Refusal.{Refusal}
 
 -- # the rows whose answers name no number, and the tests that rows share
@@ -209,12 +207,7 @@ lines_from c s n jobs records = fate_lines c n jobs (map (fate_of s) records)
 -- the job's line, and then those of the jobs after it
 pub lines_from-next : (c : Configuration) (s : State) (n at : ℕ) (jobs : List Job) (records : List JobRecord) (job : Job) (kept : JobRecord) → slice_get jobs at ≡ Some job → slice_get records at ≡ Some kept →
     lines_from c s n (drop at jobs) (drop at records) ≡ line (job_text c n job ++ fate_text (fate_of s kept)) ++ lines_from c s (n + 1) (drop (suc at) jobs) (drop (suc at) records)
-lines_from-next c s n at [] records job kept is has = absurd cc
-lines_from-next c s n at (j ∷ jobs) [] job kept is has = absurd cc
-lines_from-next c s n zero (j ∷ jobs) (k ∷ records) job kept is has =
-    ap (λ (o : Option Job). option_map_or (λ x. line (job_text c n x ++ fate_text (fate_of s k)) ++ lines_from c s (n + 1) jobs records) o []) is
-    ∙ ap (λ (o : Option JobRecord). option_map_or (λ x. line (job_text c n job ++ fate_text (fate_of s x)) ++ lines_from c s (n + 1) jobs records) o []) has
-lines_from-next c s n (suc at) (j ∷ jobs) (k ∷ records) job kept is has = lines_from-next c s n at jobs records job kept is has
+lines_from-next c s n at jobs records job kept is has = rw (drop-there jobs at job is, drop-there records at kept has) refl
 
 fate_lines-none : (c : Configuration) (n : ℕ) (jobs : List Job) → fate_lines c n jobs [] ≡ []
 fate_lines-none c n [] = refl
@@ -240,11 +233,7 @@ lines_from-put c s n at next jobs records job kept old put told new is has after
 -- the first of the rest, and then those after it
 pub count_by-next : {X Y : Type 0} (p : Y → Bool) (f : X → Y) (xs : List X) (at : ℕ) (x : X) → slice_get xs at ≡ Some x →
     count_by p (map f (drop at xs)) ≡ (if p (f x) then 1 else 0) + count_by p (map f (drop (suc at) xs))
-count_by-next p f [] at x is = absurd cc
-count_by-next {X} p f (y ∷ xs) zero x is =
-    let same : y ≡ x = cc in
-    sum_by-cons (λ z. if p z then 1 else 0) (f y) (map f xs) ∙ ap (λ (z : X). (if p (f z) then 1 else 0) + count_by p (map f xs)) same
-count_by-next p f (y ∷ xs) (suc at) x is = count_by-next p f xs at x is
+count_by-next p f xs at x is = rw (drop-there xs at x is) (sum_by-cons (λ z. if p z then 1 else 0) (f x) (map f (drop (suc at) xs)))
 
 -- after the last there is none
 pub count_by-end : {X Y : Type 0} (p : Y → Bool) (f : X → Y) (xs : List X) (at : ℕ) → slice_get xs at ≡ None → count_by p (map f (drop at xs)) ≡ 0

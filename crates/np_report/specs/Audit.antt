@@ -1,10 +1,10 @@
 -- whether bytes are the Text of a run, and otherwise which of their lines is the first that a Text
 -- cannot have
 use Rattle.std.specs.Prelude.{◌≡◌, ℕ, ◌+◌, true, List, ◌++◌, length}
-use Rattle.np_changes.specs.Prelude.{Configuration, Entry, flat_map, is_line, line, list_all}
-use Rattle.np_report.specs.Printed.{IsPrinted}
+use Rattle.np_report.specs.Told.{IsPrinted}
 use Rattle.np_report.specs.declared.finding.Finding.{Finding}
 use Rattle.np_report.specs.declared.finding.Finding.TheVariants.{Yes, No}
+use Rattle.np_report.specs.Lower.{Configuration, Entry, flat_map, is_line, line, list_all}
 
 -- the text is the Text of a run: of a journal over a configuration
 pub record IsAText (text : List ℕ) : Type 0 where

@@ -1,10 +1,7 @@
-pub mod Text
-pub mod Played
-pub mod Printed
+pub mod Lower
 pub mod Summary
 pub mod Told
 pub mod Lines
 pub mod Script
-pub mod Entries
 pub mod Agreement
 pub mod Audit

@@ -1,21 +1,12 @@
 -- what a script asks for, or the first thing that is wrong with it
 use Rattle.std.specs.Prelude.{◌≤◌, ℕ, List, Option, Some, None, Result, Ok, Err, length}
 use Rattle.std.specs.List.{AllByRecursion}
-use Rattle.np_text.specs.Lines.{lines_of}
-use Rattle.np_text.specs.Sections.{sections_of}
-use Rattle.np_json.specs.declared.fault.ConfigFault.{ConfigFault}
-use Rattle.np_config.specs.Configuration.{Configuration}
-use Rattle.np_config.specs.Sound.{IsSound}
-use Rattle.np_config_read.specs.Walk.{reads}
-use Rattle.np_event.specs.declared.event.Event.{Event}
-use Rattle.np_event.specs.declared.fault.LineFault.{LineFault}
-use Rattle.np_event.specs.Line.{HasEventLine, event_in}
-use Rattle.np_event.specs.Words.{words_of}
 use Rattle.np_report.specs.declared.lines.LinesFault.{LinesFault}
 use Rattle.np_report.specs.declared.script.Script.{Script}
 use Rattle.np_report.specs.declared.script.ScriptFault.{ScriptFault}
 use Rattle.np_report.specs.declared.script.ScriptFault.TheVariants.{Config, NoSeparator, Lines}
 use Rattle.np_report.specs.Lines.{lines_read}
+use Rattle.np_report.specs.Lower.{ConfigFault, Configuration, Event, HasEventLine, IsSound, LineFault, event_in, lines_of, reads, sections_of, words_of}
 
 -- ## the event lines
 

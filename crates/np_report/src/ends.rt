@@ -1,12 +1,12 @@
 //! How many jobs came to which end.
 
 ghost use Rattle.std.specs.Prelude.{◌≡◌, ◌≤◌, ◌++◌, codes, length, count_by, if◌then◌else◌, OnOk, IfOk};
-ghost use Rattle.np_machine.specs.Fates.{fates, fate_of};
+ghost use Rattle.np_report.specs.Lower.{fate_of, fates};
 ghost use Rattle.np_report.specs.Summary.{is_end, summary_of, count_line};
 
 use np_look::Rows;
 use np_record::JobRecord;
-use np_text::{Ending, JobId, NoMemory, put_number};
+use np_text::{Ample, Ending, JobId, NoMemory, put_number};
 use std::alloc::Global;
 
 /// What a job can come to.
@@ -64,7 +64,7 @@ fn count_ends<R: Rows>(rows: &R, end: End) -> u32
     count
 }
 
-fn put_count(out: &mut Vec<u8>, word: &[u8], count: u32) -> Result<(), NoMemory>
+fn put_count(out: &mut Vec<u8>, word: &[u8], count: u32) -> Ample
     ensures { OnOk result (out.new.items ≡ out.old.items ++ count_line word.now count) }
 {
     out.extend_from_slice(word)?;

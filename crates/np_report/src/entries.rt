@@ -1,7 +1,7 @@
 //! The events of the entries that a text begins with.
 
 ghost use Rattle.std.specs.Prelude.{◌≡◌, IfOk};
-ghost use Rattle.np_report.specs.Entries.{event_told, first_line, later_lines, leading_events};
+ghost use Rattle.np_report.specs.Summary.{event_told, first_line, later_lines, leading_events};
 
 use np_event::{Event, read_entry};
 use np_lists::Items;

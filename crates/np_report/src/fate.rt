@@ -2,14 +2,14 @@
 
 ghost use Rattle.std.specs.Prelude.{◌≡◌, ◌++◌, map, OnOk};
 ghost use Rattle.std.specs.List.{flat_map};
-ghost use Rattle.np_machine.specs.Fates.{declines_of, fate_of};
-ghost use Rattle.np_report.specs.Text.{decline_text, fate_text, node_text, pool_text};
+ghost use Rattle.np_report.specs.Lower.{declines_of, fate_of};
+ghost use Rattle.np_report.specs.Told.{decline_text, fate_text, node_text, pool_text};
 
 use np_look::Rows;
 use np_record::{Declined, JobRecord, Marked};
-use np_text::{Ending, NoMemory, PoolId, put_number, put_reason};
+use np_text::{Ample, Ending, PoolId, put_number, put_reason};
 
-fn put_decline(out: &mut Vec<u8>, declined: Declined) -> Result<(), NoMemory>
+fn put_decline(out: &mut Vec<u8>, declined: Declined) -> Ample
     ensures { OnOk result (out.new.items ≡ out.old.items ++ decline_text declined) }
 {
     out.extend_from_slice(b" p")?;
@@ -18,7 +18,7 @@ fn put_decline(out: &mut Vec<u8>, declined: Declined) -> Result<(), NoMemory>
     put_reason(out, declined.reason)
 }
 
-fn put_declines(out: &mut Vec<u8>, declines: &[Declined]) -> Result<(), NoMemory>
+fn put_declines(out: &mut Vec<u8>, declines: &[Declined]) -> Ample
     ensures { OnOk result (out.new.items ≡ out.old.items ++ flat_map decline_text declines.now) }
 {
     for declined in declines {
@@ -27,7 +27,7 @@ fn put_declines(out: &mut Vec<u8>, declines: &[Declined]) -> Result<(), NoMemory
     Ok(())
 }
 
-fn put_pool(out: &mut Vec<u8>, pool: Option<PoolId>) -> Result<(), NoMemory>
+fn put_pool(out: &mut Vec<u8>, pool: Option<PoolId>) -> Ample
     ensures { OnOk result (out.new.items ≡ out.old.items ++ pool_text pool) }
 {
     if let Some(pool) = pool {
@@ -37,7 +37,7 @@ fn put_pool(out: &mut Vec<u8>, pool: Option<PoolId>) -> Result<(), NoMemory>
     Ok(())
 }
 
-fn put_nodes(out: &mut Vec<u8>, nodes: &[Marked]) -> Result<(), NoMemory>
+fn put_nodes(out: &mut Vec<u8>, nodes: &[Marked]) -> Ample
     ensures { OnOk result (out.new.items ≡ out.old.items ++ flat_map node_text (map (λ m. m.node) nodes.now)) }
 {
     for marked in nodes {
@@ -48,7 +48,7 @@ fn put_nodes(out: &mut Vec<u8>, nodes: &[Marked]) -> Result<(), NoMemory>
 }
 
 /// The declines of the job's request, if it has one that still exists.
-fn put_failed<R: Rows>(out: &mut Vec<u8>, rows: &R, job: &JobRecord) -> Result<(), NoMemory>
+fn put_failed<R: Rows>(out: &mut Vec<u8>, rows: &R, job: &JobRecord) -> Ample
     ensures { OnOk result (out.new.items ≡ out.old.items ++ flat_map decline_text (declines_of (R.state rows.now) job.now)) }
 {
     let Some(request) = job.request else {
@@ -61,11 +61,7 @@ fn put_failed<R: Rows>(out: &mut Vec<u8>, rows: &R, job: &JobRecord) -> Result<(
 }
 
 /// A job's end, or how far it has come.
-pub(crate) fn put_fate<R: Rows>(
-    out: &mut Vec<u8>,
-    rows: &R,
-    job: &JobRecord,
-) -> Result<(), NoMemory>
+pub(crate) fn put_fate<R: Rows>(out: &mut Vec<u8>, rows: &R, job: &JobRecord) -> Ample
     ensures { OnOk result (out.new.items ≡ out.old.items ++ fate_text (fate_of (R.state rows.now) job.now)) }
 {
     match job.ending {

@@ -1,13 +1,11 @@
 //! The audit, and what it finds.
 
 ghost use Rattle.std.specs.Prelude.{◌≡◌, ◌<◌, ◌^◌, ◌-◌, [], IfOk};
-ghost use Rattle.np_config.specs.Sound.{IsSound};
-ghost use Rattle.np_config_read.specs.Walk.{reads};
-ghost use Rattle.np_report.specs.Played.{played};
-ghost use Rattle.np_report.specs.Printed.{IsPrinted};
+ghost use Rattle.np_report.specs.Lower.{IsSound, reads};
+ghost use Rattle.np_report.specs.Summary.{played, later_lines, leading_events};
+ghost use Rattle.np_report.specs.Told.{IsPrinted};
 ghost use Rattle.np_report.specs.Agreement.{finding_of, newlines};
 ghost use Rattle.np_report.specs.Audit.{BeginsAText, IsSo};
-ghost use Rattle.np_report.specs.Entries.{later_lines, leading_events};
 
 use crate::agreement::common_lines;
 use crate::entries::{leading_events, split_line};

@@ -1,7 +1,7 @@
 //! The law. Its function does nothing: its contract is the law.
 
 ghost use Rattle.std.specs.Prelude.{◌≡◌, ◌↔◌, ℕ, List, Err};
-ghost use Rattle.np_event.specs.declared.fault.LineFault.{LineFault};
+ghost use Rattle.np_report.specs.Lower.{LineFault};
 ghost use Rattle.np_report.specs.declared.lines.LinesFault.TheVariants.{Line};
 ghost use Rattle.np_report.specs.Lines.{IsFirstFault};
 ghost use Rattle.np_report.specs.Script.{event_said, events_of, most_lines};

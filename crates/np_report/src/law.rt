@@ -2,13 +2,11 @@
 #![tactic(auto, using(crate::proofs::Findings::laws))]
 
 ghost use Rattle.std.specs.Prelude.{◌≡◌, List};
-ghost use Rattle.np_changes.specs.Prelude.{AllByRecursion, Configuration, Entry, IsSound, Runs, State};
-ghost use Rattle.np_event.specs.Line.{HasEntryLine};
+ghost use Rattle.np_report.specs.Lower.{AllByRecursion, Configuration, Entry, HasEntryLine, IsSound, Runs, State};
 ghost use Rattle.np_report.specs.declared.script.Script.{Script};
-ghost use Rattle.np_report.specs.Played.{played};
-ghost use Rattle.np_report.specs.Printed.{IsPrinted};
+ghost use Rattle.np_report.specs.Summary.{played};
+ghost use Rattle.np_report.specs.Told.{IsPrinted, text_of};
 ghost use Rattle.np_report.specs.Script.{IsPlayable};
-ghost use Rattle.np_report.specs.Text.{text_of};
 
 /// A Text determines its run: two sound configurations, as each `Config` is, and two runs whose
 /// entries have lines, have the same Text only if they are the same.

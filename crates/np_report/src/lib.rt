@@ -2,8 +2,8 @@
 //! whether bytes are the Text of a run.
 //!
 //! The Text is the canonical configuration, a line `%%`, one line for each entry, a line `%%`, and one
-//! line for each job's fate, in job order. `specs/Text` says it as a function to a list of bytes,
-//! `specs/Played` which journal the machine makes of a script's events, and `specs/Printed` what the
+//! line for each job's fate, in job order. `specs/Summary` says which journal the
+//! machine makes of a script's events, and `specs/Told` the Text as a list of bytes, and what the
 //! Text shows.
 //!
 //! A script is a configuration, a line `%%` and event lines. `specs/Script` says which script a text

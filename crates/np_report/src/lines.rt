@@ -1,7 +1,7 @@
 //! Reading a text line by line.
 
 ghost use Rattle.std.specs.Prelude.{◌≡◌, ◌≤◌, ◌<◌, ◌-◌, ◌^◌, List, ℕ, Result, IfOk, take, drop, length};
-ghost use Rattle.np_text.specs.Lines.{lines_of};
+ghost use Rattle.np_report.specs.Lower.{lines_of};
 ghost use Rattle.np_report.specs.Lines.{lines_read};
 
 use np_lists::Items;

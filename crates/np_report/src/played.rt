@@ -2,10 +2,9 @@
 
 ghost use Rattle.std.specs.Prelude.{◌≡◌, ◌≤◌, [], length, IfOk, OnOk};
 ghost use Rattle.std.specs.List.{AllByRecursion};
-ghost use Rattle.np_event.specs.Line.{HasEventLine};
-ghost use Rattle.np_rules.specs.Running.{ran_of};
-ghost use Rattle.np_report.specs.Played.{played, ran};
-ghost use Rattle.np_report.specs.Printed.{IsPrinted};
+ghost use Rattle.np_report.specs.Lower.{HasEventLine, ran_of};
+ghost use Rattle.np_report.specs.Summary.{played, ran};
+ghost use Rattle.np_report.specs.Told.{IsPrinted};
 ghost use Rattle.np_report.specs.Script.{IsPlayable};
 
 use crate::Script;
@@ -13,12 +12,12 @@ use crate::print::text;
 use np_event::Event;
 use np_look::{Look, Store};
 use np_rules::{Machine, new_plain};
-use np_text::NoMemory;
+use np_text::{Ample, NoMemory};
 use std::alloc::Global;
 
 /// Plays the events over a machine that has not had any, each answered by the machine. The cost is
 /// that of the events, by `Machine::apply`.
-pub fn play<S: Store + Drop>(machine: &mut Machine<S>, events: &[Event]) -> Result<(), NoMemory>
+pub fn play<S: Store + Drop>(machine: &mut Machine<S>, events: &[Event]) -> Ample
     requires first { machine.old.earlier ≡ 0 }
     requires fresh { ran_of machine.old ≡ ran machine.old.configuration [] }
     requires few { length events.now ≤ 262144 }

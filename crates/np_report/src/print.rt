@@ -1,22 +1,19 @@
 //! Printing the Text and the summary.
 
 ghost use Rattle.std.specs.Prelude.{◌≡◌, ◌+◌, ◌≤◌, ◌++◌, ◌∷◌, [], drop, length, OnOk, IfOk};
-ghost use Rattle.np_changes.specs.Prelude.{AllByRecursion, IsSound, Runs, fates, line};
-ghost use Rattle.np_event.specs.Line.{HasEventLine, entry_line};
-ghost use Rattle.np_report.specs.Told.{IsToldEntry};
-ghost use Rattle.np_report.specs.Printed.{IsPrinted};
-ghost use Rattle.np_report.specs.Text.{text_of, job_text, entry_lines, fate_lines};
+ghost use Rattle.np_report.specs.Lower.{AllByRecursion, HasEventLine, IsSound, Runs, entry_line, fates, line};
+ghost use Rattle.np_report.specs.Told.{IsToldEntry, IsPrinted, text_of, job_text, entry_lines, fate_lines};
 
 use crate::fate::put_fate;
 use np_config::{Config, Job};
 use np_config_text::config_text;
 use np_event::{Entry, put_entry};
 use np_look::Rows;
-use np_text::{JobId, NoMemory, put_number};
+use np_text::{Ample, JobId, NoMemory, put_number};
 use std::alloc::Global;
 
-#[tactic(auto, unfolding(crate::specs::Text::job_text))]
-fn put_job(out: &mut Vec<u8>, config: &Config, at: u32, job: &Job) -> Result<(), NoMemory>
+#[tactic(auto, unfolding(crate::specs::Told::job_text))]
+fn put_job(out: &mut Vec<u8>, config: &Config, at: u32, job: &Job) -> Ample
     ensures { OnOk result (out.new.items ≡ out.old.items ++ job_text config.now at job.now) }
 {
     out.push(b'j')?;
@@ -31,7 +28,7 @@ fn put_job(out: &mut Vec<u8>, config: &Config, at: u32, job: &Job) -> Result<(),
     Ok(())
 }
 
-fn put_line(out: &mut Vec<u8>, entry: Entry) -> Result<(), NoMemory>
+fn put_line(out: &mut Vec<u8>, entry: Entry) -> Ample
     requires { IsToldEntry entry }
     ensures { OnOk result (out.new.items ≡ out.old.items ++ line (entry_line entry)) }
 {
@@ -40,7 +37,7 @@ fn put_line(out: &mut Vec<u8>, entry: Entry) -> Result<(), NoMemory>
     Ok(())
 }
 
-fn put_entries(out: &mut Vec<u8>, journal: &[Entry]) -> Result<(), NoMemory>
+fn put_entries(out: &mut Vec<u8>, journal: &[Entry]) -> Ample
     requires { AllByRecursion IsToldEntry journal.now }
     ensures { OnOk result (out.new.items ≡ out.old.items ++ entry_lines journal.now) }
 {
@@ -50,7 +47,7 @@ fn put_entries(out: &mut Vec<u8>, journal: &[Entry]) -> Result<(), NoMemory>
     Ok(())
 }
 
-fn put_fates<R: Rows>(out: &mut Vec<u8>, rows: &R) -> Result<(), NoMemory>
+fn put_fates<R: Rows>(out: &mut Vec<u8>, rows: &R) -> Ample
     ensures { OnOk result (out.new.items ≡ out.old.items ++ fate_lines (R.site rows.now) 0 (R.site rows.now).jobs (fates (R.state rows.now))) }
 {
     let config = rows.config();
@@ -75,7 +72,7 @@ fn is_sound<R: Rows>(rows: &R)
     rows.config().know_soundness();
 }
 
-#[tactic(auto, unfolding(crate::specs::Text::text_of))]
+#[tactic(auto, unfolding(crate::specs::Told::text_of))]
 fn parts<R: Rows>(alloc: Global, rows: &R, journal: &[Entry]) -> Result<Vec<u8>, NoMemory>
     requires runs { Runs (R.site rows.now) journal.now (R.state rows.now) }
     requires lines { AllByRecursion (λ e. HasEventLine e.event) journal.now }

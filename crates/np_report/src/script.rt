@@ -1,7 +1,7 @@
 //! Reading a script.
 
 ghost use Rattle.std.specs.Prelude.{◌≡◌, IfOk};
-ghost use Rattle.np_config_read.specs.Walk.{reads};
+ghost use Rattle.np_report.specs.Lower.{reads};
 ghost use Rattle.np_report.specs.Script.{script_of, event_said, IsPlayable};
 
 use crate::lines::{FromLine, LinesFault, read_lines};

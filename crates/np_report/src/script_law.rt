@@ -2,8 +2,7 @@
 #![tactic(auto, using(crate::proofs::Rows::told))]
 
 ghost use Rattle.std.specs.Prelude.{List};
-ghost use Rattle.np_changes.specs.Prelude.{AllByRecursion, Configuration, Entry, IsSound, Runs, State};
-ghost use Rattle.np_event.specs.Line.{HasEventLine, HasEntryLine};
+ghost use Rattle.np_report.specs.Lower.{AllByRecursion, Configuration, Entry, HasEntryLine, HasEventLine, IsSound, Runs, State};
 
 /// Each entry of a run of a sound configuration has a line if its event has one.
 pub fn each_entry_of_a_run_has_a_line()

@@ -2,8 +2,7 @@
 #![tactic(auto, using(crate::proofs::Rows::told))]
 
 ghost use Rattle.std.specs.Prelude.{◌≡◌, List, length};
-ghost use Rattle.np_changes.specs.Prelude.{AllByRecursion, Configuration, Entry, IsSound, Runs, State};
-ghost use Rattle.np_event.specs.Line.{HasEventLine};
+ghost use Rattle.np_report.specs.Lower.{AllByRecursion, Configuration, Entry, HasEventLine, IsSound, Runs, State};
 ghost use Rattle.np_report.specs.Told.{IsToldEntry};
 
 /// Each entry of a run can be printed if its event has a line: the requests that its reply names

@@ -1,5 +1,5 @@
 -- a site that was played: from what the rounds left to what a run or a drill shows
-use Rattle.np_top.proofs.Prelude.{All, All-append, All-cons, All-head, All-map, All-nil, All-tail, All-weaker, AllByRecursion, Answer, AreAloneSound, AreCarried, AreHosted, ArePlanned, BeginsEmpty, BeginsNew, Bool, Configuration, DistinctNumbers, Driven, DrivenAs, DrivenBy, DrivenFrom, DriverFacts, Driving, EachAfter, Ending, EndsPlay, EndsRun, EndsSite, EndsWithTick, Entry, Err, Event, FailAfter, FailOnlyFull, HasCome, HasEnded, HasEventLine, HasHostLines, HasIds, HasIds-next, HasIds-start, HasStopped, HostDriver, Hosted, Hosting, IfOk, IfSome, IsDrill, IsDrivenTurn, IsDrivenWithHosts, IsFresh, IsPlannedAt, IsPlannedTurn, IsPlayedTo, IsPrinted, IsSayable, IsSettled, IsSound, IsTrue, IsTyped, IsUseful, JobId, Launch, List, NeverRepeats, NodeId, None, Ok, Option, Outcome, PlannedBy, PoolId, Ran, Reason, Refusal, RequestId, RequestRecord, Result, Role, Runs, Says, SessionId, Simulation, Site, SiteCommand, SiteDriver, Some, SourceFacts, State, Tag, Told, Turn, WasAnswered, WasOfUse, WasPlayed, WasPlayedBy, after, ap, arith, driven-more, driven_as, driving, drop, false, fates, found, has_digits, host_facts, hosted, hosted-count, hosted-fresh, hosted-lines, hosted-simulated, hosted_run, inl, inr, is_ok, is_planned, is_some, janitor, judge, launch_of, launched_numbers, launcher, length, length-map, list_any, lock_request_as, maker, map, next, number_in, numbers_in, numbers_with, option_map, outcome_of, planned-driven, planned-planned, planned_without_hosts, printed-Runs, refl, reports_of, request-digits, request_at, request_in, room_at, row_holds, servers_up, simulated, simulated_outcome, simulation_facts, simulation_of, simulation_plan, simulations, simulations-planned, site_facts, site_of, site_plan, site_planned, site_room, site_sound, slice_get, slice_get-map, sound_at, start, status_of_fates, subst, suc, summary_of, sym, text-of, text_of, told_nothing, told_of, true, turns, turns_from, unlock_request_as, zero, ℕ, [], ◌++◌, ◌>>=◌, ◌||◌, ◌∙◌, ◌∷◌, ◌≡◌}
+use Rattle.np_top.proofs.Prelude.{All, All-append, All-cons, All-head, All-map, All-nil, All-tail, All-weaker, AllByRecursion, Answer, AreAloneSound, AreCarried, AreHosted, ArePlanned, BeginsEmpty, BeginsNew, Bool, Configuration, DistinctNumbers, Driven, DrivenAs, DrivenBy, DrivenFrom, DriverFacts, Driving, EachAfter, Ending, EndsPlay, EndsRun, EndsSite, EndsWithTick, Entry, Err, Event, FailAfter, FailOnlyFull, HasCome, HasEnded, HasEventLine, HasHostLines, HasIds, HasIds-next, HasIds-start, HasStopped, HostDriver, Hosted, Hosting, IfOk, IfSome, IsDrill, IsDrivenTurn, IsDrivenWithHosts, IsFresh, IsPlannedAt, IsPlannedTurn, IsPlayedTo, IsPrinted, IsSayable, IsSettled, IsSound, IsTrue, IsTyped, IsUseful, JobId, Launch, List, NeverRepeats, NodeId, None, Ok, Option, Outcome, PlannedBy, PoolId, Ran, Reason, Refusal, RequestId, RequestRecord, Result, Role, Runs, Says, SessionId, Simulation, Site, SiteCommand, SiteDriver, Some, SourceFacts, State, Tag, Told, Turn, WasAnswered, WasOfUse, WasPlayed, WasPlayedBy, after, ap, arith, driven-more, driven_as, driving, drop, drop-past, false, fates, found, from-map_some, has_digits, host_facts, hosted, hosted-count, hosted-fresh, hosted-lines, hosted-simulated, hosted_run, inl, inr, is_ok, is_planned, is_some, janitor, judge, launch_of, launched_numbers, launcher, length, length-map, list_any, lock_request_as, maker, map, next, numbers_in, option_map, outcome_of, planned-driven, planned-planned, planned_without_hosts, printed-Runs, refl, reports_of, request-digits, request_at, request_in, room_at, row_holds, servers_up, simulated, simulated_outcome, simulation_facts, simulation_of, simulation_plan, simulations, simulations-planned, site_facts, site_of, site_plan, site_planned, site_room, site_sound, slice_get, slice_get-map, sound_at, start, status_of_fates, subst, suc, summary_of, sym, text-of, text_of, told_nothing, told_of, true, turns, turns_from, unlock_request_as, zero, ℕ, [], ◌++◌, ◌>>=◌, ◌||◌, ◌∙◌, ◌∷◌, ◌≡◌}
 
 -- # a site that was played: from what the rounds left to what a run shows
 
@@ -146,22 +146,11 @@ module _ (h : Hosted) (has : HasHostLines h) (drivers : List SiteDriver) (are : 
 -- ## what its drivers answered
 
 -- the site of a driver that has its plan
-record IsPlannedBy (sites : List Site) (k : ℕ) (d : Driving) : Type 0 where
-  site : Site
-  at : slice_get sites k ≡ Some site
-  plan : d.plan ≡ site_planned site
-
-planned-at : (ds : List Driving) (sites : List Site) (k : ℕ) (d : Driving) → map (λ (d : Driving). d.plan) ds ≡ map site_planned sites → slice_get ds k ≡ Some d → IsPlannedBy sites k d
-planned-at [] sites k d same at = absurd cc
-planned-at (first ∷ ds) [] k d same at = absurd cc
-planned-at (first ∷ ds) (site ∷ sites) zero d same at =
-    let one : first ≡ d = cc in
-    let plan : first.plan ≡ site_planned site = cc in
-    record { site = site; at = refl; plan = ap (λ (x : Driving). x.plan) (sym one) ∙ plan }
-planned-at (first ∷ ds) (site ∷ sites) (suc k) d same at =
-    let rest : map (λ (d : Driving). d.plan) ds ≡ map site_planned sites = cc in
-    let later = planned-at ds sites k d rest at in
-    record { site = later.site; at = later.at; plan = later.plan }
+planned-at : (ds : List Driving) (sites : List Site) (k : ℕ) (d : Driving) → map (λ (d : Driving). d.plan) ds ≡ map site_planned sites → slice_get ds k ≡ Some d →
+    (site : Site) × (slice_get sites k ≡ Some site) × (site_planned site ≡ d.plan)
+planned-at ds sites k d same at =
+    from-map_some site_planned (slice_get sites k) d.plan
+    (sym (slice_get-map site_planned sites k) ∙ (ap (λ (l : List (Tag → Option Outcome)). slice_get l k) (sym same) ∙ (slice_get-map (λ (d : Driving). d.plan) ds k ∙ ap (option_map (λ (d : Driving). d.plan)) at)))
 
 module _ (h : Hosted) (has : HasHostLines h) where
   planned-cloud : (pool : PoolId) (start : ℕ) (o : Outcome) (cloud : Simulation) → slice_get h.sites pool.0 ≡ Some (simulated cloud) → simulated_outcome cloud start ≡ o → outcome_of h.configuration pool start ≡ o
@@ -177,8 +166,8 @@ module _ (h : Hosted) (has : HasHostLines h) where
     answered-planned pool n attempt first o was =
         let by = planned-at drivings h.sites pool.0 was.driving plans was.of_pool in
         let tag = (launch_of pool n attempt first o).tag in
-        let planned : IfSome (site_planned by.site tag) (λ planned. planned ≡ o) = subst (λ (plan : Tag → Option Outcome). IfSome (plan tag) (λ planned. planned ≡ o)) by.plan was.planned in
-        subst (λ (x : Option Site). IsPlannedAt h.configuration x pool first o) (sym by.at) (planned-site pool tag o by.site by.at planned)
+        let planned : IfSome (site_planned by.0 tag) (λ planned. planned ≡ o) = subst (λ (plan : Tag → Option Outcome). IfSome (plan tag) (λ planned. planned ≡ o)) (sym by.2) was.planned in
+        subst (λ (x : Option Site). IsPlannedAt h.configuration x pool first o) (sym by.1) (planned-site pool tag o by.0 by.1 planned)
 
     hosts-planned-driven : (journal : List Entry) → DrivenBy (WasAnswered drivings) h.configuration journal → DrivenBy (planned_without_hosts h) h.configuration journal
     hosts-planned-driven journal driven = driven-more h.configuration (WasAnswered drivings) (planned_without_hosts h) answered-planned [] (turns h.configuration journal) driven
@@ -205,10 +194,7 @@ by-site f g same (d ∷ ds) = ap (λ x. x ∷ map f ds) (same d) ∙ ap (λ l. g
 -- the numbers of the servers that launches made, told in two ways
 same-numbers : (launches : List Launch) → launched_numbers launches ≡ numbers_in (map (λ (l : Launch). l.outcome) launches)
 same-numbers [] = refl
-same-numbers (launch ∷ launches) = by launch.outcome (same-numbers launches) where
-  by : (o : Outcome) {numbers more : List ℕ} → numbers ≡ more → numbers_with o numbers ≡ number_in o ++ more
-  by (Outcome.Launched x) same = ap (λ (l : List ℕ). x ∷ l) same
-  by Outcome.Failed same = same
+same-numbers (launch ∷ launches) = grind (arith, same-numbers launches)
 
 -- no hosts answer a number twice
 abbrev pub HostsAreDistinct : Type 0
@@ -273,11 +259,7 @@ module _ (r : SiteCommand) where
         (record { came = come.came; site = site; journal = ends.0; input = come.input; read = come.reads; driven = ends.1; played = ends.2.0 }, ends.2.1)
     run_ends site (Ending.Full text) come ends =
         record { came = come.came; site = site; journal = ends.0; input = come.input; read = come.reads; driven = ends.1; played = ends.2 }
-    run_ends site (Ending.Says line status) come ends = absurd ends.2
-    run_ends site Ending.NoCommand come ends = absurd ends.2
-    run_ends site Ending.ReadFault come ends = absurd ends.2
-    run_ends site Ending.TooLong come ends = absurd ends.2
-    run_ends site Ending.NoMemory come ends = absurd ends.2
+    run_ends site _ come ends = absurd ends.2
 
 -- # each entry of a journal that was driven has a line
 
@@ -306,65 +288,45 @@ module _ (c : Configuration) (s : State) (ids : AllByRecursion IsSayable s.reque
   locked : (session : SessionId) (r : RequestId) (by : Role) → is_ok (lock_request_as c s session r by) ≡ true → has_digits r ≡ true
   locked session r (Role.Launcher p) ok = named s r _ ids ok
   locked session r (Role.Janitor p) ok = named s r _ ids ok
-  locked session r (Role.Requester q) ok = absurd cc
-  locked session r Role.Reaper ok = absurd cc
+  locked session r _ ok = absurd cc
 
   unlocked-by : (session : SessionId) (r : RequestId) (by : Role) → is_ok (unlock_request_as s session r by) ≡ true → has_digits r ≡ true
   unlocked-by session r (Role.Launcher p) ok = named s r _ ids ok
   unlocked-by session r (Role.Janitor p) ok = named s r _ ids ok
-  unlocked-by session r (Role.Requester q) ok = absurd cc
-  unlocked-by session r Role.Reaper ok = absurd cc
+  unlocked-by session r _ ok = absurd cc
 
   -- ## an accepted event has a line, unless it revises a request
 
   pub accepted-line : (e : Event) → is_ok (judge c s e) ≡ true → ((session : SessionId) (j : JobId) (v : ℕ) → e ≡ Event.Revise session j v → ⊥) → IsTyped e → HasEventLine e
   accepted-line Event.Tick ok never typed = record { role = tt; words = tt }
-  accepted-line (Event.OpenSession (Role.Launcher p)) ok never typed = record { role = tt; words = (tt, (typed, tt)) }
-  accepted-line (Event.OpenSession (Role.Janitor p)) ok never typed = record { role = tt; words = (tt, (typed, tt)) }
-  accepted-line (Event.OpenSession (Role.Requester q)) ok never typed = record { role = tt; words = (tt, (typed, tt)) }
   accepted-line (Event.OpenSession Role.Reaper) ok never typed = absurd cc
+  accepted-line (Event.OpenSession _) ok never typed = record { role = tt; words = (tt, (typed, tt)) }
   accepted-line (Event.Crash session) ok never typed = record { role = tt; words = (typed, tt) }
   accepted-line (Event.Expire session) ok never typed = record { role = tt; words = (typed, tt) }
   accepted-line (Event.Register session) ok never typed = record { role = tt; words = (typed, tt) }
-  accepted-line (Event.Submit session j) ok never typed = record { role = tt; words = (typed.0, (typed.1, tt)) }
   accepted-line (Event.Revise session j v) ok never typed = absurd (never session j v refl)
-  accepted-line (Event.MinReady session l) ok never typed = record { role = tt; words = (typed.0, (typed.1, tt)) }
   accepted-line (Event.LockRequest session r) ok never typed = record { role = tt; words = (typed.0, (text-of r (by_role (maker s session) _ r (locked session r) ok) typed.1, tt)) }
   accepted-line (Event.UnlockRequest session r) ok never typed = record { role = tt; words = (typed.0, (text-of r (by_role (maker s session) _ r (unlocked-by session r) ok) typed.1, tt)) }
   accepted-line (Event.Accept session r) ok never typed = record { role = tt; words = (typed.0, (text-of r (named-then (launcher s session) s r _ ids ok) typed.1, tt)) }
   accepted-line (Event.Decline session r (Reason.NoLabel l)) ok never typed = record { role = tt; words = (typed.0, (text-of r (named-then (launcher s session) s r _ ids ok) typed.1, (tt, (typed.2, tt)))) }
-  accepted-line (Event.Decline session r Reason.NeverFits) ok never typed = record { role = tt; words = (typed.0, (text-of r (named-then (launcher s session) s r _ ids ok) typed.1, (tt, tt))) }
-  accepted-line (Event.Decline session r Reason.TenantNeverFits) ok never typed = record { role = tt; words = (typed.0, (text-of r (named-then (launcher s session) s r _ ids ok) typed.1, (tt, tt))) }
   accepted-line (Event.Decline session r (Reason.Spent n)) ok never typed = record { role = tt; words = (typed.0, (text-of r (named-then (launcher s session) s r _ ids ok) typed.1, (tt, (typed.2, tt)))) }
+  accepted-line (Event.Decline session r _) ok never typed = record { role = tt; words = (typed.0, (text-of r (named-then (launcher s session) s r _ ids ok) typed.1, (tt, tt))) }
   accepted-line (Event.TakeReady session r n) ok never typed = record { role = tt; words = (typed.0, (text-of r (named-then (launcher s session) s r _ ids ok) typed.1, (typed.2, tt))) }
   accepted-line (Event.Create session r) ok never typed = record { role = tt; words = (typed.0, (text-of r (named-then (launcher s session) s r _ ids ok) typed.1, tt)) }
-  accepted-line (Event.Start session n) ok never typed = record { role = tt; words = (typed.0, (typed.1, tt)) }
   accepted-line (Event.Done session n k (Outcome.Launched x)) ok never typed = record { role = tt; words = (typed.0, (typed.1, (typed.2, (tt, (typed.3, tt))))) }
   accepted-line (Event.Done session n k Outcome.Failed) ok never typed = record { role = tt; words = (typed.0, (typed.1, (typed.2, (tt, tt)))) }
   accepted-line (Event.Fulfil session r) ok never typed = record { role = tt; words = (typed.0, (text-of r (named-then (launcher s session) s r _ ids ok) typed.1, tt)) }
-  accepted-line (Event.LockNode session n) ok never typed = record { role = tt; words = (typed.0, (typed.1, tt)) }
-  accepted-line (Event.UnlockNode session n) ok never typed = record { role = tt; words = (typed.0, (typed.1, tt)) }
-  accepted-line (Event.Acquire session j) ok never typed = record { role = tt; words = (typed.0, (typed.1, tt)) }
-  accepted-line (Event.Take session j) ok never typed = record { role = tt; words = (typed.0, (typed.1, tt)) }
   accepted-line (Event.EndNode session n e) ok never typed = record { role = tt; words = (typed.0, (typed.1, (tt, tt))) }
-  accepted-line (Event.Finish session j) ok never typed = record { role = tt; words = (typed.0, (typed.1, tt)) }
-  accepted-line (Event.Withdraw session j) ok never typed = record { role = tt; words = (typed.0, (typed.1, tt)) }
-  accepted-line (Event.Release session j) ok never typed = record { role = tt; words = (typed.0, (typed.1, tt)) }
-  accepted-line (Event.MarkDeleting session n) ok never typed = record { role = tt; words = (typed.0, (typed.1, tt)) }
-  accepted-line (Event.Gone session n) ok never typed = record { role = tt; words = (typed.0, (typed.1, tt)) }
   accepted-line (Event.Reset session r) ok never typed = record { role = tt; words = (typed.0, (text-of r (named-then (janitor s session) s r _ ids ok) typed.1, tt)) }
-  accepted-line (Event.FreeNode session n) ok never typed = record { role = tt; words = (typed.0, (typed.1, tt)) }
   accepted-line (Event.FailDeclined session r) ok never typed = record { role = tt; words = (typed.0, (text-of r (named-then (janitor s session) s r _ ids ok) typed.1, tt)) }
   accepted-line (Event.Sweep session n x) ok never typed = record { role = tt; words = (typed.0, (typed.1, (typed.2, tt))) }
+  accepted-line _ ok never typed = record { role = tt; words = (typed.0, (typed.1, tt)) }
 
 -- ## a driven event has a line
 
 -- no role revises a request
 never_revises : (c : Configuration) (s : State) (by : Role) (session : SessionId) (j : JobId) (v : ℕ) → row_holds c s by (Event.Revise session j v) ≡ true → ⊥
-never_revises c s (Role.Launcher p) session j v row = grind arith
-never_revises c s (Role.Janitor p) session j v row = cc
-never_revises c s (Role.Requester q) session j v row = cc
-never_revises c s Role.Reaper session j v row = cc
+never_revises c s by session j v row = grind arith
 
 useful-line : (c : Configuration) (s : State) (by : Role) (e : Event) → HasIds c s → IsUseful c s by e → IsTyped e → HasEventLine e
 useful-line c s by e ids useful typed = accepted-line c s ids.requests e useful.accepted (λ session j v is. never_revises c s by session j v (subst (λ x. row_holds c s by x ≡ true) is useful.row)) typed
@@ -401,20 +363,14 @@ module _ (says : Says) (c : Configuration) (sound : IsSound c) where
       let t : Turn = record { before = s; entry = e; later = next c s e.event } in
       (line-of past t ids driven.0 typed.0, lines_from (past ++ t ∷ []) (next c s e.event) journal (HasIds-next c sound s e.event ids) driven.1 typed.1)
 
-  planned_lines : (journal : List Entry) → PlannedBy says c journal → AllByRecursion (λ (e : Entry). IsTyped e.event) journal → AllByRecursion (λ (e : Entry). HasEventLine e.event) journal
-  planned_lines journal planned typed = lines_from [] (start c) journal (HasIds-start c) planned typed
-
   -- a driven journal plans nothing
   planned-from : (past ts : List Turn) → DrivenFrom says c past ts → EachAfter (IsPlannedTurn says c) past ts
   planned-from past [] driven = tt
   planned-from past (t ∷ ts) driven = (inl driven.0, planned-from (past ++ t ∷ []) ts driven.1)
 
-  driven_lines : (journal : List Entry) → DrivenBy says c journal → AllByRecursion (λ (e : Entry). IsTyped e.event) journal → AllByRecursion (λ (e : Entry). HasEventLine e.event) journal
-  driven_lines journal driven typed = planned_lines journal (planned-from [] (turns c journal) driven) typed
-
   pub lines_as : (plans : Bool) (journal : List Entry) → DrivenAs says plans c journal → AllByRecursion (λ (e : Entry). IsTyped e.event) journal → AllByRecursion (λ (e : Entry). HasEventLine e.event) journal
-  lines_as false journal driven typed = driven_lines journal driven typed
-  lines_as true journal driven typed = planned_lines journal driven typed
+  lines_as false journal driven typed = lines_from [] (start c) journal (HasIds-start c) (planned-from [] (turns c journal) driven) typed
+  lines_as true journal planned typed = lines_from [] (start c) journal (HasIds-start c) planned typed
 
 -- # a site that was played for its summary: from what playing left to what a drill shows
 
@@ -435,10 +391,7 @@ drill_shown c d journal s text full same sound runs lines driven ended summary =
 
 -- after the last there is none
 pub any-end : {X Y : Type 0} (p : Y → Bool) (f : X → Y) (xs : List X) (at : ℕ) → slice_get xs at ≡ None → list_any p (map f (drop at xs)) ≡ false
-any-end p f [] zero is = refl
-any-end p f [] (suc at) is = refl
-any-end p f (y ∷ xs) zero is = absurd cc
-any-end p f (y ∷ xs) (suc at) is = any-end p f xs at is
+any-end p f xs at is = rw (drop-past xs at is) refl
 
 -- the first is such
 pub such-first : (whole first rest : Bool) → whole ≡ (first || rest) → first ≡ true → whole ≡ true

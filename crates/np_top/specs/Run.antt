@@ -1,7 +1,7 @@
 -- what the commands do that play a site, with `run` and `run planned` among them
-use Rattle.std.specs.Prelude.{◌≡◌, ◌⊎◌, ℕ, Bool, true, false, List, IfSome, Result, Ok, Err, length, nat_lt}
+use Rattle.std.specs.Prelude.{◌≡◌, ◌⊎◌, ℕ, Bool, true, false, List, IfSome, Result, Ok, Err, length, nat_lt, [], ◌∷◌, ◌++◌, slice_get, sum, IsTrue, Option, Some, None}
 use Rattle.np_top.specs.Play.{IsPlayedTo, EndsPlay, some_waits, status_of_fates}
-use Rattle.np_top.specs.Lower.{ConfigFault, Configuration, Driven, Ending, EndsSo, Entry, Fate, IsInput, IsTold, IsWritten, PlannedDriven, Rose, ShowsFailures, SinkFacts, SourceFacts, Stops, after, config_line, fates, full_line, most, reads}
+use Rattle.np_top.specs.Lower.{AreAloneSound, ConfigFault, Configuration, Driven, DrivenBy, Ending, EndsSo, Entry, Event, FailAfter, Fate, Hosted, HostedFault, Hosting, IsInput, IsTold, IsWritten, Outcome, PlannedDriven, PoolId, Rose, Says, ShowsFailures, SinkFacts, Site, SourceFacts, Stops, after, config_line, fates, full_line, hosted, hosted_line, hosted_of, hosted_status, is_sound, most, outcome_of, reads, reports_of, servers_up, simulated}
 
 -- ## the commands
 
@@ -133,3 +133,45 @@ module _ (r : SiteCommand) where
     pub complete : IfSome (s source).left (λ left. EndsSo (IsStatusOf left status) status
         (Rose (s source).faults (s source_now).faults)
         (Rose (k out).faults (k out_now).faults ⊎ Rose (e err).faults (e err_now).faults))
+
+-- what the command `run hosts` does: it plays a site of which some pools are served by hosts
+
+-- the outcome of a start is the planned one where the pool has a simulated cloud; of hosts nothing is said
+abbrev pub IsPlannedAt : Configuration → Option Site → PoolId → ℕ → Outcome → Type 0
+IsPlannedAt c None pool start o = ⊥
+IsPlannedAt c (Some (simulated cloud)) pool start o = outcome_of c pool start ≡ o
+IsPlannedAt c (Some (hosted hosts)) pool start o = Unit {0}
+
+-- each launch of a pool without host lines was answered as it is planned (own)
+abbrev pub planned_without_hosts : Hosted → Says
+planned_without_hosts h pool n attempt start o = IsPlannedAt h.configuration (slice_get h.sites pool.0) pool start o
+
+-- what these hosts of a pool carried, each at once no more than its number (own)
+pub record AreHosted (c : Configuration) (journal : List Entry) (p : PoolId) (hosts : List ℕ) : Type 0 where
+  -- after each tick no host has more servers of the pool's nodes that are up than it carries, and each of these servers has a host
+  pub carried : (before rest : List Entry) (e : Entry) → journal ≡ before ++ e ∷ rest → e.event ≡ Event.Tick
+      → IsTrue (is_sound hosts (servers_up p (after c (before ++ e ∷ [])).nodes))
+  -- each server that is reported has a host of this pool
+  pub reported : AreAloneSound (is_sound hosts) (reports_of c p journal)
+  -- a launch is reported as failed only after reports of as many servers as the hosts carry together
+  pub failed : FailAfter (sum hosts) 0 (reports_of c p journal)
+
+-- what holds of the journal of a site with hosts (own)
+pub record IsDrivenWithHosts (h : Hosted) (journal : List Entry) : Type 0 where
+  -- its parties, its hosts, and the simulated clouds of the other pools drove it
+  pub driven : DrivenBy (planned_without_hosts h) h.configuration journal
+  -- the hosts of each pool that has some carried it
+  pub hosted : (p : PoolId) (hosts : Hosting) → slice_get h.sites p.0 ≡ Some (hosted hosts) → AreHosted h.configuration journal p hosts.hosts
+
+-- `run hosts`: the input is a configuration with host lines (own)
+abbrev pub hosted_run : SiteCommand
+hosted_run = record {
+  Site = Hosted;
+  Fault = HostedFault;
+  reads = hosted_of;
+  configuration = λ h. h.configuration;
+  plans = false;
+  IsDriven = IsDrivenWithHosts;
+  line_of = hosted_line;
+  status_of = hosted_status;
+}

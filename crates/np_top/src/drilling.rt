@@ -1,12 +1,8 @@
 //! The command `drill`.
 
 ghost use Rattle.std.specs.Prelude.{◌≤◌, false, IfOk};
-ghost use Rattle.np_changes.specs.Prelude.{AllByRecursion, IsSound};
-ghost use Rattle.np_event.specs.Line.{HasEventLine};
-ghost use Rattle.np_useful.specs.Driven.{Driven};
-ghost use Rattle.np_gen.specs.Site.{drill_site};
-ghost use Rattle.np_top.specs.Drill.{Drills, EndsDrill};
-ghost use Rattle.np_top.specs.Play.{HasEnded};
+ghost use Rattle.np_top.specs.Lower.{AllByRecursion, Driven, HasEventLine, IsSound, drill_site};
+ghost use Rattle.np_top.specs.Play.{Drills, EndsDrill, HasEnded};
 
 use crate::playing::play_site;
 use np_board::Board;

@@ -1,9 +1,8 @@
 //! The command `run hosts`.
 
 ghost use Rattle.std.specs.Prelude.{IfOk, IfErr};
-ghost use Rattle.np_static.specs.Hosted.{HasHostLines, hosted_read, hosted_view};
-ghost use Rattle.np_top.specs.Run.{EndsRun, EndsSite, HasCome, RunsSite};
-ghost use Rattle.np_top.specs.RunHosts.{hosted_run};
+ghost use Rattle.np_top.specs.Lower.{HasHostLines, hosted_read, hosted_view};
+ghost use Rattle.np_top.specs.Run.{EndsRun, EndsSite, HasCome, RunsSite, hosted_run};
 
 use crate::playing::play_hosts;
 use crate::running::ending_at;

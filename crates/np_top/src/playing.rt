@@ -1,15 +1,9 @@
 //! Playing a site by threads to its end.
 
 ghost use Rattle.std.specs.Prelude.{◌≡◌, length, map, false, All, IfOk};
-ghost use Rattle.np_worker.specs.Prelude.{AllByRecursion, driving};
-ghost use Rattle.np_event.specs.Line.{HasEventLine};
-ghost use Rattle.np_worker.specs.Planned.{DrivenAs};
-ghost use Rattle.np_worker.specs.Players.{WasAnswered};
-ghost use Rattle.np_worker.specs.Carried.{AreCarried, BeginsNew, FailOnlyFull};
-ghost use Rattle.np_static.specs.Hosted.{HasHostLines, hosted_view};
+ghost use Rattle.np_top.specs.Lower.{AllByRecursion, AreCarried, BeginsNew, DrivenAs, FailOnlyFull, HasEventLine, HasHostLines, WasAnswered, driving, hosted_view};
 ghost use Rattle.np_top.specs.Play.{HasEnded};
-ghost use Rattle.np_top.specs.Run.{driven_as};
-ghost use Rattle.np_top.specs.RunHosts.{IsDrivenWithHosts};
+ghost use Rattle.np_top.specs.Run.{driven_as, IsDrivenWithHosts};
 
 use crate::typed::numbers_are_within_their_types;
 use np_board::Board;

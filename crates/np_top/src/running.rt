@@ -1,8 +1,7 @@
 //! The commands `run` and `run planned`, and how a site that was played ends.
 
 ghost use Rattle.std.specs.Prelude.{◌≡◌, Bool, length, IfOk, IfErr};
-ghost use Rattle.np_changes.specs.Prelude.{AllByRecursion, fate_of, fates};
-ghost use Rattle.np_event.specs.Line.{HasEventLine};
+ghost use Rattle.np_top.specs.Lower.{AllByRecursion, HasEventLine, fate_of, fates};
 ghost use Rattle.np_top.specs.Play.{EndsPlay, HasEnded, is_waiting, status_of_fates};
 ghost use Rattle.np_top.specs.Run.{EndsRun, EndsSite, HasCome, RunsSite, site_run};
 

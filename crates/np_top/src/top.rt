@@ -1,15 +1,10 @@
 //! The top call.
 
 ghost use Rattle.std.specs.Prelude.{◌≡◌, ℕ, List, Some, None, map, string_bytes};
-ghost use Rattle.np_replay.specs.Keep.{Keeps};
-ghost use Rattle.np_replay.specs.Replay.{Replays};
-ghost use Rattle.np_replay.specs.Resume.{Resumes};
-ghost use Rattle.np_top.specs.Audit.{Audits};
-ghost use Rattle.np_top.specs.Drill.{Drills};
-ghost use Rattle.np_top.specs.Run.{RunsSite, plain_run, planned_run};
-ghost use Rattle.np_top.specs.RunHosts.{hosted_run};
-ghost use Rattle.np_top.specs.Words.{IsNoCommand};
-ghost use Rattle.np_replay.specs.Command.{command};
+ghost use Rattle.np_top.specs.Lower.{Keeps, Replays, Resumes, command};
+ghost use Rattle.np_top.specs.Audit.{Audits, IsNoCommand};
+ghost use Rattle.np_top.specs.Play.{Drills};
+ghost use Rattle.np_top.specs.Run.{RunsSite, plain_run, planned_run, hosted_run};
 ghost use Rattle.np_replay.specs.declared.command.Command.TheVariants as the;
 
 use crate::auditing::audit;

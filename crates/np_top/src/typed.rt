@@ -1,7 +1,7 @@
 //! That the numbers of a journal's events are within their types.
 
 ghost use Rattle.std.specs.List.{AllByRecursion};
-ghost use Rattle.np_top.specs.Typed.{IsTyped};
+ghost use Rattle.np_top.specs.Audit.{IsTyped};
 
 use np_event::{Entry, Event};
 use np_text::Role;

@@ -1,11 +1,13 @@
-use Rattle.np_explain_lines.proofs.Prelude.{arith, inl, named_by, ◌-◌, ◌∙◌, ◌≡◌}
-use Rattle.np_explain_lines.proofs.Pending.{named_more, no_place_past, places_more}
+use Rattle.np_explain_lines.proofs.Prelude.{IsPending, Some, Thing, arith, inl, inr, named_by, past-end, slice_get, slice_get_within, ℕ, ⊎_elim, ◌-◌, ◌∙◌, ◌≡◌}
+use Rattle.np_explain_lines.proofs.Pending.{from_more}
 use Rattle.np_explain_lines.proofs.walk.push_named.Goals as goal
 
 pub loop-left-init : goal.loop-left-init
 loop-left-init g c = record {
   stay = λ it has. has;
-  all = λ place it past names. absurd (no_place_past (g.L.Look.site c.args.look.now) (g.L.Look.state c.args.look.now) c.args.fact.now c.in_ok-left.left place it c.in_ok-left.ensures past names);
+  all = λ place it past names.
+      let places = named_by (g.L.Look.site c.args.look.now) (g.L.Look.state c.args.look.now) c.args.fact.now in
+      absurd (omega (arith, past, slice_get_within places place (Some it) names, past-end places c.in_ok-left.left c.in_ok-left.ensures));
   alone = λ it has. inl has;
 }
 
@@ -15,11 +17,12 @@ loop-left-preserved g c =
     let state = g.L.Look.state c.args.look.now in
     record {
       stay = λ it has. c.in_ok-push_place.ensures.stay it (c.loop-left.invariant.stay it has);
-      all =
-          places_more (named_by site state c.args.fact.now) c.loop-left.left c.loop-left.pending.items c.push_place.new.pending.items (omega (arith, c.loop-left-test.true))
-          c.in_ok-push_place.ensures.stay (λ it names. c.in_ok-push_place.ensures.told it (c.named.ensures ∙ names)) c.loop-left.invariant.all;
+      all = λ place it past names.
+          from_more (λ (k : ℕ). (t : Thing) → slice_get (named_by site state c.args.fact.now) k ≡ Some (Some t) → IsPending c.push_place.new.pending.items t) c.loop-left.left
+          (omega (arith, c.loop-left-test.true)) (λ t is. c.in_ok-push_place.ensures.told t (c.named.ensures ∙ is))
+          (λ k more t is. c.in_ok-push_place.ensures.stay t (c.loop-left.invariant.all k t more is)) place past it names;
       alone = λ it has.
-          named_more site state c.args.fact.now c.args.pending.now.items c.loop-left.pending.items it (c.loop-left.left - 1) c.loop-left.invariant.alone
+          ⊎_elim (c.loop-left.invariant.alone it) (λ (new : slice_get (named_by site state c.args.fact.now) (c.loop-left.left - 1) ≡ Some (Some it)). inr (c.loop-left.left - 1, new))
           (rw c.named.ensures at (c.in_ok-push_place.ensures.alone it has));
     }
 
