@@ -7,7 +7,7 @@ ghost use Rattle.np_layout.specs.Decoded.{decoded};
 ghost use Rattle.np_keeper.specs.Keeper.{IsHeld};
 ghost use Rattle.np_reqstep.specs.Requests.{is_request_event};
 ghost use Rattle.np_nodestep.specs.Nodes.{is_node_event};
-ghost use Rattle.np_semstep.specs.Semaphores.{is_semaphore_event};
+ghost use Rattle.np_semstep.specs.Groups.{is_semaphore_event};
 ghost use Rattle.np_board_tests.specs.Leads.{Leads};
 
 use crate::sites::config_of;
@@ -17,7 +17,7 @@ use np_keeper::first_tree;
 use np_nodestep::{enact_node, judge_node};
 use np_reqstep::{enact_request, judge_request};
 use np_semstep::{enact_semaphore, judge_semaphore};
-use np_text::{JOURNAL_ENTRIES, NoMemory};
+use np_text::{Ample, JOURNAL_ENTRIES, NoMemory};
 use np_tree::Tree;
 use std::alloc::Global;
 use std::marker::Model;
@@ -118,12 +118,7 @@ fn judge_event(tree: &Tree, config: &Config, event: Event) -> Reply
 
 /// Makes the changes of an accepted event, by the crate of its group; np_keeper makes those of
 /// sessions.
-fn enact_event(
-    alloc: Global,
-    tree: &mut Tree,
-    config: &Config,
-    event: Event,
-) -> Result<(), NoMemory>
+fn enact_event(alloc: Global, tree: &mut Tree, config: &Config, event: Event) -> Ample
     requires held { IsHeld config.now tree.old }
     requires reached { IsReached config.now (decoded config.now tree.old) }
     requires low { tree.old.changes < 16777214 }
@@ -145,13 +140,7 @@ fn enact_event(
 }
 
 /// Makes the changes of the event if the reply says that it is done.
-fn enact_done(
-    alloc: Global,
-    tree: &mut Tree,
-    config: &Config,
-    event: Event,
-    reply: Reply,
-) -> Result<(), NoMemory>
+fn enact_done(alloc: Global, tree: &mut Tree, config: &Config, event: Event, reply: Reply) -> Ample
     requires held { IsHeld config.now tree.old }
     requires reached { IsReached config.now (decoded config.now tree.old) }
     requires low { tree.old.changes < 16777214 }

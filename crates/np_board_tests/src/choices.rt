@@ -147,12 +147,7 @@ fn is_at_rest(board: &Board) -> bool {
 
 /// The events of the journal happen at the tables. Whether memory was ample.
 fn repeats_at_tables(plain: &mut Plain, journal: &[Entry]) -> bool {
-    for entry in journal {
-        if plain.apply(entry.event).is_err() {
-            return false;
-        }
-    }
-    true
+    every!(entry in journal => plain.apply(entry.event).is_ok())
 }
 
 /// The machine over tables, before the first event.
@@ -176,12 +171,7 @@ fn is_journal_of_tables(alloc: Global, text: &str, journal: &[Entry]) -> bool {
 
 /// The events of the journal happen at the bare tree. Whether memory was ample.
 fn repeats_at_tree(bare: &mut Bare, journal: &[Entry]) -> bool {
-    for entry in journal {
-        if bare.apply(entry.event).is_err() {
-            return false;
-        }
-    }
-    true
+    every!(entry in journal => bare.apply(entry.event).is_ok())
 }
 
 /// Whether a bare tree gives the replies of the journal to its events.

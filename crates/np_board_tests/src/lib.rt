@@ -13,6 +13,18 @@
 //! and what is left in the end. `plan_cases` has tables of them, and `plan_play` plays one.
 #![tactic(auto)]
 
+// Whether each row passes the test.
+macro_rules! every {
+    ($row:pat in $rows:expr => $test:expr) => {{
+        for $row in $rows {
+            if !$test {
+                return false;
+            }
+        }
+        true
+    }};
+}
+
 #[cfg(test)]
 mod bare;
 #[cfg(test)]

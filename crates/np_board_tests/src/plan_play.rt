@@ -79,12 +79,7 @@ fn plays_on<R: Wait>(planner: &mut Planner<R>) -> bool
     ensures desk { planner.new.desk.now ≡ planner.old.desk.now }
     ensures part { planner.new.pass.part ≡ planner.old.pass.part }
 {
-    for at in 0..TURNS {
-        if planner.take_turn(ask_at(at)).is_err() {
-            return false;
-        }
-    }
-    true
+    every!(at in 0..TURNS => planner.take_turn(ask_at(at)).is_ok())
 }
 
 /// Plays the script. Whether each step was taken as it says, and memory was ample.
@@ -148,12 +143,7 @@ fn goes<R: Wait>(rt: &R, alloc: Global, script: &Script) -> bool {
 
 /// Whether each script goes as it says.
 fn all_go<R: Wait>(rt: &R, alloc: Global, scripts: &[Script]) -> bool {
-    for script in scripts {
-        if !goes(rt, alloc, script) {
-            return false;
-        }
-    }
-    true
+    every!(script in scripts => goes(rt, alloc, script))
 }
 
 #[test]

@@ -69,10 +69,7 @@ pub fn is_told(alloc: Global, turn: &PlanTurn, answer: &Answer) -> bool {
             _ => false,
         },
         Answer::Fired(spot) => matches!(turn, PlanTurn::Fired(at) if *at == spot),
-        Answer::Did(line) => match turn {
-            PlanTurn::Did(entry) => is_line(alloc, *entry, line),
-            _ => false,
-        },
+        Answer::Did(line) => matches!(turn, PlanTurn::Did(entry) if is_line(alloc, *entry, line)),
         Answer::Stale(first, last) => {
             matches!(turn, PlanTurn::Stale { spot, change } if *spot == first && *change == last)
         }
@@ -82,10 +79,7 @@ pub fn is_told(alloc: Global, turn: &PlanTurn, answer: &Answer) -> bool {
 
 /// Whether the turn recorded the entry of the line.
 pub fn is_recorded(alloc: Global, turn: &PlanTurn, line: &str) -> bool {
-    match turn {
-        PlanTurn::Plain(Turn::Did(entry)) => is_line(alloc, *entry, line),
-        _ => false,
-    }
+    matches!(turn, PlanTurn::Plain(Turn::Did(entry)) if is_line(alloc, *entry, line))
 }
 
 /// The line of the entry that the step records, if it records one.

@@ -97,12 +97,7 @@ fn read_back(alloc: Global, machine: Machine<TreeStore>) -> Option<Machine<TreeS
 
 /// The events of the entries happen at the machine. Whether memory was ample.
 fn repeats(machine: &mut Machine<TreeStore>, entries: &[Entry]) -> bool {
-    for entry in entries {
-        if machine.apply(entry.event).is_err() {
-            return false;
-        }
-    }
-    true
+    every!(entry in entries => machine.apply(entry.event).is_ok())
 }
 
 /// Whether the machine goes on as the other did after so many entries, and has the other's rows then.
@@ -155,12 +150,7 @@ fn tells(alloc: Global, machine: &mut Machine<TreeStore>, line: &str) -> bool {
 
 /// The events of the lines happen at the machine. Whether each has its line's reply.
 fn tells_all(alloc: Global, machine: &mut Machine<TreeStore>, lines: &[&str]) -> bool {
-    for line in lines {
-        if !tells(alloc, machine, line) {
-            return false;
-        }
-    }
-    true
+    every!(line in lines => tells(alloc, machine, line))
 }
 
 /// The machine after all lines, if each has its reply.
@@ -172,12 +162,7 @@ fn machine_of_lines(alloc: Global) -> Option<Machine<TreeStore>> {
 
 /// Whether a machine goes on from each place of the journal.
 fn goes_on_from_each(alloc: Global, other: &Machine<TreeStore>) -> bool {
-    for at in 0..LINES.len() + 1 {
-        if !goes_on_from(alloc, SITE, other, at) {
-            return false;
-        }
-    }
-    true
+    every!(at in 0..LINES.len() + 1 => goes_on_from(alloc, SITE, other, at))
 }
 
 /// Whether the lines have their replies at a machine, and one that is read back after any number of

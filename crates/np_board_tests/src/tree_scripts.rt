@@ -231,10 +231,8 @@ fn holds(tree: &Tree, path: &str, bytes: &str) -> bool {
 
 /// Whether the child at a place has this name and this owner.
 fn has_child(tree: &Tree, path: &str, at: u32, name: &str, owner: Option<u32>) -> bool {
-    match tree.child_stat(path, at) {
-        Some(stat) => stat.owner == owner && tree.child_at(path, at) == Some(name),
-        None => false,
-    }
+    matches!(tree.child_stat(path, at), Some(stat)
+        if stat.owner == owner && tree.child_at(path, at) == Some(name))
 }
 
 /// Whether so many children are at the path, or whether there is no such path.

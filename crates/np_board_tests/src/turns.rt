@@ -118,10 +118,8 @@ fn takes(alloc: Global, board: &mut Board, ask: Ask, text: &str) -> bool {
 fn answers(alloc: Global, board: &mut Board, ask: Option<Ask>, text: &str) -> bool {
     match ask {
         Some(ask) => takes(alloc, board, ask, text),
-        None => match read_entry(text.as_bytes()) {
-            Some(entry) => takes(alloc, board, Ask::Do(entry.event), text),
-            None => false,
-        },
+        None => matches!(read_entry(text.as_bytes()), Some(entry)
+            if takes(alloc, board, Ask::Do(entry.event), text)),
     }
 }
 

@@ -2,8 +2,7 @@
 
 ghost use Rattle.std.specs.Prelude.{◌≡◌, IfSome, OnSome};
 ghost use Rattle.np_changes.specs.Prelude.{Fits, IsPlanned, IsReached};
-ghost use Rattle.np_index.specs.Index.{IsIndexOf};
-ghost use Rattle.np_index.specs.Prepared.{HasRoomFor};
+ghost use Rattle.np_index.specs.Index.{IsIndexOf, HasRoomFor};
 
 use crate::counted::{CountedLook, CountedRows};
 use crate::scenes::{REQUESTER, SCENES, Scene, choice_of, know_soundness, scene_with};
@@ -439,10 +438,8 @@ fn are_near(small: &[u32], large: &[u32]) -> bool {
 
 /// Whether the calls cost no more with 256 jobs than with 16.
 fn costs_as_little(alloc: Global, scene: &Scene) -> bool {
-    match (costs_of(alloc, scene, 16), costs_of(alloc, scene, 256)) {
-        (Some(small), Some(large)) => are_near(&small, &large),
-        _ => false,
-    }
+    matches!((costs_of(alloc, scene, 16), costs_of(alloc, scene, 256)), (Some(small), Some(large))
+        if are_near(&small, &large))
 }
 
 #[test]

@@ -2,7 +2,7 @@
 //! bells, so that more than one thread waits at some of them.
 
 ghost use Rattle.std.specs.Prelude.{◌≡◌, [], None, true, All, IfOk};
-ghost use Rattle.np_desk.specs.Pass.{IsOf};
+ghost use Rattle.np_desk.specs.Step.{IsOf};
 
 use np_desk::{Desk, Pass, SeqObject};
 use np_text::NoMemory;
@@ -82,12 +82,7 @@ fn take_turns<R: Wait>(rt: &R, desk: &Desk<Count>, pass: Pass<Count>) -> bool
 
 /// Whether all are true.
 fn are_all(ends: &[bool]) -> bool {
-    for end in ends {
-        if !*end {
-            return false;
-        }
-    }
-    true
+    every!(end in ends => *end)
 }
 
 /// Whether a hundred threads take all their turns beside each other, and no turn is lost.

@@ -3,7 +3,7 @@
 //! in its order.
 
 ghost use Rattle.std.specs.Prelude.{◌≡◌, Some, None, true, if◌then◌else◌, slice_get};
-ghost use Rattle.np_desk.specs.Pass.{IsOf};
+ghost use Rattle.np_desk.specs.Step.{IsOf};
 
 use np_desk::{Alone, Desk, OnDesk, Pass, SeqObject, Series, Turns};
 use np_text::NoMemory;

@@ -34,18 +34,13 @@ fn writes_twice(disk: &mut MemDisk) -> bool {
 }
 
 fn is_image(alloc: Global, disk: &MemDisk, pick: u64, want: &str) -> bool {
-    match disk.image(alloc, pick) {
-        Ok(image) => image.as_slice() == want.as_bytes(),
-        Err(_) => false,
-    }
+    matches!(disk.image(alloc, pick), Ok(image) if image.as_slice() == want.as_bytes())
 }
 
 // The image begins with what was synced, and is no longer than with all that was written.
 fn is_between(alloc: Global, disk: &MemDisk, pick: u64, least: &str, most: &str) -> bool {
-    match disk.image(alloc, pick) {
-        Ok(image) => image.starts_with(least.as_bytes()) && image.len() <= most.len(),
-        Err(_) => false,
-    }
+    matches!(disk.image(alloc, pick), Ok(image)
+        if image.starts_with(least.as_bytes()) && image.len() <= most.len())
 }
 
 fn images_are_between(alloc: Global, disk: &MemDisk, least: &str, most: &str) -> bool {
@@ -64,12 +59,7 @@ fn stops_at(alloc: Global, stop: u32, bytes: &str, least: &str, most: &str) -> b
 }
 
 fn each_call_stops(alloc: Global) -> bool {
-    for (stop, bytes, least, most) in &STOPS {
-        if !stops_at(alloc, *stop, bytes, least, most) {
-            return false;
-        }
-    }
-    true
+    every!((stop, bytes, least, most) in &STOPS => stops_at(alloc, *stop, bytes, least, most))
 }
 
 // Once a call failed, all that follow fail.

@@ -5,6 +5,18 @@
 //! Tests of np_desk: threads that take turns side by side.
 #![tactic(auto)]
 
+// Whether each row passes the test.
+macro_rules! every {
+    ($row:pat in $rows:expr => $test:expr) => {{
+        for $row in $rows {
+            if !$test {
+                return false;
+            }
+        }
+        true
+    }};
+}
+
 #[cfg(test)]
 mod crowds;
 #[cfg(test)]

@@ -429,12 +429,7 @@ fn an_append_stops(alloc: Global, stop: u32, want: Found) -> bool {
 }
 
 fn each_append_stops(alloc: Global) -> bool {
-    for (stop, want) in &APPENDS {
-        if !an_append_stops(alloc, *stop, *want) {
-            return false;
-        }
-    }
-    true
+    every!((stop, want) in &APPENDS => an_append_stops(alloc, *stop, *want))
 }
 
 fn add_new_image(alloc: Global, found: Found, image: Vec<u8>) -> Found {
@@ -490,12 +485,7 @@ fn a_create_stops(alloc: Global, stop: u32, want: Found) -> bool {
 }
 
 fn each_create_stops(alloc: Global) -> bool {
-    for (stop, want) in &CREATES {
-        if !a_create_stops(alloc, *stop, *want) {
-            return false;
-        }
-    }
-    true
+    every!((stop, want) in &CREATES => a_create_stops(alloc, *stop, *want))
 }
 
 // The events of a log are appended to a new one, and loaded again.

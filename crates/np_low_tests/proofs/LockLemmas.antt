@@ -2,7 +2,7 @@
 use Rattle.std.proofs.Common.{◌≡◌, ℕ, Bool, true, false, List, [], ◌∷◌, map, None, refl, sym, ap, subst}
 use Rattle.std.specs.Prelude.{slice_get}
 use Rattle.np_layout.specs.Prelude.{IsTree, Node, OnFalse, OnTrue, TreeState, after_end, children_of, option_map, row_of, stat_of, stat_of_child}
-use Rattle.np_lock.specs.Queue.{IsLock}
+use Rattle.np_lock.specs.Calls.{IsLock}
 use Rattle.np_lock.proofs.LawLemmas.{ends-leave}
 
 pub ends-lock : (t u : TreeState) (dir : List ℕ) (s : ℕ) (b : Bool) → IsTree t → IsLock t dir → OnTrue b (u ≡ after_end t s) → OnFalse b (u ≡ t) → IsLock u dir

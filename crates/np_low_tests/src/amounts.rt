@@ -41,57 +41,20 @@ fn amounts_are_summed_part_by_part() -> bool {
         && ALL.fits(&Limit::NO_LIMIT)
 }
 
-// Limits, and whether `USED` fits them.
-const LIMITS: [(Limit, bool); 5] = [
-    (
-        Limit {
-            instances: Some(2),
-            cores: Some(8),
-            ram: Some(2048),
-        },
-        true,
-    ),
-    (
-        Limit {
-            instances: Some(1),
-            cores: None,
-            ram: None,
-        },
-        false,
-    ),
-    (
-        Limit {
-            instances: None,
-            cores: Some(7),
-            ram: None,
-        },
-        false,
-    ),
-    (
-        Limit {
-            instances: None,
-            cores: None,
-            ram: Some(2047),
-        },
-        false,
-    ),
-    (
-        Limit {
-            instances: Some(0),
-            cores: None,
-            ram: None,
-        },
-        false,
-    ),
+// The most instances, cores and MiB of a limit, and whether `USED` fits it.
+const LIMITS: [(Option<u64>, Option<u64>, Option<u64>, bool); 5] = [
+    (Some(2), Some(8), Some(2048), true),
+    (Some(1), None, None, false),
+    (None, Some(7), None, false),
+    (None, None, Some(2047), false),
+    (Some(0), None, None, false),
 ];
 
 fn an_amount_fits_up_to_each_limit() -> bool {
-    for (limit, want) in &LIMITS {
-        if USED.fits(limit) != *want {
-            return false;
-        }
-    }
-    true
+    every!((instances, cores, ram, want) in &LIMITS => {
+        let limit = Limit { instances: *instances, cores: *cores, ram: *ram };
+        USED.fits(&limit) == *want
+    })
 }
 
 #[test]

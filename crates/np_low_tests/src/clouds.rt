@@ -32,21 +32,11 @@ fn server(start: u32, number: u64) -> Option<Server> {
 
 // Launches these starts in order. Each is answered this server, or fails.
 fn launches<D: Driver>(driver: &mut D, rows: &[(u32, Option<u64>)]) -> bool {
-    for (start, number) in rows {
-        if driver.launch(tag(*start)).ok() != *number {
-            return false;
-        }
-    }
-    true
+    every!((start, number) in rows => driver.launch(tag(*start)).ok() == *number)
 }
 
 fn launches_many(cloud: &mut SimDriver) -> bool {
-    for start in 4..10_004 {
-        if cloud.launch(tag(start)) != Ok(u64::from(start)) {
-            return false;
-        }
-    }
-    true
+    every!(start in 4..10_004 => cloud.launch(tag(start)) == Ok(u64::from(start)))
 }
 
 const STARTS: [(u32, Option<u64>); 4] = [(1, Some(1)), (2, None), (3, None), (4, Some(4))];

@@ -4,7 +4,7 @@
 use np_config::Config;
 use np_config_read::{ConfigKind, ConfigRead, read_config};
 use np_config_text::config_text;
-use np_text::{JobId, NoMemory, TenantId, put_number};
+use np_text::{Ample, JobId, NoMemory, TenantId, put_number};
 use std::alloc::Global;
 
 fn prints(alloc: Global, text: &[u8]) -> Option<Vec<u8>> {
@@ -15,10 +15,7 @@ fn prints(alloc: Global, text: &[u8]) -> Option<Vec<u8>> {
 }
 
 fn is_printed_as(alloc: Global, text: &[u8], want: &[u8]) -> bool {
-    match prints(alloc, text) {
-        Some(printed) => printed.as_slice() == want,
-        None => false,
-    }
+    matches!(prints(alloc, text), Some(printed) if printed.as_slice() == want)
 }
 
 // The text as it is printed, with tenants and jobs of the last and of the default.
@@ -33,17 +30,12 @@ const PLAIN_PRINTED: &[u8] =
     b"{\"faults\":[],\"labels\":[{\"max-ready-age\":0,\"min-ready\":0,\"name\":\"a\"}],\"max-hold-age\":0,\"providers\":[{\"launch-retries\":3,\"name\":\"c\",\"pools\":[{\"fail-starts\":[],\"labels\":[{\"cores\":1,\"name\":\"a\",\"ram\":1024}],\"name\":\"m\"}]}],\"requesters\":[],\"semaphores\":[]}";
 
 fn is_named(config: &Config, tenant: TenantId, name: &[u8]) -> bool {
-    match config.tenant(tenant) {
-        Some(tenant) => tenant.name.items() == name,
-        None => false,
-    }
+    matches!(config
+        .tenant(tenant), Some(tenant) if tenant.name.items() == name)
 }
 
 fn is_job_of(config: &Config, job: JobId, tenant: TenantId) -> bool {
-    match config.job(job) {
-        Some(job) => job.tenant == tenant,
-        None => false,
-    }
+    matches!(config.job(job), Some(job) if job.tenant == tenant)
 }
 
 fn has_tenants(config: &Config) -> bool {
@@ -63,13 +55,7 @@ fn tenants_are_read(alloc: Global) -> bool {
 }
 
 // Rows with the numbers from `from` up to `to`, each behind `front` and before `back`.
-fn put_rows(
-    text: &mut Vec<u8>,
-    from: u32,
-    to: u32,
-    front: &[u8],
-    back: &[u8],
-) -> Result<(), NoMemory> {
+fn put_rows(text: &mut Vec<u8>, from: u32, to: u32, front: &[u8], back: &[u8]) -> Ample {
     for i in from..to {
         if i > from {
             text.push(b',')?;
@@ -84,14 +70,14 @@ fn put_rows(
 // With a number of up to three digits, the name of a row has at most 64 bytes.
 const NAME: &[u8] = b"{\"name\":\"abcdefghijklmnopqrstuvwxyz-ABCDEFGHIJKLMNOPQRSTUVWXYZ.0123456";
 
-fn put_labels(text: &mut Vec<u8>, count: u32) -> Result<(), NoMemory> {
+fn put_labels(text: &mut Vec<u8>, count: u32) -> Ample {
     text.extend_from_slice(b"{\"labels\":[")?;
     put_rows(text, 0, count, NAME, b"\"}")?;
     text.extend_from_slice(b"]")?;
     Ok(())
 }
 
-fn put_tenants(text: &mut Vec<u8>, count: u32) -> Result<(), NoMemory> {
+fn put_tenants(text: &mut Vec<u8>, count: u32) -> Ample {
     text.extend_from_slice(b",\"tenants\":[")?;
     put_rows(text, 0, count, NAME, b"\",\"max-ram\":1000000000}")?;
     text.extend_from_slice(b"]")?;
@@ -105,7 +91,7 @@ const POOL: &[u8] =
     b"\",\"pools\":[{\"name\":\"abcdefghijklmnopqrstuvwxyz-ABCDEFGHIJKLMNOPQRSTUVWXYZ.0123456789\",\"labels\":[{\"name\":\"abcdefghijklmnopqrstuvwxyz-ABCDEFGHIJKLMNOPQRSTUVWXYZ.01234560\"}]}]}";
 
 // 64 providers of one pool each, the first of which has 4,096 starts that fail.
-fn put_providers(text: &mut Vec<u8>) -> Result<(), NoMemory> {
+fn put_providers(text: &mut Vec<u8>) -> Ample {
     text.extend_from_slice(FIRST_POOL)?;
     put_rows(text, 1, 4_097, b"", b"")?;
     text.extend_from_slice(b"]}]},")?;
@@ -120,7 +106,7 @@ const JOB: &[u8] =
     b"\",\"labels\":[\"abcdefghijklmnopqrstuvwxyz-ABCDEFGHIJKLMNOPQRSTUVWXYZ.0123456255\"],\"tenant\":\"abcdefghijklmnopqrstuvwxyz-ABCDEFGHIJKLMNOPQRSTUVWXYZ.012345663\"}";
 
 // 16 requesters with 256 jobs each.
-fn put_requesters(text: &mut Vec<u8>) -> Result<(), NoMemory> {
+fn put_requesters(text: &mut Vec<u8>) -> Ample {
     for i in 0..16_u32 {
         text.extend_from_slice(if i == 0 { b",\"requesters\":[" } else { b"," })?;
         put_rows(text, i, i + 1, NAME, b"\",\"jobs\":[")?;
@@ -133,7 +119,7 @@ fn put_requesters(text: &mut Vec<u8>) -> Result<(), NoMemory> {
 const FAULT: &[u8] = b"{\"role\":\"launcher\",\"name\":\"c/m\",\"kind\":\"crash\",\"after\":";
 
 // As many rows of each kind as there may be, and names as long as they may be.
-fn put_largest(text: &mut Vec<u8>) -> Result<(), NoMemory> {
+fn put_largest(text: &mut Vec<u8>) -> Ample {
     put_labels(text, 256)?;
     put_providers(text)?;
     put_tenants(text, 64)?;
@@ -145,10 +131,7 @@ fn put_largest(text: &mut Vec<u8>) -> Result<(), NoMemory> {
 }
 
 fn is_printed_larger(alloc: Global, text: &[u8]) -> bool {
-    match prints(alloc, text) {
-        Some(printed) => printed.len() > text.len(),
-        None => false,
-    }
+    matches!(prints(alloc, text), Some(printed) if printed.len() > text.len())
 }
 
 fn the_largest_is_printed(alloc: Global) -> bool {
@@ -177,10 +160,8 @@ fn has_fault(alloc: Global, text: &[u8], kind: ConfigKind, pointer: &[u8]) -> bo
 }
 
 fn arrays_nest_to_127(alloc: Global) -> bool {
-    match vec![in alloc; b'['; 128] {
-        Ok(deep) => has_fault(alloc, &deep, ConfigKind::NotJson, b""),
-        Err(_) => false,
-    }
+    matches!(vec![in alloc; b'['; 128], Ok(deep)
+        if has_fault(alloc, &deep, ConfigKind::NotJson, b""))
 }
 
 fn labels_are_256(alloc: Global) -> bool {

@@ -6,6 +6,18 @@
 //! the test: at each way out of a function, what it owns has to be shown given back.
 #![tactic(auto)]
 
+// Whether each row passes the test.
+macro_rules! every {
+    ($row:pat in $rows:expr => $test:expr) => {{
+        for $row in $rows {
+            if !$test {
+                return false;
+            }
+        }
+        true
+    }};
+}
+
 #[cfg(test)]
 mod amounts;
 #[cfg(test)]

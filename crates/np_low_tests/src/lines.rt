@@ -1,7 +1,10 @@
 //! Events and entries as lines (docs/SCRIPTS.md).
 
+use np_event::Event::{Accept, MinReady, OpenSession, Revise, Start, Tick};
+use np_event::Refusal::{QuotaShort, TenantShort, WrongState};
+use np_event::Reply::Refused;
 use np_event::{
-    Done, Entry, Event, Found, LineFault, Outcome, Refusal, Reply, entry_has_line, event_has_line,
+    Done, Entry, Event, Found, LineFault, Outcome, Reply, entry_has_line, event_has_line,
     put_entry, put_event, read_entry, read_event,
 };
 use np_text::{
@@ -80,12 +83,7 @@ fn entry_is_written_again(alloc: Global, line: &[u8]) -> bool {
 }
 
 fn entries_are_written_again(alloc: Global) -> bool {
-    for line in &ENTRIES {
-        if !entry_is_written_again(alloc, line) {
-            return false;
-        }
-    }
-    true
+    every!(line in &ENTRIES => entry_is_written_again(alloc, line))
 }
 
 fn event_is_written_again(alloc: Global, line: &[u8]) -> bool {
@@ -103,102 +101,81 @@ const S: SessionId = SessionId(1);
 const N: NodeId = NodeId(0);
 
 // Entries whose words are alike, so that one could be taken for another, with their lines.
-const SAID: [(Entry, &[u8]); 6] = [
+const SAID: [(Event, Reply, &[u8]); 6] = [
     (
-        Entry {
-            event: Event::Start {
-                session: S,
-                node: N,
-            },
-            reply: Reply::Done(Done::Started {
-                attempt: 3,
-                start: 7,
-            }),
+        Start {
+            session: S,
+            node: N,
         },
+        Reply::Done(Done::Started {
+            attempt: 3,
+            start: 7,
+        }),
         b"start s1 n0 = started 3 7",
     ),
     (
-        Entry {
-            event: Event::Done {
-                session: S,
-                node: N,
-                attempt: 2,
-                outcome: Outcome::Launched(5),
-            },
-            reply: Reply::Refused(Refusal::QuotaShort {
-                instances: 1,
-                cores: 2,
-                ram: 3,
-            }),
+        Event::Done {
+            session: S,
+            node: N,
+            attempt: 2,
+            outcome: Outcome::Launched(5),
         },
+        Refused(QuotaShort {
+            instances: 1,
+            cores: 2,
+            ram: 3,
+        }),
         b"done s1 n0 2 ok 5 = refused quota-short 1 2 3",
     ),
     (
-        Entry {
-            event: Event::OpenSession {
-                role: Role::Requester(RequesterId(2)),
-            },
-            reply: Reply::Refused(Refusal::TenantShort {
-                instances: 1,
-                cores: 2,
-                ram: 3,
-            }),
+        OpenSession {
+            role: Role::Requester(RequesterId(2)),
         },
+        Refused(TenantShort {
+            instances: 1,
+            cores: 2,
+            ram: 3,
+        }),
         b"open requester q2 = refused tenant-short 1 2 3",
     ),
     (
-        Entry {
-            event: Event::Revise {
-                session: S,
-                job: JobId(3),
-                relative: 5,
-            },
-            reply: Reply::Done(Done::Ended(Ending::Lost)),
+        Revise {
+            session: S,
+            job: JobId(3),
+            relative: 5,
         },
+        Reply::Done(Done::Ended(Ending::Lost)),
         b"revise s1 j3 5 = ended lost",
     ),
     (
-        Entry {
-            event: Event::MinReady {
-                session: S,
-                label: LabelId(4),
-            },
-            reply: Reply::Refused(Refusal::WrongState(Found::InFlight)),
+        MinReady {
+            session: S,
+            label: LabelId(4),
         },
+        Refused(WrongState(Found::InFlight)),
         b"min-ready s1 l4 = refused wrong-state in-flight",
     ),
     (
-        Entry {
-            event: Event::Tick,
-            reply: Reply::Refused(Refusal::WrongState(Found::Node(NodeState::Failed))),
-        },
+        Tick,
+        Refused(WrongState(Found::Node(NodeState::Failed))),
         b"tick = refused wrong-state failed",
     ),
 ];
 
-fn is_said(alloc: Global, entry: Entry, line: &[u8]) -> bool {
+fn is_said(alloc: Global, event: Event, reply: Reply, line: &[u8]) -> bool {
+    let entry = Entry { event, reply };
     let mut out = Vec::new(alloc);
     entry_has_line(entry) && put_entry(&mut out, entry).is_ok() && out.as_slice() == line
 }
 
 fn entries_are_said(alloc: Global) -> bool {
-    for (entry, line) in &SAID {
-        if !is_said(alloc, *entry, line) {
-            return false;
-        }
-    }
-    true
+    every!((event, reply, line) in &SAID => is_said(alloc, *event, *reply, line))
 }
 
 // A failed node looks like a failed request, and is read as that.
 fn failed_is_a_request() -> bool {
-    match read_entry(b"tick = refused wrong-state failed") {
-        Some(entry) => matches!(
-            entry.reply,
-            Reply::Refused(Refusal::WrongState(Found::Request(RequestState::Failed)))
-        ),
-        None => false,
-    }
+    matches!(read_entry(b"tick = refused wrong-state failed"), Some(entry)
+        if matches!(entry.reply, Refused(WrongState(Found::Request(RequestState::Failed)))))
 }
 
 fn some_values_have_no_line() -> bool {
@@ -206,18 +183,18 @@ fn some_values_have_no_line() -> bool {
         priority: 1_000,
         seq: 0,
     };
-    !event_has_line(Event::OpenSession { role: Role::Reaper })
-        && !event_has_line(Event::Accept {
+    !event_has_line(OpenSession { role: Role::Reaper })
+        && !event_has_line(Accept {
             session: S,
             request: far,
         })
-        && !event_has_line(Event::Revise {
+        && !event_has_line(Revise {
             session: S,
             job: JobId(3),
             relative: 1_000_001,
         })
         && !entry_has_line(Entry {
-            event: Event::Tick,
+            event: Tick,
             reply: Reply::Done(Done::Ended(Ending::Withdrawn)),
         })
 }
@@ -280,30 +257,16 @@ const MISPLACED: [(&[u8], u32); 25] = [
 ];
 
 fn events_are_unknown() -> bool {
-    for line in &UNKNOWN {
-        if !matches!(read_event(line), Err(LineFault::UnknownEvent)) {
-            return false;
-        }
-    }
-    true
+    every!(line in &UNKNOWN => matches!(read_event(line), Err(LineFault::UnknownEvent)))
 }
 
 fn words_are_miscounted() -> bool {
-    for line in &MISCOUNTED {
-        if !matches!(read_event(line), Err(LineFault::WrongCount)) {
-            return false;
-        }
-    }
-    true
+    every!(line in &MISCOUNTED => matches!(read_event(line), Err(LineFault::WrongCount)))
 }
 
 fn words_are_misplaced() -> bool {
-    for (line, at) in &MISPLACED {
-        if !matches!(read_event(line), Err(LineFault::BadArgument { word }) if word == *at) {
-            return false;
-        }
-    }
-    true
+    every!((line, at) in &MISPLACED =>
+        matches!(read_event(line), Err(LineFault::BadArgument { word }) if word == *at))
 }
 
 const OTHERS: [&[u8]; 11] = [
@@ -321,12 +284,7 @@ const OTHERS: [&[u8]; 11] = [
 ];
 
 fn others_are_no_entries() -> bool {
-    for line in &OTHERS {
-        if read_entry(line).is_some() {
-            return false;
-        }
-    }
-    true
+    every!(line in &OTHERS => read_entry(line).is_none())
 }
 
 #[test]

@@ -2,7 +2,7 @@
 
 ghost use Rattle.std.specs.Prelude.{◌≡◌, true};
 ghost use Rattle.np_layout.specs.Prelude.{OnTrue, is_numbered};
-ghost use Rattle.np_lock.specs.Queue.{IsLock};
+ghost use Rattle.np_lock.specs.Calls.{IsLock};
 
 use crate::trees::{Call as TreeCall, PLAIN, Told as TreeTold, begins, tells_all};
 use np_lock::{
@@ -110,17 +110,14 @@ fn is_lock(tree: &Tree, dir: &Path) -> bool
 
 // The same of a directory by its path.
 fn tell_all_at(alloc: Global, tree: &mut Tree, path: &str, rows: &[(u32, Call, Told)]) -> bool {
-    match Path::new(alloc, path) {
-        Ok(dir) => is_lock(tree, &dir) && tell_all(tree, &dir, rows),
-        Err(_) => false,
-    }
+    matches!(Path::new(alloc, path), Ok(dir) if is_lock(tree, &dir) && tell_all(tree, &dir, rows))
 }
 
 // Directories, and one whose counter is spent.
 const DIRECTORIES: [(u32, TreeCall, TreeTold); 4] = [
-    (1, TreeCall::Create("/k", PLAIN), TreeTold::Path("/k")),
-    (1, TreeCall::Create("/l", PLAIN), TreeTold::Path("/l")),
-    (1, TreeCall::Create("/s", PLAIN), TreeTold::Path("/s")),
+    (1, TreeCall::Create("/k", PLAIN), TreeTold::At("/k")),
+    (1, TreeCall::Create("/l", PLAIN), TreeTold::At("/l")),
+    (1, TreeCall::Create("/s", PLAIN), TreeTold::At("/s")),
     (1, TreeCall::Raise("/s", 2_147_483_648), TreeTold::Done),
 ];
 
@@ -184,10 +181,7 @@ fn joins(alloc: Global, tree: &mut Tree, session: u32, dir: &Path) -> bool {
 fn has_nothing_to_leave(tree: &Tree, dir: &Path) -> bool
     requires { IsLock tree.now dir.now }
 {
-    match release_op(tree, 2, dir) {
-        Ok(None) => true,
-        Ok(Some(_)) | Err(_) => false,
-    }
+    matches!(release_op(tree, 2, dir), Ok(None))
 }
 
 fn leaves(alloc: Global, tree: &mut Tree, dir: &Path) -> bool
@@ -219,17 +213,14 @@ fn takes_calls(alloc: Global, tree: &mut Tree) -> bool {
 }
 
 fn takes_parts(alloc: Global, tree: &mut Tree) -> bool {
-    match Path::new(alloc, "/l") {
-        Ok(dir) => leaves_and_joins(alloc, tree, &dir),
-        Err(_) => false,
-    }
+    matches!(Path::new(alloc, "/l"), Ok(dir) if leaves_and_joins(alloc, tree, &dir))
 }
 
 // The tree is borrowed by what may fail in many places, here and below.
 fn calls_are_answered(alloc: Global) -> bool {
     match Tree::new(alloc) {
         Ok(mut tree) => takes_calls(alloc, &mut tree) && takes_parts(alloc, &mut tree),
-        Err(_) => false,
+        Err(_) => false
     }
 }
 
@@ -259,16 +250,14 @@ fn fills(tree: &mut Tree, dir: &Path) -> bool {
 }
 
 fn grows(alloc: Global, tree: &mut Tree) -> bool {
-    match Path::new(alloc, "/k") {
-        Ok(dir) => begins(tree, 340) && tells_all(alloc, tree, &DIRECTORIES) && fills(tree, &dir),
-        Err(_) => false,
-    }
+    matches!(Path::new(alloc, "/k"), Ok(dir)
+        if begins(tree, 340) && tells_all(alloc, tree, &DIRECTORIES) && fills(tree, &dir))
 }
 
 fn a_queue_grows(alloc: Global) -> bool {
     match Tree::new(alloc) {
         Ok(mut tree) => grows(alloc, &mut tree),
-        Err(_) => false,
+        Err(_) => false
     }
 }
 

@@ -16,29 +16,20 @@ const PATHS: [(&str, Option<&str>, &str); 6] = [
 ];
 
 fn has_parts(alloc: Global, text: &str, parent: Option<&str>, name: &str) -> bool {
-    match Path::new(alloc, text) {
-        Ok(path) => path.text() == text && path.parent() == parent && path.name() == name,
-        Err(_) => false,
-    }
+    matches!(Path::new(alloc, text), Ok(path)
+        if path.text() == text && path.parent() == parent && path.name() == name)
 }
 
 fn paths_have_parents_and_names(alloc: Global) -> bool {
-    for (text, parent, name) in &PATHS {
-        if !has_parts(alloc, text, *parent, name) {
-            return false;
-        }
-    }
-    true
+    every!((text, parent, name) in &PATHS => has_parts(alloc, text, *parent, name))
 }
 
 // What stands on both sides of a text's last slash, and of a path's.
 fn texts_have_halves(alloc: Global) -> bool {
     halves(b"//x") == Some((b"/".as_slice(), b"x".as_slice()))
         && halves(b"x").is_none()
-        && match Path::new(alloc, "/a/b") {
-            Ok(path) => path.halves() == (b"/a".as_slice(), b"b".as_slice()),
-            Err(_) => false,
-        }
+        && matches!(Path::new(alloc, "/a/b"), Ok(path)
+            if path.halves() == (b"/a".as_slice(), b"b".as_slice()))
 }
 
 // Texts that are no path (ZooKeeper Programmer's Guide), and the places of their first faults.
@@ -67,19 +58,11 @@ fn is_bad(made: Result<Path, PathFault>, place: usize) -> bool {
 }
 
 fn faults_have_places(alloc: Global) -> bool {
-    for (text, place) in &FAULTS {
-        if !is_bad(Path::new(alloc, text), *place) {
-            return false;
-        }
-    }
-    true
+    every!((text, place) in &FAULTS => is_bad(Path::new(alloc, text), *place))
 }
 
 fn has_text(made: Result<Path, PathFault>, text: &str) -> bool {
-    match made {
-        Ok(path) => path.text() == text,
-        Err(_) => false,
-    }
+    matches!(made, Ok(path) if path.text() == text)
 }
 
 // A child is named by an element, and a sequence node's name ends in ten digits.
@@ -94,10 +77,7 @@ fn names_its_children(queue: &Path) -> bool {
 }
 
 fn a_path_names_its_children(alloc: Global) -> bool {
-    match Path::new(alloc, "/q") {
-        Ok(queue) => names_its_children(&queue),
-        Err(_) => false,
-    }
+    matches!(Path::new(alloc, "/q"), Ok(queue) if names_its_children(&queue))
 }
 
 #[test]
@@ -135,19 +115,11 @@ const PLACES: [(Place, &str); 7] = [
 ];
 
 fn places_have_texts() -> bool {
-    for (place, text) in PLACES {
-        if PathText::of(place).text() != text {
-            return false;
-        }
-    }
-    true
+    every!((place, text) in PLACES => PathText::of(place).text() == text)
 }
 
 fn a_place_has_a_path(alloc: Global) -> bool {
-    match to_path(alloc, Place::Job(JobId(7))) {
-        Ok(path) => path.text() == "/poolsim/jobs/7",
-        Err(_) => false,
-    }
+    matches!(to_path(alloc, Place::Job(JobId(7))), Ok(path) if path.text() == "/poolsim/jobs/7")
 }
 
 #[test]

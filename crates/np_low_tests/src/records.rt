@@ -45,24 +45,14 @@ const REQUESTS: [&[u8]; 4] = [
 fn is_written_again<T: Record + Drop>(alloc: Global, bytes: &[u8]) -> bool
     requires { (v : T) (spelled : List ℕ) → T.spells v spelled → T.is_sound v }
 {
-    match T::read(bytes) {
-        Ok(found) => match found.text(alloc) {
-            Ok(text) => text.as_slice() == bytes,
-            Err(_) => false,
-        },
-        Err(_) => false,
-    }
+    matches!(T::read(bytes), Ok(found)
+        if matches!(found.text(alloc), Ok(text) if text.as_slice() == bytes))
 }
 
 fn are_written_again<T: Record + Drop>(alloc: Global, rows: &[&[u8]]) -> bool
     requires { (v : T) (spelled : List ℕ) → T.spells v spelled → T.is_sound v }
 {
-    for bytes in rows {
-        if !is_written_again::<T>(alloc, bytes) {
-            return false;
-        }
-    }
-    true
+    every!(bytes in rows => is_written_again::<T>(alloc, bytes))
 }
 
 // Texts that are no role, and the places where no role goes on.
@@ -75,12 +65,8 @@ const FAULTS: [(&[u8], usize); 5] = [
 ];
 
 fn roles_stop_where_none_goes_on() -> bool {
-    for (bytes, place) in &FAULTS {
-        if RoleRecord::read(bytes).err() != Some(BadRecord { place: *place }) {
-            return false;
-        }
-    }
-    true
+    every!((bytes, place) in &FAULTS =>
+        RoleRecord::read(bytes).err() == Some(BadRecord { place: *place }))
 }
 
 #[test]

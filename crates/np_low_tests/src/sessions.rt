@@ -30,12 +30,8 @@ fn ends_and_goes_mute(sessions: &mut Sessions) -> bool {
 }
 
 fn are_as_in_the_table(sessions: &Sessions) -> bool {
-    for (id, live, mute) in &ROWS {
-        if sessions.is_live(*id) != *live || sessions.is_mute(*id) != *mute {
-            return false;
-        }
-    }
-    true
+    every!((id, live, mute) in &ROWS =>
+        sessions.is_live(*id) == *live && sessions.is_mute(*id) == *mute)
 }
 
 fn sessions_go_by_number(alloc: Global) -> bool {

@@ -28,10 +28,7 @@ fn sample(alloc: Global, len: usize) -> Result<Vec<u8>, AllocError> {
 }
 
 fn is_read(alloc: Global, source: &mut MemSource, want: &[u8]) -> bool {
-    match read_all(alloc, source, usize::MAX) {
-        Ok(bytes) => bytes.as_slice() == want,
-        Err(_) => false,
-    }
+    matches!(read_all(alloc, source, usize::MAX), Ok(bytes) if bytes.as_slice() == want)
 }
 
 fn is_refused(alloc: Global, source: &mut MemSource, limit: usize, want: ReadAll) -> bool {
@@ -75,16 +72,10 @@ fn a_call_fails(alloc: Global, bytes: Vec<u8>, piece: usize, call: u32, moved: u
 }
 
 fn each_call_fails(alloc: Global) -> bool {
-    for (piece, len, call, moved) in &FAULTS {
-        let is_as_said = match sample(alloc, *len) {
-            Ok(bytes) => a_call_fails(alloc, bytes, *piece, *call, *moved),
-            Err(_) => false,
-        };
-        if !is_as_said {
-            return false;
-        }
-    }
-    true
+    every!((piece, len, call, moved) in &FAULTS => match sample(alloc, *len) {
+        Ok(bytes) => a_call_fails(alloc, bytes, *piece, *call, *moved),
+        Err(_) => false,
+    })
 }
 
 // 150,000 bytes are written, and then read within a limit that they pass by one.
@@ -136,10 +127,9 @@ impl Write for Broken {
 }
 
 fn a_reader_is_read(alloc: Global) -> bool {
-    match read_all(alloc, &mut StdSource::new(b"from a reader".as_slice()), 13) {
-        Ok(bytes) => bytes.as_slice() == b"from a reader".as_slice(),
-        Err(_) => false,
-    }
+    read_all(alloc, &mut StdSource::new(b"from a reader".as_slice()), 13).is_ok_and(
+        |bytes| bytes.as_slice() == b"from a reader".as_slice(),
+    )
 }
 
 fn a_broken_reader_fails(alloc: Global) -> bool {

@@ -24,12 +24,7 @@ const NUMBERS: [(&[u8], u64, Option<u64>); 10] = [
 ];
 
 fn numbers_are_read() -> bool {
-    for (text, max, want) in &NUMBERS {
-        if read_number(text, *max) != *want {
-            return false;
-        }
-    }
-    true
+    every!((text, max, want) in &NUMBERS => read_number(text, *max) == *want)
 }
 
 fn number_is_put(alloc: Global, n: u64, want: &[u8]) -> bool {
@@ -54,29 +49,13 @@ const NAMES: [(&[u8], bool); 7] = [
 ];
 
 fn names_are_short_and_plain() -> bool {
-    for (text, want) in &NAMES {
-        if is_name(text) != *want {
-            return false;
-        }
-    }
-    true
+    every!((text, want) in &NAMES => is_name(text) == *want)
 }
 
-const REQUESTS: [(&[u8], Option<RequestId>); 8] = [
-    (
-        b"100-0000000003",
-        Some(RequestId {
-            priority: 100,
-            seq: 3,
-        }),
-    ),
-    (
-        b"999-4294967295",
-        Some(RequestId {
-            priority: 999,
-            seq: 4_294_967_295,
-        }),
-    ),
+// Texts, and the priority and the number of the request that each is.
+const REQUESTS: [(&[u8], Option<(u16, u32)>); 8] = [
+    (b"100-0000000003", Some((100, 3))),
+    (b"999-4294967295", Some((999, 4_294_967_295))),
     (b"999-4294967296", None),
     (b"099-0000000000", None),
     (b"1000-0000000000", None),
@@ -86,12 +65,7 @@ const REQUESTS: [(&[u8], Option<RequestId>); 8] = [
 ];
 
 fn requests_are_read() -> bool {
-    for (text, want) in &REQUESTS {
-        if read_request(text) != *want {
-            return false;
-        }
-    }
-    true
+    every!((text, want) in &REQUESTS => read_request(text).map(|id| (id.priority, id.seq)) == *want)
 }
 
 #[test]
@@ -123,12 +97,7 @@ fn reason_is_put(alloc: Global, reason: Reason, want: &[u8]) -> bool {
 }
 
 fn reasons_are_put(alloc: Global) -> bool {
-    for (reason, want) in &REASONS {
-        if !reason_is_put(alloc, *reason, want) {
-            return false;
-        }
-    }
-    true
+    every!((reason, want) in &REASONS => reason_is_put(alloc, *reason, want))
 }
 
 // Nodepool's words for the states of requests and nodes, and this project's own.
@@ -160,12 +129,7 @@ const LINES: [(&[u8], usize, Option<(usize, usize)>); 6] = [
 ];
 
 fn lines_are_found() -> bool {
-    for (text, from, want) in &LINES {
-        if *from > text.len() || line_at(text, *from) != *want {
-            return false;
-        }
-    }
-    true
+    every!((text, from, want) in &LINES => *from <= text.len() && line_at(text, *from) == *want)
 }
 
 const SECTIONS: [(&[u8], Option<(&[u8], &[u8])>); 6] = [
@@ -178,12 +142,7 @@ const SECTIONS: [(&[u8], Option<(&[u8], &[u8])>); 6] = [
 ];
 
 fn sections_part_at_the_first_bar() -> bool {
-    for (text, want) in &SECTIONS {
-        if split_sections(text) != *want {
-            return false;
-        }
-    }
-    true
+    every!((text, want) in &SECTIONS => split_sections(text) == *want)
 }
 
 #[test]

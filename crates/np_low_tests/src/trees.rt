@@ -4,7 +4,15 @@
 ghost use Rattle.std.specs.Prelude.{◌≡◌, true, IfOk};
 ghost use Rattle.np_layout.specs.Prelude.{OnTrue, is_numbered, list_all};
 
+use Call::{Check, Create, CreateUnder, Delete, Raise, Set};
+use Told::{At, Done, No, Not, Version};
 use np_path::{Path, PathFault};
+use np_tree::Expect::Exactly;
+use np_tree::Mode::{Ephemeral, EphemeralSequential};
+use np_tree::TreeRefusal::{
+    BadVersion, ChangesSpent, NoChildrenForEphemerals, NoNode, NodeExists, NotEmpty, RootKept,
+    SequenceSpent, SessionExpired, TooLarge,
+};
 use np_tree::{Bytes, Expect, Mode, MultiFault, Op, Stat, Tree, TreeFault, TreeRefusal};
 use std::alloc::{AllocError, Global};
 
@@ -22,7 +30,7 @@ pub(crate) enum Call {
 /// What it is answered.
 #[derive(Clone, Copy)]
 pub(crate) enum Told {
-    Path(&'static str),
+    At(&'static str),
     Version(u64),
     Done,
     Not,
@@ -31,90 +39,79 @@ pub(crate) enum Told {
 
 fn path_of(call: Call) -> &'static str {
     match call {
-        Call::Create(path, _)
-        | Call::CreateUnder(path)
-        | Call::Set(path, _)
-        | Call::Delete(path, _)
-        | Call::Check(path, _)
-        | Call::Raise(path, _) => path,
+        Create(path, _)
+        | CreateUnder(path)
+        | Set(path, _)
+        | Delete(path, _)
+        | Check(path, _)
+        | Raise(path, _) => path,
     }
 }
 
 fn tells_fault(fault: TreeFault, told: Told) -> bool {
-    matches!(told, Told::No(want) if fault == TreeFault::Refused(want))
+    matches!(told, No(want) if fault == TreeFault::Refused(want))
 }
 
 fn tells_path(answer: Result<Path, TreeFault>, told: Told) -> bool {
     match answer {
-        Ok(path) => matches!(told, Told::Path(want) if path.text() == want),
+        Ok(path) => matches!(told, At(want) if path.text() == want),
         Err(fault) => tells_fault(fault, told),
     }
 }
 
 fn tells_version(answer: Result<u64, TreeFault>, told: Told) -> bool {
     match answer {
-        Ok(version) => matches!(told, Told::Version(want) if version == want),
+        Ok(version) => matches!(told, Version(want) if version == want),
         Err(fault) => tells_fault(fault, told),
     }
 }
 
 fn tells_done(answer: Result<(), TreeFault>, told: Told) -> bool {
     match answer {
-        Ok(()) => matches!(told, Told::Done),
+        Ok(()) => matches!(told, Done),
         Err(fault) => tells_fault(fault, told),
     }
 }
 
 fn tells_raised(raised: bool, told: Told) -> bool {
     match told {
-        Told::Done => raised,
-        Told::Not => !raised,
-        Told::Path(_) | Told::Version(_) | Told::No(_) => false,
+        Done => raised,
+        Not => !raised,
+        At(_) | Version(_) | No(_) => false,
     }
 }
 
 fn tells_at(tree: &mut Tree, session: u32, path: &Path, call: Call, told: Told) -> bool {
     match call {
-        Call::Create(_, mode) => tells_path(tree.create(session, path, b"", mode), told),
-        Call::CreateUnder(_) => {
+        Create(_, mode) => tells_path(tree.create(session, path, b"", mode), told),
+        CreateUnder(_) => {
             let answer = tree.create_under(session, path, b"", Mode::PersistentSequential);
             tells_path(answer, told)
         }
-        Call::Set(_, expect) => tells_version(tree.set(session, path, b"", expect), told),
-        Call::Delete(_, expect) => tells_done(tree.delete(session, path, expect), told),
-        Call::Check(_, expect) => {
+        Set(_, expect) => tells_version(tree.set(session, path, b"", expect), told),
+        Delete(_, expect) => tells_done(tree.delete(session, path, expect), told),
+        Check(_, expect) => {
             let answer = tree.check(session, path, expect);
             tells_done(answer.map_err(TreeFault::Refused), told)
         }
-        Call::Raise(_, to) => tells_raised(tree.raise_counter(path, to), told),
+        Raise(_, to) => tells_raised(tree.raise_counter(path, to), told),
     }
 }
 
 fn tells(alloc: Global, tree: &mut Tree, session: u32, call: Call, told: Told) -> bool {
-    match Path::new(alloc, path_of(call)) {
-        Ok(path) => tells_at(tree, session, &path, call, told),
-        Err(_) => false,
-    }
+    matches!(Path::new(alloc, path_of(call)), Ok(path)
+        if tells_at(tree, session, &path, call, told))
 }
 
 /// Whether each call is told what stands beside it.
 pub(crate) fn tells_all(alloc: Global, tree: &mut Tree, rows: &[(u32, Call, Told)]) -> bool {
-    for (session, call, told) in rows {
-        if !tells(alloc, tree, *session, *call, *told) {
-            return false;
-        }
-    }
-    true
+    every!((session, call, told) in rows => tells(alloc, tree, *session, *call, *told))
 }
 
 /// Whether so many sessions begin, the first of the tree among them.
 pub(crate) fn begins(tree: &mut Tree, count: u32) -> bool {
-    for want in 1..=count {
-        if tree.reserve_session().is_err() || tree.begin_session() != Ok(want) {
-            return false;
-        }
-    }
-    true
+    every!(want in 1..=count =>
+        tree.reserve_session().is_ok() && tree.begin_session() == Ok(want))
 }
 
 const ANY: Expect = Expect::Any;
@@ -126,71 +123,35 @@ const NUMBERED: Mode = Mode::PersistentSequential;
 
 // Calls in turn, by session: 1 is live and 2 is over.
 const ROWS: [(u32, Call, Told); 25] = [
-    (1, Call::Create("/a", PLAIN), Told::Path("/a")),
-    (1, Call::Set("/a", ANY), Told::Version(1)),
+    (1, Create("/a", PLAIN), At("/a")),
+    (1, Set("/a", ANY), Version(1)),
+    (1, Set("/a", Exactly(0)), No(BadVersion { kept: 1 })),
+    (1, Check("/a", Exactly(1)), Done),
+    (1, Create("/a/b", PLAIN), At("/a/b")),
+    (1, Delete("/a", ANY), No(NotEmpty { children: 1 })),
+    (1, Delete("/a/b", ANY), Done),
+    (1, Delete("/a", Exactly(1)), Done),
+    (1, Check("/a", ANY), No(NoNode)),
+    (1, Create("/e", Ephemeral), At("/e")),
+    (1, Create("/e/x", PLAIN), No(NoChildrenForEphemerals)),
+    (1, Create("/q", PLAIN), At("/q")),
+    (1, CreateUnder("/q"), At("/q/0000000000")),
     (
         1,
-        Call::Set("/a", Expect::Exactly(0)),
-        Told::No(TreeRefusal::BadVersion { kept: 1 }),
+        Create("/q/t-", EphemeralSequential),
+        At("/q/t-0000000001"),
     ),
-    (1, Call::Check("/a", Expect::Exactly(1)), Told::Done),
-    (1, Call::Create("/a/b", PLAIN), Told::Path("/a/b")),
-    (
-        1,
-        Call::Delete("/a", ANY),
-        Told::No(TreeRefusal::NotEmpty { children: 1 }),
-    ),
-    (1, Call::Delete("/a/b", ANY), Told::Done),
-    (1, Call::Delete("/a", Expect::Exactly(1)), Told::Done),
-    (1, Call::Check("/a", ANY), Told::No(TreeRefusal::NoNode)),
-    (1, Call::Create("/e", Mode::Ephemeral), Told::Path("/e")),
-    (
-        1,
-        Call::Create("/e/x", PLAIN),
-        Told::No(TreeRefusal::NoChildrenForEphemerals),
-    ),
-    (1, Call::Create("/q", PLAIN), Told::Path("/q")),
-    (1, Call::CreateUnder("/q"), Told::Path("/q/0000000000")),
-    (
-        1,
-        Call::Create("/q/t-", Mode::EphemeralSequential),
-        Told::Path("/q/t-0000000001"),
-    ),
-    (
-        1,
-        Call::Create("/q/t-0000000002", PLAIN),
-        Told::Path("/q/t-0000000002"),
-    ),
-    (
-        1,
-        Call::Create("/q/t-", NUMBERED),
-        Told::No(TreeRefusal::NodeExists),
-    ),
-    (1, Call::Raise("/q", 2_147_483_647), Told::Done),
-    (1, Call::Raise("/q", 2_147_483_647), Told::Not),
-    (1, Call::Raise("/q", 2_147_483_649), Told::Not),
-    (1, Call::Raise("/zz", 1), Told::Not),
-    (
-        1,
-        Call::Create("/q/t-", NUMBERED),
-        Told::Path("/q/t-2147483647"),
-    ),
-    (
-        1,
-        Call::CreateUnder("/q"),
-        Told::No(TreeRefusal::SequenceSpent),
-    ),
-    (
-        1,
-        Call::Create("/", PLAIN),
-        Told::No(TreeRefusal::NodeExists),
-    ),
-    (1, Call::Delete("/", ANY), Told::No(TreeRefusal::RootKept)),
-    (
-        2,
-        Call::Set("/zz", ANY),
-        Told::No(TreeRefusal::SessionExpired),
-    ),
+    (1, Create("/q/t-0000000002", PLAIN), At("/q/t-0000000002")),
+    (1, Create("/q/t-", NUMBERED), No(NodeExists)),
+    (1, Raise("/q", 2_147_483_647), Done),
+    (1, Raise("/q", 2_147_483_647), Not),
+    (1, Raise("/q", 2_147_483_649), Not),
+    (1, Raise("/zz", 1), Not),
+    (1, Create("/q/t-", NUMBERED), At("/q/t-2147483647")),
+    (1, CreateUnder("/q"), No(SequenceSpent)),
+    (1, Create("/", PLAIN), No(NodeExists)),
+    (1, Delete("/", ANY), No(RootKept)),
+    (2, Set("/zz", ANY), No(SessionExpired)),
 ];
 
 // Eight creates, a set, two deletes, and the end of session 2.
@@ -214,7 +175,7 @@ fn takes_calls(alloc: Global, tree: &mut Tree) -> bool {
 fn calls_are_answered(alloc: Global) -> bool {
     match Tree::new(alloc) {
         Ok(mut tree) => takes_calls(alloc, &mut tree),
-        Err(_) => false,
+        Err(_) => false
     }
 }
 
@@ -225,19 +186,19 @@ fn part_of(alloc: Global, call: Call) -> Result<Op, PathFault>
     let path = Path::new(alloc, path_of(call))?;
     let bytes = Bytes::new(Vec::new(alloc));
     Ok(match call {
-        Call::Create(_, mode) => Op::Create { path, bytes, mode },
-        Call::CreateUnder(_) | Call::Raise(_, _) => Op::CreateUnder {
+        Create(_, mode) => Op::Create { path, bytes, mode },
+        CreateUnder(_) | Raise(_, _) => Op::CreateUnder {
             parent: path,
             bytes,
-            mode: Mode::EphemeralSequential,
+            mode: EphemeralSequential,
         },
-        Call::Set(_, expect) => Op::Set {
+        Set(_, expect) => Op::Set {
             path,
             bytes,
             expect,
         },
-        Call::Delete(_, expect) => Op::Delete { path, expect },
-        Call::Check(_, expect) => Op::Check { path, expect },
+        Delete(_, expect) => Op::Delete { path, expect },
+        Check(_, expect) => Op::Check { path, expect },
     })
 }
 
@@ -264,10 +225,7 @@ fn does(tree: &mut Tree, ops: &[Op]) -> bool
     if ops.len() > 4_294_967_295 {
         return false;
     }
-    match tree.multi(1, ops) {
-        Ok(done) => done.len() == ops.len(),
-        Err(_) => false,
-    }
+    matches!(tree.multi(1, ops), Ok(done) if done.len() == ops.len())
 }
 
 // Whether it is stopped at a part, which is refused.
@@ -295,27 +253,24 @@ fn stops_at(alloc: Global, tree: &mut Tree, calls: &[Call], want: MultiFault) ->
 }
 
 const MADE: [(u32, Call, Told); 2] = [
-    (1, Call::Create("/a", PLAIN), Told::Path("/a")),
-    (1, Call::Create("/a/e", Mode::Ephemeral), Told::Path("/a/e")),
+    (1, Create("/a", PLAIN), At("/a")),
+    (1, Create("/a/e", Ephemeral), At("/a/e")),
 ];
 
 // A part of each kind.
 const PARTS: [Call; 5] = [
-    Call::Delete("/a/e", ANY),
-    Call::CreateUnder("/a"),
-    Call::Set("/a", Expect::Exactly(0)),
-    Call::Create("/c", PLAIN),
-    Call::Check("/c", Expect::Exactly(0)),
+    Delete("/a/e", ANY),
+    CreateUnder("/a"),
+    Set("/a", Exactly(0)),
+    Create("/c", PLAIN),
+    Check("/c", Exactly(0)),
 ];
 
-const LAST: [Call; 2] = [
-    Call::Delete("/c", ANY),
-    Call::Check("/c", Expect::Exactly(0)),
-];
+const LAST: [Call; 2] = [Delete("/c", ANY), Check("/c", Exactly(0))];
 
 const REFUSED: MultiFault = MultiFault::Refused {
     index: 1,
-    refusal: TreeRefusal::NoNode,
+    refusal: NoNode,
 };
 
 // Created by the first change, and changed by the third, which removed one child and made another.
@@ -340,17 +295,17 @@ fn takes_parts(alloc: Global, tree: &mut Tree) -> bool {
 fn parts_are_all_done_or_none(alloc: Global) -> bool {
     match Tree::new(alloc) {
         Ok(mut tree) => takes_parts(alloc, &mut tree),
-        Err(_) => false,
+        Err(_) => false
     }
 }
 
 const PARENTS: [(u32, Call, Told); 6] = [
-    (1, Call::Create("/a", PLAIN), Told::Path("/a")),
-    (1, Call::Create("/a-", PLAIN), Told::Path("/a-")),
-    (1, Call::Create("/a/c", PLAIN), Told::Path("/a/c")),
-    (1, Call::Create("/a/B", PLAIN), Told::Path("/a/B")),
-    (1, Call::Create("/a/c/d", PLAIN), Told::Path("/a/c/d")),
-    (1, Call::Create("/a/c-", PLAIN), Told::Path("/a/c-")),
+    (1, Create("/a", PLAIN), At("/a")),
+    (1, Create("/a-", PLAIN), At("/a-")),
+    (1, Create("/a/c", PLAIN), At("/a/c")),
+    (1, Create("/a/B", PLAIN), At("/a/B")),
+    (1, Create("/a/c/d", PLAIN), At("/a/c/d")),
+    (1, Create("/a/c-", PLAIN), At("/a/c-")),
 ];
 
 // Paths, places, and the names of the children there.
@@ -367,22 +322,17 @@ const CHILDREN: [(&str, u32, Option<&str>); 9] = [
 ];
 
 fn has_children(tree: &Tree) -> bool {
-    for (path, at, want) in &CHILDREN {
-        if tree.child_at(path, *at) != *want
-            || tree.child_stat(path, *at).is_some() != want.is_some()
-        {
-            return false;
-        }
-    }
-    true
+    every!((path, at, want) in &CHILDREN =>
+        tree.child_at(path, *at) == *want
+            && tree.child_stat(path, *at).is_some() == want.is_some())
 }
 
 fn children_stand_in_byte_order(alloc: Global) -> bool {
     match Tree::new(alloc) {
-        Ok(mut tree) => {
-            begins(&mut tree, 1) && tells_all(alloc, &mut tree, &PARENTS) && has_children(&tree)
-        }
-        Err(_) => false,
+        Ok(mut tree) => begins(&mut tree, 1)
+            && tells_all(alloc, &mut tree, &PARENTS)
+            && has_children(&tree),
+        Err(_) => false
     }
 }
 
@@ -397,27 +347,16 @@ fn calls_are_answered_in_turn(rt: HostRuntime) {
 // A prefix of 54 bytes, so that its sequence nodes have names of 64.
 const LONG: &str = "/q/aaaaaaaaaabbbbbbbbbbccccccccccddddddddddeeeeeeeeeeffff";
 
-const PARENT: [(u32, Call, Told); 1] = [(1, Call::Create("/q", PLAIN), Told::Path("/q"))];
+const PARENT: [(u32, Call, Told); 1] = [(1, Create("/q", PLAIN), At("/q"))];
 
-const FORTY: [Call; 40] = [Call::Create(LONG, Mode::EphemeralSequential); 40];
+const FORTY: [Call; 40] = [Create(LONG, EphemeralSequential); 40];
 
 fn creates(tree: &mut Tree, path: &Path, bytes: &[u8], count: u32) -> bool {
-    for _ in 0..count {
-        if tree
-            .create(1, path, bytes, Mode::EphemeralSequential)
-            .is_err()
-        {
-            return false;
-        }
-    }
-    true
+    every!(_ in 0..count => tree.create(1, path, bytes, EphemeralSequential).is_ok())
 }
 
 fn has_as_many_as(tree: &Tree, count: u32) -> bool {
-    match tree.exists("/q") {
-        Some(stat) => stat.children == count,
-        None => false,
-    }
+    matches!(tree.exists("/q"), Some(stat) if stat.children == count)
 }
 
 // 340 nodes with names of 64 bytes.
@@ -463,7 +402,7 @@ fn large(alloc: Global) -> Result<Vec<u8>, AllocError> {
 fn a_tree_grows(alloc: Global) -> bool {
     match Tree::new(alloc) {
         Ok(mut tree) => grows(alloc, &mut tree),
-        Err(_) => false,
+        Err(_) => false
     }
 }
 
@@ -474,25 +413,20 @@ fn a_tree_at_full_size(rt: HostRuntime) {
 
 // ZooKeeper's codes.
 const CODES: [(TreeRefusal, Option<i32>); 10] = [
-    (TreeRefusal::SessionExpired, Some(-112)),
-    (TreeRefusal::NoNode, Some(-101)),
-    (TreeRefusal::NoChildrenForEphemerals, Some(-108)),
-    (TreeRefusal::NodeExists, Some(-110)),
-    (TreeRefusal::BadVersion { kept: 7 }, Some(-103)),
-    (TreeRefusal::NotEmpty { children: 7 }, Some(-111)),
-    (TreeRefusal::SequenceSpent, None),
-    (TreeRefusal::TooLarge, None),
-    (TreeRefusal::ChangesSpent, None),
-    (TreeRefusal::RootKept, None),
+    (SessionExpired, Some(-112)),
+    (NoNode, Some(-101)),
+    (NoChildrenForEphemerals, Some(-108)),
+    (NodeExists, Some(-110)),
+    (BadVersion { kept: 7 }, Some(-103)),
+    (NotEmpty { children: 7 }, Some(-111)),
+    (SequenceSpent, None),
+    (TooLarge, None),
+    (ChangesSpent, None),
+    (RootKept, None),
 ];
 
 fn refusals_have_codes() -> bool {
-    for (refusal, code) in &CODES {
-        if refusal.code() != *code {
-            return false;
-        }
-    }
-    true
+    every!((refusal, code) in &CODES => refusal.code() == *code)
 }
 
 #[test]

@@ -2,7 +2,7 @@ use Rattle.std.proofs.Common.{◌≡◌, ◌∙◌, sym, ap}
 use Rattle.np_changes.specs.Prelude.{Configuration, Fits}
 use Rattle.np_rules.proofs.RunLemmas.{RunsOn-fits}
 use Rattle.np_layout.specs.Decoded.{decoded}
-use Rattle.np_rules.specs.Ran.{Ran}
+use Rattle.np_rules.specs.Running.{Ran}
 use Rattle.np_board_tests.proofs.index.answers_as_its_tree_does.Goals as goal
 
 pub are_equal-requires-clause-one : goal.are_equal-requires-clause-one

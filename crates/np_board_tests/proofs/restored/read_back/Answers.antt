@@ -2,7 +2,7 @@ use Rattle.std.proofs.Common.{◌≡◌, ◌∙◌, ◌+◌, ℕ, [], List, ◌+
 use Rattle.std.proofs.lemmas.List.{length-append}
 use Rattle.np_layout.specs.Prelude.{TreeState, decoded}
 use Rattle.np_changes.specs.Prelude.{Configuration, Entry, Runs, State}
-use Rattle.np_rules.specs.RunsOn.{RunsOn}
+use Rattle.np_rules.specs.Running.{RunsOn}
 use Rattle.np_board_tests.proofs.restored.read_back.Goals as goal
 
 -- earlier entries and the journal lead to the state that the tree lays out

@@ -1,5 +1,5 @@
 use Rattle.std.proofs.Common.{All}
-use Rattle.np_desk.specs.Pass.{IsOf}
+use Rattle.np_desk.specs.Step.{IsOf}
 use Rattle.np_keep_tests.proofs.crowds.hand_out.Given as goal
 
 abbrev pub invariant-loop-thread : goal.invariant-loop-thread

@@ -1,5 +1,5 @@
 use Rattle.std.proofs.Common.{◌≡◌, List, ℕ, None, ap, ◌∙◌}
-use Rattle.np_tree.specs.Read.{stat_of_child}
+use Rattle.np_tree.specs.Relations.{stat_of_child}
 use Rattle.np_low_tests.proofs.LockLemmas.{free-lock}
 use Rattle.np_low_tests.proofs.locks.is_lock.Goals as goal
 

@@ -1,4 +1,4 @@
-use Rattle.np_lock.specs.Queue.{IsLock}
+use Rattle.np_lock.specs.Calls.{IsLock}
 use Rattle.np_low_tests.proofs.locks.tell_all.Given as goal
 
 abbrev pub invariant-loop-session : goal.invariant-loop-session
