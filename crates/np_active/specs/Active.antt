@@ -1,8 +1,10 @@
--- in which line a job waits for its semaphores: the jobs of a line have the same semaphores and no handles,
--- so a semaphore that is full blocks all of them
+-- the groups of jobs and of sessions, the lines in which jobs wait, and what a state says of them
 use Rattle.std.specs.Prelude.{ℕ, List, Bool, false, ◌==◌, if◌then◌else◌, slice_get, ◌≡◌, ◌&&◌, ◌||◌, not, Some}
 use Rattle.std.specs.Cmp.Lexicographic.{pointwise}
 use Rattle.np_active.specs.Lower.{Configuration, Job, JobId, SemId, option_map_or, Group, Janitor, JobRecord, Launcher, Member, Reaper, Requester, RequesterId, Rises, Role, SessionFacts, SessionId, State, has_member, is_job_before, is_job_to_finish, is_job_to_release, is_job_to_take, is_member_before, is_new, is_own, is_requesters, is_session_before, is_supplied, request_state_of, same_job, same_session, session_of, speaks_for, was_given}
+
+-- in which line a job waits for its semaphores: the jobs of a line have the same semaphores and no handles,
+-- so a semaphore that is full blocks all of them
 
 -- the same semaphores, in the same order
 abbrev pub same_semaphores : List SemId → List SemId → Bool

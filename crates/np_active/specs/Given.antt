@@ -1,7 +1,9 @@
--- the first of a requester's jobs that may begin, and the first that may acquire its handles, by the groups and
--- the handles of a state: the search through lines is for both
+-- the groups of the nodes that were given to requesters, what changes do to them, and the jobs that may begin or acquire
 use Rattle.std.specs.Prelude.{◌≡◌, ◌<◌, ◌⊎◌, ℕ, List, Bool, true, false, ◌&&◌, if◌then◌else◌, Option, Some, None, is_none, option_and_then, slice_get, [], ◌∷◌, map, nat_lt, ◌||◌, ◌≤◌, ◌*◌, suc, length, take}
 use Rattle.np_active.specs.Lower.{Configuration, Group, JobId, Member, State, first_full, group_after, group_from, ids_in, is_job_before, may_begin, option_map_or, same_group, NodeId, NodeRecord, RequesterId, Rises, SessionId, given_to, has_member, is_among, is_member_before, is_node_before, node_in, node_queue, same_node, Changes, JobRecord, JobsChange, RequestEdit, RequestId, RequestsChange, list_any, request_in, touches_node, AllByRecursion, Placed}
+
+-- the first of a requester's jobs that may begin, and the first that may acquire its handles, by the groups and
+-- the handles of a state: the search through lines is for both
 
 -- ## one job
 

@@ -1,7 +1,9 @@
--- which nodes are due, as a test
+-- plans that were made and not committed, and what turns that plan do to a history
 use Rattle.std.specs.Prelude.{Bool, false, ◌==◌, ◌&&◌, ◌≡◌, ◌≤◌, ℕ, suc, true, List, [], ◌∷◌, length, take, Option, Some, None, slice_get, is_ok, ◌⊎◌, ◌+◌}
 use Rattle.np_board.specs.declared.board.plan.Plan.{Plan}
 use Rattle.np_board.specs.Lower.{AllByRecursion, Also, AreFreshPaths, Ask, Asked, Configuration, Entry, Heard, IsLater, IsStored, IsUseful, Launcher, NodeId, PoolId, Ran, Role, Running, Runs, SessionId, Sight, State, TreeState, Turn, Unturned, Walked, WasUseful, Watch, answers_also, change_at, is_deleting, is_planned, is_session_of, is_some, judge, node_holder, node_in, option_map_or, paths_at, recorded, spots_of}
+
+-- which nodes are due, as a test
 
 -- the node is there, is of the pool and is being deleted, and the session holds it (own)
 abbrev pub is_due : PoolId → SessionId → NodeId → State → Bool

@@ -1,10 +1,12 @@
--- what a turn without a plan leaves
+-- what a turn at a board leaves, with a plan or without
 use Rattle.std.specs.Prelude.{◌≡◌, ◌++◌, ◌<◌, ◌+◌, ℕ, true, ◌∷◌, [], length, Some, None, find, slice_get}
 use Rattle.np_board.specs.Outstanding.{IsNewPlan, Outstanding, Planning, plan_of, ran_of, with_plan}
 use Rattle.np_board.specs.declared.board.plan.Plan.{Plan}
 use Rattle.np_board.specs.declared.board.plan.PlanAsk.{PlanAsk}
 use Rattle.np_board.specs.declared.board.plan.PlanTurn.{PlanTurn}
 use Rattle.np_board.specs.Lower.{AreFreshPaths, Ask, Done, Entry, Event, IsFirstStale, IsFull, IsLater, IsReplied, IsUseful, Launcher, PoolId, Ran, Reply, Spot, Turn, WasUseful, Watch, answers, entries_of, is_fired, is_planned, recorded, remove_first}
+
+-- what a turn without a plan leaves
 
 -- the turn answers the ask after the journal so far; what it recorded is added to the journal, and nothing else is (own)
 pub record IsTaken (old : Ran) (ask : Ask) (t : Turn) (new : Ran) : Type 0 where

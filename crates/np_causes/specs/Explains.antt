@@ -1,9 +1,11 @@
--- which things a fact names
+-- which lists of facts explain why a job waits, and which things a fact names
 use Rattle.std.specs.Prelude.{◌==◌, ◌&&◌, ◌||◌, Bool, false, List, [], ◌∷◌, ◌++◌, if◌then◌else◌, Option, Some, None, length, map, option_and_then, slice_get, ◌≡◌, ◌⊎◌, ℕ, not, All}
 use Rattle.np_causes.specs.Fact.{pool_of, about_of, IsTrueOf}
 use Rattle.np_causes.specs.declared.fact.Thing.{Thing}
 use Rattle.np_causes.specs.declared.fact.Fact.{Fact}
 use Rattle.np_causes.specs.Lower.{Configuration, Janitor, JobId, Launcher, NodeEntry, NodeId, Phase, PoolId, RequestEntry, RequestId, Requester, Role, SessionId, State, TenantId, handles_of, is_held_near, is_pending_of, is_served_near, is_tenant, is_under_way_by, option_map, option_map_or, range_with_len, request_in, request_of_job, same_role, session_of, EachAfter, is_over}
+
+-- which things a fact names
 
 abbrev pub job_of : RequestId → State → Option JobId
 job_of r s = option_and_then (λ request. request.job) (request_in r s.requests)

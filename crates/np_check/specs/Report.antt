@@ -1,4 +1,4 @@
--- what will surprise the author of a configuration: each finding once, in this order
+-- the findings of a configuration, the line of each, and what is printed about a text
 use Rattle.std.specs.Prelude.{ℕ, zero, suc, ◌+◌, ◌==◌, List, [], ◌∷◌, ◌++◌, Bool, ◌&&◌, not, filter, length, map, codes, slice_get, ◌≡◌, ◌≤◌, decimal, Result, Ok, Err}
 use Rattle.std.specs.List.{list_any, flat_map}
 use Rattle.np_check.specs.declared.finding.Finding.{Finding}
@@ -11,6 +11,8 @@ use Rattle.np_check.specs.declared.report.Verdict.{Verdict}
 use Rattle.np_check.specs.declared.report.Verdict.TheVariants.{Quiet, Surprising, Faulty}
 use Rattle.np_check.specs.declared.spot.Spot.{Spot}
 use Rattle.np_check.specs.Spot.{spot_of}
+
+-- what will surprise the author of a configuration: each finding once, in this order
 
 -- a node of the label is within the limits of the pool, however empty that is
 abbrev pub allows : Configuration → PoolId → LabelId → Bool

@@ -1,10 +1,12 @@
--- ids in groups, by the groups of each id
+-- ids and the groups that they are in, by the groups of each id
 use Rattle.std.specs.Prelude.{◌≡◌, Bool, true, false, List, map, Option, [], ◌∷◌, None, is_none, option_and_then}
 use Rattle.np_classes.specs.Lower.{Group, Member, Placed, Rises, has_member, is_among, is_member_before, Configuration, NodeId, RequestId, State, is_unclaimed, node_holder, node_in, option_map_or, request_holder, request_in}
 use Rattle.np_classes.specs.declared.past.PastNode.{PastNode}
 use Rattle.np_classes.specs.declared.past.PastQueue.{PastQueue}
 use Rattle.np_classes.specs.declared.past.PastRequest.{PastRequest}
 use Rattle.np_classes.specs.Classes.{node_groups, request_groups, unheld_pending_group_of}
+
+-- ids in groups, by the groups of each id
 
 -- ids are in an order, and equal if they are the same
 pub record IsOrder {K : Type 0} (before same : K → K → Bool) : Type 0 where

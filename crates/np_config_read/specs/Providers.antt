@@ -1,4 +1,4 @@
--- the keys that each object may have, in the order in which they are read (own, with Nodepool's and Zuul's words)
+-- providers and their pools, as they are read, with the keys of each object and what names stand for
 use Rattle.std.specs.Prelude.{ℕ, List, [], ◌∷◌, codes, ◌≡◌, false, ◌+◌, ◌++◌, map, if◌then◌else◌, position, slice_get, Option, Some, length, Result, Ok}
 use Rattle.std.specs.List.{list_any}
 use Rattle.std.specs.Option.{option_map, option_map_or}
@@ -8,6 +8,8 @@ use Rattle.serde_json.specs.Data.{Data}
 use Rattle.np_lists.specs.Refusals.{◌>>=◌, ◌>>◌}
 use Rattle.np_config_read.specs.declared.providers.PoolsOf.{PoolsOf}
 use Rattle.np_config_read.specs.declared.providers.Providers.{Providers}
+
+-- the keys that each object may have, in the order in which they are read (own, with Nodepool's and Zuul's words)
 
 abbrev pub top_keys : List (List ℕ)
 top_keys = codes "labels" ∷ codes "max-hold-age" ∷ codes "providers" ∷ codes "semaphores" ∷ codes "tenants" ∷ codes "requesters" ∷ codes "faults" ∷ []

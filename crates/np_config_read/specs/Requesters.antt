@@ -1,4 +1,4 @@
--- what an absent key means (defaults own)
+-- requesters and their jobs, as they are read, and what an absent key means
 use Rattle.std.specs.Prelude.{◌≡◌, ℕ, List, [], ◌∷◌, codes, false, None, Result, ◌++◌, length, if◌then◌else◌, Option, Some, Ok}
 use Rattle.std.specs.List.{AllByRecursion}
 use Rattle.serde_json.specs.Data.{Data, number, unsigned, boolean, string, array, object, no_items, Members, put}
@@ -11,6 +11,8 @@ use Rattle.np_config_read.specs.declared.requesters.Demand.{Demand}
 use Rattle.np_config_read.specs.declared.requesters.JobsOf.{JobsOf}
 use Rattle.np_config_read.specs.declared.requesters.Requesters.{Requesters}
 use Rattle.np_config_read.specs.Providers.{semaphore_named, tenant_id, tenant_named, requester_keys, job_keys, label_value}
+
+-- what an absent key means (defaults own)
 
 -- a whole number
 abbrev pub count : ℕ → Data

@@ -1,4 +1,4 @@
--- planned faults, as they are read (own)
+-- what configuration the bytes of a text are, or the first fault of a walk through their JSON
 use Rattle.std.specs.Prelude.{ℕ, List, [], ◌∷◌, ◌++◌, codes, Option, Result, Ok, not, if◌then◌else◌, None}
 use Rattle.std.specs.Option.{option_map}
 use Rattle.serde_json.specs.Data.{Data}
@@ -10,6 +10,8 @@ use Rattle.std.specs.Str.{bytes_eq, is_utf8}
 use Rattle.serde_json.specs.Read.{read}
 use Rattle.np_config_read.specs.declared.providers.Providers.{Providers}
 use Rattle.np_config_read.specs.declared.requesters.Requesters.{Requesters}
+
+-- planned faults, as they are read (own)
 
 -- a word with a meaning, which must be there
 unfoldable pub required_word : {A : Type 0} → (List ℕ → Option A) → List ℕ → List ℕ → Data → Result A ConfigFault

@@ -1,9 +1,11 @@
--- the places of a request, one by one
+-- what a verdict answers, and the places of a request
 use Rattle.std.specs.Prelude.{ℕ, List, Option, Some, None, if◌then◌else◌, Result, Ok, Err, not, slice_get}
 use Rattle.std.specs.Borrow.{Bor}
 use Rattle.np_changes.specs.Prelude.{◌>>=◌}
 use Rattle.np_decision.specs.declared.verdict.Verdict.{Verdict}
 use Rattle.np_decision.specs.Lower.{Answer, Asked, Check, Configuration, Job, JobRecord, LabelId, NodeEntry, NodeId, PoolId, Refusal, RequestId, RequestRecord, SessionId, State, asked_of, count_of, found, is_filled, is_short, need, node_entry, quota_short}
+
+-- the places of a request, one by one
 
 -- 1 if there is a label and no node as fulfil needs it
 abbrev pub lack_at : PoolId → SessionId → RequestId → List NodeEntry → Option LabelId → Option NodeId → ℕ

@@ -1,4 +1,4 @@
--- Histories, which only grow, and the places of entries in them.
+-- histories, what the rule counts, and the rule of the desk, which holds between any two steps
 use Rattle.std.specs.Prelude.{◌≡◌, ℕ, ◌<◌, ◌≤◌, List, [], ◌∷◌, ◌++◌, length, drop, suc, cond, nat_lt, ◌+◌, ◌-◌, ◌^◌, ◌==◌, Bool, ◌⊎◌, true, IfSome}
 use mathlib.Core.Option.{Option, some}
 use lib.ListN.{get_elem?}
@@ -7,6 +7,8 @@ use Rattle.np_desk.specs.declared.view.Origin.{Origin}
 use Rattle.np_desk.specs.declared.view.SeatView.{SeatView}
 use Rattle.np_desk.specs.declared.view.Stage.{Stage}
 use Rattle.np_desk.specs.declared.view.Stage.TheVariants.{Idle, Waits, Has}
+
+-- Histories, which only grow, and the places of entries in them.
 
 -- the history begins with what was seen
 abbrev pub StartsWith : {E : Type 0} → List E → List E → Type 0

@@ -1,8 +1,10 @@
--- What a turn answers, and what it leaves.
+-- what a turn answers and leaves, and the turns of a series
 use Rattle.std.specs.Prelude.{◌≡◌, List, [], ◌∷◌, ◌++◌, length, Option, MatchOption, Some, None, Result, Ok, Err, ◌⊎◌, ℕ, ◌≤◌, drop, IfOk, MatchResult}
 use Rattle.np_desk.specs.Rule.{StartsWith, places}
 use Rattle.np_desk.specs.Step.{Sight}
 use Rattle.np_text.specs.declared.memory.NoMemory.{NoMemory}
+
+-- What a turn answers, and what it leaves.
 
 -- the entries of a turn: one, or none
 abbrev pub entries_of : {E : Type 0} → Option E → List E

@@ -1,4 +1,4 @@
--- What contracts see of a desk and of a pass.
+-- what contracts see of a desk and of a pass, and what a seat learns from each kind of step
 use Rattle.std.specs.Prelude.{◌≡◌, ℕ, List, Bool, Option, Some, ◌≢◌, ◌<◌, [], ◌∷◌, ◌++◌, length, drop, true, None, IfSome}
 use Rattle.atomic_table.specs.Seated.{TableId}
 use Rattle.np_desk.specs.Rule.{places, added, StartsWith, merged, AreRising}
@@ -9,6 +9,8 @@ use Rattle.np_desk.specs.declared.view.SeatView.{SeatView}
 use Rattle.np_desk.specs.declared.view.Stage.{Stage}
 use Rattle.np_desk.specs.declared.view.Stage.TheVariants.{Idle, Waits, Has}
 use Rattle.std.specs.Prelude as std
+
+-- What contracts see of a desk and of a pass.
 
 -- what the object is when the desk is set up
 abbrev pub origin_of : {M F E : Type 0} → (M → F) → (M → List E) → M → Origin F E

@@ -1,4 +1,4 @@
--- How words are read by the kinds of a form.
+-- how words are read, and the lines of events, replies and entries
 use Rattle.std.specs.Prelude.{ℕ, ◌+◌, Bool, true, false, ◌&&◌, ◌==◌, if◌then◌else◌, List, [], ◌∷◌, ◌++◌, length, drop, slice_get, Option, Some, None, Result, Ok, Err, nat_le, codes}
 use Rattle.std.specs.List.{AllByRecursion, flat_map, find}
 use Rattle.std.specs.Str.{bytes_eq}
@@ -19,6 +19,8 @@ use Rattle.np_event.specs.declared.reply.Reply.{Reply}
 use Rattle.np_event.specs.EventForm.{event_forms, event_of, event_parts, event_row}
 use Rattle.np_event.specs.Words.{words_of}
 use Rattle.np_event.specs.Lower.{Role, behind}
+
+-- How words are read by the kinds of a form.
 
 -- a fixed word is at its place; other kinds are not checked
 abbrev pub stands : Kind → Option (List ℕ) → Bool

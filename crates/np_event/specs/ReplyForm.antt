@@ -1,4 +1,4 @@
--- A form of a line: its first word, and what follows it.
+-- what a form of a line is, and the forms of replies
 use Rattle.std.specs.Prelude.{ℕ, List, Option, Some, None, [], ◌∷◌, codes}
 use Rattle.np_event.specs.declared.kind.Fields.{Fields}
 use Rattle.np_event.specs.declared.kind.Kind.{Kind}
@@ -7,6 +7,8 @@ use Rattle.np_event.specs.Lower.{EndAs, Ending, RequestState, NodeState}
 use Rattle.np_event.specs.declared.reply.Done.{Done}
 use Rattle.np_event.specs.declared.reply.Refusal.{Refusal}
 use Rattle.np_event.specs.declared.reply_form.TheConstants.{DONE_FORMS, REFUSAL_FORMS}
+
+-- A form of a line: its first word, and what follows it.
 
 -- a row of a table of forms
 pub record Row : Type 0 where

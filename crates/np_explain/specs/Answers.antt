@@ -1,10 +1,12 @@
--- a Text that was played again, and what is no Text
+-- what is answered to the bytes of an input, and what the streams and the status show
 use Rattle.std.specs.Prelude.{◌≡◌, ℕ, List, ◌++◌, codes, decimal, ◌<◌, ◌≤◌, ◌⊎◌, [], ◌∷◌, length, Ok, Err, Bool, true, false, IfSome, nat_lt}
 use Rattle.np_explain.specs.declared.command.Asked.{Asked}
 use Rattle.np_explain.specs.Explained.{IsExplanation, status_of}
 use Rattle.np_explain.specs.declared.command.Query.{Query}
 use Rattle.np_explain.specs.Lower.{CommandEnding, ConfigFault, Configuration, EndsSo, Entry, IsInput, IsNoText, IsPrinted, IsTold, IsWritten, Rose, Runs, ShowsFailures, SinkFacts, SourceFacts, Spot, State, Stops, fault_text, finding_lines, findings, listing_of, most, reads, spot_of, verdict_of}
 use Rattle.np_check.specs.Report as report
+
+-- a Text that was played again, and what is no Text
 
 -- the bytes are the Text of this journal over the configuration, and it leads to the state
 pub record IsTextOf (c : Configuration) (journal : List Entry) (s : State) (bytes : List ℕ) : Type 0 where

@@ -1,6 +1,8 @@
--- why the requests of jobs failed, as it is printed
+-- the explanation of a state with its status, and the machine that plays a run
 use Rattle.std.specs.Prelude.{ℕ, Bool, true, false, List, [], ◌++◌, codes, Option, Some, None, if◌then◌else◌, length, slice_get, ◌≡◌, ◌*◌, ◌||◌, ◌∷◌, not, take, min}
 use Rattle.np_explain.specs.Lower.{Configuration, Counted, Declined, Ending, Entry, ExplainsAll, JobId, JobRecord, Link, RequestId, RequestRecord, Running, State, counted, facts_of, flat_map, is_over, job_words, line_of, list_any, places, pool_words, reason_words, request_in, request_words, summary_of}
+
+-- why the requests of jobs failed, as it is printed
 
 abbrev pub is_failed : Option Ending → Bool
 is_failed None = false

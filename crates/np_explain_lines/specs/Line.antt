@@ -1,6 +1,8 @@
--- how a thing is called: its id, and beside it the name that the configuration gives it
+-- how a thing is called, and the line of a fact
 use Rattle.std.specs.Prelude.{ℕ, List, [], ◌++◌, codes, decimal, Option, Some, None, slice_get, Bool, true, false}
 use Rattle.np_explain_lines.specs.Lower.{Configuration, Janitor, Job, JobId, LabelId, Launcher, NodeId, Pool, PoolId, Reaper, RequestId, Requester, RequesterId, Role, SemId, SessionId, TenantId, option_map, option_map_or, ten_digits_of, tenant_of, Amount, Fact, Limit, NodeState, Phase, Reason, Thing, about_of, limit_of, limit_of_tenant}
+
+-- how a thing is called: its id, and beside it the name that the configuration gives it
 
 -- an id alone, if nothing has it, and otherwise with a name
 abbrev pub with_name : List ℕ → Option (List ℕ) → List ℕ

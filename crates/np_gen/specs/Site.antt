@@ -1,7 +1,9 @@
--- numbers that are drawn one after another from a state (Knuth: the linear congruential generator of MMIX)
+-- the drill site, and the numbers that are drawn for it
 use Rattle.std.specs.Prelude.{ℕ, zero, suc, ◌+◌, ◌*◌, ◌/◌, ◌%◌, ◌^◌, ◌==◌, Bool, false, if◌then◌else◌, List, [], ◌∷◌, ◌++◌, codes, length, filter, replicate, Some, None}
 use Rattle.std.specs.Fmt.{decimal}
 use Rattle.np_gen.specs.Lower.{Configuration, Job, Label, LabelId, Limit, Offer, Pool, Provider, Requester, Sem, SemId, Used}
+
+-- numbers that are drawn one after another from a state (Knuth: the linear congruential generator of MMIX)
 
 -- the state after a draw
 unfoldable pub next_state : ℕ → ℕ

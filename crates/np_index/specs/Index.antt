@@ -1,8 +1,10 @@
--- the requests that a pool's launcher may take up, in the order in which launchers take them up
+-- what an index has, when it is the index of a state, and what is prepared before the state changes
 use Rattle.std.specs.Prelude.{ℕ, Bool, true, false, ◌&&◌, if◌then◌else◌, List, [], ◌∷◌, Option, Some, None, filter, find, map, option_and_then, slice_get, ◌≡◌, ◌==◌, not, nat_lt}
 use Rattle.np_index.specs.Waiting.{AreAwaited, first_rest}
 use Rattle.np_index.specs.declared.awaited.Rest.{Rest}
 use Rattle.np_index.specs.Lower.{ActiveOf, ActivePast, Amount, AreActive, AreClasses, AreGiven, AreGivenPrepared, AreLookupsOf, AreLookupsPrepared, AreMovedOf, AreOpen, Changes, ClassesOf, Configuration, GivenOf, GivenPrepared, Group, HasRoomForActive, HasRoomForGiven, HasRoomForMoved, HasRoomForPast, IsActivePast, IsPast, IsTouched, LookupsOf, LookupsPrepared, NodeId, OpenOf, Past, PastOf, PoolId, Rank, Registration, RequestEntry, RequestId, RequestRecord, SessionId, SessionsChange, State, TouchedOf, amount_of, comes_before, decline_set, insert_before, is_candidate, is_declined_by_all, is_id_before, is_open_to, is_rank_before, node_in, nothing, option_map, option_map_or, rank_of, request_entry}
+
+-- the requests that a pool's launcher may take up, in the order in which launchers take them up
 
 -- entries in the order in which launchers take them up
 abbrev pub in_order : List RequestEntry → List RequestEntry

@@ -1,7 +1,9 @@
--- what the pending requests of each tenant still wait for
+-- what pending requests wait for, and the groups of tenants
 use Rattle.std.specs.Prelude.{◌≡◌, ◌<◌, ◌≤◌, ◌^◌, false, suc, List, length, if◌then◌else◌, Option, None, filter, map, option_and_then, slice_get, Bool, ◌==◌, ◌&&◌, ◌||◌, not, Some, is_some, is_none, ℕ}
 use Rattle.np_index.specs.declared.awaited.Rest.{Rest}
 use Rattle.np_index.specs.Lower.{Amount, Configuration, Group, LabelId, NodeEntry, PoolId, RequestEntry, RequestId, RequestRecord, State, TenantId, change_at, is_pending, is_pending_of, is_short, is_spare, is_stuck, is_under_way_by, list_any, minus, next_label_group, nothing, option_map, option_map_or, pinned_label_group, plus, request_in, rest_of, rest_of_request, same_group, same_request, tenant_group, tenant_of_request, total}
+
+-- what the pending requests of each tenant still wait for
 
 -- what the tenant's pending requests still wait for
 abbrev pub awaited_by : Configuration → State → TenantId → Amount

@@ -1,7 +1,9 @@
--- What a call does to the bytes that a source has left, and to those that a sink has written.
--- `None` is a stream of unknown content, which stays unknown.
+-- what contracts know of a stream, what a call does to its bytes, and the source and the sink in memory
 use Rattle.std.specs.Prelude.{◌≡◌, ℕ, List, ◌++◌, Option, ◌+◌, ◌-◌, ◌^◌, ◌≤◌, min, Bool, true, length, take, ◌==◌, false, [], drop}
 use Rattle.std.specs.Option.{option_map}
+
+-- What a call does to the bytes that a source has left, and to those that a sink has written.
+-- `None` is a stream of unknown content, which stays unknown.
 
 -- what was left begins with these bytes, and the rest is left now (own)
 abbrev pub Takes : Option (List ℕ) → Option (List ℕ) → List ℕ → Type 0

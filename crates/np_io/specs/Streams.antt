@@ -1,9 +1,11 @@
--- The plan of a disk in memory: which of its calls fail, and how many were made and failed.
+-- what contracts see of the real streams' adapters, and the plan of a disk in memory
 use Rattle.std.specs.Prelude.{ℕ, ◌≤◌, Option, None, Some, Result, Ok, Err, Bool}
 use Rattle.np_io.specs.Memory.{counted, SourceFacts, SinkFacts}
 use Rattle.np_io.specs.declared.plan.Plan.{Plan}
 use Rattle.np_io.specs.declared.std_source.StdSource.{StdSource}
 use Rattle.np_io.specs.declared.std_sink.StdSink.{StdSink}
+
+-- The plan of a disk in memory: which of its calls fail, and how many were made and failed.
 
 -- the call with this number, counted from 1, is to fail: it is the first one that fails, or comes after it (own)
 abbrev pub StopsAt : Option ℕ → ℕ → Type 0

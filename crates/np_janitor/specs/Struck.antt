@@ -1,6 +1,8 @@
--- which nodes a janitor tries, by place
+-- what the planned faults do now, and what a janitor tries in which order
 use Rattle.std.specs.Prelude.{ℕ, Bool, List, [], ◌∷◌, Option, length, nat_lt, option_and_then, slice_get, ◌≡◌, ◌==◌, true, Some, None, ◌++◌, if◌then◌else◌}
 use Rattle.np_janitor.specs.Lower.{Configuration, Event, EventKind, Fault, FaultKind, IsUseful, Janitor, Job, JobId, JobKind, Node, NodeId, NodeKind, PoolId, Reaper, Request, RequestKind, RequesterId, Role, SessionId, State, UnheldKind, current_of, first_due, is_due, job_is, next_fault, option_map}
+
+-- which nodes a janitor tries, by place
 
 -- the kinds of nodes that nobody holds, in the order in which they are tried
 abbrev pub tried_kinds : List UnheldKind

@@ -1,6 +1,8 @@
--- when a role has nothing to do
+-- what a requester may do next with its jobs and nodes, and when a role has nothing to do
 use Rattle.std.specs.Prelude.{ℕ, ◌<◌, ◌≡◌, List, [], ◌∷◌, Bool, true, false, Option, Some, None, slice_get}
 use Rattle.np_jobs.specs.Lower.{Configuration, Event, IsUseful, Janitor, Launcher, POOLS, PoolId, REQUESTERS, Requester, Role, State, EndAs, EventKind, Job, JobId, JobKind, Node, NodeId, NodeKind, NoneOf, Phase, RequesterId, SessionId, is_asked, is_in_window, is_new, job_to_acquire, job_to_take, option_map_or, passes}
+
+-- when a role has nothing to do
 
 -- the role has no useful event (own)
 abbrev pub IsIdle : Configuration → State → Role → Type 0

@@ -1,4 +1,4 @@
--- the request that a node is allocated to, if the pool serves it
+-- the choice of a launcher, and of an event that can be planned
 use Rattle.std.specs.Prelude.{if◌then◌else◌, Option, Some, None, option_and_then, List, [], ◌∷◌, ℕ, ◌&&◌, Bool, not, ◌≡◌, true}
 use Rattle.np_launch.specs.declared.computed.ComputedKind.{ComputedKind}
 use Rattle.np_launch.specs.declared.launcher.LaunchKind.{LaunchKind}
@@ -6,6 +6,8 @@ use Rattle.np_launch.specs.declared.launcher.LaunchKind.TheVariants.{Plain, Comp
 use Rattle.np_launch.specs.Computed.{computed_at, computed_places}
 use Rattle.np_launch.specs.declared.planned.PlannedKind.{PlannedKind}
 use Rattle.np_launch.specs.Lower.{AllByRecursion, Configuration, Event, IsUseful, LabelId, Launcher, Node, NodeId, NodeKind, NodeRecord, NoneOf, Outcome, PoolId, Reason, Request, RequestId, RequestKind, RequestRecord, SessionId, State, candidate, is_declined, is_pending_by, is_planned, is_requested, is_session_of, places, request_holder, request_in, request_is}
+
+-- the request that a node is allocated to, if the pool serves it
 
 -- the request that the node is allocated to, if it is pending and the pool serves it (own)
 abbrev pub served_request : PoolId → State → NodeRecord → Option RequestRecord

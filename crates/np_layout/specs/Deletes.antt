@@ -1,5 +1,4 @@
--- what grows: if a tree lays a state out, the creates of a record, a lock or a mark lay out the state in
--- which it is, and each of them is accepted
+-- what grows and what goes: each create and each delete lays out the state that the machine has after it
 use Rattle.std.specs.Prelude.{◌≡◌, ◌<◌, ◌≤◌, ◌+◌, ◌^◌, ℕ, true, false, List, [], ◌∷◌, ◌++◌, codes, length, Some, None, not, filter, map, slice_get, IsOk}
 use Rattle.std.specs.Fmt.{decimal}
 use Rattle.np_layout.specs.Place.{IsGood, path_of}
@@ -9,6 +8,9 @@ use Rattle.np_layout.specs.Rows.{make, tree_session, wait_row}
 use Rattle.np_layout.specs.Layout.{LaysOut, under}
 use Rattle.np_layout.specs.Sets.{HasGoodIds}
 use Rattle.np_layout.specs.Lower.{AllByRecursion, Any, Ephemeral, EphemeralSequential, Goes, HasRoomFor, IsWhole, JobId, NodeEntry, NodeId, NodeRecord, Op, PersistentSequential, PoolId, RequestEntry, RequestId, RequestRecord, Role, SemId, SessionId, SpellsNode, State, TreeState, after_begin, after_end, after_part, after_parts, below, change_at, change_session, delete_parts, ended, has_handle, insert_request, is_in, is_queued, is_session, is_swept, joined, left, next_id, node_entry, node_left, node_queue, part_answer, put_node_queue, put_request_queue, registered, registers, remove_node, remove_request, request_entry, request_left, request_queue, request_record_text, session_text, with_handle, with_pair, without_handle}
+
+-- what grows: if a tree lays a state out, the creates of a record, a lock or a mark lay out the state in
+-- which it is, and each of them is accepted
 
 -- the parts are accepted one after another from the session, and what they leave lays out the state
 pub record PartsLayOut (s : State) (t : TreeState) (w : ℕ) (parts : List Op) : Type 0 where

@@ -1,7 +1,9 @@
--- rows of cells, printed in columns
+-- the tables of a state, printed in columns
 use Rattle.std.specs.Prelude.{ℕ, ◌+◌, ◌-◌, max, List, [], ◌∷◌, ◌++◌, codes, length, map, replicate, slice_get, unwrap_or, Bool, true, false, decimal, if◌then◌else◌, Option, Some, None}
 use Rattle.std.specs.List.{flat_map, range_with_len}
 use Rattle.np_listing.specs.Lower.{line, Configuration, Declined, Janitor, JobId, Launcher, NodeView, PoolId, Reaper, RequestView, Requester, Role, SemId, SessionFacts, SessionId, State, handles_of, is_session_of, job_words, label_words, node_state_word, node_view, node_words, option_map_or, pool_words, queued_nodes, queued_requests, reason_text_of, registered, request_state_word, request_view, request_words, role_words, semaphore_words, session_words, tenant_words}
+
+-- rows of cells, printed in columns
 
 -- the largest of the numbers, or 0
 abbrev pub greatest : List ℕ → ℕ

@@ -1,4 +1,4 @@
--- one entry more: how what was counted changes, given the state after it
+-- how what was counted changes with an entry, and the text of what a run took
 use Rattle.std.specs.Prelude.{ℕ, ◌+◌, ◌-◌, ◌^◌, max, min, Bool, map, if◌then◌else◌, Option, Some, None, true, false, ◌==◌, List, [], ◌++◌, codes, decimal, length}
 use Rattle.np_listing.specs.declared.rows.KindCount.{KindCount}
 use Rattle.np_listing.specs.declared.rows.PoolPeak.{PoolPeak}
@@ -7,6 +7,8 @@ use Rattle.np_listing.specs.declared.rows.FullTime.{FullTime}
 use Rattle.np_listing.specs.Tally.{is_failed, is_launched, is_of_kind, is_refused, kind_word, Counted, larger, counted}
 use Rattle.np_listing.specs.Lower.{Configuration, Entry, State, count_of, count_of_tenant, is_full, option_map_or, Ending, after, amount_words, count_by, flat_map, limit_of, limit_of_tenant, pool_words, semaphore_words, tenant_words}
 use Rattle.np_listing.specs.declared.fates.Fate.{Fate}
+
+-- one entry more: how what was counted changes, given the state after it
 
 -- one more, if it is counted and there is room for one more
 abbrev pub one_more : ℕ → Bool → ℕ

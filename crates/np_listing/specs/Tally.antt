@@ -1,10 +1,12 @@
--- the kinds of events: each has a number, its place in the list of their words
+-- the kinds of events, and what is counted of a run
 use Rattle.std.specs.Prelude.{ℕ, Bool, true, false, List, [], ◌∷◌, ◌==◌, ◌&&◌, not, codes, slice_get, unwrap_or, ◌+◌, ◌-◌, max, ◌++◌, length, map, if◌then◌else◌, Option}
 use Rattle.np_listing.specs.Lower.{Entry, Event, Outcome, is_done, Amount, Configuration, PoolId, SemId, State, TenantId, count_by, count_of, count_of_tenant, is_full, list_all, nothing, option_map, option_map_or, range_with_len, turns}
 use Rattle.np_listing.specs.declared.rows.KindCount.{KindCount}
 use Rattle.np_listing.specs.declared.rows.PoolPeak.{PoolPeak}
 use Rattle.np_listing.specs.declared.rows.TenantPeak.{TenantPeak}
 use Rattle.np_listing.specs.declared.rows.FullTime.{FullTime}
+
+-- the kinds of events: each has a number, its place in the list of their words
 
 -- the words with which the lines of events begin
 abbrev pub kind_words : List (List ℕ)

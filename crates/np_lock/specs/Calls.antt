@@ -1,4 +1,4 @@
--- a lock is a directory, and its queue is the sessions of its children (ZooKeeper recipes, locks: the lowest sequence node holds)
+-- the queue of a lock, what each call answers and does to the tree, and how the tree changes the queue
 use Rattle.std.specs.Prelude.{◌≡◌, ◌<◌, ℕ, ◌==◌, Bool, not, List, [], codes, map, filter_map, Option, Some, None, ⊤, zero, suc, true, false, ◌∷◌, ◌++◌, find, position, slice_get, Result, Ok, Err, IsOk, if◌then◌else◌}
 use Rattle.np_tree.specs.Prelude.{AllByRecursion, EphemeralSequential, Rises, TreeState, below, counter_at, Any, NoMemory, Op, Row, TreeRefusal, after_create, after_delete, create_answer, is_in, is_none, is_owner, option_map, rows_at, where_found, with_next_number, IsTree, IsWhole, after_end, after_part, is_path, part_answer, without}
 use Rattle.np_tree.specs.Views.{row_given}
@@ -6,6 +6,8 @@ use Rattle.np_lock.specs.declared.answer.Place.{Place}
 use Rattle.np_lock.specs.declared.answer.Place.TheVariants.{Held, Queued}
 use Rattle.np_lock.specs.declared.answer.Tried.{Tried}
 use Rattle.np_lock.specs.declared.answer.LockFault.{LockFault}
+
+-- a lock is a directory, and its queue is the sessions of its children (ZooKeeper recipes, locks: the lowest sequence node holds)
 
 -- what each name in a queue begins with
 abbrev pub prefix : List ℕ

@@ -1,8 +1,10 @@
--- lists of ids in an order, and such lists by place
+-- what the lookups have, when they are those of a state, and what an event's changes make of them
 use Rattle.std.specs.Prelude.{ℕ, Bool, if◌then◌else◌, List, [], map, filter, slice_get, unwrap_or, ◌≡◌, ◌<◌, ◌+◌, Option, None, length, ◌-◌, ◌∷◌, ◌++◌, Some, take, slice_set, option_and_then}
 use Rattle.np_lookups.specs.Lower.{insert_before, list_any, remove_first, Configuration, JobId, NodeId, RequestId, RequesterId, SessionId, State, owner_of, queued_nodes, queued_requests, unfinished_from, Changes, Growth, JobsChange, Marked, change_at, is_id_before, is_node_before, is_over, is_using, node_queue, option_map_or, request_holder, same_job, same_node, same_request, changed}
 use Rattle.np_lookups.specs.declared.waits.Wait.{Wait}
 use Rattle.np_lookups.specs.Waits.{joins_request, joins_node, leaves_request, leaves_node, removed_node, ending}
+
+-- lists of ids in an order, and such lists by place
 
 -- ## one list
 

@@ -1,11 +1,13 @@
--- in which line a request waits: the requests of a line are alike, so a tenant that has no room for one
--- of them has none for the others
+-- which requests are open, in which line each waits, and which are closed to a pool
 use Rattle.std.specs.Prelude.{ℕ, suc, List, Bool, false, ◌==◌, ◌&&◌, is_none, if◌then◌else◌, option_and_then, slice_get, ◌≡◌, ◌≤◌, ◌<◌, [], true, ◌||◌, Option, Some, None, nat_lt, length, max, ◌+◌, ◌-◌, ◌⊎◌}
 use Rattle.std.specs.Cmp.Lexicographic.{pointwise}
 use Rattle.np_lookups.specs.Lower.{Configuration, Job, JobId, LabelId, RequestRecord, has_limit, is_tenant, limit_of_tenant, option_map_or, tenant_of_request, Group, Member, PoolId, Rises, State, group_after, group_from, has_member, ids_in, is_declined_by, is_id_before, is_member_before, is_pinned_away, is_requested, list_any, request_in, same_group}
 use Rattle.np_lookups.specs.declared.ranks.Rank.{Rank}
 use Rattle.np_lookups.specs.Ranks.{is_rank_before, same_rank}
 use Rattle.std.specs.List.{prefix_len}
+
+-- in which line a request waits: the requests of a line are alike, so a tenant that has no room for one
+-- of them has none for the others
 
 -- the same labels, in the same order
 abbrev pub same_labels : List LabelId → List LabelId → Bool

@@ -1,9 +1,11 @@
--- which requests are listed before a change, and what is prepared for it
+-- which queues a change joins and leaves, which requests it touches, and which jobs are over
 use Rattle.std.specs.Prelude.{◌≡◌, ◌≤◌, ◌+◌, ◌*◌, List, Bool, true, length, false, slice_get, ℕ, Option, Some, None}
 use Rattle.np_lookups.specs.declared.moves.Past.{Past}
 use Rattle.np_lookups.specs.Open.{OpenOf}
 use Rattle.np_lookups.specs.Lower.{AllByRecursion, Changes, Configuration, RequestId, State, list_any, request_in, same_request, touches_request, JobId, is_over, option_map_or, Growth, Maker, NodeId, NodesChange, RequestsChange, SessionId, SessionsChange, option_map}
 use Rattle.np_lookups.specs.declared.waits.Wait.{Wait}
+
+-- which requests are listed before a change, and what is prepared for it
 
 -- each request that the changes touch is among these
 abbrev pub AreListed : Changes → State → List RequestId → Type 0

@@ -1,9 +1,11 @@
--- states that agree at spots
+-- the first path that isn't fresh, and why nothing else counts
 use Rattle.std.specs.Prelude.{◌≡◌, true, List, is_ok, ℕ, Bool, not, Some, slice_get, ◌≤◌, length}
 use Rattle.np_planned.specs.Spots.{spots_of, paths_at, place_of}
 use Rattle.np_planned.specs.declared.spot.Spot.{Spot}
 use Rattle.np_planned.specs.declared.stale.Kept.{Kept}
 use Rattle.np_planned.specs.Lower.{AllByRecursion, Configuration, Entry, Event, FirstAt, IsGood, IsStored, Runs, Since, State, TreeState, change_at_path, is_fresh, is_planned, is_some, judge, node_in, node_queue, registered, request_in, request_queue, session_of, stat_above}
+
+-- states that agree at spots
 
 -- what is at a spot is the same in two states
 abbrev pub AgreeAt : State → State → Spot → Type 0

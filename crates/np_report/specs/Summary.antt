@@ -1,8 +1,10 @@
--- the events of the entries that a text begins with
+-- what the machine makes of a text's events, and how many jobs came to which end
 use Rattle.std.specs.Prelude.{ℕ, ◌+◌, List, [], ◌∷◌, Option, Some, None, take, drop, Bool, true, false, ◌++◌, codes, decimal, length, count_by}
 use Rattle.np_report.specs.declared.ends.End.{End}
 use Rattle.np_report.specs.Lower.{Configuration, Entry, Event, Fate, Ran, State, after, entry_in, judge, line, line_length, lines_of, next, option_map, reply_of, start}
 use Rattle.np_machine.specs.Fates as fate
+
+-- the events of the entries that a text begins with
 
 -- the text's first line, without its newline
 abbrev pub first_line : List ℕ → List ℕ

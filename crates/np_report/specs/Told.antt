@@ -1,7 +1,9 @@
--- the whole printed text of a run
+-- the printed text of a run, what it shows, and which replies have a line
 use Rattle.std.specs.Prelude.{ℕ, ◌+◌, List, [], ◌∷◌, ◌++◌, codes, decimal, Option, Some, None, slice_get, ◌≡◌, nat_le, Bool, true, false, ◌&&◌, Result, Ok, Err}
 use Rattle.np_report.specs.Lower.{AfterEveryStep, AllByRecursion, Caused, Configuration, Declined, Done, Ending, Entry, Fate, Fenced, HasEventLine, IsSound, Job, Kept, NodeId, PoolId, Refusal, Reply, RequestId, Runs, Safe, State, after, bar, canonical, entry_line, fates, flat_map, line, option_map_or, phase_word, reason_text_of}
 use Rattle.np_machine.specs.Fates as fate
+
+-- the whole printed text of a run
 
 -- a pool's decline, after a space
 abbrev pub decline_text : Declined → List ℕ

@@ -1,8 +1,10 @@
--- the machine with its journal
+-- the machine with its journal, from the start or from an earlier run, and where it writes what changes
 use Rattle.std.specs.Prelude.{List, ◌++◌, ◌∷◌, [], Bool, if◌then◌else◌, nat_lt, length, ◌≡◌, ℕ, ◌+◌}
 use Rattle.np_changes.specs.Prelude.{Configuration, Entry, Event, Reply, State, judge, next, reply_of, Runs, IsFitSite}
 use Rattle.np_event.specs.declared.reply.Refusal.{Refusal}
 use Rattle.np_index.specs.Index.{IndexParts, IsIndexOf}
+
+-- the machine with its journal
 
 -- a configuration, the journal that was recorded, and the state that it led to (own)
 pub record Ran : Type 0 where

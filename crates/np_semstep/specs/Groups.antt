@@ -1,8 +1,10 @@
--- which events are those of semaphores
+-- which events are those of semaphores, and the groups of all events
 use Rattle.std.specs.Prelude.{Bool, true, false, ℕ, ◌+◌, cond}
 use Rattle.np_event.specs.declared.event.Event.{Event}
 use Rattle.np_reqstep.specs.Requests.{is_request_event}
 use Rattle.np_nodestep.specs.Nodes.{is_node_event}
+
+-- which events are those of semaphores
 
 -- acquire, take, finish, withdraw and release
 abbrev pub is_semaphore_event : Event → Bool

@@ -1,4 +1,4 @@
--- the lists of server numbers that are sound: what a driver's law of them needs
+-- the driver of a pool, with hosts or without, and the lists of server numbers that are sound for it
 use Rattle.std.proofs.Common.{◌≡◌, ℕ, suc, ◌+◌, ◌<◌, ◌≤◌, ◌==◌, nat_lt, true, List, [], ◌∷◌, length, refl, arith}
 use Rattle.std.specs.Prelude.{slice_index, Bool, if◌then◌else◌, sum, Option, Some, None}
 use Rattle.std.specs.List.{AllByRecursion}
@@ -9,6 +9,8 @@ use Rattle.np_static.specs.Counts.{count-fewer, all-fewer}
 use Rattle.np_static.specs.declared.driver.HostDriver.{HostDriver}
 use Rattle.np_static.specs.declared.site.SiteDriver.{SiteDriver}
 use Rattle.np_static.specs.Lower.{DistinctNumbers, DriverFacts, MOST_LAUNCHES, Outcome, PoolId, Simulation, Soundness, Tag, Told, after_launch, after_removal, every_list, facts_of, is_number, numbers_of, simulated_outcome, simulation_facts, simulation_plan, soundness_of_every_list, told_nothing}
+
+-- the lists of server numbers that are sound: what a driver's law of them needs
 
 pub none_above-each : (h : ℕ) (hosts numbers : List ℕ) → ((k i : ℕ) → i ≡ h + k → k < length hosts → load_of i numbers ≤ slice_index hosts k) → none_above h hosts numbers ≡ true
 none_above-each h [] numbers each = refl

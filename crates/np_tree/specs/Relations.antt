@@ -1,8 +1,10 @@
--- what the readers return
+-- what the readers return, and what an accepted part of a call changes of what a tree shows
 use Rattle.std.specs.Prelude.{ℕ, List, Option, slice_get, ◌≡◌, ◌+◌, Bool, true, false, not, [], filter, Some, None, Ok, if◌then◌else◌}
 use Rattle.np_tree.specs.Lower.{Node, Stat, TreeState, at_path, children_of, name_of, option_map, stat_of, Expect, Mode, Op, Rises, after_create, after_create_under, after_delete, after_end, after_part, after_raise, after_set, below, change_first, create_answer, create_under_answer, delete_answer, is_owner, is_path, is_sequential, may_raise, parent_of, set_answer}
 use Rattle.np_tree.specs.Whole.{IsWhole}
 use Rattle.np_tree.specs.Views.{Row, Seen, find_named, is_named, name_given, row_before, row_given, row_with, rows_at, seen_at, seen_in, seen_with, with_row}
+
+-- what the readers return
 
 -- the bytes of the node at a path
 abbrev pub bytes_at : TreeState → List ℕ → Option (List ℕ)

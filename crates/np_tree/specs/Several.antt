@@ -1,10 +1,12 @@
--- the facts from which a part of a call is accepted
+-- the facts from which a part of a call is accepted, and several parts in one call
 use Rattle.std.specs.Prelude.{◌≡◌, ◌<◌, ◌≤◌, ℕ, ◌+◌, true, not, ◌||◌, nat_le, List, [], length, Option, Some, None, Ok, false, ◌∷◌, ◌++◌, map, IsOk}
 use Rattle.np_tree.specs.Relations.{counter_at}
 use Rattle.np_tree.specs.Views.{Seen, name_given, rows_at, seen_at, Row}
 use Rattle.np_tree.specs.Lower.{Any, Mode, TreeState, at_path, below, check_answer, create_answer, create_under_answer, delete_answer, is_in, is_sequential, name_of, option_map, parent_of, set_answer, AllByRecursion, MultiFault, Op, OpDone, Stops, after_multi, after_part, after_parts, answers_from, is_check, is_element, is_path, list_any, part_answer, with_next_number}
 use Rattle.np_tree_nodes.specs.declared.refusal.MultiFault.TheVariants.{NoMemory}
 use Rattle.np_tree.specs.Whole.{IsPart, IsWhole}
+
+-- the facts from which a part of a call is accepted
 
 -- ## parts
 

@@ -1,10 +1,12 @@
--- what the order of nodes means
+-- what a tree shows, what the order of nodes means, and worked calls on closed trees
 use Rattle.std.specs.Prelude.{◌≡◌, ℕ, Bool, true, List, Some, find, map, ◌++◌, Option, None, if◌then◌else◌, [], ◌∷◌, codes, Result, Ok, Err}
 use Rattle.std.specs.Ordering.{nat_cmp, is_lt}
 use Rattle.std.specs.Cmp.Lexicographic.{slice_cmp}
 use Rattle.np_tree.specs.Lower.{AllPaths, IsSorted, Node, Rises, children_of, is_path, name_of, parent_of, path_before, Mode, TreeState, at_path, insert_before, is_ephemeral, is_sequential, option_map, ten_digits_of, Any, AtPart, Ephemeral, Exactly, Op, OpDone, Persistent, PersistentSequential, TreeRefusal, after_end, after_part, after_raise, new_tree, part_answer, with_next_number}
 use Rattle.std.specs.Str.{bytes_eq}
 use Rattle.std.specs.Result.{is_ok}
+
+-- what the order of nodes means
 
 -- each path comes after its parent's
 abbrev pub ParentsComeFirst : Type 0

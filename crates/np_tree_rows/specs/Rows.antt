@@ -1,6 +1,8 @@
--- the requests and the nodes in whose queues a session is
+-- what the rows of a tree are seen as, and what is always true of the tree
 use Rattle.std.specs.Prelude.{Option, Some, None, if◌then◌else◌, ◌<◌, ◌^◌}
 use Rattle.np_tree_rows.specs.Lower.{NodeEntry, NodeId, RequestEntry, RequestId, SessionId, is_queued, Configuration, IsStored, State, TreeState, decoded}
+
+-- the requests and the nodes in whose queues a session is
 
 -- the request, if the session is in its queue
 abbrev pub request_if_queued : SessionId → RequestEntry → Option RequestId

@@ -1,7 +1,9 @@
--- words that the rows of several roles use
+-- words that the rows of several roles use, and which events are useful for the launcher of a pool
 use Rattle.std.specs.Prelude.{Bool, false, ◌==◌, is_none, slice_get, ℕ, true, ◌&&◌, ◌||◌, not, Option, is_ok, find, count_by, nat_lt, option_and_then}
 use Rattle.np_useful.specs.Sessions.{may_open}
 use Rattle.np_useful.specs.Lower.{Configuration, Event, Janitor, Job, JobId, Launcher, NodeId, NodeRecord, Outcome, PoolId, Reaper, Reason, RequestEntry, RequestId, RequestRecord, Requester, Role, SessionId, State, blocking, first_unoffered, has_handle, holder, is_declined_by, is_node, is_paused, is_pending, is_pending_by, is_requested, is_session_of, is_spent, judge, list_any, maker_of, may_fit, never_fits, next_label, node_in, option_map, option_map_or, outcome_of, registered, request_in, role_of, same_role, tenant_never_fits}
+
+-- words that the rows of several roles use
 
 -- the request exists and passes the test (own)
 abbrev pub request_is : RequestId → State → (RequestRecord → Bool) → Bool

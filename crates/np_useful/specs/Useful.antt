@@ -1,4 +1,4 @@
--- which events are useful for the janitor of a pool: one line per event
+-- which events are useful for the janitor, the reaper, a requester and a role, and what a choice returns
 use Rattle.std.specs.Prelude.{Bool, true, false, ◌&&◌, not, is_none, ◌||◌, ℕ, List, ◌==◌, take, slice_get, count_by, nat_lt, option_and_then, ◌≡◌, Option, Some, None, is_ok, ◌<◌, if◌then◌else◌}
 use Rattle.np_useful.specs.Sessions.{is_stopped, may_open, is_expire, is_struck_by, is_current, has_current}
 use Rattle.np_useful.specs.Cleanable.{is_cleanable}
@@ -7,6 +7,8 @@ use Rattle.std.specs.List.{zip}
 use Rattle.np_useful.specs.declared.kind.EventKind.{EventKind}
 use Rattle.np_useful.specs.Kinds.{request_event, node_event, job_event}
 use Rattle.np_useful.specs.Lower.{AllByRecursion, Configuration, EndAs, Event, Janitor, Job, JobId, JobRecord, Launcher, NodeId, PoolId, Reaper, RequestEntry, RequestId, Requester, RequesterId, Role, SessionId, State, is_asked, is_fulfilled, is_in_use, is_new, is_over, is_pending, is_pending_by, is_queued, is_role, judge, list_any, maker_of, missing_handles, node_holder, node_queue, option_map_or, owner_from, request_in, same_role, session_of}
+
+-- which events are useful for the janitor of a pool: one line per event
 
 -- what a janitor does (Nodepool: the cleanup worker, in an order of its own)
 abbrev pub janitor_row : Configuration → State → PoolId → Event → Bool

@@ -1,9 +1,11 @@
--- paths that are as they were at a change
+-- paths that are as they were at a change, and watches in the order of their keys
 use Rattle.std.specs.Prelude.{◌≡◌, ◌<◌, ℕ, nat_le, max, Bool, true, false, ◌&&◌, ◌↔◌, List, Option, Some, None, ◌==◌, ◌≤◌, nat_lt, not, length}
 use Rattle.np_tree.specs.Prelude.{AllByRecursion, Stat, TreeState, parent_of, stat_at, Rises, insert_before, list_any}
 use Rattle.std.specs.Option.{option_and_then}
 use Rattle.np_tree.specs.Dates.{IsFresh}
 use Rattle.np_watch.specs.declared.watch.Watch.{Watch}
+
+-- paths that are as they were at a change
 
 -- the node above a path has the children that it had at z, and the node at the path, if there is one, the bytes (own;
 -- ZooKeeper Programmer's Guide, Stat: a change of the children sets pzxid, one of the bytes mzxid)

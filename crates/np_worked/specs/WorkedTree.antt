@@ -1,9 +1,11 @@
--- journals and turns that no machine makes, each against one property
+-- journals that no machine makes, a worked state, the tree that lays it out, and trees that do not
 use Rattle.std.specs.Prelude.{List, [], ◌∷◌, ◌++◌, Some, None, true, false, take, ℕ, codes, map}
 use Rattle.np_worked.specs.Site.{session, node, pool, request, launcher, plain_site, line, refused, job, tenant, janitor, requester}
 use Rattle.np_worked.specs.Parts.{allocated, asked_for, held_node as held, held_request, asked_job}
 use Rattle.np_worked.specs.Jobs.{plain_path}
 use Rattle.np_worked.specs.Lower.{Declined, Done, Entry, Event, NodeEntry, NodeState, Reason, Refusal, RequestEntry, RequestState, State, Turn, start, Any, Ephemeral, EphemeralSequential, NodeRecord, Op, Persistent, PersistentSequential, RequestRecord, TreeState, after_begin, after_end, after_parts, after_set, first_directories, make, new_job, new_tree, no_deeds}
+
+-- journals and turns that no machine makes, each against one property
 
 -- two sessions get the reply that they hold the same node
 abbrev pub two_holders : List Entry

@@ -1,4 +1,4 @@
--- which role the entries of a round are of
+-- a worker's round and a round of all players at a board, and which role an entry is of
 use Rattle.std.specs.Prelude.{◌≡◌, ◌++◌, ◌∷◌, [], ℕ, List, length, Some, ◌<◌, ◌≤◌, map, All, Contains, Bool, false, ◌⊎◌, true, IfOk, Option, Result}
 use Rattle.np_worker.specs.Prelude.{IsAskOf, StartsWith, Work, Drove, Leads, Move, Phase, Sight, Walk, ended, first_phase, owes_launch, owes_report, AreRising, Driving, IsUseful, Server, asked, of_pool, of_reaper, of_requester}
 use Rattle.np_worker.specs.declared.ask.Ask.{Ask}
@@ -10,6 +10,8 @@ use Rattle.np_worker.specs.declared.worker.RoundEnd.{RoundEnd}
 use Rattle.np_worker.specs.Moves.{AreOrderly}
 use Rattle.np_worker.specs.Stage.{RemovalFailed}
 use Rattle.np_worker.specs.Lower.{Configuration, Done, Entry, Event, Janitor, Launcher, NoMemory, PoolId, Reaper, Reply, Requester, Role, SessionId, State, after, maker_of, role_of}
+
+-- which role the entries of a round are of
 
 -- the event is the role's: the session that makes it is of the role, a session that it opens is of the role, and sessions are crashed and expired by the reaper alone (own)
 pub record IsOfRole (role : Role) (s : State) (e : Event) : Type 0 where

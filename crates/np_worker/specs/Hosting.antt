@@ -1,4 +1,4 @@
--- which servers a pool's nodes have
+-- what holds of a journal that drivers carried, and what is kept from round to round
 use Rattle.std.specs.Prelude.{ℕ, List, [], ◌∷◌, ◌++◌, Bool, true, false, ◌==◌, ◌&&◌, if◌then◌else◌, Option, Some, None, ◌≡◌, map, slice_get, IfSome, IsTrue, is_some, ◌≤◌, ◌+◌, length, All, Contains, is_ok, ◌⊎◌, MatchBool, Result, Ok, Err}
 use Rattle.np_worker.specs.Prelude.{DistinctNumbers, DriverFacts, Driving, Launch, Server, Soundness, Tag, Move, OwesRemoval, Phase, Work, driving, ended, of_pool, of_reaper, of_requester, rests, sweeps}
 use Rattle.np_worker.specs.Drive.{reports_of, numbers_in, AreAloneSound, FailAfter}
@@ -7,6 +7,8 @@ use Rattle.np_worker.specs.declared.worker.RoundEnd.{RoundEnd}
 use Rattle.np_worker.specs.declared.worker.Worker.{Worker}
 use Rattle.np_worker.specs.Stage.{RemovalFailed, AreKept}
 use Rattle.np_worker.specs.Lower.{Configuration, Entry, Event, Launcher, NoMemory, NodeEntry, NodeId, NodeRecord, NodeState, Outcome, PoolId, SessionId, State, after, judge, node_in, role_of}
+
+-- which servers a pool's nodes have
 
 -- launched, and not given up: ready, in use, used or on hold (Nodepool)
 abbrev pub is_up : NodeState → Bool

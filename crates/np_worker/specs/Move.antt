@@ -1,10 +1,12 @@
--- what a turn records
+-- the moves of a round: which may come one after another, and what they saw and made of the history
 use Rattle.std.specs.Prelude.{Option, Some, None, ℕ, List, [], ◌∷◌, ◌++◌, ◌≡◌, zero, suc, Bool, true, false, cond}
 use Rattle.np_worker.specs.declared.ask.Ask.{Ask}
 use Rattle.np_worker.specs.declared.ask.Turn.{Turn}
 use Rattle.np_worker.specs.declared.start.Start.{Start}
 use Rattle.np_worker.specs.Lower.{Answered, Done, Entry, Event, Launch, NodeId, Outcome, PoolId, Reply, RequesterId, Role, Sight, Tag, Unturned}
 use Rattle.np_desk.specs.Series as turned
+
+-- what a turn records
 
 -- the entry that a turn recorded, if any (own)
 abbrev pub recorded : Ask → Turn → Option Entry

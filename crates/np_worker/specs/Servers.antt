@@ -1,10 +1,12 @@
--- journals of parties that may commit what they chose on an older state
+-- who plays a site, what became of a driver's servers in a round, and plans on an older state
 use Rattle.std.specs.Prelude.{◌⊎◌, Bool, true, false, List, [], ◌≡◌, ℕ, suc, ◌∷◌, ◌++◌, All, Contains, slice_get, Option, Some, None, IfSome, ◌≤◌, length}
 use Rattle.np_worker.specs.Prelude.{IsUseful, WasOfUse, WasUseful, Driving, Launch, NamesServer, Server, Work, of_pool, Move, Sight, StartsWith, launches_of}
 use Rattle.np_worker.specs.declared.ask.Ask.{Ask}
 use Rattle.np_worker.specs.declared.ask.Turn.{Turn as Answer}
 use Rattle.np_worker.specs.Answers.{Also, nothing_else, answers_also, IsDue, IsKept}
 use Rattle.np_worker.specs.Lower.{Configuration, DrivenBy, EachAfter, Entry, Event, IsDrivenTurn, Janitor, NodeId, NodeRecord, Outcome, PoolId, Role, Says, SessionId, SomeTurn, Turn, after, as_planned, has_current, is_swept, is_wanted, node_in, turns}
+
+-- journals of parties that may commit what they chose on an older state
 
 -- ## what a role chooses
 

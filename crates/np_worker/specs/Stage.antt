@@ -1,4 +1,4 @@
--- a part of a round
+-- the parts and the stages of a round
 use Rattle.std.specs.Prelude.{◌≡◌, ◌⊎◌, ℕ, ◌+◌, length, List, [], ◌∷◌, All, Bool, true, false, Option, Some, None, IfSome, Result, Ok, Err, ◌*◌, ◌<◌, ◌≤◌, ◌^◌}
 use Rattle.np_worker.specs.Prelude.{Drives, Driving, Drove, IsOfServer, Leads, Move, OwesRemoval, Phase, Server, Sight, Walk, WasKept, after_turn, asked, removed, without_number, Work, acts, ended, looks, of_pool, of_reaper, of_requester, owes_due, owes_launch, owes_report, owes_swept, report_of, rests, sweeps}
 use Rattle.np_worker.specs.declared.ask.Ask.{Ask}
@@ -8,6 +8,8 @@ use Rattle.np_worker.specs.declared.playing.Playing.{Playing}
 use Rattle.np_worker.specs.declared.stage.Stage.{Stage}
 use Rattle.np_worker.specs.Lower.{Entry, NoMemory, PoolId, Role, Rose, option_map}
 use Rattle.np_worker.specs.Move as phase
+
+-- a part of a round
 
 -- how many entries a turn made (own)
 abbrev pub entry_count : Turn → ℕ
